@@ -1,0 +1,134 @@
+//! A list with room: pushes within the room take no memory.
+#![tactic(auto)]
+
+ghost use Rattle.std.specs.Prelude.{◌≡◌, ◌==◌, ◌+◌, ◌<◌, ◌≤◌, [], ◌∷◌, ◌++◌, length, remove, IfOk, OnOk, OnErr, slice_get, slice_set};
+
+use std::alloc::Global;
+use std::marker::Model;
+use tuple_core::NoMemory;
+
+/// A list that contracts see as its items and the number of items for which it has room. Pushing
+/// needs room and takes no memory; `new` and `reserve` make room.
+#[derive(Drop)]
+pub struct RoomList<T> {
+    items: Vec<T>,
+}
+
+impl<T> Model for RoomList<T> {
+    ghost use Rattle.std.specs.Vec.{vec_capacity, vec_len};
+    ghost use Rattle.std.specs.Prelude.{◌≤◌};
+    ghost use Rattle.room_list.specs.Roomed.{Roomed};
+
+    ghost Value = { Roomed T };
+
+    ghost view = { λ l. record { items = l.items.items; room = vec_capacity l.items } };
+
+    ghost invariant = { λ l. vec_len l.items ≤ vec_capacity l.items };
+}
+
+/// A list of bytes.
+pub type Bytes = RoomList<u8>;
+
+impl<T> RoomList<T> {
+    /// An empty list with room for at least `room` items.
+    pub fn new(alloc: Global, room: usize) -> Result<Self, NoMemory>
+        ensures empty { IfOk result (λ l. l.items ≡ []) }
+        ensures room { IfOk result (λ l. room ≤ l.room) }
+    {
+        let items = Vec::with_capacity(alloc, room)?;
+        Ok(RoomList { items })
+    }
+
+    /// Makes room for at least `more` further items.
+    pub fn reserve(&mut self, more: usize) -> Result<(), NoMemory>
+        ensures items { self.new.items ≡ self.old.items }
+        ensures room { OnOk result (length self.old.items + more ≤ self.new.room) }
+        ensures kept { self.old.room ≤ self.new.room }
+        ensures err { OnErr result (self.new.room ≡ self.old.room) }
+    {
+        self.items.try_reserve(more)?;
+        Ok(())
+    }
+
+    /// Appends one item. Takes no memory.
+    pub fn push(&mut self, item: T)
+        requires { length self.old.items < self.old.room }
+        ensures items { self.new.items ≡ self.old.items ++ item ∷ [] }
+        ensures room { self.new.room ≡ self.old.room }
+    {
+        self.items.push_reserved(item);
+    }
+
+    /// The number of items.
+    pub fn len(&self) -> usize
+        ensures exact { result ≡ length self.now.items }
+        ensures fits { result ≤ self.now.room }
+    {
+        self.items.len()
+    }
+
+    /// Whether there is no item.
+    pub fn is_empty(&self) -> bool
+        ensures { result ≡ (length self.now.items == 0) }
+    {
+        self.items.is_empty()
+    }
+
+    /// The item at `index`.
+    pub fn at(&self, index: usize) -> &T
+        requires { index < length self.now.items }
+        ensures { slice_get self.now.items index ≡ Some result.now }
+    {
+        &self.items[index]
+    }
+
+    /// All items.
+    pub fn as_slice(&self) -> &[T]
+        ensures { result.now ≡ self.now.items }
+    {
+        self.items.as_slice()
+    }
+
+    /// Appends the items of `piece`, and makes the room that they need.
+    pub fn append(&mut self, piece: &[T]) -> Result<(), NoMemory>
+    where
+        T: Copy,
+        ensures ok { OnOk result (self.new.items ≡ self.old.items ++ piece.now) }
+        ensures err { OnErr result (self.new.items ≡ self.old.items) }
+        ensures kept { self.old.room ≤ self.new.room }
+    {
+        self.items.extend_from_slice(piece)?;
+        Ok(())
+    }
+
+    /// Puts `item` in the place of the one at `index`. Takes no memory.
+    pub fn set(&mut self, index: usize, item: T)
+    where
+        T: Drop,
+        requires { index < length self.old.items }
+        ensures items { self.new.items ≡ slice_set self.old.items index item }
+        ensures room { self.new.room ≡ self.old.room }
+    {
+        self.items[index] = item;
+    }
+
+    /// Takes out the item at `index`; those after it move up. Takes no memory.
+    pub fn remove(&mut self, index: usize) -> T
+        requires { index < length self.old.items }
+        ensures item { slice_get self.old.items index ≡ Some result }
+        ensures items { self.new.items ≡ remove self.old.items index }
+        ensures room { self.new.room ≡ self.old.room }
+    {
+        self.items.remove(index)
+    }
+
+    /// Takes all items out and keeps the room. Takes no memory.
+    pub fn clear(&mut self)
+    where
+        T: Drop,
+        ensures items { self.new.items ≡ [] }
+        ensures room { self.new.room ≡ self.old.room }
+    {
+        self.items.clear();
+    }
+}

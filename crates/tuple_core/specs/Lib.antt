@@ -1,0 +1,3 @@
+pub mod Tuple
+pub mod Inverse
+pub mod Laws

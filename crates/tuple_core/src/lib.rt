@@ -1,0 +1,116 @@
+//! Flows as connection tracking names them: a protocol, two addresses and what tells the flows
+//! between these apart, in one direction; and the inverse of that, which is the other direction.
+#![tactic(auto)]
+
+ghost use Rattle.std.specs.Prelude.{◌≡◌, true};
+ghost use Rattle.tuple_core.specs.Inverse.{inverse};
+ghost use Rattle.tuple_core.specs.Laws.{InverseIsAnInvolution, InverseIsValid};
+ghost use Rattle.tuple_core.specs.Tuple.{is_valid, partner_of};
+
+use std::alloc::AllocError;
+
+/// Memory was wanted and not there.
+#[derive(Clone, Copy, Debug)]
+pub struct NoMemory;
+
+impl From<AllocError> for NoMemory {
+    fn from(_error: AllocError) -> NoMemory {
+        NoMemory
+    }
+}
+
+/// A protocol that is tracked. Its number in the IP header (RFC 791) is 1, 6 or 17.
+#[derive(Clone, Copy, PartialEq, Eq)]
+pub enum Proto {
+    Icmp,
+    Tcp,
+    Udp,
+}
+
+/// The way of a packet within its flow: as the flow's first packet, or against it.
+#[derive(Clone, Copy)]
+pub enum Direction {
+    Original,
+    Reply,
+}
+
+/// The kind of a TCP segment, by its flags (RFC 9293).
+#[derive(Clone, Copy)]
+pub enum Kind {
+    Syn,
+    SynAck,
+    Fin,
+    Ack,
+    Rst,
+    Bare,
+}
+
+/// What a tracker reads of a packet besides its tuple.
+#[derive(Clone, Copy)]
+pub enum Segment {
+    Tcp(Kind),
+    Udp,
+    /// The ICMP type (RFC 792).
+    Icmp(u8),
+}
+
+/// One direction of a flow. All numbers are in host order.
+#[derive(Clone, Copy, PartialEq, Eq)]
+pub struct Tuple {
+    pub proto: Proto,
+    /// The source address.
+    pub src: u32,
+    /// The destination address.
+    pub dst: u32,
+    /// The source port; of ICMP the identifier.
+    pub a: u16,
+    /// The destination port; of ICMP the type times 256 plus the code.
+    pub b: u16,
+}
+
+/// The ICMP type that answers this one, or that this one answers (RFC 792).
+fn partner(kind: u16) -> u16
+    ensures { result ≡ partner_of kind }
+{
+    match kind {
+        0 => 8,
+        8 => 0,
+        13 => 14,
+        14 => 13,
+        15 => 16,
+        16 => 15,
+        17 => 18,
+        18 => 17,
+        _ => kind,
+    }
+}
+
+/// The tuple of the packets that go the other way. Addresses and ports change places; of ICMP the
+/// type becomes its partner, and the identifier and the code stay.
+pub fn invert(t: &Tuple) -> Tuple
+    requires { is_valid t.now ≡ true }
+    ensures exact { result ≡ inverse t.now }
+    ensures valid { is_valid result ≡ true }
+{
+    let (a, b) = match t.proto {
+        Proto::Icmp => (t.a, partner(t.b / 256) * 256 + t.b % 256),
+        Proto::Tcp | Proto::Udp => (t.b, t.a),
+    };
+    Tuple {
+        proto: t.proto,
+        src: t.dst,
+        dst: t.src,
+        a,
+        b,
+    }
+}
+
+/// Inverting twice gives the tuple back.
+pub fn inverse_is_an_involution()
+    ensures { InverseIsAnInvolution }
+{}
+
+/// The inverse of a valid tuple is valid.
+pub fn inverse_is_valid()
+    ensures { InverseIsValid }
+{}
