@@ -1,0 +1,50 @@
+//! The events of the tracker: each is one change of the table.
+
+use crate::protocol::Part;
+use crate::record::Record;
+use tuple_core::{Direction, Segment};
+
+/// Why an entry was destroyed.
+#[derive(Clone, Copy)]
+pub enum Why {
+    /// Its deadline is at most the moment, in microseconds.
+    Expired { moment: u64 },
+}
+
+/// One change of the table.
+#[derive(Clone, Copy)]
+pub enum Event {
+    /// A new entry.
+    Confirm {
+        subject: Record,
+    },
+    /// A packet that an entry accepted; `after` is the entry's part from then on.
+    Touch {
+        id: u64,
+        direction: Direction,
+        segment: Segment,
+        moment: u64,
+        after: Part,
+    },
+    /// The end of an entry.
+    Destroy {
+        id: u64,
+        why: Why,
+    },
+}
+
+/// An event with its number in the one history.
+#[derive(Clone, Copy)]
+pub struct Note {
+    pub number: u64,
+    pub event: Event,
+}
+
+/// An event of the history with its number, and the thread and the packet that made it.
+#[derive(Clone, Copy)]
+pub struct Numbered {
+    pub number: u64,
+    pub thread: u32,
+    pub index: u32,
+    pub event: Event,
+}

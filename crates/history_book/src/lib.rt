@@ -1,0 +1,9 @@
+//! The one history of the tracker: records, the events that change them, and the verdicts on packets.
+#![tactic(auto)]
+
+pub mod event;
+pub mod packet;
+pub mod protocol;
+pub mod record;
+pub mod report;
+pub mod verdict;

@@ -1,0 +1,25 @@
+//! What a run of the tracker gives.
+
+use crate::event::{Note, Numbered};
+use crate::verdict::Verdict;
+use room_list::RoomList;
+
+/// The events of the one history, in order of their numbers.
+pub type History = RoomList<Numbered>;
+
+/// The events of one thread, in order of their numbers.
+pub type Notes = RoomList<Note>;
+
+/// The verdicts on the packets of one thread, in order.
+pub type Verdicts = RoomList<Verdict>;
+
+/// The verdicts of each thread.
+pub type ThreadVerdicts = RoomList<Verdicts>;
+
+/// What a run gives: the one history, the number of entries that are live after it, and the verdicts.
+#[derive(Drop)]
+pub struct Report {
+    pub history: History,
+    pub live: u32,
+    pub threads: ThreadVerdicts,
+}

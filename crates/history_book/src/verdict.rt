@@ -1,0 +1,69 @@
+//! What the tracker says of a packet.
+
+use tuple_core::Tuple;
+
+/// How the reply tuple of a new entry was found.
+#[derive(Clone, Copy)]
+pub enum Translated {
+    /// It is the inverse of the original tuple.
+    Plain,
+    /// A rule chose it. `kept_taken_at` is the point at which the flow's own port was taken, where it
+    /// was tried and taken.
+    Chosen {
+        reply: Tuple,
+        kept_taken_at: Option<u64>,
+    },
+}
+
+/// What the payload of a packet led to.
+#[derive(Clone, Copy)]
+pub enum Ftp {
+    Nothing,
+    Expected { id: u64 },
+    Address,
+    Clash { id: u64, at: u64 },
+    Full { at: u64 },
+    Gone { at: u64 },
+}
+
+/// The state of a flow as a packet of it finds it.
+#[derive(Clone, Copy)]
+pub enum Label {
+    New,
+    Related,
+    Established,
+    EstablishedReply,
+}
+
+/// What became of a packet. `at` is the point of the history at which that was so: after its first
+/// `at` events.
+#[derive(Clone, Copy)]
+pub enum Class {
+    /// A new entry was confirmed for it. `unclaimed` is the point at which no expectation matched.
+    Made {
+        id: u64,
+        at: u64,
+        translated: Translated,
+        unclaimed: Option<u64>,
+    },
+    /// The entry of its flow accepted it.
+    Passed {
+        label: Label,
+        id: u64,
+        at: u64,
+        ftp: Ftp,
+    },
+    /// It would begin a flow, and the table has no room.
+    Full {
+        at: u64,
+    },
+}
+
+/// The verdict on one packet, and which of its thread's events belong to it: `made` of them, from
+/// index `first`.
+#[derive(Clone, Copy)]
+pub struct Verdict {
+    pub class: Class,
+    pub first: u64,
+    pub made: u8,
+}

@@ -1,0 +1,2 @@
+//! The whole program as one call.
+#![tactic(auto)]
