@@ -1,1 +1,13 @@
 pub mod Protocol
+pub mod Record
+pub mod State
+pub mod Event
+pub mod History
+pub mod Point
+pub mod Label
+pub mod Notes
+pub mod Made
+pub mod Passed
+pub mod Full
+pub mod Verdict
+pub mod Laws

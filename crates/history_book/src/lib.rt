@@ -2,6 +2,7 @@
 #![tactic(auto)]
 
 pub mod event;
+pub mod laws;
 pub mod packet;
 pub mod protocol;
 pub mod record;

@@ -1,0 +1,6 @@
+pub mod Points
+pub mod Growth
+pub mod Tuples
+pub mod Entries
+pub mod Pairs
+pub mod Sound

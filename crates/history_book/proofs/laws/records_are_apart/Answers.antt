@@ -1,0 +1,7 @@
+use Rattle.history_book.specs.History.{after}
+use Rattle.history_book.proofs.Pairs.{AllPairs-from_pairs}
+use Rattle.history_book.proofs.Sound.{sound_after}
+use Rattle.history_book.proofs.laws.records_are_apart.Goals as goal
+
+pub returns : goal.returns
+returns c = λ entries log p legal. AllPairs-from_pairs (after log p) (sound_after entries p log legal).apart

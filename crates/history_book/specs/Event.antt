@@ -1,0 +1,80 @@
+-- Which events may happen in a state of the table.
+use Rattle.std.specs.Prelude.{ℕ, Bool, true, false, ◌==◌, ◌&&◌, not, nat_lt, Option, Some, None, List}
+use Rattle.std.specs.List.{list_any}
+use Rattle.tuple_core.specs.Tuple.{is_valid, number_of}
+use Rattle.tuple_core.specs.declared.Direction.{Direction}
+use Rattle.tuple_core.specs.declared.Proto.{Proto}
+use Rattle.tuple_core.specs.declared.Proto.TheVariants as proto
+use Rattle.tuple_core.specs.declared.Segment.{Segment}
+use Rattle.history_book.specs.declared.event.Event.{Event}
+use Rattle.history_book.specs.declared.event.Event.TheVariants.{Confirm, Touch, Destroy}
+use Rattle.history_book.specs.declared.event.Why.{Why}
+use Rattle.history_book.specs.declared.event.Why.TheVariants as why
+use Rattle.history_book.specs.declared.protocol.Outcome.{Outcome}
+use Rattle.history_book.specs.declared.protocol.Outcome.TheVariants as outcome
+use Rattle.history_book.specs.declared.protocol.Part.{Part}
+use Rattle.history_book.specs.declared.protocol.PartKind.{PartKind}
+use Rattle.history_book.specs.declared.protocol.PartKind.TheVariants as kind
+use Rattle.history_book.specs.declared.record.Record.{Record}
+use Rattle.history_book.specs.Protocol.{is_expired, is_of_protocol, step_of}
+use Rattle.history_book.specs.Record.{has_place}
+use Rattle.history_book.specs.State.{is_free, record_of}
+
+-- the protocol that a part is of
+abbrev pub proto_of : PartKind → Proto
+proto_of kind.Udp = proto.Udp
+
+abbrev pub same_proto : Proto → Proto → Bool
+same_proto p q = number_of p == number_of q
+
+-- both tuples are valid and of the protocol of the part
+abbrev pub is_of_one_protocol : Record → Bool
+is_of_one_protocol r =
+    is_valid r.original && is_valid r.reply
+    && same_proto r.original.proto (proto_of r.part.kind) && same_proto r.reply.proto (proto_of r.part.kind)
+
+-- the place is one of the pool's and of no live record
+abbrev pub is_open_place : ℕ → ℕ → List Record → Bool
+is_open_place entries place rs = nat_lt place entries && not (list_any (has_place place) rs)
+
+-- a record may be confirmed as event n: its id is that number, it is of one protocol, its place is
+-- open, and neither of its tuples is live in either direction
+abbrev pub may_confirm : ℕ → List Record → ℕ → Record → Bool
+may_confirm entries rs n r =
+    r.id == n && is_of_one_protocol r && is_open_place entries r.place rs && is_free r.original rs && is_free r.reply rs
+
+abbrev pub same_bool : Bool → Bool → Bool
+same_bool true b = b
+same_bool false b = not b
+
+abbrev pub same_part : Part → Part → Bool
+same_part p q =
+    number_of (proto_of p.kind) == number_of (proto_of q.kind) && same_bool p.replied q.replied
+    && same_bool p.assured q.assured && p.deadline == q.deadline
+
+-- the step accepts the packet, and the entry goes on with this part
+abbrev pub accepts : Outcome → Part → Bool
+accepts (outcome.Accept p) after = same_part p after
+accepts outcome.Expired after = false
+
+-- an entry may be touched where it is live, the segment is of its protocol, and the step accepts it
+abbrev pub may_touch : Option Record → Direction → Segment → ℕ → Part → Bool
+may_touch None direction segment moment after = false
+may_touch (Some r) direction segment moment after =
+    is_of_protocol segment r.part.kind && accepts (step_of r.part direction segment moment) after
+
+-- the reason holds of the record
+abbrev pub is_reason : Why → Record → Bool
+is_reason (why.Expired moment) r = is_expired r.part moment
+
+-- an entry may be destroyed where it is live and the reason holds of it
+abbrev pub may_destroy : Option Record → Why → Bool
+may_destroy None why = false
+may_destroy (Some r) why = is_reason why r
+
+-- event n may happen in this state, in a pool of that many entries
+abbrev pub may_happen : ℕ → List Record → ℕ → Event → Bool
+may_happen entries rs n (Confirm r) = may_confirm entries rs n r
+may_happen entries rs n (Touch id direction segment moment after) =
+    may_touch (record_of id rs) direction segment moment after
+may_happen entries rs n (Destroy id why) = may_destroy (record_of id rs) why

@@ -1,0 +1,20 @@
+-- A packet that would begin a flow, while the table has no room.
+use Rattle.std.specs.Prelude.{◌≡◌, ℕ, ◌≤◌, None, List, [], length, IsSome}
+use Rattle.history_book.specs.declared.event.Event.{Event}
+use Rattle.history_book.specs.declared.event.Note.{Note}
+use Rattle.history_book.specs.declared.packet.FlowPacket.{FlowPacket}
+use Rattle.history_book.specs.Point.{At}
+use Rattle.history_book.specs.Protocol.{start_of}
+use Rattle.history_book.specs.State.{live_under}
+
+-- no further event; nothing was live under the packet's tuple at a point from k to this one, and each
+-- of the pool's entries is in use at this one
+pub record FindsNoRoom (entries : ℕ) (log : List Event) (k : ℕ) (packet : FlowPacket) (rest : List Note)
+    (at : ℕ) : Type 0 where
+  pub own : rest ≡ []
+  pub starts : IsSome (start_of packet.segment packet.moment)
+  pub absent_at : ℕ
+  pub from : k ≤ absent_at
+  pub upto : absent_at ≤ at
+  pub absent : At log absent_at (λ rs. live_under packet.tuple rs ≡ None)
+  pub full : At log at (λ rs. entries ≤ length rs)

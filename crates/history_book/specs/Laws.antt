@@ -1,0 +1,59 @@
+-- What holds of every legal history.
+use Rattle.std.specs.Prelude.{◌≡◌, ◌≢◌, ℕ, ◌<◌, ◌≤◌, true, Some, List, length, slice_get, AllPairs, All}
+use Rattle.history_book.specs.declared.event.Event.{Event}
+use Rattle.history_book.specs.declared.event.Event.TheVariants.{Confirm, Destroy}
+use Rattle.history_book.specs.declared.event.Note.{Note}
+use Rattle.history_book.specs.declared.event.Why.{Why}
+use Rattle.history_book.specs.declared.packet.FlowPacket.{FlowPacket}
+use Rattle.history_book.specs.declared.record.Record.{Record}
+use Rattle.history_book.specs.declared.verdict.Class.{Class}
+use Rattle.history_book.specs.History.{after, is_legal}
+use Rattle.history_book.specs.Point.{StartsWith}
+use Rattle.history_book.specs.Verdict.{Fits}
+
+-- two records share no id, no place, and no tuple in either direction
+pub record AreApart (r s : Record) : Type 0 where
+  pub ids : r.id ≢ s.id
+  pub places : r.place ≢ s.place
+  pub originals : r.original ≢ s.original
+  pub original_reply : r.original ≢ s.reply
+  pub reply_original : r.reply ≢ s.original
+  pub replies : r.reply ≢ s.reply
+
+-- in every state of a legal history any two records are apart
+abbrev pub RecordsAreApart : Type 0
+RecordsAreApart =
+    (entries : ℕ) (log : List Event) (p : ℕ) → is_legal entries log ≡ true → AllPairs AreApart (after log p)
+
+-- all of a record but its part is as it was confirmed
+pub record IsSameEntry (s r : Record) : Type 0 where
+  pub id : r.id ≡ s.id
+  pub place : r.place ≡ s.place
+  pub original : r.original ≡ s.original
+  pub reply : r.reply ≡ s.reply
+  pub helper : r.helper ≡ s.helper
+  pub master : r.master ≡ s.master
+
+-- the Confirm at the number of its id made this record
+pub record IsConfirmed (log : List Event) (r : Record) : Type 0 where
+  pub subject : Record
+  pub event : slice_get log r.id ≡ Some (Confirm subject)
+  pub same : IsSameEntry subject r
+
+-- each live record is that of the Confirm at its id
+abbrev pub LiveRecordsAreConfirmed : Type 0
+LiveRecordsAreConfirmed =
+    (entries : ℕ) (log : List Event) (p : ℕ) → is_legal entries log ≡ true → All (IsConfirmed log) (after log p)
+
+-- an id that was destroyed is never live again
+abbrev pub DestroyedIdsStayDead : Type 0
+DestroyedIdsStayDead =
+    (entries : ℕ) (log : List Event) (n p id : ℕ) (why : Why) → is_legal entries log ≡ true
+    → slice_get log n ≡ Some (Destroy id why) → n < p → p ≤ length log
+    → All (λ r. r.id ≢ id) (after log p)
+
+-- a verdict that fits still fits when the history goes on
+abbrev pub VerdictsStillFit : Type 0
+VerdictsStillFit =
+    (entries : ℕ) (log longer : List Event) (mark : ℕ) (packet : FlowPacket) (own : List Note) (class : Class)
+    → StartsWith longer log → Fits entries log mark packet own class → Fits entries longer mark packet own class

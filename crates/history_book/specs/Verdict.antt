@@ -1,0 +1,62 @@
+-- When a verdict fits a packet and the events that the packet made.
+use Rattle.std.specs.Prelude.{◌≡◌, ℕ, ◌+◌, ◌≤◌, Some, None, List, [], ◌∷◌, ◌++◌, length}
+use Rattle.history_book.specs.declared.event.Event.{Event}
+use Rattle.history_book.specs.declared.event.Event.TheVariants.{Confirm, Touch, Destroy}
+use Rattle.history_book.specs.declared.event.Note.{Note}
+use Rattle.history_book.specs.declared.event.Why.{Why}
+use Rattle.history_book.specs.declared.event.Why.TheVariants as why
+use Rattle.history_book.specs.declared.packet.FlowPacket.{FlowPacket}
+use Rattle.history_book.specs.declared.verdict.Class.{Class}
+use Rattle.history_book.specs.declared.verdict.Class.TheVariants as class
+use Rattle.history_book.specs.Full.{FindsNoRoom}
+use Rattle.history_book.specs.Made.{Makes}
+use Rattle.history_book.specs.Notes.{Happened, mark_past}
+use Rattle.history_book.specs.Passed.{Passes}
+use Rattle.history_book.specs.Point.{At}
+use Rattle.history_book.specs.State.{Found, live_under}
+
+-- a packet may kill an entry for this reason: it was expired at the packet's moment
+abbrev pub IsKillReason : FlowPacket → Why → Type 0
+IsKillReason packet (why.Expired moment) = moment ≡ packet.moment
+
+-- the event destroys the entry that was found, for such a reason
+abbrev pub IsKillOf : FlowPacket → Found → Event → Type 0
+IsKillOf packet found (Confirm r) = ⊥
+IsKillOf packet found (Touch id direction segment moment after) = ⊥
+IsKillOf packet found (Destroy id why) = (id ≡ found.subject.id) × IsKillReason packet why
+
+-- the packet killed the entry that was live under its tuple
+pub record Kills (log : List Event) (mark : ℕ) (packet : FlowPacket) (note : Note) : Type 0 where
+  pub happened : Happened log mark note
+  pub found : Found
+  pub live : At log note.number (λ rs. live_under packet.tuple rs ≡ Some found)
+  pub kill : IsKillOf packet found note.event
+
+-- the packet killed one entry after another
+abbrev pub KillsAll : List Event → ℕ → FlowPacket → List Note → Type 0
+KillsAll log mark packet [] = Unit {0}
+KillsAll log mark packet (n ∷ ns) = Kills log mark packet n × KillsAll log (n.number + 1) packet ns
+
+-- the class fits what the packet did from point k on
+abbrev pub FitsClass : ℕ → List Event → ℕ → FlowPacket → List Note → Class → Type 0
+FitsClass entries log k packet rest (class.Made id at translated unclaimed) =
+    Makes log k packet rest id at translated unclaimed
+FitsClass entries log k packet rest (class.Passed label id at ftp) = Passes log k packet rest label id at ftp
+FitsClass entries log k packet rest (class.Full at) = FindsNoRoom entries log k packet rest at
+
+-- the packet's own events are at most four kills, and then those of its class
+pub record Fits (entries : ℕ) (log : List Event) (mark : ℕ) (packet : FlowPacket) (own : List Note)
+    (verdict : Class) : Type 0 where
+  pub kills : List Note
+  pub rest : List Note
+  pub all : own ≡ kills ++ rest
+  pub few : length kills ≤ 4
+  pub killed : KillsAll log mark packet kills
+  pub fits : FitsClass entries log (mark_past mark kills) packet rest verdict
+
+-- the points that a verdict names
+abbrev pub points_of : Class → List ℕ
+points_of (class.Made id at translated None) = at ∷ []
+points_of (class.Made id at translated (Some p)) = p ∷ at ∷ []
+points_of (class.Passed label id at ftp) = at ∷ []
+points_of (class.Full at) = at ∷ []
