@@ -1,5 +1,7 @@
+pub mod FindSteps
 pub mod Points
 pub mod Growth
+pub mod Histories
 pub mod Tuples
 pub mod Entries
 pub mod Pairs

@@ -78,3 +78,9 @@ may_happen entries rs n (Confirm r) = may_confirm entries rs n r
 may_happen entries rs n (Touch id direction segment moment after) =
     may_touch (record_of id rs) direction segment moment after
 may_happen entries rs n (Destroy id why) = may_destroy (record_of id rs) why
+
+-- the moment of the packet that an event was made by, where the step reads it
+abbrev pub moment_of : Event → ℕ
+moment_of (Confirm r) = 0
+moment_of (Touch id direction segment moment after) = moment
+moment_of (Destroy id why) = 0

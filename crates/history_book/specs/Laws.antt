@@ -1,5 +1,5 @@
 -- What holds of every legal history.
-use Rattle.std.specs.Prelude.{◌≡◌, ◌≢◌, ℕ, ◌<◌, ◌≤◌, true, Some, List, length, slice_get, AllPairs, All}
+use Rattle.std.specs.Prelude.{◌≡◌, ◌≢◌, ℕ, ◌+◌, ◌<◌, ◌≤◌, true, Some, List, [], ◌∷◌, ◌++◌, length, slice_get, AllPairs, All}
 use Rattle.history_book.specs.declared.event.Event.{Event}
 use Rattle.history_book.specs.declared.event.Event.TheVariants.{Confirm, Destroy}
 use Rattle.history_book.specs.declared.event.Note.{Note}
@@ -7,9 +7,28 @@ use Rattle.history_book.specs.declared.event.Why.{Why}
 use Rattle.history_book.specs.declared.packet.FlowPacket.{FlowPacket}
 use Rattle.history_book.specs.declared.record.Record.{Record}
 use Rattle.history_book.specs.declared.verdict.Class.{Class}
+use Rattle.history_book.specs.Event.{may_happen}
 use Rattle.history_book.specs.History.{after, is_legal}
 use Rattle.history_book.specs.Point.{StartsWith}
+use Rattle.history_book.specs.State.{next}
 use Rattle.history_book.specs.Verdict.{Fits}
+
+-- a legal history goes on with any event that may happen in the state it leaves
+abbrev pub LegalHistoriesGoOn : Type 0
+LegalHistoriesGoOn =
+    (entries : ℕ) (log : List Event) (e : Event) → is_legal entries log ≡ true
+    → may_happen entries (after log (length log)) (length log) e ≡ true → is_legal entries (log ++ e ∷ []) ≡ true
+
+-- the state after one event more is the next of the state before
+abbrev pub StatesFollow : Type 0
+StatesFollow =
+    (log : List Event) (e : Event) → after (log ++ e ∷ []) (length log + 1) ≡ next (after log (length log)) e
+
+-- later events change neither a legal history's first events nor the states at their points
+abbrev pub FirstEventsStay : Type 0
+FirstEventsStay =
+    (entries : ℕ) (log front : List Event) (p : ℕ) → StartsWith log front → is_legal entries log ≡ true → p ≤ length front
+    → (is_legal entries front ≡ true) × (after log p ≡ after front p)
 
 -- two records share no id, no place, and no tuple in either direction
 pub record AreApart (r s : Record) : Type 0 where

@@ -4,6 +4,7 @@ pub mod State
 pub mod Event
 pub mod History
 pub mod Point
+pub mod Find
 pub mod Label
 pub mod Notes
 pub mod Made

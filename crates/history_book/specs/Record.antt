@@ -1,6 +1,8 @@
 -- Tests of one record.
-use Rattle.std.specs.Prelude.{ℕ, Bool, ◌==◌, ◌&&◌, ◌||◌}
+use Rattle.std.specs.Prelude.{ℕ, Bool, ◌==◌, ◌&&◌, ◌||◌, if◌then◌else◌, Option, Some, None}
 use Rattle.tuple_core.specs.Tuple.{number_of}
+use Rattle.tuple_core.specs.declared.Direction.{Direction}
+use Rattle.tuple_core.specs.declared.Direction.TheVariants.{Original, Reply}
 use Rattle.tuple_core.specs.declared.Tuple.{Tuple}
 use Rattle.history_book.specs.declared.record.Record.{Record}
 
@@ -25,3 +27,7 @@ has_reply t r = same_tuple r.reply t
 -- the entry has the tuple in one of its directions
 abbrev pub has_tuple : Tuple → Record → Bool
 has_tuple t r = has_original t r || has_reply t r
+
+-- the direction in which the tuple names the entry, the original one first
+abbrev pub direction_of : Tuple → Record → Option Direction
+direction_of t r = (if has_original t r then Some Original else (if has_reply t r then Some Reply else None))

@@ -1,6 +1,21 @@
 //! What holds of every legal history: each law is the contract of a function that does nothing.
 
-ghost use Rattle.history_book.specs.Laws.{RecordsAreApart, LiveRecordsAreConfirmed, DestroyedIdsStayDead, VerdictsStillFit};
+ghost use Rattle.history_book.specs.Laws.{LegalHistoriesGoOn, StatesFollow, FirstEventsStay, RecordsAreApart, LiveRecordsAreConfirmed, DestroyedIdsStayDead, VerdictsStillFit};
+
+/// A legal history goes on with any event that may happen in the state that it leaves.
+pub fn legal_histories_go_on()
+    ensures { LegalHistoriesGoOn }
+{}
+
+/// The state after one event more follows from the state before.
+pub fn states_follow()
+    ensures { StatesFollow }
+{}
+
+/// The first events of a legal history are a legal history, and have their states whatever comes later.
+pub fn first_events_stay()
+    ensures { FirstEventsStay }
+{}
 
 /// In every state of a legal history no two records share a tuple in either direction, a place or an
 /// id.

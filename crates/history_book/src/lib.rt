@@ -2,9 +2,11 @@
 #![tactic(auto)]
 
 pub mod event;
+pub mod find;
 pub mod laws;
 pub mod packet;
 pub mod protocol;
 pub mod record;
 pub mod report;
+pub mod rule;
 pub mod verdict;

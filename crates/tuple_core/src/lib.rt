@@ -5,7 +5,7 @@
 ghost use Rattle.std.specs.Prelude.{◌≡◌, true};
 ghost use Rattle.tuple_core.specs.Inverse.{inverse};
 ghost use Rattle.tuple_core.specs.Laws.{InverseIsAnInvolution, InverseIsValid};
-ghost use Rattle.tuple_core.specs.Tuple.{is_valid, partner_of};
+ghost use Rattle.tuple_core.specs.Tuple.{is_query_type, is_valid, partner_of};
 
 use std::alloc::AllocError;
 
@@ -82,6 +82,30 @@ fn partner(kind: u16) -> u16
         17 => 18,
         18 => 17,
         _ => kind,
+    }
+}
+
+/// Whether an ICMP type asks or answers, so that it makes a flow (RFC 792).
+fn is_query(kind: u16) -> bool
+    ensures { result ≡ is_query_type kind }
+{
+    matches!(kind, 0 | 8 | 13..=18)
+}
+
+/// Whether a tuple is valid: it is TCP or UDP, or its ICMP type asks or answers.
+pub fn is_valid(t: &Tuple) -> bool
+    ensures { result ≡ is_valid t.now }
+{
+    let Tuple {
+        proto,
+        src: _src,
+        dst: _dst,
+        a: _a,
+        b,
+    } = *t;
+    match proto {
+        Proto::Icmp => is_query(b / 256),
+        Proto::Tcp | Proto::Udp => true,
     }
 }
 
