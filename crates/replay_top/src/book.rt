@@ -1,0 +1,121 @@
+//! The tracker's book: a list of live records, and the history that leaves them.
+
+ghost use Rattle.std.specs.Prelude.{◌≡◌, ◌+◌, ◌<◌, true, Some, [], ◌∷◌, ◌++◌, length, slice_get};
+ghost use Rattle.history_book.specs.declared.event.Event.TheVariants.{Confirm, Destroy};
+ghost use Rattle.history_book.specs.declared.event.Why.TheVariants.{Expired};
+ghost use Rattle.history_book.specs.Event.{may_confirm, may_touch};
+ghost use Rattle.history_book.specs.Protocol.{is_expired};
+ghost use Rattle.replay_top.specs.Book.{Adds, Holds, IsPlain, touch_of};
+ghost use Rattle.replay_top.specs.History.{pool};
+
+use history_book::event::{Event, Numbered, Why};
+use history_book::packet::FlowPacket;
+use history_book::protocol::Part;
+use history_book::record::Record;
+use history_book::report::History;
+use room_list::RoomList;
+use tuple_core::Direction;
+
+/// How many entries the table holds.
+pub const ENTRIES: usize = 65_536;
+
+/// The live records, and the history that leaves them.
+#[derive(Drop)]
+pub struct Book {
+    pub records: RoomList<Record>,
+    pub history: History,
+}
+
+/// A packet that touches a record, and the part that it leaves the record with.
+#[derive(Clone, Copy)]
+pub struct Touched {
+    pub subject: Record,
+    pub direction: Direction,
+    pub packet: FlowPacket,
+    pub after: Part,
+}
+
+impl Book {
+    /// Notes an event of the one thread, made by the packet of this index.
+    fn note(&mut self, index: u32, event: Event)
+        requires { length self.old.history.items < self.old.history.room }
+        ensures history { self.new.history.items ≡ self.old.history.items ++ record { number = length self.old.history.items; thread = 0; index = index; event = event } ∷ [] }
+        ensures room { self.new.history.room ≡ self.old.history.room }
+        ensures records { self.new.records ≡ self.old.records }
+    {
+        let number = self.history.len() as u64;
+        self.history.push(Numbered {
+            number,
+            thread: 0,
+            index,
+            event,
+        });
+    }
+
+    /// Confirms a new entry.
+    pub fn confirm(&mut self, index: u32, subject: &Record)
+        requires history_room { length self.old.history.items < self.old.history.room }
+        requires records_room { length self.old.records.items < self.old.records.room }
+        requires holds { Holds self.old }
+        requires may { may_confirm pool self.old.records.items (length self.old.history.items) subject.now ≡ true }
+        requires plain { IsPlain subject.now }
+        ensures adds { Adds self.old self.new index (Confirm subject.now) }
+        ensures holds { Holds self.new }
+    {
+        self.note(index, Event::Confirm { subject: *subject });
+        self.records.push(*subject);
+    }
+
+    /// Gives the record at `at`, which is `subject`, the part that the packet leaves it with.
+    pub fn touch(&mut self, index: u32, at: usize, touched: &Touched)
+        requires history_room { length self.old.history.items < self.old.history.room }
+        requires holds { Holds self.old }
+        requires item { slice_get self.old.records.items at ≡ Some touched.now.subject }
+        requires may { may_touch (Some touched.now.subject) touched.now.direction touched.now.packet.segment touched.now.packet.moment touched.now.after ≡ true }
+        ensures adds { Adds self.old self.new index (touch_of touched.now) }
+        ensures holds { Holds self.new }
+    {
+        let Touched {
+            subject,
+            direction,
+            packet,
+            after,
+        } = *touched;
+        self.note(
+            index,
+            Event::Touch {
+                id: subject.id,
+                direction,
+                segment: packet.segment,
+                moment: packet.moment,
+                after,
+            },
+        );
+        self.records.set(
+            at,
+            Record {
+                part: after,
+                ..subject
+            },
+        );
+    }
+
+    /// Destroys the record at `at`, which is `subject` and was expired at `moment`.
+    pub fn kill(&mut self, index: u32, at: usize, subject: &Record, moment: u64)
+        requires history_room { length self.old.history.items < self.old.history.room }
+        requires holds { Holds self.old }
+        requires item { slice_get self.old.records.items at ≡ Some subject.now }
+        requires expired { is_expired subject.now.part moment ≡ true }
+        ensures adds { Adds self.old self.new index (Destroy subject.now.id (Expired moment)) }
+        ensures holds { Holds self.new }
+    {
+        let _ = self.records.remove(at);
+        self.note(
+            index,
+            Event::Destroy {
+                id: subject.id,
+                why: Why::Expired { moment },
+            },
+        );
+    }
+}
