@@ -1,2 +1,6 @@
 pub mod Books
+pub mod Flows
 pub mod Records
+pub mod Steps
+pub mod Tests
+pub mod Tracks
