@@ -10,7 +10,7 @@ use Rattle.history_book.specs.declared.packet.FlowPacket.{FlowPacket}
 use Rattle.history_book.specs.declared.protocol.PartKind.{PartKind}
 use Rattle.history_book.specs.declared.protocol.PartKind.TheVariants as kind
 use Rattle.history_book.specs.Protocol.{is_of_protocol, start_of}
-use Rattle.replay_top.specs.Flow.{is_udp, is_udp_flow}
+use Rattle.replay_top.specs.Flow.{is_udp, is_flow}
 
 pub record IsFlow (p : FlowPacket) : Type 0 where
   pub valid : is_valid p.tuple ≡ true
@@ -23,7 +23,7 @@ is_udp-true (Tcp kind) h = absurd (false≢true h)
 is_udp-true Udp h = refl
 is_udp-true (Icmp kind) h = absurd (false≢true h)
 
-pub flow_of : (p : FlowPacket) → is_udp_flow p ≡ true → IsFlow p
+pub flow_of : (p : FlowPacket) → is_flow p ≡ true → IsFlow p
 flow_of p h =
     let a = and_parts _ (nat_le p.moment (10 ^ 16)) h in
     let b = and_parts _ (is_udp p.segment) a.0 in
@@ -35,10 +35,10 @@ flow_of p h =
       moment = leb-true p.moment (10 ^ 16) a.1;
     }
 
-pub udp_starts : (p : FlowPacket) → is_udp_flow p ≡ true → IsSome (start_of p.segment p.moment) × (p.moment ≤ 10 ^ 16)
+pub udp_starts : (p : FlowPacket) → is_flow p ≡ true → IsSome (start_of p.segment p.moment) × (p.moment ≤ 10 ^ 16)
 udp_starts p h =
     let flow : IsFlow p = flow_of p h in
     (subst (λ (s : Segment). IsSome (start_of s p.moment)) (sym flow.segment) refl, flow.moment)
 
-pub udp_of_protocol : (p : FlowPacket) (k : PartKind) → is_udp_flow p ≡ true → is_of_protocol p.segment k ≡ true
+pub udp_of_protocol : (p : FlowPacket) (k : PartKind) → is_flow p ≡ true → is_of_protocol p.segment k ≡ true
 udp_of_protocol p kind.Udp h = ap (λ s. is_of_protocol s kind.Udp) (flow_of p h).segment

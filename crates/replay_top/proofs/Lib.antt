@@ -1,4 +1,5 @@
 pub mod Books
+pub mod CaptureRecords
 pub mod Flows
 pub mod Records
 pub mod Steps

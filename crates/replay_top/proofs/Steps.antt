@@ -39,7 +39,7 @@ use Rattle.history_book.proofs.Tuples.{same_tuple-true}
 use Rattle.replay_top.specs.declared.book.Book.{Book}
 use Rattle.replay_top.specs.declared.book.Touched.{Touched}
 use Rattle.replay_top.specs.Book.{Adds, Holds, PlacesBelow, touch_of}
-use Rattle.replay_top.specs.Flow.{is_udp_flow}
+use Rattle.replay_top.specs.Flow.{is_flow}
 use Rattle.replay_top.specs.History.{events_of, pool}
 use Rattle.replay_top.specs.Track.{Begins, Handled, StepsTo}
 use Rattle.replay_top.proofs.Books.{events-push, length-events, pairs_of}
@@ -166,7 +166,7 @@ same_part-refl p =
     and_from _ _ (and_from _ _ (and_from _ _ (eq-eqb _ _ refl) (same_bool-refl p.replied)) (same_bool-refl p.assured))
     (eq-eqb p.deadline p.deadline refl)
 
-pub may_touch_here : (hit : Hit) (packet : FlowPacket) (rs : List Record) (part : Part) (s : Record) → is_udp_flow packet ≡ true
+pub may_touch_here : (hit : Hit) (packet : FlowPacket) (rs : List Record) (part : Part) (s : Record) → is_flow packet ≡ true
     → StepsTo hit packet rs (Accept part) → slice_get rs hit.index ≡ Some s
     → may_touch (Some s) hit.direction packet.segment packet.moment part ≡ true
 may_touch_here hit packet rs part s flow steps item =
@@ -207,7 +207,7 @@ live_at old new t o holds starts live =
       fact = subst (λ (rs : List Record). live_under t rs ≡ o) here live;
     }
 
-pub handled_full : (book : Book) (index : ℕ) (packet : FlowPacket) → Holds book → is_udp_flow packet ≡ true
+pub handled_full : (book : Book) (index : ℕ) (packet : FlowPacket) → Holds book → is_flow packet ≡ true
     → live_under packet.tuple book.records.items ≡ None → pool ≤ length book.records.items
     → Handled book book index packet
     (record { class = class.Full (length book.history.items); first = length book.history.items; made = 0 })

@@ -1,5 +1,6 @@
 -- The packets that are tracked so far: those of UDP flows.
-use Rattle.std.specs.Prelude.{Bool, true, false, ◌&&◌, ◌^◌, ◌==◌, nat_le}
+use Rattle.std.specs.Prelude.{◌≡◌, Bool, true, false, ◌&&◌, ◌^◌, ◌==◌, nat_le, List}
+use Rattle.std.specs.List.{list_all}
 use Rattle.tuple_core.specs.Tuple.{is_valid, number_of}
 use Rattle.tuple_core.specs.declared.Proto.TheVariants as proto
 use Rattle.tuple_core.specs.declared.Segment.{Segment}
@@ -12,5 +13,8 @@ is_udp Udp = true
 is_udp (Icmp kind) = false
 
 -- a packet of a UDP flow, at a moment that a capture can name
-abbrev pub is_udp_flow : FlowPacket → Bool
-is_udp_flow p = is_valid p.tuple && number_of p.tuple.proto == number_of proto.Udp && is_udp p.segment && nat_le p.moment (10 ^ 16)
+abbrev pub is_flow : FlowPacket → Bool
+is_flow p = is_valid p.tuple && number_of p.tuple.proto == number_of proto.Udp && is_udp p.segment && nat_le p.moment (10 ^ 16)
+
+abbrev pub AreFlows : List FlowPacket → Type 0
+AreFlows packets = list_all is_flow packets ≡ true

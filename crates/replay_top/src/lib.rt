@@ -2,4 +2,5 @@
 #![tactic(auto)]
 
 mod book;
+mod capture;
 mod track;

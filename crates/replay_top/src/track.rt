@@ -8,7 +8,7 @@ ghost use Rattle.history_book.specs.Protocol.{start_of};
 ghost use Rattle.history_book.specs.Record.{has_place, has_tuple};
 ghost use Rattle.history_book.specs.State.{live_under};
 ghost use Rattle.replay_top.specs.Book.{Holds, PlacesBelow};
-ghost use Rattle.replay_top.specs.Flow.{is_udp_flow};
+ghost use Rattle.replay_top.specs.Flow.{is_flow};
 ghost use Rattle.replay_top.specs.History.{pool};
 ghost use Rattle.replay_top.specs.Track.{Begins, Handled, StepsTo};
 
@@ -23,7 +23,7 @@ use tuple_core::invert;
 /// The part of the entry that begins with a packet.
 #[tactic(auto, using(crate::proofs::Flows::udp_starts))]
 fn first_part(packet: &FlowPacket) -> Part
-    requires { is_udp_flow packet.now ≡ true }
+    requires { is_flow packet.now ≡ true }
     ensures { start_of packet.now.segment packet.now.moment ≡ Some result }
 {
     match start(packet.segment, packet.moment) {
@@ -34,7 +34,7 @@ fn first_part(packet: &FlowPacket) -> Part
 
 /// Confirms a new entry for a packet whose tuple has none, in a place that no entry has.
 fn make(book: &mut Book, index: u32, packet: &FlowPacket, place: u32) -> Class
-    requires flow { is_udp_flow packet.now ≡ true }
+    requires flow { is_flow packet.now ≡ true }
     requires holds { Holds book.old }
     requires absent { list_any (has_tuple packet.now.tuple) book.old.records.items ≡ false }
     requires place { list_any (has_place place) book.old.records.items ≡ false }
@@ -65,7 +65,7 @@ fn make(book: &mut Book, index: u32, packet: &FlowPacket, place: u32) -> Class
 
 /// Begins a flow for a packet whose tuple has no entry, if the table has room.
 fn begin(book: &mut Book, index: u32, packet: &FlowPacket) -> Verdict
-    requires flow { is_udp_flow packet.now ≡ true }
+    requires flow { is_flow packet.now ≡ true }
     requires holds { Holds book.old }
     requires absent { live_under packet.now.tuple book.old.records.items ≡ None }
     requires places { PlacesBelow (length book.old.records.items) book.old.records.items }
@@ -94,7 +94,7 @@ fn begin(book: &mut Book, index: u32, packet: &FlowPacket) -> Verdict
 
 /// Touches the entry that a packet found, which goes on with the part `after`.
 fn pass(book: &mut Book, index: u32, packet: &FlowPacket, hit: Hit, after: Part) -> Verdict
-    requires flow { is_udp_flow packet.now ≡ true }
+    requires flow { is_flow packet.now ≡ true }
     requires holds { Holds book.old }
     requires hit { IsHit packet.now.tuple book.old.records.items hit }
     requires accepted { StepsTo hit packet.now book.old.records.items (Accept after) }
@@ -128,7 +128,7 @@ fn pass(book: &mut Book, index: u32, packet: &FlowPacket, hit: Hit, after: Part)
 
 /// Kills the expired entry that a packet found, and begins a flow in its place.
 fn replace(book: &mut Book, index: u32, packet: &FlowPacket, hit: Hit) -> Verdict
-    requires flow { is_udp_flow packet.now ≡ true }
+    requires flow { is_flow packet.now ≡ true }
     requires holds { Holds book.old }
     requires hit { IsHit packet.now.tuple book.old.records.items hit }
     requires expired { StepsTo hit packet.now book.old.records.items Expired }
@@ -154,7 +154,7 @@ fn replace(book: &mut Book, index: u32, packet: &FlowPacket, hit: Hit) -> Verdic
 /// Handles one packet: the entry of its flow accepts it, or, where there is none or it is expired, a
 /// flow begins.
 pub fn handle(book: &mut Book, index: u32, packet: &FlowPacket) -> Verdict
-    requires flow { is_udp_flow packet.now ≡ true }
+    requires flow { is_flow packet.now ≡ true }
     requires holds { Holds book.old }
     requires places { PlacesBelow (length book.old.records.items) book.old.records.items }
     requires most { length book.old.records.items ≤ pool }
