@@ -4,5 +4,6 @@ pub mod Growth
 pub mod Histories
 pub mod Tuples
 pub mod Entries
+pub mod Marks
 pub mod Pairs
 pub mod Sound

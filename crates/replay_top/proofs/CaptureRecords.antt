@@ -1,5 +1,5 @@
 -- The records of a capture are determined by its bytes.
-use Rattle.std.proofs.Common.{◌≡◌, ℕ, ◌<◌, ◌≤◌, Bool, true, false, ◌&&◌, cond, List, [], ◌∷◌, ◌++◌, length, Option, Some, None, refl, sym, ap, ◌∙◌, subst, arith}
+use Rattle.std.proofs.Common.{◌≡◌, ℕ, ◌<◌, ◌≤◌, Bool, true, false, ◌&&◌, cond, List, [], ◌∷◌, ◌++◌, length, Option, Some, None, refl, sym, ap, ◌∙◌, subst, arith, length-append}
 use Rattle.std.proofs.lemmas.Bool.Decides.{nat_tests}
 use Rattle.std.proofs.lemmas.List.Folds.{list_all-append}
 use Rattle.std.proofs.lemmas.Option.{none-some, same_Some}
@@ -40,16 +40,18 @@ pub record HasRead (bytes : List ℕ) (packets : List FlowPacket) (at : ℕ) : T
   pub within : at ≤ length bytes
   pub records : Packets bytes 24 packets at
   pub flows : AreFlows packets
+  pub few : length packets ≤ at
 
 -- one record more was read
 pub read_more : (bytes : List ℕ) (packets new : List FlowPacket) (at : ℕ) (step : Step)
-    → HasRead bytes packets at → Some step ≡ packet_at bytes at → step.next ≤ length bytes
+    → HasRead bytes packets at → Some step ≡ packet_at bytes at → step.next ≤ length bytes → at < step.next
     → is_flow step.packet ≡ true → new ≡ packets ++ step.packet ∷ [] → HasRead bytes new step.next
-read_more bytes packets new at step read stands within flow longer =
+read_more bytes packets new at step read stands within forward flow longer =
     let more : HasRead bytes (packets ++ step.packet ∷ []) step.next = record {
       within = within;
       records = more_packets bytes 24 at packets step read.records (sym stands);
       flows = list_all-append is_flow packets (step.packet ∷ []) ∙ both _ _ read.flows flow;
+      few = omega (arith, read.few, length-append packets (step.packet ∷ []));
     } in
     subst (λ xs. HasRead bytes xs step.next) (sym longer) more
 

@@ -245,6 +245,7 @@ handled_full book index packet holds flow absent full =
       history_room = refl;
       records_room = refl;
       records = omega arith;
+      most = λ h. h;
     }
 
 pub handled_passed : (old new : Book) (index : ℕ) (packet : FlowPacket) (hit : Hit) (s : Record) (part : Part) (label : Label)
@@ -290,6 +291,7 @@ handled_passed old new index packet hit s part label holds is_hit item adds labe
       history_room = adds.history_room;
       records_room = adds.records_room;
       records = omega (arith, ap length adds.records, length_touched s.id part old.records.items);
+      most = λ h. omega (arith, h, ap length adds.records, length_touched s.id part old.records.items);
     }
 
 -- what is left beside the killed record
@@ -402,4 +404,32 @@ handled_replaced old mid new index packet hit s verdict holds is_hit item kills 
         length-append mid.records.items (begins.subject ∷ []),
         one_fewer old mid index hit.index s packet.moment holds item kills,
       );
+      most = λ h. omega (
+        arith,
+        h,
+        ap length begins.adds.records,
+        length-append mid.records.items (begins.subject ∷ []),
+        one_fewer old mid index hit.index s packet.moment holds item kills,
+      );
+    }
+
+pub handled_begun : (old new : Book) (index place : ℕ) (packet : FlowPacket) (verdict : Class) → length old.records.items < pool
+    → Begins old new index packet place verdict
+    → Handled old new index packet (record { class = verdict; first = length old.history.items; made = 1 })
+handled_begun old new index place packet verdict room begins =
+    let first : Note = record { number = length old.history.items; event = Confirm begins.subject } in
+    let one : Numbered = record { number = length old.history.items; thread = 0; index = index; event = Confirm begins.subject } in
+    record {
+      own = one ∷ [];
+      history = begins.adds.history;
+      by = (record { thread = refl; index = refl }, tt);
+      few = omega arith;
+      first = refl;
+      made = refl;
+      fits = record { kills = []; rest = first ∷ []; all = refl; few = omega arith; killed = tt; fits = begins.fits };
+      points = begins.points;
+      history_room = begins.adds.history_room;
+      records_room = begins.adds.records_room;
+      records = omega (arith, ap length begins.adds.records, length-append old.records.items (begins.subject ∷ []));
+      most = λ h. omega (arith, room, ap length begins.adds.records, length-append old.records.items (begins.subject ∷ []));
     }

@@ -4,4 +4,5 @@ pub mod Capture
 pub mod Flow
 pub mod Header
 pub mod History
+pub mod Report
 pub mod Track

@@ -43,6 +43,7 @@ pub record Handled (old new : Book) (index : ℕ) (packet : FlowPacket) (verdict
   pub history_room : new.history.room ≡ old.history.room
   pub records_room : new.records.room ≡ old.records.room
   pub records : length new.records.items ≤ length old.records.items + 1
+  pub most : length old.records.items ≤ pool → length new.records.items ≤ pool
 
 -- the packet does this to the record at the hit's index
 pub record StepsTo (hit : Hit) (packet : FlowPacket) (rs : List Record) (outcome : Outcome) : Type 0 where

@@ -204,6 +204,7 @@ fn read_records(alloc: Global, bytes: &[u8]) -> Result<Option<FlowPackets>, NoMe
         (HasNoPackets bytes.now)
         (λ packets. Packets bytes.now 24 packets.items (length bytes.now))) }
     ensures flows { IfOk result (λ found. IfSome found (λ packets. AreFlows packets.items)) }
+    ensures few { IfOk result (λ found. IfSome found (λ packets. length packets.items ≤ length bytes.now)) }
 {
     let mut packets = FlowPackets::new(alloc, 0)?;
     let mut at = FILE_HEADER;
@@ -224,6 +225,7 @@ pub fn read_plain(alloc: Global, bytes: &[u8]) -> Result<Option<FlowPackets>, No
         (IsNoPlainCapture bytes.now)
         (λ packets. IsPlainCapture bytes.now packets.items)) }
     ensures flows { IfOk result (λ found. IfSome found (λ packets. AreFlows packets.items)) }
+    ensures few { IfOk result (λ found. IfSome found (λ packets. length packets.items ≤ length bytes.now)) }
 {
     if bytes.len() <= MOST_BYTES && is_file_header(bytes) {
         read_records(alloc, bytes)

@@ -3,4 +3,5 @@
 
 mod book;
 mod capture;
+mod replay;
 mod track;

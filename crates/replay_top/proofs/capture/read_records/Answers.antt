@@ -12,4 +12,4 @@ records-preserved c =
     let longer : c.push.new.self.items ≡ c.records.packets.items ++ c.in-Some.step.packet ∷ [] = search rules in
     read_more c.args.bytes.now c.records.packets.items c.push.new.self.items c.records.at
     c.in-Some.step c.records.invariant c.in-Some.ensures.exact
-    c.in-Some.ensures.within c.in-Some.ensures.flow longer
+    c.in-Some.ensures.within c.in-Some.ensures.forward c.in-Some.ensures.flow longer

@@ -1,5 +1,5 @@
 use Rattle.std.proofs.Common.{arith}
-use Rattle.replay_top.proofs.Steps.{absent_from, handled_full, place_open, places_begin, places_more}
+use Rattle.replay_top.proofs.Steps.{absent_from, handled_begun, handled_full, place_open, places_begin, places_more}
 use Rattle.replay_top.proofs.track.begin.Goals as goal
 
 pub returns-then-place-ge-ENTRIES-clause-handled : goal.returns-then-place-ge-ENTRIES-clause-handled
@@ -17,3 +17,9 @@ pub returns-clause-places : goal.returns-clause-places
 returns-clause-places c =
     places_begin c.args.book.now c.make-class.new.book c.args.index c.len-place.result c.args.packet.now c.make-class.result
     c.make-class.ensures.begins (places_more _ _ c.args.book.now.records.items (omega arith) c.requires.places) (omega arith)
+
+pub returns-clause-handled : goal.returns-clause-handled
+returns-clause-handled c =
+    rw c.len-first.ensures.exact
+    (handled_begun c.args.book.now c.make-class.new.book c.args.index c.len-place.result c.args.packet.now c.make-class.result
+    (omega arith) c.make-class.ensures.begins)
