@@ -1,2 +1,5 @@
 //! The whole program as one call.
 #![tactic(auto)]
+
+mod line;
+mod text;
