@@ -3,3 +3,6 @@
 
 mod line;
 mod text;
+mod write;
+
+pub use write::{WriteFault, write_all};

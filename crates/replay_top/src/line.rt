@@ -3,7 +3,7 @@
 
 ghost use Rattle.std.specs.Prelude.{◌≡◌, ◌+◌, ◌≤◌, ◌++◌, length, take};
 ghost use Rattle.replay_top.specs.Line;
-ghost use Rattle.replay_top.specs.Line.{class_text, entry_text, event_line, event_text, flow_text, ftp_text, history_head, master_text, point_text, record_text, thread_head, verdict_line, who_text};
+ghost use Rattle.replay_top.specs.Line.{class_text, entry_text, event_line, event_text, flow_text, ftp_text, history_head, master_text, point_text, record_text, script_head, thread_head, verdict_line, who_text};
 
 use crate::text::{put, put_if, put_number, put_tuple};
 use history_book::event::{Event, Numbered, Why};
@@ -298,5 +298,17 @@ pub fn put_thread_head(buffer: &mut [u8], at: usize, thread: usize, packets: usi
     let at = put_number(buffer, at, thread);
     let at = put(buffer, at, b" packets ");
     let at = put_number(buffer, at, packets);
+    put(buffer, at, b"\n")
+}
+
+/// Writes the line before the answers to a script.
+#[tactic(auto, unfolding(crate::specs::Line::script_head))]
+pub fn put_script_head(buffer: &mut [u8], at: usize, commands: usize) -> usize
+    requires { at + LONGEST_LINE ≤ length buffer.old }
+    ensures end { result ≤ at + LONGEST_LINE }
+    ensures text { take result buffer.new ≡ take at buffer.old ++ script_head commands }
+{
+    let at = put(buffer, at, b"script ");
+    let at = put_number(buffer, at, commands);
     put(buffer, at, b"\n")
 }
