@@ -1,13 +1,13 @@
 -- How writes in a row are one write.
 use Rattle.std.proofs.Common.{◌≡◌, ℕ, ◌+◌, ◌<◌, ◌≤◌, List, [], ◌++◌, length, get_or, take, drop, Option, None, Some, Result, Ok, Err, IsErr, refl, sym, ◌∙◌, arith, append_assoc, append-nil}
-use Rattle.std.proofs.Math.Seq.{take-add}
+use Rattle.std.proofs.Math.Seq.{take-add, take-append-add, take-append_seam}
 use Rattle.std.proofs.lemmas.List.{take_all, take-append-drop}
 use Rattle.ct_io.specs.Counts.{Rose}
 use Rattle.ct_io.specs.Writing.{Appended}
 use Rattle.ct_io.proofs.Rises.{rose_from_earlier}
 use Rattle.replay_top.specs.declared.write.WriteFault.{WriteFault}
 use Rattle.replay_top.specs.Text.{texts_from}
-use Rattle.replay_top.specs.Wrote.{followed_by, Gathered, Sent, WroteFront}
+use Rattle.replay_top.specs.Wrote.{followed_by, Gathered, Sent, Wrote, WroteFront}
 use Rattle.replay_top.proofs.Texts.{texts_from-more, texts_from-split}
 
 -- a text and then another one behind what is written
@@ -120,3 +120,31 @@ pub sent_each : {X : Type 0} (text : ℕ → X → List ℕ) (xs : List X) (i : 
     (a b : Option (List ℕ)) (held holds : List ℕ) → length xs ≤ i →
     Sent a b held holds (texts_from text 0 (take i xs)) → Sent a b held holds (texts_from text 0 xs)
 sent_each text xs i a b held holds whole s = rw take_all at s
+
+-- a text, and then a call that gathers another one
+pub gathered_then : (a b c : Option (List ℕ)) (held holds buffer one two : List ℕ) (first now last : ℕ)
+    (r : Result ℕ WriteFault) → Sent a b held holds one → first ≤ now →
+    Gathered two holds buffer b c now last r → Gathered (one ++ two) held buffer a c first last r
+gathered_then a b c held holds buffer one two first now last (Ok end) s stay u =
+    sent_then a b c held holds (take end buffer) one two s u
+gathered_then a b c held holds buffer one two first now last (Err fault) s stay u =
+    (rose_from_earlier first now last stay u.0, lost_then a b c held holds one two s u.1)
+
+-- where bytes were lost and none was held back before, first bytes of the text were written
+pub lost_front : (a b : Option (List ℕ)) (text : List ℕ) →
+    (lost : List ℕ) × Sent a b [] lost text → WroteFront text a b
+lost_front a b text (lost, s) =
+    (length s.sent, cc (take-append_seam s.sent lost, s.written, s.kept))
+
+-- a text, and then a call that writes what is still held back of it
+pub wrote_rest : (a b c : Option (List ℕ)) (holds text : List ℕ) (first now last : ℕ)
+    (r : Result (Unit {0}) WriteFault) → Sent a b [] holds text → first ≤ now →
+    Wrote holds b c now last r → Wrote text a c first last r
+wrote_rest a b c holds text first now last (Ok done) s stay u = cc (followed_by-append a s.sent holds)
+wrote_rest a b c holds text first now last (Err fault) s stay u = (
+  rose_from_earlier first now last stay u.0,
+  (
+    length s.sent + u.1.0,
+    cc (followed_by-append a s.sent (take u.1.0 holds), take-append-add s.sent holds u.1.0),
+  ),
+)

@@ -25,7 +25,10 @@ unfoldable pub thread_text : ℕ → Roomed Verdict → List ℕ
 thread_text thread verdicts =
     thread_head thread (length verdicts.items) ++ texts_from verdict_line 0 verdicts.items
 
--- the events, each thread's verdicts, and the answers to a script, of which there are none
+-- the events, and each thread's verdicts
+unfoldable pub tracking_text : Report → List ℕ
+tracking_text report = history_text report.history.items ++ texts_from thread_text 0 report.threads.items
+
+-- what the tracking gave, and then the answers to a script, of which there are none
 unfoldable pub report_text : Report → List ℕ
-report_text report =
-    history_text report.history.items ++ texts_from thread_text 0 report.threads.items ++ script_head 0
+report_text report = tracking_text report ++ script_head 0

@@ -1,8 +1,9 @@
 //! The whole program as one call.
 #![tactic(auto)]
 
+mod gather;
 mod line;
 mod text;
 mod write;
 
-pub use write::{WriteFault, write_all};
+pub use write::{WriteFault, write_all, write_report};
