@@ -1,3 +1,6 @@
 pub mod Counts
+pub mod MemFiles
+pub mod MemSink
 pub mod Reading
+pub mod Untold
 pub mod Writing

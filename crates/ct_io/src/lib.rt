@@ -3,10 +3,22 @@
 //! each call may fail, and each failure shows in a count.
 #![tactic(auto)]
 
+mod counts;
 mod files;
 mod gate;
+mod mem_file;
+mod mem_files;
+mod mem_sink;
 mod sink;
+mod std_files;
+mod std_sink;
+#[cfg(test)]
+mod tests;
 
 pub use files::{Failed, Files};
 pub use gate::{Crossing, Gate, NoGate};
+pub use mem_files::MemFiles;
+pub use mem_sink::MemSink;
 pub use sink::Sink;
+pub use std_files::StdFiles;
+pub use std_sink::StdSink;
