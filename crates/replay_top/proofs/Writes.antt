@@ -1,5 +1,5 @@
 -- How writes in a row are one write.
-use Rattle.std.proofs.Common.{◌≡◌, ℕ, ◌+◌, ◌<◌, ◌≤◌, List, [], ◌++◌, length, get_or, take, drop, Option, None, Some, Result, Ok, Err, IsErr, refl, sym, ◌∙◌, arith, append_assoc, append-nil}
+use Rattle.std.proofs.Common.{◌≡◌, ℕ, ◌+◌, ◌<◌, ◌≤◌, List, [], ◌++◌, length, get_or, take, drop, Option, None, Some, Result, Ok, Err, IsErr, refl, sym, ◌∙◌, ap, arith, append_assoc, append-nil, length-append, length-drop}
 use Rattle.std.proofs.Math.Seq.{take-add, take-append-add, take-append_seam}
 use Rattle.std.proofs.lemmas.List.{take_all, take-append-drop}
 use Rattle.ct_io.specs.Counts.{Rose}
@@ -7,7 +7,7 @@ use Rattle.ct_io.specs.Writing.{Appended}
 use Rattle.ct_io.proofs.Rises.{rose_from_earlier}
 use Rattle.replay_top.specs.declared.write.WriteFault.{WriteFault}
 use Rattle.replay_top.specs.Text.{texts_from}
-use Rattle.replay_top.specs.Wrote.{followed_by, Gathered, Sent, Wrote, WroteFront}
+use Rattle.replay_top.specs.Wrote.{followed_by, Gathered, Lost, Sent, Wrote, WroteFront}
 use Rattle.replay_top.proofs.Texts.{texts_from-more, texts_from-split}
 
 -- a text and then another one behind what is written
@@ -44,11 +44,14 @@ sent_nothing a held = record { sent = []; written = followed_by-nothing a; kept 
 pub sent_held : (a b : Option (List ℕ)) (held : List ℕ) → b ≡ followed_by a held → Sent a b held [] []
 sent_held a b held e = record { sent = held; written = e; kept = refl }
 
--- some first bytes of what was held back were written
-pub sent_front : (a b : Option (List ℕ)) (held : List ℕ) → WroteFront held a b →
-    (lost : List ℕ) × Sent a b held lost []
-sent_front a b held (n, e) =
-    (drop n held, record { sent = take n held; written = e; kept = take-append-drop n held ∙ sym (append-nil held) })
+-- only some first bytes of what was held back were written
+pub lost_held : (a b : Option (List ℕ)) (held : List ℕ) → WroteFront held a b →
+    Lost a b held []
+lost_held a b held (n, few, e) = record {
+  lost = drop n held;
+  some = omega (arith, length-drop n held);
+  sent = record { sent = take n held; written = e; kept = take-append-drop n held ∙ sym (append-nil held) };
+}
 
 -- a text and then another one
 pub sent_then : (a b c : Option (List ℕ)) (held holds rest one two : List ℕ) →
@@ -68,20 +71,28 @@ sent_behind a b held holds rest one two s e = record {
   kept = cc (append_assoc s.sent holds two, append_assoc held one two);
 }
 
+-- bytes were lost, and more text would have come
+pub lost_more : (a b : Option (List ℕ)) (held one two : List ℕ) →
+    Lost a b held one → Lost a b held (one ++ two)
+lost_more a b held one two l = record {
+  lost = l.lost ++ two;
+  some = omega (arith, length-append l.lost two, l.some);
+  sent = sent_behind a b held l.lost (l.lost ++ two) one two l.sent refl;
+}
+
 -- first bytes of what was held back are also first bytes of it and a text behind it
 pub lost_line : (a b : Option (List ℕ)) (held line : List ℕ) →
-    (lost : List ℕ) × Sent a b held lost [] → (lost : List ℕ) × Sent a b held lost line
-lost_line a b held line (lost, s) = (lost ++ line, sent_behind a b held lost (lost ++ line) [] line s refl)
-
--- the same where more text would have come
-pub lost_more : (a b : Option (List ℕ)) (held one two : List ℕ) →
-    (lost : List ℕ) × Sent a b held lost one → (lost : List ℕ) × Sent a b held lost (one ++ two)
-lost_more a b held one two (lost, s) = (lost ++ two, sent_behind a b held lost (lost ++ two) one two s refl)
+    Lost a b held [] → Lost a b held line
+lost_line a b held line l = lost_more a b held [] line l
 
 -- a text, and then another one of which bytes were lost
 pub lost_then : (a b c : Option (List ℕ)) (held holds one two : List ℕ) →
-    Sent a b held holds one → (lost : List ℕ) × Sent b c holds lost two → (lost : List ℕ) × Sent a c held lost (one ++ two)
-lost_then a b c held holds one two s (lost, u) = (lost, sent_then a b c held holds lost one two s u)
+    Sent a b held holds one → Lost b c holds two → Lost a c held (one ++ two)
+lost_then a b c held holds one two s l = record {
+  lost = l.lost;
+  some = l.some;
+  sent = sent_then a b c held holds l.lost one two s l.sent;
+}
 
 -- the texts of a list's first items, and then that of the next one
 pub sent_step : {X : Type 0} (text : ℕ → X → List ℕ) (xs : List X) (i : ℕ) (d : X)
@@ -94,17 +105,21 @@ sent_step text xs i d a b c held holds rest within s u =
 -- the same where bytes of the next one were lost
 pub lost_step : {X : Type 0} (text : ℕ → X → List ℕ) (xs : List X) (i : ℕ) (d : X)
     (a b c : Option (List ℕ)) (held holds : List ℕ) → i < length xs →
-    Sent a b held holds (texts_from text 0 (take i xs)) → (lost : List ℕ) × Sent b c holds lost (text i (get_or xs i d)) →
-    (lost : List ℕ) × Sent a c held lost (texts_from text 0 xs)
-lost_step text xs i d a b c held holds within s (lost, u) =
+    Sent a b held holds (texts_from text 0 (take i xs)) → Lost b c holds (text i (get_or xs i d)) →
+    Lost a c held (texts_from text 0 xs)
+lost_step text xs i d a b c held holds within s l =
     rw (texts_from-split text xs (i + 1) (omega arith))
-    (lost_more a c held _ _ (lost, sent_step text xs i d a b c held holds lost within s u))
+    (lost_more a c held _ _ (record {
+      lost = l.lost;
+      some = l.some;
+      sent = sent_step text xs i d a b c held holds l.lost within s l.sent;
+    }))
 
 -- a call that lost bytes, in a row of calls that wrote the items of a list
 pub gathered_step : {X : Type 0} (text : ℕ → X → List ℕ) (xs : List X) (i : ℕ) (d : X)
     (a b c : Option (List ℕ)) (held holds buffer : List ℕ) (first now last : ℕ) (r : Result ℕ WriteFault) →
     IsErr r → i < length xs → Sent a b held holds (texts_from text 0 (take i xs)) → first ≤ now →
-    Rose now last × ((lost : List ℕ) × Sent b c holds lost (text i (get_or xs i d))) →
+    Rose now last × (Lost b c holds (text i (get_or xs i d))) →
     Gathered (texts_from text 0 xs) held buffer a c first last r
 gathered_step text xs i d a b c held holds buffer first now last (Ok end) err within s stay u = cc
 gathered_step text xs i d a b c held holds buffer first now last (Err fault) err within s stay u =
@@ -132,19 +147,19 @@ gathered_then a b c held holds buffer one two first now last (Err fault) s stay 
 
 -- where bytes were lost and none was held back before, first bytes of the text were written
 pub lost_front : (a b : Option (List ℕ)) (text : List ℕ) →
-    (lost : List ℕ) × Sent a b [] lost text → WroteFront text a b
-lost_front a b text (lost, s) =
-    (length s.sent, cc (take-append_seam s.sent lost, s.written, s.kept))
+    Lost a b [] text → WroteFront text a b
+lost_front a b text l =
+    (length l.sent.sent,
+      omega (arith, length-append l.sent.sent l.lost, ap length l.sent.kept, l.some),
+      cc (take-append_seam l.sent.sent l.lost, l.sent.written, l.sent.kept))
 
 -- a text, and then a call that writes what is still held back of it
 pub wrote_rest : (a b c : Option (List ℕ)) (holds text : List ℕ) (first now last : ℕ)
     (r : Result (Unit {0}) WriteFault) → Sent a b [] holds text → first ≤ now →
     Wrote holds b c now last r → Wrote text a c first last r
 wrote_rest a b c holds text first now last (Ok done) s stay u = cc (followed_by-append a s.sent holds)
-wrote_rest a b c holds text first now last (Err fault) s stay u = (
-  rose_from_earlier first now last stay u.0,
-  (
-    length s.sent + u.1.0,
-    cc (followed_by-append a s.sent (take u.1.0 holds), take-append-add s.sent holds u.1.0),
-  ),
-)
+wrote_rest a b c holds text first now last (Err fault) s stay (rose, (n, few, e)) =
+    (rose_from_earlier first now last stay rose,
+      (length s.sent + n,
+        omega (arith, length-append s.sent holds, ap length s.kept, few),
+        cc (followed_by-append a s.sent (take n holds), take-append-add s.sent holds n)))

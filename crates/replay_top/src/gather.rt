@@ -16,7 +16,7 @@ use history_book::verdict::Verdict;
 
 /// Makes room for a line behind the bytes that the buffer holds back, which end at `at`: where it has
 /// too little, they are written. Says where they end now.
-#[tactic(auto, using(crate::proofs::Writes::sent_nothing, crate::proofs::Writes::sent_held, crate::proofs::Writes::sent_front))]
+#[tactic(auto, using(crate::proofs::Writes::sent_nothing, crate::proofs::Writes::sent_held, crate::proofs::Writes::lost_held))]
 fn make_room<K: Sink>(buffer: &[u8], at: usize, out: &mut K) -> Result<usize, WriteFault>
     requires line { LONGEST_LINE ≤ length buffer.now }
     requires within { at ≤ length buffer.now }
