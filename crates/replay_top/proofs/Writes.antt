@@ -148,18 +148,22 @@ gathered_then a b c held holds buffer one two first now last (Err fault) s stay 
 -- where bytes were lost and none was held back before, first bytes of the text were written
 pub lost_front : (a b : Option (List ℕ)) (text : List ℕ) →
     Lost a b [] text → WroteFront text a b
-lost_front a b text l =
-    (length l.sent.sent,
-      omega (arith, length-append l.sent.sent l.lost, ap length l.sent.kept, l.some),
-      cc (take-append_seam l.sent.sent l.lost, l.sent.written, l.sent.kept))
+lost_front a b text l = (
+  length l.sent.sent,
+  omega (arith, length-append l.sent.sent l.lost, ap length l.sent.kept, l.some),
+  cc (take-append_seam l.sent.sent l.lost, l.sent.written, l.sent.kept),
+)
 
 -- a text, and then a call that writes what is still held back of it
 pub wrote_rest : (a b c : Option (List ℕ)) (holds text : List ℕ) (first now last : ℕ)
     (r : Result (Unit {0}) WriteFault) → Sent a b [] holds text → first ≤ now →
     Wrote holds b c now last r → Wrote text a c first last r
 wrote_rest a b c holds text first now last (Ok done) s stay u = cc (followed_by-append a s.sent holds)
-wrote_rest a b c holds text first now last (Err fault) s stay (rose, (n, few, e)) =
-    (rose_from_earlier first now last stay rose,
-      (length s.sent + n,
-        omega (arith, length-append s.sent holds, ap length s.kept, few),
-        cc (followed_by-append a s.sent (take n holds), take-append-add s.sent holds n)))
+wrote_rest a b c holds text first now last (Err fault) s stay (rose, (n, few, e)) = (
+  rose_from_earlier first now last stay rose,
+  (
+    length s.sent + n,
+    omega (arith, length-append s.sent holds, ap length s.kept, few),
+    cc (followed_by-append a s.sent (take n holds), take-append-add s.sent holds n),
+  ),
+)

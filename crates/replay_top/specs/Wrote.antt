@@ -17,7 +17,7 @@ WroteFront text before after =
 -- were written. `before` and `after` are what is written when the call begins and when it ends, and
 -- the two numbers are the counts of faults there.
 abbrev pub Wrote :
-  List ℕ → Option (List ℕ) → Option (List ℕ) → ℕ → ℕ → Result (Unit {0}) WriteFault → Type 0
+    List ℕ → Option (List ℕ) → Option (List ℕ) → ℕ → ℕ → Result (Unit {0}) WriteFault → Type 0
 Wrote text before after faults faults' (Ok done) = after ≡ followed_by before text
 Wrote text before after faults faults' (Err fault) = Rose faults faults' × WroteFront text before after
 
@@ -37,8 +37,8 @@ pub record Lost (before after : Option (List ℕ)) (held text : List ℕ) : Type
 -- The text is written or held back in the buffer, which now holds bytes back up to the index that is
 -- answered; or the count of faults rose, and only some first bytes were written.
 abbrev pub Gathered :
-  List ℕ → List ℕ → List ℕ → Option (List ℕ) → Option (List ℕ) → ℕ → ℕ →
-  Result ℕ WriteFault → Type 0
+    List ℕ → List ℕ → List ℕ → Option (List ℕ) → Option (List ℕ) → ℕ → ℕ →
+    Result ℕ WriteFault → Type 0
 Gathered text held buffer before after faults faults' (Ok end) =
     Sent before after held (take end buffer) text
 Gathered text held buffer before after faults faults' (Err fault) =
