@@ -28,20 +28,27 @@ pub written_more :
     after ≡ followed_by before (take (done + n) piece)
 written_more None now after piece done n e h = cc
 written_more (Some before) now after piece done n e h =
-    rw (take-add done n piece, ← append_assoc before (take done piece) (take n (drop done piece))) (rw e at h)
+    rw (take-add done n piece, ← append_assoc before (take done piece) (take n (drop done piece)))
+    (rw e at h)
 
 -- a write of all bytes of a piece
 pub written_whole :
     (before now : Option (List ℕ)) (piece : List ℕ) (done : ℕ) →
-    now ≡ followed_by before (take done piece) → length piece ≤ done → now ≡ followed_by before piece
+    now ≡ followed_by before (take done piece) → length piece ≤ done →
+    now ≡ followed_by before piece
 written_whole before now piece done e whole = rw take_all at e
 
 -- nothing was written, and nothing came
 pub sent_nothing : (a : Option (List ℕ)) (held : List ℕ) → Sent a a held held []
-sent_nothing a held = record { sent = []; written = followed_by-nothing a; kept = grind (arith, append-nil) }
+sent_nothing a held = record {
+  sent = [];
+  written = followed_by-nothing a;
+  kept = grind (arith, append-nil);
+}
 
 -- all that was held back was written
-pub sent_held : (a b : Option (List ℕ)) (held : List ℕ) → b ≡ followed_by a held → Sent a b held [] []
+pub sent_held : (a b : Option (List ℕ)) (held : List ℕ) → b ≡ followed_by a held →
+    Sent a b held [] []
 sent_held a b held e = record { sent = held; written = e; kept = refl }
 
 -- only some first bytes of what was held back were written
@@ -50,7 +57,11 @@ pub lost_held : (a b : Option (List ℕ)) (held : List ℕ) → WroteFront held 
 lost_held a b held (n, few, e) = record {
   lost = drop n held;
   some = omega (arith, length-drop n held);
-  sent = record { sent = take n held; written = e; kept = take-append-drop n held ∙ sym (append-nil held) };
+  sent = record {
+    sent = take n held;
+    written = e;
+    kept = take-append-drop n held ∙ sym (append-nil held);
+  };
 }
 
 -- a text and then another one
@@ -59,7 +70,11 @@ pub sent_then : (a b c : Option (List ℕ)) (held holds rest one two : List ℕ)
 sent_then a b c held holds rest one two s u = record {
   sent = s.sent ++ u.sent;
   written = cc (followed_by-append a s.sent u.sent);
-  kept = cc (append_assoc s.sent u.sent rest, append_assoc s.sent holds two, append_assoc held one two);
+  kept = cc (
+    append_assoc s.sent u.sent rest,
+    append_assoc s.sent holds two,
+    append_assoc held one two,
+  );
 }
 
 -- a text and then another one that is only held back
@@ -97,7 +112,8 @@ lost_then a b c held holds one two s l = record {
 -- the texts of a list's first items, and then that of the next one
 pub sent_step : {X : Type 0} (text : ℕ → X → List ℕ) (xs : List X) (i : ℕ) (d : X)
     (a b c : Option (List ℕ)) (held holds rest : List ℕ) → i < length xs →
-    Sent a b held holds (texts_from text 0 (take i xs)) → Sent b c holds rest (text i (get_or xs i d)) →
+    Sent a b held holds (texts_from text 0 (take i xs)) →
+    Sent b c holds rest (text i (get_or xs i d)) →
     Sent a c held rest (texts_from text 0 (take (i + 1) xs))
 sent_step text xs i d a b c held holds rest within s u =
     rw (texts_from-more text xs i d within) (sent_then a b c held holds rest _ _ s u)
@@ -117,16 +133,18 @@ lost_step text xs i d a b c held holds within s l =
 
 -- a call that lost bytes, in a row of calls that wrote the items of a list
 pub gathered_step : {X : Type 0} (text : ℕ → X → List ℕ) (xs : List X) (i : ℕ) (d : X)
-    (a b c : Option (List ℕ)) (held holds buffer : List ℕ) (first now last : ℕ) (r : Result ℕ WriteFault) →
-    IsErr r → i < length xs → Sent a b held holds (texts_from text 0 (take i xs)) → first ≤ now →
-    Rose now last × (Lost b c holds (text i (get_or xs i d))) →
+    (a b c : Option (List ℕ)) (held holds buffer : List ℕ) (first now last : ℕ)
+    (r : Result ℕ WriteFault) → IsErr r → i < length xs →
+    Sent a b held holds (texts_from text 0 (take i xs)) → first ≤ now →
+    Rose now last × Lost b c holds (text i (get_or xs i d)) →
     Gathered (texts_from text 0 xs) held buffer a c first last r
 gathered_step text xs i d a b c held holds buffer first now last (Ok end) err within s stay u = cc
 gathered_step text xs i d a b c held holds buffer first now last (Err fault) err within s stay u =
     (rose_from_earlier first now last stay u.0, lost_step text xs i d a b c held holds within s u.1)
 
 -- no item's text came yet
-pub sent_none : {X : Type 0} (text : ℕ → X → List ℕ) (xs : List X) (a : Option (List ℕ)) (held : List ℕ) →
+pub sent_none : {X : Type 0} (text : ℕ → X → List ℕ) (xs : List X) (a : Option (List ℕ))
+    (held : List ℕ) →
     Sent a a held held (texts_from text 0 (take 0 xs))
 sent_none text xs a held = sent_nothing a held
 
@@ -137,8 +155,8 @@ pub sent_each : {X : Type 0} (text : ℕ → X → List ℕ) (xs : List X) (i : 
 sent_each text xs i a b held holds whole s = rw take_all at s
 
 -- a text, and then a call that gathers another one
-pub gathered_then : (a b c : Option (List ℕ)) (held holds buffer one two : List ℕ) (first now last : ℕ)
-    (r : Result ℕ WriteFault) → Sent a b held holds one → first ≤ now →
+pub gathered_then : (a b c : Option (List ℕ)) (held holds buffer one two : List ℕ)
+    (first now last : ℕ) (r : Result ℕ WriteFault) → Sent a b held holds one → first ≤ now →
     Gathered two holds buffer b c now last r → Gathered (one ++ two) held buffer a c first last r
 gathered_then a b c held holds buffer one two first now last (Ok end) s stay u =
     sent_then a b c held holds (take end buffer) one two s u
@@ -158,7 +176,8 @@ lost_front a b text l = (
 pub wrote_rest : (a b c : Option (List ℕ)) (holds text : List ℕ) (first now last : ℕ)
     (r : Result (Unit {0}) WriteFault) → Sent a b [] holds text → first ≤ now →
     Wrote holds b c now last r → Wrote text a c first last r
-wrote_rest a b c holds text first now last (Ok done) s stay u = cc (followed_by-append a s.sent holds)
+wrote_rest a b c holds text first now last (Ok done) s stay u =
+    cc (followed_by-append a s.sent holds)
 wrote_rest a b c holds text first now last (Err fault) s stay (rose, (n, few, e)) = (
   rose_from_earlier first now last stay rose,
   (

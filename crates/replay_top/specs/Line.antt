@@ -29,13 +29,15 @@ address_text a =
 -- code and the identifier
 abbrev pub ends_text : Proto → ℕ → ℕ → List ℕ
 ends_text Icmp a b =
-    codes " type=" ++ decimal (b / 256) ++ codes " code=" ++ decimal (b % 256) ++ codes " id=" ++ decimal a
+    codes " type=" ++ decimal (b / 256) ++ codes " code=" ++ decimal (b % 256) ++
+    codes " id=" ++ decimal a
 ends_text Tcp a b = codes " sport=" ++ decimal a ++ codes " dport=" ++ decimal b
 ends_text Udp a b = codes " sport=" ++ decimal a ++ codes " dport=" ++ decimal b
 
 unfoldable pub tuple_text : Tuple → List ℕ
 tuple_text t =
-    codes "src=" ++ address_text t.src ++ codes " dst=" ++ address_text t.dst ++ ends_text t.proto t.a t.b
+    codes "src=" ++ address_text t.src ++ codes " dst=" ++ address_text t.dst ++
+    ends_text t.proto t.a t.b
 
 abbrev pub proto_word : Proto → List ℕ
 proto_word Icmp = codes "icmp"
@@ -61,7 +63,9 @@ master_text (Some id) = codes " master=" ++ decimal id
 
 -- the flow of an entry: its protocol and both its tuples, the original one first
 unfoldable pub flow_text : Record → List ℕ
-flow_text r = proto_word r.original.proto ++ codes " " ++ tuple_text r.original ++ codes " " ++ tuple_text r.reply
+flow_text r =
+    proto_word r.original.proto ++ codes " " ++ tuple_text r.original ++ codes " " ++
+    tuple_text r.reply
 
 -- a new entry
 unfoldable pub record_text : Record → List ℕ
@@ -79,7 +83,8 @@ event_text who (Touch id direction segment moment after) =
     codes " touch " ++ who ++ codes " id=" ++ decimal id ++ codes " " ++ direction_word direction ++
     codes " until=" ++ decimal after.deadline ++
     word_if after.replied (codes " replied") ++ word_if after.assured (codes " assured")
-event_text who (Destroy id why) = codes " destroy " ++ who ++ codes " id=" ++ decimal id ++ why_text why
+event_text who (Destroy id why) =
+    codes " destroy " ++ who ++ codes " id=" ++ decimal id ++ why_text why
 
 unfoldable pub event_line : Numbered → List ℕ
 event_line e = decimal e.number ++ event_text (who_text e.thread e.index) e.event ++ codes "\n"

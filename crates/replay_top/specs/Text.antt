@@ -27,7 +27,8 @@ thread_text thread verdicts =
 
 -- the events, and each thread's verdicts
 unfoldable pub tracking_text : Report → List ℕ
-tracking_text report = history_text report.history.items ++ texts_from thread_text 0 report.threads.items
+tracking_text report =
+    history_text report.history.items ++ texts_from thread_text 0 report.threads.items
 
 -- what the tracking gave, and then the answers to a script, of which there are none
 unfoldable pub report_text : Report → List ℕ

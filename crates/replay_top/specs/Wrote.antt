@@ -19,7 +19,8 @@ WroteFront text before after =
 abbrev pub Wrote :
     List ℕ → Option (List ℕ) → Option (List ℕ) → ℕ → ℕ → Result (Unit {0}) WriteFault → Type 0
 Wrote text before after faults faults' (Ok done) = after ≡ followed_by before text
-Wrote text before after faults faults' (Err fault) = Rose faults faults' × WroteFront text before after
+Wrote text before after faults faults' (Err fault) =
+    Rose faults faults' × WroteFront text before after
 
 -- What became of the bytes that a buffer held back, and of a text that came behind them: some first
 -- bytes of both were written, and the others, `holds`, are left.
@@ -34,8 +35,8 @@ pub record Lost (before after : Option (List ℕ)) (held text : List ℕ) : Type
   pub some : 0 < length lost
   pub sent : Sent before after held lost text
 
--- The text is written or held back in the buffer, which now holds bytes back up to the index that is
--- answered; or the count of faults rose, and only some first bytes were written.
+-- The text is written or held back in the buffer, which now holds bytes back up to the index that
+-- is answered; or the count of faults rose, and only some first bytes were written.
 abbrev pub Gathered :
     List ℕ → List ℕ → List ℕ → Option (List ℕ) → Option (List ℕ) → ℕ → ℕ →
     Result ℕ WriteFault → Type 0

@@ -14,8 +14,8 @@ use ct_io::Sink;
 use history_book::event::Numbered;
 use history_book::verdict::Verdict;
 
-/// Makes room for a line behind the bytes that the buffer holds back, which end at `at`: where it has
-/// too little, they are written. Says where they end now.
+/// Makes room for a line behind the bytes that the buffer holds back, which end at `at`: where it
+/// has too little, they are written. Says where they end now.
 #[tactic(auto, using(crate::proofs::Writes::sent_nothing, crate::proofs::Writes::sent_held, crate::proofs::Writes::lost_held))]
 fn make_room<K: Sink>(buffer: &[u8], at: usize, out: &mut K) -> Result<usize, WriteFault>
     requires line { LONGEST_LINE ≤ length buffer.now }
@@ -42,7 +42,8 @@ pub fn write_history_head<K: Sink>(
     requires line { LONGEST_LINE ≤ length buffer.old }
     requires within { at ≤ length buffer.old }
     ensures within { IfOk result (λ end. end ≤ length buffer.new) }
-    ensures gathered { Gathered (history_head events) (take at buffer.old) buffer.new
+    ensures gathered { Gathered (history_head events)
+        (take at buffer.old) buffer.new
         (K.written out.old) (K.written out.new) (K.faults out.old) (K.faults out.new) result }
     ensures faults_stay { K.faults out.old ≤ K.faults out.new }
 {
@@ -60,7 +61,8 @@ pub fn write_event<K: Sink>(
     requires line { LONGEST_LINE ≤ length buffer.old }
     requires within { at ≤ length buffer.old }
     ensures within { IfOk result (λ end. end ≤ length buffer.new) }
-    ensures gathered { Gathered (event_line event.now) (take at buffer.old) buffer.new
+    ensures gathered { Gathered (event_line event.now)
+        (take at buffer.old) buffer.new
         (K.written out.old) (K.written out.new) (K.faults out.old) (K.faults out.new) result }
     ensures faults_stay { K.faults out.old ≤ K.faults out.new }
 {
@@ -79,7 +81,8 @@ pub fn write_thread_head<K: Sink>(
     requires line { LONGEST_LINE ≤ length buffer.old }
     requires within { at ≤ length buffer.old }
     ensures within { IfOk result (λ end. end ≤ length buffer.new) }
-    ensures gathered { Gathered (thread_head thread packets) (take at buffer.old) buffer.new
+    ensures gathered { Gathered (thread_head thread packets)
+        (take at buffer.old) buffer.new
         (K.written out.old) (K.written out.new) (K.faults out.old) (K.faults out.new) result }
     ensures faults_stay { K.faults out.old ≤ K.faults out.new }
 {
@@ -98,7 +101,8 @@ pub fn write_verdict<K: Sink>(
     requires line { LONGEST_LINE ≤ length buffer.old }
     requires within { at ≤ length buffer.old }
     ensures within { IfOk result (λ end. end ≤ length buffer.new) }
-    ensures gathered { Gathered (verdict_line index verdict.now) (take at buffer.old) buffer.new
+    ensures gathered { Gathered (verdict_line index verdict.now)
+        (take at buffer.old) buffer.new
         (K.written out.old) (K.written out.new) (K.faults out.old) (K.faults out.new) result }
     ensures faults_stay { K.faults out.old ≤ K.faults out.new }
 {
@@ -116,7 +120,8 @@ pub fn write_script_head<K: Sink>(
     requires line { LONGEST_LINE ≤ length buffer.old }
     requires within { at ≤ length buffer.old }
     ensures within { IfOk result (λ end. end ≤ length buffer.new) }
-    ensures gathered { Gathered (script_head commands) (take at buffer.old) buffer.new
+    ensures gathered { Gathered (script_head commands)
+        (take at buffer.old) buffer.new
         (K.written out.old) (K.written out.new) (K.faults out.old) (K.faults out.new) result }
     ensures faults_stay { K.faults out.old ≤ K.faults out.new }
 {

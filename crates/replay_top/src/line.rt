@@ -1,5 +1,5 @@
-//! The lines of a report in a buffer of bytes, as `text` writes pieces: one line for each event, and
-//! one for each verdict. Each has room in `LONGEST_LINE` bytes.
+//! The lines of a report in a buffer of bytes, as `text` writes pieces. Each has room in
+//! `LONGEST_LINE` bytes.
 
 ghost use Rattle.std.specs.Prelude.{◌≡◌, ◌+◌, ◌≤◌, ◌++◌, length, take};
 ghost use Rattle.replay_top.specs.Line;
@@ -113,7 +113,8 @@ fn put_event(buffer: &mut [u8], at: usize, e: &Numbered) -> usize
     requires { at + 231 ≤ length buffer.old }
     ensures start { at ≤ result }
     ensures end { result ≤ at + 231 }
-    ensures text { take result buffer.new ≡ take at buffer.old ++ event_text (who_text e.now.thread e.now.index) e.now.event }
+    ensures text { take result buffer.new
+        ≡ take at buffer.old ++ event_text (who_text e.now.thread e.now.index) e.now.event }
 {
     match e.event {
         Event::Confirm { subject } => {

@@ -61,7 +61,8 @@ fn put_ends(buffer: &mut [u8], at: usize, t: &Tuple) -> usize
     requires { at + 27 ≤ length buffer.old }
     ensures start { at ≤ result }
     ensures end { result ≤ at + 27 }
-    ensures text { take result buffer.new ≡ take at buffer.old ++ ends_text t.now.proto t.now.a t.now.b }
+    ensures text { take result buffer.new
+        ≡ take at buffer.old ++ ends_text t.now.proto t.now.a t.now.b }
 {
     match t.proto {
         Proto::Icmp => {

@@ -27,7 +27,8 @@ impl From<Failed> for WriteFault {
 /// Writes all of `piece`, in as many calls of the sink as it takes.
 #[tactic(auto, using(crate::proofs::Writes::written_more, crate::proofs::Writes::written_whole))]
 pub fn write_all<K: Sink>(piece: &[u8], out: &mut K) -> Result<(), WriteFault>
-    ensures wrote { Wrote piece.now (K.written out.old) (K.written out.new) (K.faults out.old) (K.faults out.new) result }
+    ensures wrote { Wrote piece.now
+        (K.written out.old) (K.written out.new) (K.faults out.old) (K.faults out.new) result }
     ensures faults_stay { K.faults out.old ≤ K.faults out.new }
 {
     let mut done = 0;
@@ -49,7 +50,8 @@ fn write_events<K: Sink>(
     requires line { LONGEST_LINE ≤ length buffer.old }
     requires within { at ≤ length buffer.old }
     ensures within { IfOk result (λ end. end ≤ length buffer.new) }
-    ensures gathered { Gathered (texts_from line_of_event 0 events.now) (take at buffer.old) buffer.new
+    ensures gathered { Gathered (texts_from line_of_event 0 events.now)
+        (take at buffer.old) buffer.new
         (K.written out.old) (K.written out.new) (K.faults out.old) (K.faults out.new) result }
     ensures faults_stay { K.faults out.old ≤ K.faults out.new }
 {
@@ -71,7 +73,8 @@ fn write_history<K: Sink>(
     requires line { LONGEST_LINE ≤ length buffer.old }
     requires within { at ≤ length buffer.old }
     ensures within { IfOk result (λ end. end ≤ length buffer.new) }
-    ensures gathered { Gathered (history_text events.now) (take at buffer.old) buffer.new
+    ensures gathered { Gathered (history_text events.now)
+        (take at buffer.old) buffer.new
         (K.written out.old) (K.written out.new) (K.faults out.old) (K.faults out.new) result }
     ensures faults_stay { K.faults out.old ≤ K.faults out.new }
 {
@@ -90,7 +93,8 @@ fn write_verdicts<K: Sink>(
     requires line { LONGEST_LINE ≤ length buffer.old }
     requires within { at ≤ length buffer.old }
     ensures within { IfOk result (λ end. end ≤ length buffer.new) }
-    ensures gathered { Gathered (texts_from verdict_line 0 verdicts.now) (take at buffer.old) buffer.new
+    ensures gathered { Gathered (texts_from verdict_line 0 verdicts.now)
+        (take at buffer.old) buffer.new
         (K.written out.old) (K.written out.new) (K.faults out.old) (K.faults out.new) result }
     ensures faults_stay { K.faults out.old ≤ K.faults out.new }
 {
@@ -113,7 +117,8 @@ fn write_thread<K: Sink>(
     requires line { LONGEST_LINE ≤ length buffer.old }
     requires within { at ≤ length buffer.old }
     ensures within { IfOk result (λ end. end ≤ length buffer.new) }
-    ensures gathered { Gathered (thread_text thread verdicts.now) (take at buffer.old) buffer.new
+    ensures gathered { Gathered (thread_text thread verdicts.now)
+        (take at buffer.old) buffer.new
         (K.written out.old) (K.written out.new) (K.faults out.old) (K.faults out.new) result }
     ensures faults_stay { K.faults out.old ≤ K.faults out.new }
 {
@@ -132,7 +137,8 @@ fn write_threads<K: Sink>(
     requires line { LONGEST_LINE ≤ length buffer.old }
     requires within { at ≤ length buffer.old }
     ensures within { IfOk result (λ end. end ≤ length buffer.new) }
-    ensures gathered { Gathered (texts_from thread_text 0 threads.now) (take at buffer.old) buffer.new
+    ensures gathered { Gathered (texts_from thread_text 0 threads.now)
+        (take at buffer.old) buffer.new
         (K.written out.old) (K.written out.new) (K.faults out.old) (K.faults out.new) result }
     ensures faults_stay { K.faults out.old ≤ K.faults out.new }
 {
@@ -154,7 +160,8 @@ fn write_tracking<K: Sink>(
     requires line { LONGEST_LINE ≤ length buffer.old }
     requires within { at ≤ length buffer.old }
     ensures within { IfOk result (λ end. end ≤ length buffer.new) }
-    ensures gathered { Gathered (tracking_text report.now) (take at buffer.old) buffer.new
+    ensures gathered { Gathered (tracking_text report.now)
+        (take at buffer.old) buffer.new
         (K.written out.old) (K.written out.new) (K.faults out.old) (K.faults out.new) result }
     ensures faults_stay { K.faults out.old ≤ K.faults out.new }
 {
@@ -173,7 +180,8 @@ fn gather_report<K: Sink>(
     requires line { LONGEST_LINE ≤ length buffer.old }
     requires within { at ≤ length buffer.old }
     ensures within { IfOk result (λ end. end ≤ length buffer.new) }
-    ensures gathered { Gathered (report_text report.now) (take at buffer.old) buffer.new
+    ensures gathered { Gathered (report_text report.now)
+        (take at buffer.old) buffer.new
         (K.written out.old) (K.written out.new) (K.faults out.old) (K.faults out.new) result }
     ensures faults_stay { K.faults out.old ≤ K.faults out.new }
 {
@@ -181,7 +189,7 @@ fn gather_report<K: Sink>(
     write_script_head(0, buffer, at, out)
 }
 
-/// Writes the text of `report` through `buffer`, in few calls of the sink where the buffer is large.
+/// Writes the text of `report` through `buffer`, in few calls of the sink where that is large.
 #[tactic(auto, using(crate::proofs::Writes::lost_front))]
 pub fn write_report<K: Sink>(
     report: &Report,
@@ -189,7 +197,8 @@ pub fn write_report<K: Sink>(
     out: &mut K,
 ) -> Result<(), WriteFault>
     requires { LONGEST_LINE ≤ length buffer.old }
-    ensures wrote { Wrote (report_text report.now) (K.written out.old) (K.written out.new) (K.faults out.old) (K.faults out.new) result }
+    ensures wrote { Wrote (report_text report.now)
+        (K.written out.old) (K.written out.new) (K.faults out.old) (K.faults out.new) result }
     ensures faults_stay { K.faults out.old ≤ K.faults out.new }
 {
     let end = gather_report(report, buffer, 0, out)?;

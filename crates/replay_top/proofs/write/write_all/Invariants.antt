@@ -5,7 +5,8 @@ use Rattle.replay_top.proofs.write.write_all.Given as goal
 abbrev pub invariant-pieces : goal.invariant-pieces
 invariant-pieces g l = record {
   within : l.done ≤ length l.piece;
-  written : g.K.Sink.written l.out ≡ followed_by (g.K.Sink.written l.initial.out) (take l.done l.piece);
+  written : g.K.Sink.written l.out
+      ≡ followed_by (g.K.Sink.written l.initial.out) (take l.done l.piece);
   faults_stay : g.K.Sink.faults l.initial.out ≤ g.K.Sink.faults l.out;
 }
 
