@@ -223,7 +223,7 @@ other_place files m n i found other same =
     empty : Kept
     empty = record { name = []; bytes = []; faults = 0 }
 
--- what the functions that change one file use, and `open`
+-- what the functions that change one file use, and what `open` uses
 pub ruleset counted = (counted_contents, counted_own, counted_rose, counted_others)
 
 pub ruleset replaced = (replaced_contents, replaced_others, replaced_faults, replaced_left, other_left)
