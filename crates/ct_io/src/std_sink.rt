@@ -1,6 +1,8 @@
 //! The output streams of the system.
 
-ghost use Rattle.std.specs.Prelude.{◌≡◌};
+ghost use Rattle.std.specs.Prelude.{◌≡◌, ◌<◌, ◌≤◌, length, IfOk, OnErr};
+ghost use Rattle.std.specs.Io.KnownBytes.{WriteAppends};
+ghost use Rattle.ct_io.specs.Counts.{Rose};
 
 use crate::counts::one_more;
 use crate::{Failed, Sink};
@@ -18,17 +20,18 @@ pub struct StdSink<W> {
 }
 
 impl<W> Model for StdSink<W> {
-    ghost use Rattle.std.specs.Prelude.{ℕ};
+    ghost use Rattle.ct_io.specs.Outlet.{Outlet};
 
-    ghost Value = { ℕ };
+    ghost Value = { Outlet W };
 
-    ghost view = { λ s. s.faults };
+    ghost view = { λ s. record { writer = s.writer; faults = s.faults } };
 }
 
 impl<W: Write + Drop> StdSink<W> {
     /// Nothing has failed.
     pub fn new(writer: W) -> Self
-        ensures no_faults { result ≡ 0 }
+        ensures writer { result.writer ≡ writer }
+        ensures no_faults { result.faults ≡ 0 }
     {
         StdSink { writer, faults: 0 }
     }
@@ -39,9 +42,19 @@ impl<W: Write + Drop> Sink for StdSink<W> {
 
     ghost written = { λ s. None };
 
-    ghost faults = { λ s. s };
+    ghost faults = { λ s. s.faults };
 
-    fn write(&mut self, piece: &[u8]) -> Result<usize, Failed> {
+    fn write(&mut self, piece: &[u8]) -> Result<usize, Failed>
+        requires piece { 0 < length piece.now }
+        ensures some { IfOk result (λ n. 1 ≤ n) }
+        ensures fits { IfOk result (λ n. n ≤ length piece.now) }
+        ensures failed { OnErr result (Rose self.old.faults self.new.faults) }
+        ensures faults_stay { self.old.faults ≤ self.new.faults }
+
+        // Where the writer tells its bytes, as one in memory does, these are the bytes written.
+        ensures passed_on { WriteAppends (W.contents self.old.writer)
+            (W.contents self.new.writer) result piece.now }
+    {
         match self.writer.write(piece) {
             Ok(n) if 0 < n => Ok(n),
             Ok(_) | Err(_) => {

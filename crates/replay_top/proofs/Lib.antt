@@ -5,4 +5,6 @@ pub mod Records
 pub mod Replays
 pub mod Steps
 pub mod Tests
+pub mod Texts
 pub mod Tracks
+pub mod Writes

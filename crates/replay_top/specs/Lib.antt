@@ -4,5 +4,8 @@ pub mod Capture
 pub mod Flow
 pub mod Header
 pub mod History
+pub mod Line
 pub mod Report
+pub mod Text
 pub mod Track
+pub mod Wrote

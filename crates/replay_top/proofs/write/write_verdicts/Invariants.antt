@@ -1,0 +1,14 @@
+use Rattle.std.proofs.Common.{◌≤◌, length, take}
+use Rattle.replay_top.specs.Line.{verdict_line}
+use Rattle.replay_top.specs.Text.{texts_from}
+use Rattle.replay_top.specs.Wrote.{Sent}
+use Rattle.replay_top.proofs.write.write_verdicts.Given as goal
+
+abbrev pub invariant-verdicts : goal.invariant-verdicts
+invariant-verdicts g l = record {
+  within : l.end ≤ length l.buffer;
+  sent : Sent (g.K.Sink.written l.initial.out) (g.K.Sink.written l.out)
+      (take l.at l.initial.buffer) (take l.end l.buffer)
+      (texts_from verdict_line 0 (take l.index l.verdicts));
+  faults_stay : g.K.Sink.faults l.initial.out ≤ g.K.Sink.faults l.out;
+}

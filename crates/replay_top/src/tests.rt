@@ -1,0 +1,340 @@
+//! Whole texts of reports that are built by hand.
+
+use crate::{LONGEST_LINE, write_report};
+use ct_io::MemSink;
+use history_book::event::{Event, Numbered, Why};
+use history_book::protocol::{Part, PartKind};
+use history_book::record::Record;
+use history_book::report::Report;
+use history_book::verdict::{Class, Ftp, Label, Translated, Verdict};
+use room_list::RoomList;
+use std::alloc::Global;
+use std::process::Abort;
+use std::test::Fail;
+use tuple_core::{Direction, NoMemory, Proto, Segment, Tuple};
+
+/// The flow of UDP from 10.0.0.1:5000 to 10.0.0.2:53.
+const QUERY: Tuple = Tuple {
+    proto: Proto::Udp,
+    src: 0x0a00_0001,
+    dst: 0x0a00_0002,
+    a: 5000,
+    b: 53,
+};
+
+const ANSWER: Tuple = Tuple {
+    proto: Proto::Udp,
+    src: 0x0a00_0002,
+    dst: 0x0a00_0001,
+    a: 53,
+    b: 5000,
+};
+
+fn part(replied: bool, assured: bool, deadline: u64) -> Part {
+    Part {
+        kind: PartKind::Udp,
+        replied,
+        assured,
+        deadline,
+    }
+}
+
+/// Event `number`: packet `index` of thread 0 began the flow of UDP.
+fn query(number: u64, index: u32, deadline: u64) -> Numbered {
+    Numbered {
+        number,
+        thread: 0,
+        index,
+        event: Event::Confirm {
+            subject: Record {
+                id: number,
+                place: 0,
+                original: QUERY,
+                reply: ANSWER,
+                part: part(false, false, deadline),
+                helper: false,
+                master: None,
+            },
+        },
+    }
+}
+
+/// Event 1: packet 1 of thread 0 belongs to the flow of event 0.
+fn touch(direction: Direction, after: Part) -> Numbered {
+    Numbered {
+        number: 1,
+        thread: 0,
+        index: 1,
+        event: Event::Touch {
+            id: 0,
+            direction,
+            segment: Segment::Udp,
+            moment: 0,
+            after,
+        },
+    }
+}
+
+fn verdict(class: Class) -> Verdict {
+    Verdict {
+        class,
+        first: 0,
+        made: 0,
+    }
+}
+
+fn made(id: u64, at: u64) -> Verdict {
+    verdict(Class::Made {
+        id,
+        at,
+        translated: Translated::Plain,
+        unclaimed: Some(at),
+    })
+}
+
+fn passed(label: Label, at: u64, ftp: Ftp) -> Verdict {
+    verdict(Class::Passed {
+        label,
+        id: 0,
+        at,
+        ftp,
+    })
+}
+
+/// A report with these events, and these verdicts for each thread.
+fn report_of(
+    alloc: Global,
+    events: &[Numbered],
+    verdicts: &[&[Verdict]],
+) -> Result<Report, NoMemory> {
+    let mut history = RoomList::new(alloc, 0)?;
+    history.append(events)?;
+    let mut threads = RoomList::new(alloc, 0)?;
+    for list in verdicts {
+        let mut own = RoomList::new(alloc, 0)?;
+        own.append(list)?;
+        threads.reserve(1)?;
+        threads.push(own);
+    }
+    Ok(Report {
+        history,
+        live: 1,
+        threads,
+    })
+}
+
+/// Asserts that the text of the report is this one, through a small buffer and a large one.
+fn check(rt: &impl Abort, alloc: Global, report: &Report, text: &str) -> Result<(), NoMemory> {
+    let mut small = MemSink::new(alloc, 4096, &[])?;
+    let mut line = [0; LONGEST_LINE];
+    assert!(rt; write_report(report, &mut line, &mut small).is_ok());
+    assert_eq!(rt; small.bytes(), text.as_bytes());
+    let mut large = MemSink::new(alloc, 4096, &[1])?;
+    let mut page = [0; 4096];
+    assert!(rt; write_report(report, &mut page, &mut large).is_ok());
+    assert_eq!(rt; large.bytes(), text.as_bytes());
+    Ok(())
+}
+
+#[test]
+fn nothing_tracked(rt: HostRuntime) -> Result<(), Fail> {
+    let report = report_of(rt.alloc(), &[], &[&[]])?;
+    check(
+        &rt,
+        rt.alloc(),
+        &report,
+        "events 0\nthread 0 packets 0\nscript 0\n",
+    )?;
+    Ok(())
+}
+
+#[test]
+fn udp_query_and_answer(rt: HostRuntime) -> Result<(), Fail> {
+    let events = [
+        query(0, 0, 1_030_000_000),
+        touch(Direction::Reply, part(true, false, 1_120_500_000)),
+    ];
+    let verdicts = [made(0, 1), passed(Label::EstablishedReply, 2, Ftp::Nothing)];
+    let report = report_of(rt.alloc(), &events, &[&verdicts])?;
+    check(
+        &rt,
+        rt.alloc(),
+        &report,
+        "\
+events 2
+0 confirm 0.0 udp src=10.0.0.1 dst=10.0.0.2 sport=5000 dport=53 src=10.0.0.2 dst=10.0.0.1 sport=53 dport=5000 until=1030000000
+1 touch 0.1 id=0 reply until=1120500000 replied
+thread 0 packets 2
+0 NEW id=0 @1
+1 ESTABLISHED_REPLY id=0 @2
+script 0
+",
+    )?;
+    Ok(())
+}
+
+#[test]
+fn udp_again_once_expired(rt: HostRuntime) -> Result<(), Fail> {
+    let events = [
+        query(0, 0, 31_000_000),
+        Numbered {
+            number: 1,
+            thread: 0,
+            index: 1,
+            event: Event::Destroy {
+                id: 0,
+                why: Why::Expired { moment: 31_000_000 },
+            },
+        },
+        query(2, 1, 61_000_000),
+    ];
+    let report = report_of(rt.alloc(), &events, &[&[made(0, 1), made(2, 3)]])?;
+    check(
+        &rt,
+        rt.alloc(),
+        &report,
+        "\
+events 3
+0 confirm 0.0 udp src=10.0.0.1 dst=10.0.0.2 sport=5000 dport=53 src=10.0.0.2 dst=10.0.0.1 sport=53 dport=5000 until=31000000
+1 destroy 0.1 id=0 expired
+2 confirm 0.1 udp src=10.0.0.1 dst=10.0.0.2 sport=5000 dport=53 src=10.0.0.2 dst=10.0.0.1 sport=53 dport=5000 until=61000000
+thread 0 packets 2
+0 NEW id=0 @1
+1 NEW id=2 @3
+script 0
+",
+    )?;
+    Ok(())
+}
+
+#[test]
+fn udp_again_before_its_deadline(rt: HostRuntime) -> Result<(), Fail> {
+    let events = [
+        query(0, 0, 31_000_000),
+        touch(Direction::Original, part(false, false, 60_999_999)),
+    ];
+    let verdicts = [made(0, 1), passed(Label::New, 2, Ftp::Nothing)];
+    let report = report_of(rt.alloc(), &events, &[&verdicts])?;
+    check(
+        &rt,
+        rt.alloc(),
+        &report,
+        "\
+events 2
+0 confirm 0.0 udp src=10.0.0.1 dst=10.0.0.2 sport=5000 dport=53 src=10.0.0.2 dst=10.0.0.1 sport=53 dport=5000 until=31000000
+1 touch 0.1 id=0 original until=60999999
+thread 0 packets 2
+0 NEW id=0 @1
+1 NEW id=0 @2
+script 0
+",
+    )?;
+    Ok(())
+}
+
+/// A report with each form of a line.
+fn every_form(alloc: Global) -> Result<Report, NoMemory> {
+    let echo = |src: u32, dst: u32, kind: u16| Tuple {
+        proto: Proto::Icmp,
+        src,
+        dst,
+        a: 7,
+        b: kind * 256,
+    };
+    let control = Tuple {
+        proto: Proto::Tcp,
+        src: 0xcb00_7105,
+        dst: 0xc633_6415,
+        a: 65535,
+        b: 21,
+    };
+    let confirm = |number: u64, original: Tuple, reply: Tuple, helper: bool, master: Option<
+        u64,
+    >| Numbered {
+        number,
+        thread: 1,
+        index: 3,
+        event: Event::Confirm {
+            subject: Record {
+                id: number,
+                place: 0,
+                original,
+                reply,
+                part: part(false, false, 31_000_000),
+                helper,
+                master,
+            },
+        },
+    };
+    let events = [
+        confirm(
+            0,
+            echo(0x0a00_0001, 0x0a00_0002, 8),
+            echo(0x0a00_0002, 0x0a00_0001, 0),
+            false,
+            Some(12),
+        ),
+        touch(Direction::Reply, part(true, true, 1)),
+        confirm(2, control, control, true, None),
+    ];
+    let verdicts = [
+        made(4, 5),
+        verdict(Class::Made {
+            id: 6,
+            at: 8,
+            translated: Translated::Plain,
+            unclaimed: None,
+        }),
+        passed(Label::New, 1, Ftp::Nothing),
+        passed(Label::Related, 2, Ftp::Expected { id: 16 }),
+        passed(Label::Established, 3, Ftp::Address),
+        passed(Label::EstablishedReply, 4, Ftp::Clash { id: 7, at: 9 }),
+        passed(Label::Established, 5, Ftp::Full { at: 10 }),
+        passed(Label::Established, 6, Ftp::Gone { at: 11 }),
+        verdict(Class::Full { at: 12 }),
+    ];
+    report_of(alloc, &events, &[&[], &verdicts])
+}
+
+const EVERY_FORM: &str = "\
+events 3
+0 confirm 1.3 icmp src=10.0.0.1 dst=10.0.0.2 type=8 code=0 id=7 src=10.0.0.2 dst=10.0.0.1 type=0 code=0 id=7 until=31000000 master=12
+1 touch 0.1 id=0 reply until=1 replied assured
+2 confirm 1.3 tcp src=203.0.113.5 dst=198.51.100.21 sport=65535 dport=21 src=203.0.113.5 dst=198.51.100.21 sport=65535 dport=21 until=31000000 helper
+thread 0 packets 0
+thread 1 packets 9
+0 NEW id=4 @5
+1 RELATED id=6 @8
+2 NEW id=0 @1
+3 RELATED id=0 @2 ftp expect=16
+4 ESTABLISHED id=0 @3 ftp address
+5 ESTABLISHED_REPLY id=0 @4 ftp clash=7 @9
+6 ESTABLISHED id=0 @5 ftp full @10
+7 ESTABLISHED id=0 @6 ftp gone @11
+8 FULL @12
+script 0
+";
+
+#[test]
+fn each_form_of_a_line(rt: HostRuntime) -> Result<(), Fail> {
+    let report = every_form(rt.alloc())?;
+    check(&rt, rt.alloc(), &report, EVERY_FORM)?;
+    Ok(())
+}
+
+/// With a buffer of one line, the sink's first write fails, or its second one, or it has no room left.
+#[test]
+fn a_sink_that_fails(rt: HostRuntime) -> Result<(), Fail> {
+    let report = every_form(rt.alloc())?;
+    let text = EVERY_FORM.as_bytes();
+    for (room, fails, most) in [(4096, 0, 0), (4096, 1, 512), (10, 9, 10)] {
+        let mut sink = MemSink::new(rt.alloc(), room, &[fails])?;
+        let mut line = [0; LONGEST_LINE];
+        assert!(rt; write_report(&report, &mut line, &mut sink).is_err());
+        let written = sink.bytes();
+        assert!(rt; text.starts_with(written));
+        assert!(rt; written.len() <= most, "at {fails}");
+        assert!(rt; written.is_empty() == (most == 0), "at {fails}");
+    }
+    Ok(())
+}
