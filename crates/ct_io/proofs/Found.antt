@@ -3,6 +3,7 @@ use Rattle.std.proofs.Common.{◌≡◌, ◌≢◌, ℕ, zero, suc, ◌<◌, inl
 use Rattle.std.specs.List.{find, position, position_or_len, slice_get}
 use Rattle.std.specs.Str.{bytes_eq}
 use Rattle.std.specs.Option.{ForSome, IsSome, is_none, option_map, unwrap_or}
+use Rattle.ct_io.proofs.Rises.{risen_rose, risen_stays}
 use Rattle.ct_io.specs.Counts.{Rose, risen}
 use Rattle.ct_io.specs.MemFiles.{Kept, contents_in, faults_in, is_named, left_at, place_in}
 use Rattle.std.proofs.lemmas.Bool.{cases_Bool, cases_eq, false_from_ne_true}
@@ -221,3 +222,12 @@ other_place files m n i found other same =
   where
     empty : Kept
     empty = record { name = []; bytes = []; faults = 0 }
+
+-- what the functions that change one file use, and `open`
+pub ruleset counted = (counted_contents, counted_own, counted_rose, counted_others)
+
+pub ruleset replaced = (replaced_contents, replaced_others, replaced_faults, replaced_left, other_left)
+
+pub ruleset pushed = (pushed_contents, pushed_others, pushed_faults, pushed_left)
+
+pub ruleset opening = (contents_at, known_at, contents_nowhere, faults_nowhere, faults_known, other_place, risen_rose, risen_stays)

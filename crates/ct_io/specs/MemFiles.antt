@@ -35,7 +35,15 @@ contents_in files name = option_map (λ (f : Kept). f.bytes) (find (is_named nam
 
 -- how often opening this name failed; all unknown names share one count
 abbrev pub faults_in : ℕ → List Kept → List ℕ → ℕ
-faults_in unknown files name = unwrap_or (option_map (λ (f : Kept). f.faults) (find (is_named name) files)) unknown
+faults_in unknown files name =
+    unwrap_or (option_map (λ (f : Kept). f.faults) (find (is_named name) files)) unknown
+
+-- both, of all files as they are
+abbrev pub contents_of : Shelf → List ℕ → Option (List ℕ)
+contents_of s name = contents_in s.files name
+
+abbrev pub open_faults_of : Shelf → List ℕ → ℕ
+open_faults_of s name = faults_in s.unknown_faults s.files name
 
 -- what is left of the file at this place once so many of its bytes were read
 abbrev pub left_at : List Kept → Option ℕ → ℕ → Option (List ℕ)
@@ -52,4 +60,4 @@ is_next_failing s = is_listed s.fails s.calls
 
 -- whether opening this name fails: the call is to fail, or the name is unknown
 abbrev pub is_open_failing : Shelf → List ℕ → Bool
-is_open_failing s name = is_next_failing s || is_none (contents_in s.files name)
+is_open_failing s name = is_next_failing s || is_none (contents_of s name)

@@ -6,4 +6,5 @@ use Rattle.std.specs.Prelude.{◌≡◌, ℕ, ◌≤◌, List, [], Option, None,
 abbrev pub Took : Option (List ℕ) → ℕ → List ℕ → Option (List ℕ) → Type 0
 Took None n buffer after = after ≡ None
 Took (Some left) n buffer after =
-    (after ≡ Some (drop n left)) × (take n buffer ≡ take n left) × (n ≤ length left) × (n ≡ 0 → left ≡ [])
+    (after ≡ Some (drop n left)) × (take n buffer ≡ take n left)
+    × (n ≤ length left) × (n ≡ 0 → left ≡ [])

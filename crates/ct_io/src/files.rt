@@ -33,7 +33,8 @@ pub trait Files {
         ensures whole { OnOk result (left self.new ≡ contents self.old name.now) }
         ensures closed { OnErr result (is_open self.new ≡ false) }
         ensures nothing_left { OnErr result (left self.new ≡ None) }
-        ensures failed { OnErr result (Rose (open_faults self.old name.now) (open_faults self.new name.now)) }
+        ensures failed { OnErr result
+            (Rose (open_faults self.old name.now) (open_faults self.new name.now)) }
         ensures open_faults_stay { (n : List ℕ) → open_faults self.old n ≤ open_faults self.new n }
         ensures read_faults_stay { read_faults self.old ≤ read_faults self.new };
 

@@ -12,6 +12,8 @@ mod mem_sink;
 mod sink;
 mod std_files;
 mod std_sink;
+#[cfg(test)]
+mod tests;
 
 pub use files::{Failed, Files};
 pub use gate::{Crossing, Gate, NoGate};

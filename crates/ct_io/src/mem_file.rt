@@ -22,7 +22,11 @@ impl Model for MemFile {
 
     ghost Value = { Kept };
 
-    ghost view = { λ f. record { name = string_bytes f.name; bytes = f.bytes.items; faults = f.faults } };
+    ghost view = { λ f. record {
+      name = string_bytes f.name;
+      bytes = f.bytes.items;
+      faults = f.faults;
+    } };
 }
 
 impl MemFile {
@@ -77,42 +81,55 @@ pub(crate) fn place_of(files: &[MemFile], name: &str) -> Option<usize>
 }
 
 /// Counts a failure of opening the file at `place`.
-#[tactic(auto, using(crate::proofs::Found::counted_contents, crate::proofs::Found::counted_own, crate::proofs::Found::counted_rose, crate::proofs::Found::counted_others))]
+#[tactic(auto, using(crate::proofs::Found::counted))]
 pub(crate) fn count_fault_at(files: &mut Vec<MemFile>, place: usize)
     requires { place < vec_len files.old }
     ensures same_length { vec_len files.new ≡ vec_len files.old }
-    ensures same_contents { (n : List ℕ) → contents_in files.new.items n ≡ contents_in files.old.items n }
-    ensures own { (n : List ℕ) → place_in files.old.items n ≡ Some place → (u : ℕ) → faults_in u files.new.items n ≡ risen (faults_in u files.old.items n) }
-    ensures rose { (n : List ℕ) → place_in files.old.items n ≡ Some place → (u : ℕ) → Rose (faults_in u files.old.items n) (faults_in u files.new.items n) }
-    ensures others { (n : List ℕ) → place_in files.old.items n ≢ Some place → (u : ℕ) → faults_in u files.new.items n ≡ faults_in u files.old.items n }
+    ensures same_contents { (n : List ℕ) → contents_in files.new.items n
+        ≡ contents_in files.old.items n }
+    ensures own { (n : List ℕ) → place_in files.old.items n ≡ Some place → (u : ℕ) →
+        faults_in u files.new.items n ≡ risen (faults_in u files.old.items n) }
+    ensures rose { (n : List ℕ) → place_in files.old.items n ≡ Some place → (u : ℕ) →
+        Rose (faults_in u files.old.items n) (faults_in u files.new.items n) }
+    ensures others { (n : List ℕ) → place_in files.old.items n ≢ Some place → (u : ℕ) →
+        faults_in u files.new.items n ≡ faults_in u files.old.items n }
 {
     files[place].count_fault();
 }
 
 /// Gives the file at `place` other contents.
-#[tactic(auto, using(crate::proofs::Found::replaced_contents, crate::proofs::Found::replaced_others, crate::proofs::Found::replaced_faults, crate::proofs::Found::replaced_left, crate::proofs::Found::other_left))]
+#[tactic(auto, using(crate::proofs::Found::replaced))]
 pub(crate) fn replace_at(files: &mut Vec<MemFile>, place: usize, bytes: Vec<u8>)
     requires { place < vec_len files.old }
     ensures same_length { vec_len files.new ≡ vec_len files.old }
-    ensures contents { (n : List ℕ) → place_in files.old.items n ≡ Some place → contents_in files.new.items n ≡ Some bytes.items }
-    ensures others { (n : List ℕ) → place_in files.old.items n ≢ Some place → contents_in files.new.items n ≡ contents_in files.old.items n }
-    ensures same_faults { (n : List ℕ) (u : ℕ) → faults_in u files.new.items n ≡ faults_in u files.old.items n }
-    ensures left { (taken : ℕ) → left_at files.new.items (Some place) taken ≡ Some (drop taken bytes.items) }
-    ensures left_of_others { (other : Option ℕ) (taken : ℕ) → other ≢ Some place → left_at files.new.items other taken ≡ left_at files.old.items other taken }
+    ensures contents { (n : List ℕ) → place_in files.old.items n ≡ Some place →
+        contents_in files.new.items n ≡ Some bytes.items }
+    ensures others { (n : List ℕ) → place_in files.old.items n ≢ Some place →
+        contents_in files.new.items n ≡ contents_in files.old.items n }
+    ensures same_faults { (n : List ℕ) (u : ℕ) → faults_in u files.new.items n
+        ≡ faults_in u files.old.items n }
+    ensures left { (taken : ℕ) → left_at files.new.items (Some place) taken
+        ≡ Some (drop taken bytes.items) }
+    ensures left_of_others { (other : Option ℕ) (taken : ℕ) → other ≢ Some place →
+        left_at files.new.items other taken ≡ left_at files.old.items other taken }
 {
     files[place].replace(bytes);
 }
 
 /// Puts a file with a new name behind the others. Takes no memory.
-#[tactic(auto, using(crate::proofs::Found::pushed_contents, crate::proofs::Found::pushed_others, crate::proofs::Found::pushed_faults, crate::proofs::Found::pushed_left))]
+#[tactic(auto, using(crate::proofs::Found::pushed))]
 pub(crate) fn push_file(files: &mut Vec<MemFile>, file: MemFile)
     requires new_name { place_in files.old.items file.name ≡ None }
     requires room { vec_len files.old < vec_capacity files.old }
     ensures longer { vec_len files.new ≡ vec_len files.old + 1 }
     ensures contents { contents_in files.new.items file.name ≡ Some file.bytes }
-    ensures others { (n : List ℕ) → n ≢ file.name → contents_in files.new.items n ≡ contents_in files.old.items n }
-    ensures same_faults { (n : List ℕ) → faults_in file.faults files.new.items n ≡ faults_in file.faults files.old.items n }
-    ensures same_left { (place : Option ℕ) (taken : ℕ) → ForSome place (λ i. i < vec_len files.old) → left_at files.new.items place taken ≡ left_at files.old.items place taken }
+    ensures others { (n : List ℕ) → n ≢ file.name → contents_in files.new.items n
+        ≡ contents_in files.old.items n }
+    ensures same_faults { (n : List ℕ) → faults_in file.faults files.new.items n
+        ≡ faults_in file.faults files.old.items n }
+    ensures same_left { (place : Option ℕ) (taken : ℕ) →
+        ForSome place (λ i. i < vec_len files.old) → left_at files.new.items place taken
+        ≡ left_at files.old.items place taken }
 {
     files.push_reserved(file);
 }

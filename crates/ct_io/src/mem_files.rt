@@ -2,7 +2,7 @@
 
 ghost use Rattle.std.specs.Prelude.{◌≡◌, ◌≢◌, ◌+◌, ◌<◌, ◌≤◌, ℕ, List, [], true, false, None, Some, length, min, drop, is_some, is_err, IfOk, IfSome, IsSome, OnOk, OnErr};
 ghost use Rattle.ct_io.specs.Counts.{Rose, risen};
-ghost use Rattle.ct_io.specs.MemFiles.{contents_in, faults_in, is_next_failing, is_open_failing, left_in, place_in};
+ghost use Rattle.ct_io.specs.MemFiles.{contents_of, is_next_failing, is_open_failing, left_in, open_faults_of, place_in};
 ghost use Rattle.ct_io.specs.Reading.{Took};
 
 use crate::counts::{is_to_fail, one_more};
@@ -54,7 +54,7 @@ impl MemFiles {
         ensures closed { IfOk result (λ s. s.open_place ≡ None) }
         ensures fails { IfOk result (λ s. s.fails ≡ fails.now) }
         ensures no_calls { IfOk result (λ s. s.calls ≡ 0) }
-        ensures no_open_faults { IfOk result (λ s. (n : List ℕ) → faults_in s.unknown_faults s.files n ≡ 0) }
+        ensures no_open_faults { IfOk result (λ s. (n : List ℕ) → open_faults_of s n ≡ 0) }
         ensures no_read_faults { IfOk result (λ s. s.read_faults ≡ 0) }
     {
         Ok(MemFiles {
@@ -70,17 +70,22 @@ impl MemFiles {
     }
 
     /// Adds a file, or gives the file of this name other contents. A name that is new begins with
-    /// the open count that all unknown names share. A file that is open stays open; if it is the one
-    /// of this name, its new contents are read on from where it stands. On `NoMemory` all is as
+    /// the open count that all unknown names share. A file that is open stays open; if it is the
+    /// one of this name, its new contents are read on from where it stands. On `NoMemory` all is as
     /// before.
     #[tactic(auto, using(crate::proofs::Found::other_place))]
     pub fn add(&mut self, name: &str, bytes: &[u8]) -> Result<(), NoMemory>
-        ensures contents { OnOk result (contents_in self.new.files name.now ≡ Some bytes.now) }
-        ensures other_contents { (n : List ℕ) → n ≢ name.now → contents_in self.new.files n ≡ contents_in self.old.files n }
-        ensures same_open_faults { (n : List ℕ) → faults_in self.new.unknown_faults self.new.files n ≡ faults_in self.old.unknown_faults self.old.files n }
+        ensures contents { OnOk result (contents_of self.new name.now ≡ Some bytes.now) }
+        ensures other_contents { (n : List ℕ) → n ≢ name.now → contents_of self.new n
+            ≡ contents_of self.old n }
+        ensures same_open_faults { (n : List ℕ) → open_faults_of self.new n
+            ≡ open_faults_of self.old n }
         ensures only_files { self.new ≡ record self.old { files = self.new.files } }
-        ensures left_of_replaced { OnOk result ((i : ℕ) → self.old.open_place ≡ Some i → place_in self.old.files name.now ≡ Some i → left_in self.new ≡ Some (drop self.old.taken bytes.now)) }
-        ensures left_of_others { self.old.open_place ≢ place_in self.old.files name.now → left_in self.new ≡ left_in self.old }
+        ensures left_of_replaced { OnOk result ((i : ℕ) → self.old.open_place ≡ Some i →
+            place_in self.old.files name.now ≡ Some i → left_in self.new
+            ≡ Some (drop self.old.taken bytes.now)) }
+        ensures left_of_others { self.old.open_place ≢ place_in self.old.files name.now →
+            left_in self.new ≡ left_in self.old }
         ensures err { OnErr result (self.new ≡ self.old) }
     {
         let bytes = Vec::from_slice(self.alloc, bytes)?;
@@ -111,25 +116,27 @@ impl MemFiles {
 }
 
 impl Files for MemFiles {
-    ghost contents = { λ s n. contents_in s.files n };
+    ghost contents = { λ s n. contents_of s n };
 
     ghost left = { left_in };
 
     ghost is_open = { λ s. is_some s.open_place };
 
-    ghost open_faults = { λ s n. faults_in s.unknown_faults s.files n };
+    ghost open_faults = { λ s n. open_faults_of s n };
 
     ghost read_faults = { λ s. s.read_faults };
 
-    #[tactic(auto, using(crate::proofs::Found::contents_at, crate::proofs::Found::known_at, crate::proofs::Found::contents_nowhere, crate::proofs::Found::faults_nowhere, crate::proofs::Found::faults_known, crate::proofs::Found::other_place, crate::proofs::Rises::risen_rose, crate::proofs::Rises::risen_stays))]
+    #[tactic(auto, using(crate::proofs::Found::opening))]
     fn open(&mut self, name: &str) -> Result<(), Failed>
-        ensures same_contents { (n : List ℕ) → contents_in self.new.files n ≡ contents_in self.old.files n }
+        ensures same_contents { (n : List ℕ) → contents_of self.new n ≡ contents_of self.old n }
         ensures opened { OnOk result (is_some self.new.open_place ≡ true) }
-        ensures whole { OnOk result (left_in self.new ≡ contents_in self.old.files name.now) }
+        ensures whole { OnOk result (left_in self.new ≡ contents_of self.old name.now) }
         ensures closed { OnErr result (is_some self.new.open_place ≡ false) }
         ensures nothing_left { OnErr result (left_in self.new ≡ None) }
-        ensures failed { OnErr result (Rose (faults_in self.old.unknown_faults self.old.files name.now) (faults_in self.new.unknown_faults self.new.files name.now)) }
-        ensures open_faults_stay { (n : List ℕ) → faults_in self.old.unknown_faults self.old.files n ≤ faults_in self.new.unknown_faults self.new.files n }
+        ensures failed { OnErr result
+            (Rose (open_faults_of self.old name.now) (open_faults_of self.new name.now)) }
+        ensures open_faults_stay { (n : List ℕ) →
+            open_faults_of self.old n ≤ open_faults_of self.new n }
         ensures read_faults_stay { self.old.read_faults ≤ self.new.read_faults }
         ensures exactly { is_err result ≡ is_open_failing self.old name.now }
         ensures ok { OnOk result (self.new ≡ record self.old {
@@ -143,9 +150,12 @@ impl Files for MemFiles {
           calls = risen self.old.calls;
           unknown_faults = self.new.unknown_faults;
         }) }
-        ensures counted { OnErr result (faults_in self.new.unknown_faults self.new.files name.now ≡ risen (faults_in self.old.unknown_faults self.old.files name.now)) }
-        ensures own_count { IsSome (contents_in self.old.files name.now) → (n : List ℕ) → n ≢ name.now → faults_in self.new.unknown_faults self.new.files n ≡ faults_in self.old.unknown_faults self.old.files n }
-        ensures other_counts { (n : List ℕ) → n ≢ name.now → IsSome (contents_in self.old.files n) → faults_in self.new.unknown_faults self.new.files n ≡ faults_in self.old.unknown_faults self.old.files n }
+        ensures counted { OnErr result (open_faults_of self.new name.now
+            ≡ risen (open_faults_of self.old name.now)) }
+        ensures own_count { IsSome (contents_of self.old name.now) → (n : List ℕ) → n ≢ name.now →
+            open_faults_of self.new n ≡ open_faults_of self.old n }
+        ensures other_counts { (n : List ℕ) → n ≢ name.now → IsSome (contents_of self.old n) →
+            open_faults_of self.new n ≡ open_faults_of self.old n }
     {
         self.open_place = None;
         let fails = self.next_call();
@@ -169,18 +179,26 @@ impl Files for MemFiles {
     fn read(&mut self, buf: &mut [u8]) -> Result<usize, Failed>
         requires open { is_some self.old.open_place ≡ true }
         requires room { 0 < length buf.old }
-        ensures same_contents { (n : List ℕ) → contents_in self.new.files n ≡ contents_in self.old.files n }
+        ensures same_contents { (n : List ℕ) → contents_of self.new n ≡ contents_of self.old n }
         ensures fits { IfOk result (λ n. n ≤ length buf.new) }
         ensures took { IfOk result (λ n. Took (left_in self.old) n buf.new (left_in self.new)) }
         ensures stays_open { is_some self.new.open_place ≡ true }
         ensures failed { OnErr result (Rose self.old.read_faults self.new.read_faults) }
         ensures same_left { OnErr result (left_in self.new ≡ left_in self.old) }
-        ensures open_faults_stay { (n : List ℕ) → faults_in self.old.unknown_faults self.old.files n ≤ faults_in self.new.unknown_faults self.new.files n }
+        ensures open_faults_stay { (n : List ℕ) →
+            open_faults_of self.old n ≤ open_faults_of self.new n }
         ensures read_faults_stay { self.old.read_faults ≤ self.new.read_faults }
         ensures exactly { is_err result ≡ is_next_failing self.old }
-        ensures most { IfOk result (λ n. IfSome (left_in self.old) (λ left. n ≡ min (length buf.new) (length left))) }
-        ensures ok { IfOk result (λ n. self.new ≡ record self.old { taken = self.old.taken + n; calls = risen self.old.calls }) }
-        ensures err { OnErr result (self.new ≡ record self.old { calls = risen self.old.calls; read_faults = risen self.old.read_faults }) }
+        ensures most { IfOk result (λ n. IfSome (left_in self.old) (λ left. n
+            ≡ min (length buf.new) (length left))) }
+        ensures ok { IfOk result (λ n. self.new
+            ≡ record self.old { taken = self.old.taken + n; calls = risen self.old.calls }) }
+        ensures err { OnErr result (self.new
+            ≡ record self.old {
+              calls = risen self.old.calls;
+              read_faults = risen
+                  self.old.read_faults;
+            }) }
     {
         if self.next_call() {
             self.read_faults = one_more(self.read_faults);

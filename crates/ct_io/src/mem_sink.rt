@@ -80,12 +80,14 @@ impl Sink for MemSink {
         requires piece { 0 < length piece.now }
         ensures some { IfOk result (λ n. 1 ≤ n) }
         ensures fits { IfOk result (λ n. n ≤ length piece.now) }
-        ensures appended { IfOk result (λ n. Some self.new.bytes ≡ Appended (Some self.old.bytes) n piece.now) }
+        ensures appended { IfOk result (λ n. Some self.new.bytes
+            ≡ Appended (Some self.old.bytes) n piece.now) }
         ensures failed { OnErr result (Rose self.old.faults self.new.faults) }
         ensures nothing { OnErr result (Some self.new.bytes ≡ Some self.old.bytes) }
         ensures faults_stay { self.old.faults ≤ self.new.faults }
         ensures exactly { is_err result ≡ is_write_failing self.old }
-        ensures most { IfOk result (λ n. n ≡ min (length piece.now) (self.old.room - length self.old.bytes)) }
+        ensures most { IfOk result (λ n. n
+            ≡ min (length piece.now) (self.old.room - length self.old.bytes)) }
         ensures same_room { self.new.room ≡ self.old.room }
         ensures same_fails { self.new.fails ≡ self.old.fails }
         ensures numbered { self.new.writes ≡ risen self.old.writes }

@@ -20,7 +20,8 @@ pub trait Sink {
         requires piece { 0 < length piece.now }
         ensures some { IfOk result (λ n. 1 ≤ n) }
         ensures fits { IfOk result (λ n. n ≤ length piece.now) }
-        ensures appended { IfOk result (λ n. written self.new ≡ Appended (written self.old) n piece.now) }
+        ensures appended { IfOk result (λ n. written self.new
+            ≡ Appended (written self.old) n piece.now) }
         ensures failed { OnErr result (Rose (faults self.old) (faults self.new)) }
         ensures nothing { OnErr result (written self.new ≡ written self.old) }
         ensures faults_stay { faults self.old ≤ faults self.new };
