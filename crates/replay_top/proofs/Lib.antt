@@ -1,6 +1,7 @@
 pub mod Books
 pub mod CaptureRecords
 pub mod Flows
+pub mod Reading
 pub mod Records
 pub mod Replays
 pub mod Steps

@@ -5,6 +5,7 @@ pub mod Flow
 pub mod Header
 pub mod History
 pub mod Line
+pub mod ReadFile
 pub mod Report
 pub mod Text
 pub mod Track

@@ -5,6 +5,7 @@ mod book;
 mod capture;
 mod gather;
 mod line;
+mod read;
 mod replay;
 mod text;
 mod track;

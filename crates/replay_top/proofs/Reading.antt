@@ -1,0 +1,35 @@
+-- Reading a file in pieces.
+use Rattle.std.proofs.Common.{◌≡◌, ℕ, ◌+◌, ◌<◌, List, [], ◌++◌, length, take, Option, None, Some, refl, sym, ◌∙◌, subst, arith, length-append}
+use Rattle.std.proofs.lemmas.List.{append-nil}
+use Rattle.std.specs.Option.{option_map}
+use Rattle.ct_io.specs.Reading.{Took}
+use Rattle.ct_io.proofs.Taking.{took_more}
+use Rattle.replay_top.specs.ReadFile.{AreContents, AreLonger}
+
+-- what was read, and behind it what is left, are the contents; all or nothing of this is told
+abbrev pub AreRead : Option (List ℕ) → List ℕ → Option (List ℕ) → Type 0
+AreRead contents bytes left = option_map (λ rest. bytes ++ rest) left ≡ contents
+
+-- before the first piece
+pub nothing_read : (contents : Option (List ℕ)) → AreRead contents [] contents
+nothing_read None = refl
+nothing_read (Some contents) = refl
+
+-- one more piece
+pub more_read : (contents : Option (List ℕ)) (bytes : List ℕ) (n : ℕ) (buffer : List ℕ) (left after : Option (List ℕ)) →
+    AreRead contents bytes left → Took left n buffer after → AreRead contents (bytes ++ take n buffer) after
+more_read contents bytes n buffer left after so_far took = took_more bytes buffer n left after took ∙ so_far
+
+-- at the end
+pub all_read : (contents : Option (List ℕ)) (bytes buffer : List ℕ) (left after : Option (List ℕ)) →
+    AreRead contents bytes left → Took left 0 buffer after → AreContents contents bytes
+all_read contents bytes buffer None after so_far took = subst (λ c. AreContents c bytes) so_far tt
+all_read contents bytes buffer (Some left) after so_far took =
+    subst (λ c. AreContents c bytes) so_far (rw (took.3 refl) (sym (append-nil bytes)))
+
+-- past the most
+pub too_many : (contents : Option (List ℕ)) (bytes : List ℕ) (n : ℕ) (buffer : List ℕ) (left after : Option (List ℕ)) (most : ℕ) →
+    AreRead contents bytes left → Took left n buffer after → most < length bytes + n → AreLonger contents most
+too_many contents bytes n buffer None after most so_far took past = subst (λ c. AreLonger c most) so_far tt
+too_many contents bytes n buffer (Some left) after most so_far took past =
+    subst (λ c. AreLonger c most) so_far (omega (arith, length-append bytes left, took.2))
