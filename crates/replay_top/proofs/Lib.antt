@@ -1,6 +1,8 @@
 pub mod Books
 pub mod CaptureRecords
+pub mod Endings
 pub mod Flows
+pub mod Lines
 pub mod Reading
 pub mod Records
 pub mod Replays

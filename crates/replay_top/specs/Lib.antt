@@ -1,12 +1,17 @@
 pub mod Book
 pub mod Bytes
 pub mod Capture
+pub mod Causes
+pub mod Ending
+pub mod ErrorLine
 pub mod Flow
 pub mod Header
 pub mod History
 pub mod Line
 pub mod ReadFile
+pub mod Replay
 pub mod Report
 pub mod Text
 pub mod Track
+pub mod Words
 pub mod Wrote

@@ -3,16 +3,18 @@
 
 mod book;
 mod capture;
+mod ending;
 mod gather;
 mod line;
+mod program;
 mod read;
 mod replay;
-mod text;
-mod track;
-mod write;
-
 #[cfg(test)]
 mod tests;
+mod text;
+mod track;
+mod words;
+mod write;
 
-pub use line::LONGEST_LINE;
-pub use write::{WriteFault, write_all, write_report};
+pub use ending::Run;
+pub use program::top;
