@@ -12,6 +12,7 @@ mod mem_sink;
 mod sink;
 mod std_files;
 mod std_sink;
+mod std_stream;
 #[cfg(test)]
 mod tests;
 
@@ -22,3 +23,4 @@ pub use mem_sink::MemSink;
 pub use sink::Sink;
 pub use std_files::StdFiles;
 pub use std_sink::StdSink;
+pub use std_stream::StdStream;
