@@ -7,7 +7,7 @@ pub mod Reading
 pub mod Records
 pub mod Replays
 pub mod Steps
-pub mod Tests
+pub mod Passing
 pub mod Texts
 pub mod Tracks
 pub mod Writes

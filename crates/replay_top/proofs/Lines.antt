@@ -1,9 +1,9 @@
 -- Texts written one after another.
-use Rattle.std.proofs.Common.{◌≡◌, ℕ, ◌+◌, ◌<◌, ◌≤◌, List, [], ◌++◌, length, take, Option, None, Some, Result, Ok, Err, refl, sym, ◌∙◌, ap, arith, length-append}
+use Rattle.std.proofs.Common.{◌≡◌, ℕ, ◌+◌, ◌≤◌, List, ◌++◌, length, take, Option, Result, Ok, Err, arith, length-append}
 use Rattle.std.proofs.Math.Seq.{take-append-add}
 use Rattle.std.proofs.lemmas.List.{take-append-le}
 use Rattle.ct_io.specs.Counts.{Rose}
-use Rattle.ct_io.proofs.Rises.{rose_from_earlier, rose_until_later}
+use Rattle.ct_io.proofs.Rises.{rose_from_earlier}
 use Rattle.replay_top.specs.declared.write.WriteFault.{WriteFault}
 use Rattle.replay_top.specs.Wrote.{followed_by, Wrote, WroteFront}
 use Rattle.replay_top.proofs.Writes.{followed_by-append}

@@ -45,7 +45,7 @@ use Rattle.replay_top.specs.Track.{Begins, Handled, StepsTo}
 use Rattle.replay_top.proofs.Books.{events-push, length-events, pairs_of}
 use Rattle.replay_top.proofs.Flows.{udp_of_protocol, udp_starts}
 use Rattle.replay_top.proofs.Records.{each_at, others_apart, remove-filter}
-use Rattle.replay_top.proofs.Tests.{fails_by, found_passes, none_found, or_false}
+use Rattle.replay_top.proofs.Passing.{fails_by, found_passes, none_found, or_false}
 use Rattle.replay_top.proofs.Tracks.{event_added, length_added}
 
 none_both : (o r : Option Record) → original_first o r ≡ None → (o ≡ None) × (r ≡ None)

@@ -24,7 +24,7 @@ use Rattle.replay_top.specs.Book.{Adds, IsPlain}
 use Rattle.replay_top.specs.History.{events_of, pool}
 use Rattle.replay_top.specs.Track.{Begins}
 use Rattle.replay_top.proofs.Books.{events-push, length-events}
-use Rattle.replay_top.proofs.Tests.{fails_by, or_false}
+use Rattle.replay_top.proofs.Passing.{fails_by, or_false}
 
 pub inverse_twice : (t : Tuple) → is_valid t ≡ true → inverse (inverse t) ≡ t
 inverse_twice t h = search rules

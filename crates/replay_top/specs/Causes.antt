@@ -1,6 +1,5 @@
 -- When each status comes, and when a run succeeds.
 use Rattle.std.specs.Prelude.{◌≡◌, ℕ, ◌≤◌, ◌⊎◌, Option, List, IsSomeAnd}
-use Rattle.ct_io.specs.Counts.{Rose}
 use Rattle.history_book.specs.declared.packet.FlowPacket.{FlowPacket}
 use Rattle.history_book.specs.declared.report.Report.{Report}
 use Rattle.replay_top.specs.Capture.{IsNoPlainCapture, IsPlainCapture}

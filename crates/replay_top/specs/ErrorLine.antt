@@ -1,8 +1,7 @@
 -- The one line on the error output.
-use Rattle.std.specs.Prelude.{◌≡◌, ℕ, ◌⊎◌, Option, Some, None, List, [], ◌++◌, codes}
+use Rattle.std.specs.Prelude.{◌≡◌, ℕ, ◌⊎◌, Option, List, [], ◌++◌, codes}
 use Rattle.ct_io.specs.Counts.{Rose}
 use Rattle.replay_top.specs.Replay.{Names}
-use Rattle.replay_top.specs.Words.{capture_named}
 use Rattle.replay_top.specs.Wrote.{followed_by, WroteFront}
 
 -- the program's name, what the line is about, and the problem

@@ -128,3 +128,6 @@ pub fn top<R: Threads + Wait + Sync, F: Files, K: Sink, G: Gate + Sync>(
     tell(&ending, capture_name(words).unwrap_or(""), err);
     finish(ending)
 }
+
+#[cfg(test)]
+mod tests;

@@ -1,6 +1,7 @@
 //! Whole texts of reports that are built by hand.
 
-use crate::{LONGEST_LINE, write_report};
+use crate::line::LONGEST_LINE;
+use crate::write::write_report;
 use ct_io::MemSink;
 use history_book::event::{Event, Numbered, Why};
 use history_book::protocol::{Part, PartKind};

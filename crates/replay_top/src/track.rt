@@ -55,9 +55,10 @@ fn make(book: &mut Book, index: u32, packet: &FlowPacket, place: u32) -> Class
         master: None,
     };
     book.confirm(index, &subject);
+    let at = book.history.len() as u64;
     Class::Made {
         id,
-        at: book.history.len() as u64,
+        at,
         translated: Translated::Plain,
         unclaimed: Some(id),
     }

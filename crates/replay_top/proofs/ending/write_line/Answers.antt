@@ -1,6 +1,5 @@
-use Rattle.std.proofs.Common.{◌++◌, ap, sym, subst}
-use Rattle.std.specs.Prelude.{codes, Option, List, ℕ}
-use Rattle.replay_top.specs.Wrote.{Wrote}
+use Rattle.std.proofs.Common.{◌++◌}
+use Rattle.std.specs.Prelude.{codes}
 use Rattle.replay_top.proofs.Lines.{wrote_stop, wrote_then}
 use Rattle.replay_top.proofs.ending.write_line.Goals as goal
 

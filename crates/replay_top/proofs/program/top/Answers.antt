@@ -1,6 +1,4 @@
-use Rattle.std.proofs.Common.{sym, subst, ℕ}
 use Rattle.replay_top.specs.Ending.{line_of}
-use Rattle.replay_top.specs.ErrorLine.{IsErrorLine}
 use Rattle.replay_top.proofs.Endings.{line_of_ending, told_name}
 use Rattle.replay_top.proofs.program.top.Goals as goal
 

@@ -28,7 +28,7 @@ confirm-requires-clause-may c =
 
 pub returns-clause-begins : goal.returns-clause-begins
 returns-clause-begins c =
-    rw (c.len-id.ensures.exact, c.len.ensures.exact)
+    rw (c.len-id.ensures.exact, c.len-at.ensures.exact)
     (begins_made c.args.book.now c.confirm.new.self c.args.index c.args.packet.now
     (record {
       id = c.len-id.result;

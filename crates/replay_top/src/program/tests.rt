@@ -1,0 +1,274 @@
+//! Runs of the whole program, over files and sinks in memory.
+
+use super::top;
+use ct_io::{MemFiles, MemSink, NoGate};
+use std::alloc::{AllocError, Global};
+use std::sync::Wait;
+use std::test::Fail;
+use std::thread::Threads;
+
+/// The name of each test's capture.
+const NAME: &str = "c.pcap";
+
+/// No call has this number.
+const NEVER: u64 = u64::MAX;
+
+/// A query of UDP at 1000 s from 10.0.0.1:5000 to 10.0.0.2:53, and its answer half a second later.
+const CAPTURE: [u8; 120] = [
+    0xd4, 0xc3, 0xb2, 0xa1, 2, 0, 4, 0, 0, 0, 0, 0, 0, 0, 0, 0, 0xff, 0xff, 0, 0, 0x65, 0, 0, 0,
+    0xe8, 3, 0, 0, 0, 0, 0, 0, 0x20, 0, 0, 0, 0x20, 0, 0, 0, 0x45, 0, 0, 0x20, 0, 0, 0, 0, 0x40,
+    0x11, 0, 0, 0x0a, 0, 0, 1, 0x0a, 0, 0, 2, 0x13, 0x88, 0, 0x35, 0, 0x0c, 0, 0, 0, 0, 0, 0, 0xe8,
+    3, 0, 0, 0x20, 0xa1, 7, 0, 0x20, 0, 0, 0, 0x20, 0, 0, 0, 0x45, 0, 0, 0x20, 0, 0, 0, 0, 0x40,
+    0x11, 0, 0, 0x0a, 0, 0, 2, 0x0a, 0, 0, 1, 0, 0x35, 0x13, 0x88, 0, 0x0c, 0, 0, 0, 0, 0, 0,
+];
+
+const ANSWERED: &str = "\
+events 2
+0 confirm 0.0 udp src=10.0.0.1 dst=10.0.0.2 sport=5000 dport=53 src=10.0.0.2 dst=10.0.0.1 sport=53 dport=5000 until=1030000000
+1 touch 0.1 id=0 reply until=1120500000 replied
+thread 0 packets 2
+0 NEW id=0 @1
+1 ESTABLISHED_REPLY id=0 @2
+script 0
+";
+
+const EXPIRED: &str = "\
+events 3
+0 confirm 0.0 udp src=10.0.0.1 dst=10.0.0.2 sport=5000 dport=53 src=10.0.0.2 dst=10.0.0.1 sport=53 dport=5000 until=31000000
+1 destroy 0.1 id=0 expired
+2 confirm 0.1 udp src=10.0.0.1 dst=10.0.0.2 sport=5000 dport=53 src=10.0.0.2 dst=10.0.0.1 sport=53 dport=5000 until=61000000
+thread 0 packets 2
+0 NEW id=0 @1
+1 NEW id=2 @3
+script 0
+";
+
+const TOUCHED: &str = "\
+events 2
+0 confirm 0.0 udp src=10.0.0.1 dst=10.0.0.2 sport=5000 dport=53 src=10.0.0.2 dst=10.0.0.1 sport=53 dport=5000 until=31000000
+1 touch 0.1 id=0 original until=60999999
+thread 0 packets 2
+0 NEW id=0 @1
+1 NEW id=0 @2
+script 0
+";
+
+/// The query at 1 s, and again at this time in seconds and microseconds.
+fn query_twice(seconds: u8, micros: [u8; 3]) -> [u8; 120] {
+    let mut bytes = CAPTURE;
+    bytes[24] = 1;
+    bytes[25] = 0;
+    bytes[72] = seconds;
+    bytes[73] = 0;
+    bytes[76] = micros[0];
+    bytes[77] = micros[1];
+    bytes[78] = micros[2];
+    bytes[103] = 1;
+    bytes[107] = 2;
+    bytes[108] = 0x13;
+    bytes[109] = 0x88;
+    bytes[110] = 0;
+    bytes[111] = 0x35;
+    bytes
+}
+
+/// The calls of files, of writes to the output and of writes to the error output that are to fail.
+#[derive(Clone, Copy)]
+struct Faults {
+    files: u64,
+    out: u64,
+    err: u64,
+}
+
+const NONE: Faults = Faults {
+    files: NEVER,
+    out: NEVER,
+    err: NEVER,
+};
+
+/// What a run left.
+#[derive(Drop)]
+struct Left {
+    status: u8,
+    reported: bool,
+    out: MemSink,
+    err: MemSink,
+}
+
+/// Runs the program on these words, where one file has these bytes and the output takes `room` bytes.
+fn run<R: Threads + Wait + Sync + AllocGlobal>(
+    rt: &R,
+    words: &[&str],
+    bytes: &[u8],
+    room: usize,
+    faults: &Faults,
+) -> Result<Left, Fail> {
+    let alloc = rt.alloc();
+    let mut all = Vec::new(alloc);
+    for word in words {
+        all.push(String::from_str(alloc, word)?)?;
+    }
+    let mut files = MemFiles::new(alloc, &[faults.files])?;
+    files.add(NAME, bytes)?;
+    let mut out = MemSink::new(alloc, room, &[faults.out])?;
+    let mut err = MemSink::new(alloc, 100, &[faults.err])?;
+    let run = top(
+        rt,
+        alloc,
+        all.as_slice(),
+        &mut files,
+        &mut out,
+        &mut err,
+        &NoGate,
+    );
+    Ok(Left {
+        status: run.status,
+        reported: run.report.is_some(),
+        out,
+        err,
+    })
+}
+
+#[test]
+fn a_capture_is_replayed(rt: HostRuntime) -> Result<(), Fail> {
+    let expired = query_twice(31, [0, 0, 0]);
+    let touched = query_twice(30, [0x3f, 0x42, 0x0f]);
+    let rows: [(&[u8], &str); 4] = [
+        (&CAPTURE[..24], "events 0\nthread 0 packets 0\nscript 0\n"),
+        (&CAPTURE, ANSWERED),
+        (&expired, EXPIRED),
+        (&touched, TOUCHED),
+    ];
+    for (bytes, text) in rows {
+        let left = run(&rt, &["ctreplay", NAME], bytes, 1000, &NONE)?;
+        assert_eq!(rt; left.status, 0);
+        assert!(rt; left.reported);
+        assert!(rt; left.out.bytes() == text.as_bytes(), "expected {text}");
+        assert!(rt; left.err.bytes().is_empty());
+    }
+    Ok(())
+}
+
+#[test]
+fn what_is_refused(rt: HostRuntime) -> Result<(), Fail> {
+    let usage = "ctreplay: the words are not of the stated form\n";
+    let no_form = "ctreplay: c.pcap: form not read yet\n";
+    let rows: [(&[&str], &[u8], u8, &str); 9] = [
+        (&[], &CAPTURE, 1, usage),
+        (&["ctreplay"], &CAPTURE, 1, usage),
+        (&["ctreplay", "-x"], &CAPTURE, 1, usage),
+        (&["ctreplay", NAME, NAME], &CAPTURE, 1, usage),
+        (
+            &["ctreplay", "b.pcap"],
+            &CAPTURE,
+            3,
+            "ctreplay: b.pcap: open failed\n",
+        ),
+        (&["ctreplay", ""], &CAPTURE, 3, "ctreplay: : open failed\n"),
+        (&["ctreplay", NAME], &CAPTURE[..119], 2, no_form),
+        (&["ctreplay", NAME], &CAPTURE[..23], 2, no_form),
+        (&["ctreplay", NAME], b"pcapng", 2, no_form),
+    ];
+    for (words, bytes, status, line) in rows {
+        let left = run(&rt, words, bytes, 1000, &NONE)?;
+        assert_eq!(rt; left.status, status);
+        assert!(rt; !left.reported);
+        assert!(rt; left.out.bytes().is_empty());
+        assert!(rt; left.err.bytes() == line.as_bytes(), "expected {line}");
+    }
+    Ok(())
+}
+
+#[test]
+fn each_call_of_the_outside_fails(rt: HostRuntime) -> Result<(), Fail> {
+    let expired = query_twice(31, [0, 0, 0]);
+    let words: &[&str] = &["ctreplay", NAME];
+    let rows: [(u64, u8, &str); 4] = [
+        (0, 3, "ctreplay: c.pcap: open failed\n"),
+        (1, 3, "ctreplay: c.pcap: read failed\n"),
+        (2, 3, "ctreplay: c.pcap: read failed\n"),
+        (3, 0, ""),
+    ];
+    for (call, status, line) in rows {
+        let faults = Faults {
+            files: call,
+            out: NEVER,
+            err: NEVER,
+        };
+        let left = run(&rt, words, &expired, 1000, &faults)?;
+        assert_eq!(rt; left.status, status);
+        assert_eq!(rt; left.reported, status == 0);
+        assert_eq!(rt; left.out.bytes().is_empty(), status != 0);
+        assert!(rt; left.err.bytes() == line.as_bytes(), "call {call}");
+    }
+    Ok(())
+}
+
+#[test]
+fn writes_fail(rt: HostRuntime) -> Result<(), Fail> {
+    let expired = query_twice(31, [0, 0, 0]);
+    let words: &[&str] = &["ctreplay", NAME];
+    let line = "ctreplay: write failed\n";
+    for (out, room) in [(0, 1000), (1, 100), (NEVER, 100), (NEVER, 0)] {
+        let faults = Faults {
+            files: NEVER,
+            out,
+            err: NEVER,
+        };
+        let left = run(&rt, words, &expired, room, &faults)?;
+        assert_eq!(rt; left.status, 4);
+        assert!(rt; left.reported);
+        let expected = if out == 0 { 0 } else { room };
+        assert_eq!(rt; left.out.bytes().len(), expected);
+        assert!(rt; EXPIRED.as_bytes().starts_with(left.out.bytes()));
+        assert!(rt; left.err.bytes() == line.as_bytes());
+    }
+    for err in [0, 1] {
+        let faults = Faults {
+            files: NEVER,
+            out: 0,
+            err,
+        };
+        let left = run(&rt, words, &expired, 1000, &faults)?;
+        assert_eq!(rt; left.status, 4);
+        assert!(rt; line.as_bytes().starts_with(left.err.bytes()));
+        assert!(rt; left.err.bytes().len() < line.len());
+    }
+    Ok(())
+}
+
+/// One query of each of so many clients, and then the first client's again.
+fn many_flows(alloc: Global, flows: u32) -> Result<Vec<u8>, AllocError> {
+    let mut bytes = Vec::from_slice(alloc, &CAPTURE[..24])?;
+    let (_, records) = CAPTURE.split_at(24);
+    let mut record = [0; 48];
+    record.copy_from_slice(records.split_at(48).0);
+    for flow in 0..flows {
+        record[29] = (flow / 65536 % 256) as u8;
+        record[30] = (flow / 256 % 256) as u8;
+        record[31] = (flow % 256) as u8;
+        bytes.extend_from_slice(&record)?;
+    }
+    record[29] = 0;
+    record[30] = 0;
+    record[31] = 0;
+    bytes.extend_from_slice(&record)?;
+    Ok(bytes)
+}
+
+#[test]
+fn the_table_is_full_from_the_next_flow_on(rt: HostRuntime) -> Result<(), Fail> {
+    let bytes = many_flows(rt.alloc(), 65_538)?;
+    let left = run(&rt, &["ctreplay", NAME], bytes.as_slice(), 1 << 24, &NONE)?;
+    let tail = "\
+65535 NEW id=65535 @65536
+65536 FULL @65536
+65537 FULL @65536
+65538 NEW id=0 @65537
+script 0
+";
+    assert_eq!(rt; left.status, 0);
+    assert!(rt; left.out.bytes().starts_with(b"events 65537\n"));
+    assert!(rt; left.out.bytes().ends_with(tail.as_bytes()));
+    Ok(())
+}
