@@ -9,6 +9,9 @@ ghost use Rattle.tuple_core.specs.Tuple.{is_query_type, is_valid, partner_of};
 
 use std::alloc::AllocError;
 
+#[cfg(test)]
+mod tests;
+
 /// Memory was wanted and not there.
 #[derive(Clone, Copy, Debug)]
 pub struct NoMemory;
