@@ -7,3 +7,4 @@ pub mod Entries
 pub mod Marks
 pub mod Pairs
 pub mod Sound
+pub mod Examples

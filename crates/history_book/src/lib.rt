@@ -9,4 +9,6 @@ pub mod protocol;
 pub mod record;
 pub mod report;
 pub mod rule;
+#[cfg(test)]
+mod tests;
 pub mod verdict;

@@ -23,7 +23,7 @@ pub struct Part {
     pub kind: PartKind,
     /// Whether a packet in the reply direction was accepted.
     pub replied: bool,
-    /// Whether the flow goes both ways.
+    /// Whether the flow goes both ways: of UDP, whether an original packet was accepted after a reply.
     pub assured: bool,
     /// The moment, in microseconds, from which on the entry is expired.
     pub deadline: u64,
@@ -34,12 +34,13 @@ pub struct Part {
 pub enum Outcome {
     /// The entry goes on with this part.
     Accept(Part),
-    /// The entry's deadline had passed.
+    /// The entry's deadline is at most the packet's moment.
     Expired,
 }
 
 /// The part of the entry that begins with this segment at `moment`, in microseconds. `None` exactly
-/// where no entry begins with it: of the protocols, UDP alone is tracked so far.
+/// where no entry begins with it: of the protocols, UDP alone is tracked so far. A capture counts its
+/// seconds in 32 bits, so that its moments are below the bound.
 pub fn start(segment: Segment, moment: u64) -> Option<Part>
     requires { moment ≤ 10 ^ 16 }
     ensures { result ≡ start_of segment moment }

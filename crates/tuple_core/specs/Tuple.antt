@@ -4,14 +4,14 @@ use Rattle.tuple_core.specs.declared.Proto.{Proto}
 use Rattle.tuple_core.specs.declared.Proto.TheVariants.{Icmp, Tcp, Udp}
 use Rattle.tuple_core.specs.declared.Tuple.{Tuple}
 
--- the number of a protocol in the IP header
+-- the number of a protocol in the IP header (RFC 791)
 abbrev pub number_of : Proto → ℕ
 number_of Icmp = 1
 number_of Tcp = 6
 number_of Udp = 17
 
 -- the ICMP type that answers this one, or that this one answers: echo, timestamp, information
--- and address mask; every other type is its own partner, and makes no flow
+-- (RFC 792) and address mask (RFC 950); every other type is its own partner, and makes no flow
 abbrev pub partner_of : ℕ → ℕ
 partner_of k =
     (if k == 0 then 8 else
@@ -23,7 +23,7 @@ partner_of k =
     (if k == 17 then 18 else
     (if k == 18 then 17 else k))))))))
 
--- an ICMP type that asks or answers
+-- an ICMP type that asks or answers: a query of RFC 1122, section 3.2.2
 abbrev pub is_query_type : ℕ → Bool
 is_query_type k = k == 0 || k == 8 || k == 13 || k == 14 || k == 15 || k == 16 || k == 17 || k == 18
 
@@ -37,5 +37,6 @@ has_flow Udp b = true
 abbrev pub is_in_range : Tuple → Bool
 is_in_range t = nat_lt t.src (2 ^ 32) && nat_lt t.dst (2 ^ 32) && nat_lt t.a (2 ^ 16) && nat_lt t.b (2 ^ 16)
 
+-- the tuple is of TCP, of UDP, or of an ICMP type that makes a flow
 abbrev pub is_valid : Tuple → Bool
 is_valid t = is_in_range t && has_flow t.proto t.b

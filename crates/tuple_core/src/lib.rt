@@ -9,6 +9,9 @@ ghost use Rattle.tuple_core.specs.Tuple.{is_query_type, is_valid, partner_of};
 
 use std::alloc::AllocError;
 
+#[cfg(test)]
+mod tests;
+
 /// Memory was wanted and not there.
 #[derive(Clone, Copy, Debug)]
 pub struct NoMemory;
@@ -37,11 +40,17 @@ pub enum Direction {
 /// The kind of a TCP segment, by its flags (RFC 9293).
 #[derive(Clone, Copy)]
 pub enum Kind {
+    /// SYN, and neither ACK nor RST.
     Syn,
+    /// SYN and ACK, and no RST.
     SynAck,
+    /// FIN, and neither SYN nor RST.
     Fin,
+    /// Of SYN, FIN, ACK and RST only ACK.
     Ack,
+    /// RST, whatever else is set.
     Rst,
+    /// None of SYN, FIN, ACK and RST.
     Bare,
 }
 
@@ -68,7 +77,8 @@ pub struct Tuple {
     pub b: u16,
 }
 
-/// The ICMP type that answers this one, or that this one answers (RFC 792).
+/// The ICMP type that answers this one, or that this one answers (RFC 792; for the address mask, types
+/// 17 and 18, RFC 950).
 fn partner(kind: u16) -> u16
     ensures { result ≡ partner_of kind }
 {
@@ -85,7 +95,8 @@ fn partner(kind: u16) -> u16
     }
 }
 
-/// Whether an ICMP type asks or answers, so that it makes a flow (RFC 792).
+/// Whether an ICMP type asks or answers, so that it makes a flow: RFC 1122, section 3.2.2, calls both
+/// queries.
 fn is_query(kind: u16) -> bool
     ensures { result ≡ is_query_type kind }
 {
