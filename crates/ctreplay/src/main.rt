@@ -4,10 +4,9 @@
 use ct_io::{NoGate, StdFiles, StdSink};
 use replay_top::top;
 use std::alloc::Global;
-use std::env;
-use std::io;
 use std::process::ExitCode;
 use std::rt::Env;
+use std::{env, io};
 
 /// The words of the command line.
 fn words(rt: &(impl Env + AllocGlobal)) -> io::Result<Vec<String>> {
@@ -19,8 +18,15 @@ fn words(rt: &(impl Env + AllocGlobal)) -> io::Result<Vec<String>> {
 }
 
 fn main(rt: HostRuntime) -> ExitCode {
-    // Words that are no text are of no form, and so are none at all.
-    let words = words(&rt).unwrap_or(Vec::new(rt.alloc()));
+    let words = match words(&rt) {
+        Ok(words) => words,
+        Err(error) if matches!(error.kind(), io::ErrorKind::OutOfMemory) => {
+            let _ = eprintln!(rt; "ctreplay: out of memory");
+            return ExitCode::from(6);
+        }
+        // Words that are no text are of no form, as no words are.
+        Err(_) => Vec::new(rt.alloc()),
+    };
     let mut files = StdFiles::new(&rt);
     let mut out = StdSink::out(rt.stdout());
     let mut err = StdSink::err(rt.stderr());
