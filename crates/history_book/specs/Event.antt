@@ -47,10 +47,12 @@ abbrev pub same_bool : Bool → Bool → Bool
 same_bool true b = b
 same_bool false b = not b
 
+abbrev pub same_kind : PartKind → PartKind → Bool
+same_kind kind.Udp kind.Udp = true
+
 abbrev pub same_part : Part → Part → Bool
 same_part p q =
-    number_of (proto_of p.kind) == number_of (proto_of q.kind) && same_bool p.replied q.replied
-    && same_bool p.assured q.assured && p.deadline == q.deadline
+    same_kind p.kind q.kind && same_bool p.replied q.replied && same_bool p.assured q.assured && p.deadline == q.deadline
 
 -- the step accepts the packet, and the entry goes on with this part
 abbrev pub accepts : Outcome → Part → Bool
@@ -80,7 +82,7 @@ may_happen entries rs n (Touch id direction segment moment after) =
 may_happen entries rs n (Destroy id why) = may_destroy (record_of id rs) why
 
 -- the moment of the packet that an event was made by, where the step reads it
-abbrev pub moment_of : Event → ℕ
-moment_of (Confirm r) = 0
-moment_of (Touch id direction segment moment after) = moment
-moment_of (Destroy id why) = 0
+abbrev pub step_moment_of : Event → ℕ
+step_moment_of (Confirm r) = 0
+step_moment_of (Touch id direction segment moment after) = moment
+step_moment_of (Destroy id why) = 0

@@ -13,9 +13,9 @@ use Rattle.history_book.specs.Notes.{Happened}
 use Rattle.history_book.specs.Protocol.{start_of}
 
 -- the reply tuple was found lawfully: without rules it is the inverse of the original one
-abbrev pub IsLawful : Tuple → Translated → Tuple → Type 0
-IsLawful t Plain reply = reply ≡ inverse t
-IsLawful t (Chosen chosen taken_at) reply = ⊥
+abbrev pub IsLawfulReply : Tuple → Translated → Tuple → Type 0
+IsLawfulReply t Plain reply = reply ≡ inverse t
+IsLawfulReply t (Chosen chosen taken_at) reply = ⊥
 
 -- no expectation matched at this point from k to the entry's Confirm, and the entry has no master;
 -- as yet nothing is expected, and no entry can have one
@@ -27,7 +27,7 @@ IsUnclaimed k (Some p) r = (r.master ≡ None) × (k ≤ p) × (p ≤ r.id)
 -- no helper
 pub record IsStarted (packet : FlowPacket) (translated : Translated) (r : Record) : Type 0 where
   pub original : r.original ≡ packet.tuple
-  pub reply : IsLawful packet.tuple translated r.reply
+  pub reply : IsLawfulReply packet.tuple translated r.reply
   pub part : start_of packet.segment packet.moment ≡ Some r.part
   pub helper : r.helper ≡ false
 

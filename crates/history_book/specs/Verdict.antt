@@ -1,5 +1,5 @@
 -- When a verdict fits a packet and the events that the packet made.
-use Rattle.std.specs.Prelude.{◌≡◌, ℕ, ◌+◌, ◌≤◌, Some, None, List, [], ◌∷◌, ◌++◌, length}
+use Rattle.std.specs.Prelude.{◌≡◌, ℕ, ◌+◌, ◌≤◌, Some, None, List, [], ◌∷◌, ◌++◌, length, option_to_list}
 use Rattle.history_book.specs.declared.event.Event.{Event}
 use Rattle.history_book.specs.declared.event.Event.TheVariants.{Confirm, Touch, Destroy}
 use Rattle.history_book.specs.declared.event.Note.{Note}
@@ -8,6 +8,10 @@ use Rattle.history_book.specs.declared.event.Why.TheVariants as why
 use Rattle.history_book.specs.declared.packet.FlowPacket.{FlowPacket}
 use Rattle.history_book.specs.declared.verdict.Class.{Class}
 use Rattle.history_book.specs.declared.verdict.Class.TheVariants as class
+use Rattle.history_book.specs.declared.verdict.Ftp.{Ftp}
+use Rattle.history_book.specs.declared.verdict.Ftp.TheVariants as ftp
+use Rattle.history_book.specs.declared.verdict.Translated.{Translated}
+use Rattle.history_book.specs.declared.verdict.Translated.TheVariants.{Chosen, Plain}
 use Rattle.history_book.specs.Full.{FindsNoRoom}
 use Rattle.history_book.specs.Made.{Makes}
 use Rattle.history_book.specs.Notes.{Happened, mark_past}
@@ -54,9 +58,22 @@ pub record Fits (entries : ℕ) (log : List Event) (mark : ℕ) (packet : FlowPa
   pub killed : KillsAll log mark packet kills
   pub fits : FitsClass entries log (mark_past mark kills) packet rest verdict
 
+-- the point that a translation names
+abbrev pub translated_points : Translated → List ℕ
+translated_points Plain = []
+translated_points (Chosen reply taken_at) = option_to_list taken_at
+
+-- the points that what came of a payload names
+abbrev pub ftp_points : Ftp → List ℕ
+ftp_points ftp.Nothing = []
+ftp_points (ftp.Expected id) = []
+ftp_points ftp.Address = []
+ftp_points (ftp.Clash id at) = at ∷ []
+ftp_points (ftp.Full at) = at ∷ []
+ftp_points (ftp.Gone at) = at ∷ []
+
 -- the points that a verdict names
 abbrev pub points_of : Class → List ℕ
-points_of (class.Made id at translated None) = at ∷ []
-points_of (class.Made id at translated (Some p)) = p ∷ at ∷ []
-points_of (class.Passed label id at ftp) = at ∷ []
+points_of (class.Made id at translated unclaimed) = at ∷ (option_to_list unclaimed ++ translated_points translated)
+points_of (class.Passed label id at payload) = at ∷ ftp_points payload
 points_of (class.Full at) = at ∷ []

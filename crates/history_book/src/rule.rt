@@ -2,7 +2,7 @@
 
 ghost use Rattle.std.specs.Prelude.{◌≡◌, ◌≤◌, ◌^◌, Some};
 ghost use Rattle.std.specs.List.{list_any};
-ghost use Rattle.history_book.specs.Event.{is_of_one_protocol, is_reason, may_confirm, may_happen, may_touch, moment_of, same_part};
+ghost use Rattle.history_book.specs.Event.{is_of_one_protocol, is_reason, may_confirm, may_happen, may_touch, step_moment_of, same_part};
 ghost use Rattle.history_book.specs.Protocol.{is_of_protocol};
 ghost use Rattle.history_book.specs.Record.{has_place, has_tuple};
 
@@ -13,7 +13,7 @@ use crate::record::Record;
 use tuple_core::{Direction, Proto, Segment, Tuple, is_valid};
 
 /// Whether the segment is of the protocol.
-pub fn is_of(segment: Segment, kind: PartKind) -> bool
+pub fn is_of_protocol(segment: Segment, kind: PartKind) -> bool
     ensures { result ≡ is_of_protocol segment kind }
 {
     match (segment, kind) {
@@ -24,7 +24,7 @@ pub fn is_of(segment: Segment, kind: PartKind) -> bool
 }
 
 /// Whether the record has the tuple in either direction.
-fn is_named(r: &Record, t: &Tuple) -> bool
+fn has_tuple(r: &Record, t: &Tuple) -> bool
     ensures { result ≡ has_tuple t.now r.now }
 {
     r.original == *t || r.reply == *t
@@ -34,7 +34,7 @@ fn is_named(r: &Record, t: &Tuple) -> bool
 pub fn is_taken(records: &[Record], t: &Tuple) -> bool
     ensures { result ≡ list_any (has_tuple t.now) records.now }
 {
-    records.iter().any(|r| is_named(r, t))
+    records.iter().any(|r| has_tuple(r, t))
 }
 
 /// Whether a live record has the place.
@@ -45,7 +45,7 @@ pub fn is_place_used(records: &[Record], place: u32) -> bool
 }
 
 /// Whether both tuples of a record are valid and of the protocol of its part.
-fn is_of_one(r: &Record) -> bool
+fn is_of_one_protocol(r: &Record) -> bool
     ensures { result ≡ is_of_one_protocol r.now }
 {
     let proto = match r.part.kind {
@@ -62,7 +62,7 @@ fn is_confirmable(entries: u32, records: &[Record], number: u64, subject: &Recor
     ensures { result ≡ may_confirm entries records.now number subject.now }
 {
     subject.id == number
-        && is_of_one(subject)
+        && is_of_one_protocol(subject)
         && subject.place < entries
         && !is_place_used(records, subject.place)
         && !is_taken(records, &subject.original)
@@ -73,7 +73,10 @@ fn is_confirmable(entries: u32, records: &[Record], number: u64, subject: &Recor
 fn is_same_part(p: &Part, q: &Part) -> bool
     ensures { result ≡ same_part p.now q.now }
 {
-    p.replied == q.replied && p.assured == q.assured && p.deadline == q.deadline
+    let is_same_kind = match (p.kind, q.kind) {
+        (PartKind::Udp, PartKind::Udp) => true,
+    };
+    is_same_kind && p.replied == q.replied && p.assured == q.assured && p.deadline == q.deadline
 }
 
 /// Whether the record may be touched by such a packet, and goes on with the part `after`.
@@ -87,7 +90,7 @@ fn is_touchable(
     requires { moment ≤ 10 ^ 16 }
     ensures { result ≡ may_touch (Some r.now) direction segment moment after.now }
 {
-    if !is_of(segment, r.part.kind) {
+    if !is_of_protocol(segment, r.part.kind) {
         return false;
     }
     match step(&r.part, direction, segment, moment) {
@@ -107,7 +110,7 @@ fn is_reason_for(why: &Why, r: &Record) -> bool
 
 /// Whether `event` may happen as event `number`, beside these records of a pool of `entries`.
 pub fn is_lawful(entries: u32, records: &[Record], number: u64, event: &Event) -> bool
-    requires { moment_of event.now ≤ 10 ^ 16 }
+    requires { step_moment_of event.now ≤ 10 ^ 16 }
     ensures { result ≡ may_happen entries records.now number event.now }
 {
     match event {

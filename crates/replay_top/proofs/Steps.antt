@@ -17,12 +17,14 @@ use Rattle.history_book.specs.declared.packet.FlowPacket.{FlowPacket}
 use Rattle.history_book.specs.declared.protocol.Outcome.{Outcome}
 use Rattle.history_book.specs.declared.protocol.Outcome.TheVariants.{Accept, Expired}
 use Rattle.history_book.specs.declared.protocol.Part.{Part}
+use Rattle.history_book.specs.declared.protocol.PartKind.{PartKind}
+use Rattle.history_book.specs.declared.protocol.PartKind.TheVariants as kind
 use Rattle.history_book.specs.declared.record.Record.{Record}
 use Rattle.history_book.specs.declared.verdict.Class.{Class}
 use Rattle.history_book.specs.declared.verdict.Class.TheVariants as class
 use Rattle.history_book.specs.declared.verdict.Ftp.TheVariants.{Nothing}
 use Rattle.history_book.specs.declared.verdict.Label.{Label}
-use Rattle.history_book.specs.Event.{accepts, may_touch, same_bool, same_part}
+use Rattle.history_book.specs.Event.{accepts, may_touch, same_bool, same_kind, same_part}
 use Rattle.history_book.specs.Find.{IsHit}
 use Rattle.history_book.specs.History.{after}
 use Rattle.history_book.specs.Label.{label_of}
@@ -161,9 +163,12 @@ same_bool-refl : (b : Bool) → same_bool b b ≡ true
 same_bool-refl true = refl
 same_bool-refl false = refl
 
+same_kind-refl : (k : PartKind) → same_kind k k ≡ true
+same_kind-refl kind.Udp = refl
+
 same_part-refl : (p : Part) → same_part p p ≡ true
 same_part-refl p =
-    and_from _ _ (and_from _ _ (and_from _ _ (eq-eqb _ _ refl) (same_bool-refl p.replied)) (same_bool-refl p.assured))
+    and_from _ _ (and_from _ _ (and_from _ _ (same_kind-refl p.kind) (same_bool-refl p.replied)) (same_bool-refl p.assured))
     (eq-eqb p.deadline p.deadline refl)
 
 pub may_touch_here : (hit : Hit) (packet : FlowPacket) (rs : List Record) (part : Part) (s : Record) → is_flow packet ≡ true
