@@ -1,5 +1,5 @@
 -- What a tuple is: its protocol's number, its numbers' ranges, and the ICMP types that make a flow.
-use Rattle.std.specs.Prelude.{ℕ, Bool, true, ◌^◌, ◌/◌, ◌&&◌, ◌||◌, nat_lt, ◌==◌, if◌then◌else◌}
+use Rattle.std.specs.Prelude.{ℕ, Bool, true, ◌+◌, ◌*◌, ◌^◌, ◌/◌, ◌&&◌, ◌||◌, nat_lt, ◌==◌, if◌then◌else◌}
 use Rattle.tuple_core.specs.declared.Proto.{Proto}
 use Rattle.tuple_core.specs.declared.Proto.TheVariants.{Icmp, Tcp, Udp}
 use Rattle.tuple_core.specs.declared.Tuple.{Tuple}
@@ -40,3 +40,7 @@ is_in_range t = nat_lt t.src (2 ^ 32) && nat_lt t.dst (2 ^ 32) && nat_lt t.a (2 
 -- the tuple is of TCP, of UDP, or of an ICMP type that makes a flow
 abbrev pub is_valid : Tuple → Bool
 is_valid t = is_in_range t && has_flow t.proto t.b
+
+-- the tuple of an ICMP flow
+abbrev pub icmp_tuple : (src dst kind code id : ℕ) → Tuple
+icmp_tuple src dst kind code id = record { proto = Icmp; src = src; dst = dst; a = id; b = kind * 256 + code }

@@ -1,16 +1,22 @@
 //! Flows as connection tracking names them: a protocol, two addresses and what tells the flows
-//! between these apart, in one direction; and the inverse of that, which is the other direction.
+//! between these apart, in one direction; the inverse of that, which is the other direction; a tuple as
+//! two words; and its bucket in a hash table.
 #![tactic(auto)]
 
-ghost use Rattle.std.specs.Prelude.{◌≡◌, true};
+ghost use Rattle.std.specs.Prelude.{◌≡◌, IfErr, IfOk, is_ok, true};
 ghost use Rattle.tuple_core.specs.Inverse.{inverse};
 ghost use Rattle.tuple_core.specs.Laws.{InverseIsAnInvolution, InverseIsValid};
-ghost use Rattle.tuple_core.specs.Tuple.{is_query_type, is_valid, partner_of};
+ghost use Rattle.tuple_core.specs.Tuple.{icmp_tuple, is_query_type, is_valid, partner_of};
 
 use std::alloc::AllocError;
 
+mod bucket;
 #[cfg(test)]
 mod tests;
+mod word_pair;
+
+pub use bucket::bucket_of;
+pub use word_pair::{of_words, words, words_determine_the_tuple};
 
 /// Memory was wanted and not there.
 #[derive(Clone, Copy, Debug)]
@@ -75,6 +81,32 @@ pub struct Tuple {
     pub a: u16,
     /// The destination port; of ICMP the type times 256 plus the code.
     pub b: u16,
+}
+
+/// The ICMP type that was refused, since it makes no flow.
+#[derive(Clone, Copy)]
+pub struct BadIcmpType(pub u8);
+
+impl Tuple {
+    /// The tuple of an ICMP packet, by its type, its code and its identifier. A type that neither asks nor
+    /// answers is refused.
+    pub fn icmp(src: u32, dst: u32, kind: u8, code: u8, id: u16) -> Result<Tuple, BadIcmpType>
+        ensures makes_a_flow { is_ok result ≡ is_query_type kind }
+        ensures exact { IfOk result (λ t. t ≡ icmp_tuple src dst kind code id) }
+        ensures valid { IfOk result (λ t. is_valid t ≡ true) }
+        ensures refused { IfErr result (λ error. error.0 ≡ kind) }
+    {
+        if !is_query(kind as u16) {
+            return Err(BadIcmpType(kind));
+        }
+        Ok(Tuple {
+            proto: Proto::Icmp,
+            src,
+            dst,
+            a: id,
+            b: kind as u16 * 256 + code as u16,
+        })
+    }
 }
 
 /// The ICMP type that answers this one, or that this one answers (RFC 792; for the address mask, types
