@@ -1,0 +1,3 @@
+pub mod CaptureEnds
+pub mod CaptureFrames
+pub mod Ports

@@ -1,0 +1,17 @@
+-- What a capture file is made of is determined by its bytes.
+use Rattle.std.specs.Prelude.{◌≡◌, ℕ, List}
+use Rattle.packet_headers.specs.declared.frame.Frame.{Frame}
+use Rattle.packet_headers.specs.declared.capture.CaptureFault.{CaptureFault}
+use Rattle.packet_headers.specs.Capture.{IsCapture, HasFault}
+
+-- bytes are a capture file of one list of frames at most
+abbrev pub CapturesAreUnique : Type 0
+CapturesAreUnique = (bytes : List ℕ) (frames other : List Frame) → IsCapture bytes frames → IsCapture bytes other → frames ≡ other
+
+-- bytes have one fault at most
+abbrev pub FaultsAreUnique : Type 0
+FaultsAreUnique = (bytes : List ℕ) (fault other : CaptureFault) → HasFault bytes fault → HasFault bytes other → fault ≡ other
+
+-- a capture file has no fault
+abbrev pub CapturesHaveNoFault : Type 0
+CapturesHaveNoFault = (bytes : List ℕ) (frames : List Frame) (fault : CaptureFault) → IsCapture bytes frames → HasFault bytes fault → ⊥

@@ -1,0 +1,17 @@
+pub mod Bytes
+pub mod Capture
+pub mod CaptureHeader
+pub mod CaptureLaws
+pub mod CaptureRecord
+pub mod NetworkBytes
+pub mod Span
+pub mod Headers
+pub mod Ports
+pub mod TcpFlags
+pub mod TcpHeader
+pub mod UdpHeader
+pub mod IcmpHeader
+pub mod IcmpError
+pub mod IcmpPacket
+pub mod Classify
+pub mod ClassifySound
