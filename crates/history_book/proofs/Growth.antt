@@ -1,13 +1,18 @@
 -- A verdict that fits still fits when the history goes on: one line for each class.
-use Rattle.std.proofs.Common.{ℕ, ◌+◌, List, [], ◌∷◌}
+use Rattle.std.proofs.Common.{ℕ, ◌+◌, List, [], ◌∷◌, Option}
 use Rattle.history_book.specs.declared.event.Event.{Event}
 use Rattle.history_book.specs.declared.event.Note.{Note}
+use Rattle.history_book.specs.declared.packet.Arrival.{Arrival}
+use Rattle.history_book.specs.declared.packet.Arrival.TheVariants as arrival
 use Rattle.history_book.specs.declared.packet.FlowPacket.{FlowPacket}
 use Rattle.history_book.specs.declared.verdict.Class.{Class}
 use Rattle.history_book.specs.declared.verdict.Class.TheVariants as class
 use Rattle.history_book.specs.Notes.{Happened}
 use Rattle.history_book.specs.Point.{StartsWith}
-use Rattle.history_book.specs.Verdict.{Fits, FitsClass, Kills, KillsAll}
+use Rattle.history_book.specs.Verdict.{Fits, FitsArrival, FitsClass, Kills, KillsAll}
+use Rattle.history_book.specs.Error.{FitsError, LooksUp}
+use Rattle.history_book.specs.State.{Found}
+use Rattle.tuple_core.specs.declared.Tuple.{Tuple}
 use Rattle.history_book.proofs.Points.{at_grows, get_grows}
 
 module _ (longer log : List Event) (starts : StartsWith longer log) where
@@ -29,6 +34,11 @@ module _ (longer log : List Event) (starts : StartsWith longer log) where
 
   pub class_grows : (entries k : ℕ) (packet : FlowPacket) (rest : List Note) (verdict : Class)
       → FitsClass entries log k packet rest verdict → FitsClass entries longer k packet rest verdict
+  class_grows entries k packet rest (class.Untracked why) f = absurd f
+  class_grows entries k packet rest class.BadHeader f = absurd f
+  class_grows entries k packet rest (class.ErrorLost at) f = absurd f
+  class_grows entries k packet rest (class.ErrorAddress id at) f = absurd f
+  class_grows entries k packet rest (class.Error direction id at) f = absurd f
   class_grows entries k packet rest (class.Made id at translated unclaimed) f = record {
     subject = f.subject;
     own = f.own;
@@ -70,3 +80,36 @@ module _ (longer log : List Event) (starts : StartsWith longer log) where
     killed = kills_all_grows mark packet f.kills f.killed;
     fits = class_grows entries _ packet f.rest verdict f.fits;
   }
+
+  looked_grows : (mark : ℕ) (inner : Tuple) (at : ℕ) (found : Option Found) → LooksUp log mark inner at found
+      → LooksUp longer mark inner at found
+  looked_grows mark inner at found l = record { from = l.from; live = at_grows longer log _ _ starts l.live }
+
+  error_grows : (mark : ℕ) (inner : Tuple) (outer : ℕ) (verdict : Class) → FitsError log mark inner outer verdict
+      → FitsError longer mark inner outer verdict
+  error_grows mark inner outer (class.Untracked why) f = absurd f
+  error_grows mark inner outer class.BadHeader f = absurd f
+  error_grows mark inner outer (class.ErrorLost at) f = looked_grows mark inner at _ f
+  error_grows mark inner outer (class.ErrorAddress id at) f = record {
+    found = f.found;
+    looked = looked_grows mark inner at _ f.looked;
+    named = f.named;
+    address = f.address;
+  }
+  error_grows mark inner outer (class.Error direction id at) f = record {
+    found = f.found;
+    looked = looked_grows mark inner at _ f.looked;
+    named = f.named;
+    directed = f.directed;
+    address = f.address;
+  }
+  error_grows mark inner outer (class.Made id at translated unclaimed) f = absurd f
+  error_grows mark inner outer (class.Passed label id at payload) f = absurd f
+  error_grows mark inner outer (class.Full at) f = absurd f
+
+  pub arrival_grows : (entries mark : ℕ) (given : Arrival) (own : List Note) (verdict : Class)
+      → FitsArrival entries log mark given own verdict → FitsArrival entries longer mark given own verdict
+  arrival_grows entries mark (arrival.Untracked why) own verdict f = f
+  arrival_grows entries mark arrival.Invalid own verdict f = f
+  arrival_grows entries mark (arrival.Flow packet) own verdict f = fits_grows entries mark packet own verdict f
+  arrival_grows entries mark (arrival.Error inner outer) own verdict f = (f.0, error_grows mark inner outer verdict f.1)

@@ -4,14 +4,14 @@ use Rattle.history_book.specs.declared.event.Event.{Event}
 use Rattle.history_book.specs.declared.event.Event.TheVariants.{Confirm, Destroy}
 use Rattle.history_book.specs.declared.event.Note.{Note}
 use Rattle.history_book.specs.declared.event.Why.{Why}
-use Rattle.history_book.specs.declared.packet.FlowPacket.{FlowPacket}
+use Rattle.history_book.specs.declared.packet.Arrival.{Arrival}
 use Rattle.history_book.specs.declared.record.Record.{Record}
 use Rattle.history_book.specs.declared.verdict.Class.{Class}
 use Rattle.history_book.specs.Event.{may_happen}
 use Rattle.history_book.specs.History.{after, is_legal}
 use Rattle.history_book.specs.Point.{StartsWith}
 use Rattle.history_book.specs.State.{next}
-use Rattle.history_book.specs.Verdict.{Fits}
+use Rattle.history_book.specs.Verdict.{FitsArrival}
 
 -- a legal history goes on with any event that may happen in the state it leaves
 abbrev pub LegalHistoriesGoOn : Type 0
@@ -74,5 +74,5 @@ DestroyedIdsStayDead =
 -- a verdict that fits still fits when the history goes on
 abbrev pub VerdictsStillFit : Type 0
 VerdictsStillFit =
-    (entries : ℕ) (log longer : List Event) (mark : ℕ) (packet : FlowPacket) (own : List Note) (class : Class)
-    → StartsWith longer log → Fits entries log mark packet own class → Fits entries longer mark packet own class
+    (entries : ℕ) (log longer : List Event) (mark : ℕ) (arrival : Arrival) (own : List Note) (class : Class)
+    → StartsWith longer log → FitsArrival entries log mark arrival own class → FitsArrival entries longer mark arrival own class

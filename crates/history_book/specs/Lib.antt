@@ -1,6 +1,7 @@
 pub mod Protocol
 pub mod Record
 pub mod State
+pub mod Error
 pub mod Event
 pub mod History
 pub mod Point

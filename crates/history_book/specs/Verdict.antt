@@ -1,10 +1,12 @@
 -- When a verdict fits a packet and the events that the packet made.
-use Rattle.std.specs.Prelude.{◌≡◌, ℕ, ◌+◌, ◌≤◌, Some, None, List, [], ◌∷◌, ◌++◌, length, option_to_list}
+use Rattle.std.specs.Prelude.{◌≡◌, ℕ, ◌+◌, ◌≤◌, Some, List, [], ◌∷◌, ◌++◌, length, option_to_list}
 use Rattle.history_book.specs.declared.event.Event.{Event}
 use Rattle.history_book.specs.declared.event.Event.TheVariants.{Confirm, Touch, Destroy}
 use Rattle.history_book.specs.declared.event.Note.{Note}
 use Rattle.history_book.specs.declared.event.Why.{Why}
 use Rattle.history_book.specs.declared.event.Why.TheVariants as why
+use Rattle.history_book.specs.declared.packet.Arrival.{Arrival}
+use Rattle.history_book.specs.declared.packet.Arrival.TheVariants as arrival
 use Rattle.history_book.specs.declared.packet.FlowPacket.{FlowPacket}
 use Rattle.history_book.specs.declared.verdict.Class.{Class}
 use Rattle.history_book.specs.declared.verdict.Class.TheVariants as class
@@ -12,6 +14,7 @@ use Rattle.history_book.specs.declared.verdict.Ftp.{Ftp}
 use Rattle.history_book.specs.declared.verdict.Ftp.TheVariants as ftp
 use Rattle.history_book.specs.declared.verdict.Translated.{Translated}
 use Rattle.history_book.specs.declared.verdict.Translated.TheVariants.{Chosen, Plain}
+use Rattle.history_book.specs.Error.{FitsError}
 use Rattle.history_book.specs.Full.{FindsNoRoom}
 use Rattle.history_book.specs.Made.{Makes}
 use Rattle.history_book.specs.Notes.{Happened, mark_past}
@@ -43,6 +46,11 @@ KillsAll log mark packet (n ∷ ns) = Kills log mark packet n × KillsAll log (n
 
 -- the class fits what the packet did from point k on
 abbrev pub FitsClass : ℕ → List Event → ℕ → FlowPacket → List Note → Class → Type 0
+FitsClass entries log k packet rest (class.Untracked why) = ⊥
+FitsClass entries log k packet rest class.BadHeader = ⊥
+FitsClass entries log k packet rest (class.ErrorLost at) = ⊥
+FitsClass entries log k packet rest (class.ErrorAddress id at) = ⊥
+FitsClass entries log k packet rest (class.Error direction id at) = ⊥
 FitsClass entries log k packet rest (class.Made id at translated unclaimed) =
     Makes log k packet rest id at translated unclaimed
 FitsClass entries log k packet rest (class.Passed label id at ftp) = Passes log k packet rest label id at ftp
@@ -57,6 +65,14 @@ pub record Fits (entries : ℕ) (log : List Event) (mark : ℕ) (packet : FlowPa
   pub few : length kills ≤ 4
   pub killed : KillsAll log mark packet kills
   pub fits : FitsClass entries log (mark_past mark kills) packet rest verdict
+
+-- The verdict fits what the tracker was given of a packet: the bytes alone decide where it is not
+-- tracked or a header is wrong, and an error makes no event.
+abbrev pub FitsArrival : ℕ → List Event → ℕ → Arrival → List Note → Class → Type 0
+FitsArrival entries log mark (arrival.Untracked why) own verdict = (own ≡ []) × (verdict ≡ class.Untracked why)
+FitsArrival entries log mark arrival.Invalid own verdict = (own ≡ []) × (verdict ≡ class.BadHeader)
+FitsArrival entries log mark (arrival.Flow packet) own verdict = Fits entries log mark packet own verdict
+FitsArrival entries log mark (arrival.Error inner outer) own verdict = (own ≡ []) × FitsError log mark inner outer verdict
 
 -- the point that a translation names
 abbrev pub translated_points : Translated → List ℕ
@@ -74,6 +90,11 @@ ftp_points (ftp.Gone at) = at ∷ []
 
 -- the points that a verdict names
 abbrev pub points_of : Class → List ℕ
+points_of (class.Untracked why) = []
+points_of class.BadHeader = []
+points_of (class.ErrorLost at) = at ∷ []
+points_of (class.ErrorAddress id at) = at ∷ []
+points_of (class.Error direction id at) = at ∷ []
 points_of (class.Made id at translated unclaimed) = at ∷ (option_to_list unclaimed ++ translated_points translated)
 points_of (class.Passed label id at payload) = at ∷ ftp_points payload
 points_of (class.Full at) = at ∷ []

@@ -1,6 +1,6 @@
 //! What the tracker says of a packet.
 
-use tuple_core::Tuple;
+use tuple_core::{Direction, Tuple};
 
 /// How the reply tuple of a new entry was found.
 #[derive(Clone, Copy)]
@@ -35,10 +35,40 @@ pub enum Label {
     EstablishedReply,
 }
 
+/// Why a packet is not tracked.
+#[derive(Clone, Copy)]
+pub enum UntrackedWhy {
+    /// It is no IPv4 packet.
+    Link,
+    /// It is a fragment.
+    Fragment,
+    /// Its protocol is none that is tracked.
+    Protocol,
+}
+
 /// What became of a packet. `at` is the point of the history at which that was so: after its first
 /// `at` events.
 #[derive(Clone, Copy)]
 pub enum Class {
+    /// It is not tracked.
+    Untracked(UntrackedWhy),
+    /// A header of it is cut, or wrong.
+    BadHeader,
+    /// It is an ICMP error about a packet of no entry.
+    ErrorLost {
+        at: u64,
+    },
+    /// It is an ICMP error about a packet of this entry, sent to another address than that packet's source.
+    ErrorAddress {
+        id: u64,
+        at: u64,
+    },
+    /// It is an ICMP error about a packet of this entry, which goes the way of this direction.
+    Error {
+        direction: Direction,
+        id: u64,
+        at: u64,
+    },
     /// A new entry was confirmed for it. `unclaimed` is the point at which no expectation matched.
     Made {
         id: u64,

@@ -1,5 +1,6 @@
+pub mod Arriving
 pub mod Books
-pub mod CaptureRecords
+pub mod Causing
 pub mod Endings
 pub mod Flows
 pub mod Lines

@@ -7,16 +7,16 @@ use Rattle.std.proofs.Math.Seq.{take-length}
 use Rattle.room_list.specs.Roomed.{Roomed}
 use Rattle.history_book.specs.declared.event.Event.{Event}
 use Rattle.history_book.specs.declared.event.Numbered.{Numbered}
-use Rattle.history_book.specs.declared.packet.FlowPacket.{FlowPacket}
+use Rattle.history_book.specs.declared.packet.Arrival.{Arrival}
 use Rattle.history_book.specs.declared.verdict.Verdict.{Verdict}
 use Rattle.history_book.specs.declared.record.Record.{Record}
 use Rattle.history_book.specs.declared.report.Report.{Report}
 use Rattle.history_book.specs.History.{after, is_legal}
 use Rattle.history_book.specs.Notes.{mark_at, mark_past}
 use Rattle.history_book.specs.Point.{StartsWith}
-use Rattle.history_book.specs.Verdict.{Fits, points_of}
-use Rattle.history_book.proofs.Growth.{fits_grows}
-use Rattle.history_book.proofs.Marks.{fits_lower}
+use Rattle.history_book.specs.Verdict.{FitsArrival, points_of}
+use Rattle.history_book.proofs.Growth.{arrival_grows}
+use Rattle.history_book.proofs.Marks.{arrival_lower}
 use Rattle.replay_top.specs.declared.book.Book.{Book}
 use Rattle.replay_top.specs.Book.{Holds, IsPlain, PlacesBelow}
 use Rattle.replay_top.specs.History.{events_of, IsNumberedFrom, notes_of, pool}
@@ -29,7 +29,7 @@ abbrev pub marks : ℕ → List Numbered → List Verdict → ℕ
 marks mark mine [] = mark
 marks mark mine (v ∷ vs) = marks (mark_after mark (take v.made mine) v.class) (drop v.made mine) vs
 
-pub record IsReplayed (packets : List FlowPacket) (index : ℕ) (book : Book) (verdicts : Roomed Verdict) : Type 0 where
+pub record IsReplayed (packets : List Arrival) (index : ℕ) (book : Book) (verdicts : Roomed Verdict) : Type 0 where
   pub holds : Holds book
   pub places : PlacesBelow (length book.records.items) book.records.items
   pub most : length book.records.items ≤ pool
@@ -73,13 +73,13 @@ drop_all [] = refl
 drop_all (x ∷ xs) = drop_all xs
 
 -- what a verdict more needs
-pub record NewVerdict (log : List Event) (own : List Numbered) (first index mark : ℕ) (packet : FlowPacket) (v : Verdict) : Type 0 where
+pub record NewVerdict (log : List Event) (own : List Numbered) (first index mark : ℕ) (packet : Arrival) (v : Verdict) : Type 0 where
   pub starts : v.first ≡ first
   pub made : v.made ≡ length own
   pub named : AllByRecursion (λ (n : Numbered). n.index ≡ index) own
-  pub fits : Fits pool log mark packet (notes_of own) v.class
+  pub fits : FitsArrival pool log mark packet (notes_of own) v.class
 
-new_at : (log : List Event) (own : List Numbered) (first first' index index' mark : ℕ) (p : FlowPacket) (v : Verdict)
+new_at : (log : List Event) (own : List Numbered) (first first' index index' mark : ℕ) (p : Arrival) (v : Verdict)
     → first ≡ first' → index ≡ index' → NewVerdict log own first index mark p v → NewVerdict log own first' index' mark p v
 new_at log own first first' index index' mark p v same_first same_index new = record {
   starts = new.starts ∙ same_first;
@@ -89,7 +89,7 @@ new_at log own first first' index index' mark p v same_first same_index new = re
 }
 
 -- the verdict that made all that is left
-last_verdict : (log : List Event) (own : List Numbered) (first index mark : ℕ) (p : FlowPacket) (v : Verdict)
+last_verdict : (log : List Event) (own : List Numbered) (first index mark : ℕ) (p : Arrival) (v : Verdict)
     → NewVerdict log own first index mark p v → VerdictFits log own first index mark p v × (drop v.made own ≡ [])
 last_verdict log own first index mark p v new =
     let same : own ≡ take v.made own = sym (ap (λ n. take n own) new.made ∙ take_all own) in (
@@ -97,13 +97,13 @@ last_verdict log own first index mark p v new =
         starts = new.starts;
         within = omega (arith, new.made);
         named = subst (λ xs. AllByRecursion (λ (n : Numbered). n.index ≡ index) xs) same new.named;
-        fits = subst (λ xs. Fits pool log mark p (notes_of xs) v.class) same new.fits;
+        fits = subst (λ xs. FitsArrival pool log mark p (notes_of xs) v.class) same new.fits;
       },
       ap (λ n. drop n own) new.made ∙ drop_all own,
     )
 
 module _ (longer log : List Event) (starts : StartsWith longer log) where
-  verdict_grows : (mine own : List Numbered) (first index mark : ℕ) (p : FlowPacket) (v : Verdict)
+  verdict_grows : (mine own : List Numbered) (first index mark : ℕ) (p : Arrival) (v : Verdict)
       → VerdictFits log mine first index mark p v → VerdictFits longer (mine ++ own) first index mark p v
   verdict_grows mine own first index mark p v f =
       let same : take v.made mine ≡ take v.made (mine ++ own) = sym (take_within v.made mine own f.within) in
@@ -111,12 +111,12 @@ module _ (longer log : List Event) (starts : StartsWith longer log) where
         starts = f.starts;
         within = omega (arith, f.within, length-append mine own);
         named = subst (λ xs. AllByRecursion (λ (n : Numbered). n.index ≡ index) xs) same f.named;
-        fits = subst (λ xs. Fits pool longer mark p (notes_of xs) v.class) same
-            (fits_grows longer log starts pool mark p (notes_of (take v.made mine)) v.class f.fits);
+        fits = subst (λ xs. FitsArrival pool longer mark p (notes_of xs) v.class) same
+            (arrival_grows longer log starts pool mark p (notes_of (take v.made mine)) v.class f.fits);
       }
 
-  pub verdicts_push : (mine own : List Numbered) (first index mark : ℕ) (ps : List FlowPacket) (vs : List Verdict)
-      (p : FlowPacket) (v : Verdict) → VerdictsFit log mine first index mark ps vs
+  pub verdicts_push : (mine own : List Numbered) (first index mark : ℕ) (ps : List Arrival) (vs : List Verdict)
+      (p : Arrival) (v : Verdict) → VerdictsFit log mine first index mark ps vs
       → NewVerdict longer own (first + length mine) (index + length ps) (marks mark mine vs) p v
       → VerdictsFit longer (mine ++ own) first index mark (ps ++ p ∷ []) (vs ++ v ∷ [])
   verdicts_push mine own first index mark [] [] p v fit new =
@@ -140,7 +140,7 @@ module _ (longer log : List Event) (starts : StartsWith longer log) where
             (ps ++ p ∷ []) (vs ++ v ∷ [])) taken rest),
       )
 
-pub marks_push : (log : List Event) (mine own : List Numbered) (first index mark : ℕ) (ps : List FlowPacket) (vs : List Verdict)
+pub marks_push : (log : List Event) (mine own : List Numbered) (first index mark : ℕ) (ps : List Arrival) (vs : List Verdict)
     (v : Verdict) → VerdictsFit log mine first index mark ps vs → v.made ≡ length own
     → marks mark (mine ++ own) (vs ++ v ∷ []) ≡ mark_after (marks mark mine vs) own v.class
 marks_push log mine own first index mark [] [] v fit made =
@@ -188,7 +188,7 @@ empty_holds book records history = record {
   plain = subst (AllByRecursion IsPlain) (sym records) tt;
 }
 
-pub replayed_start : (packets : List FlowPacket) (book : Book) (verdicts : Roomed Verdict) → book.records.items ≡ [] → book.history.items ≡ []
+pub replayed_start : (packets : List Arrival) (book : Book) (verdicts : Roomed Verdict) → book.records.items ≡ [] → book.history.items ≡ []
     → verdicts.items ≡ [] → length packets ≤ verdicts.room → 2 * length packets ≤ book.history.room
     → min (length packets) pool ≤ book.records.room → IsReplayed packets 0 book verdicts
 replayed_start packets book verdicts records history none a b c = record {
@@ -207,7 +207,7 @@ replayed_start packets book verdicts records history none a b c = record {
   records_room = c;
 }
 
-module _ (packets : List FlowPacket) (d : FlowPacket) (index : ℕ) (book new : Book) (verdicts more : Roomed Verdict) (v : Verdict)
+module _ (packets : List Arrival) (d : Arrival) (index : ℕ) (book new : Book) (verdicts more : Roomed Verdict) (v : Verdict)
     (so_far : IsReplayed packets index book verdicts) (handled : Handled book new index (get_or packets index d) v)
     (holds : Holds new) where
   next_mark : marks 0 new.history.items (verdicts.items ++ v ∷ []) ≤ length new.history.items
@@ -232,7 +232,7 @@ module _ (packets : List FlowPacket) (d : FlowPacket) (index : ℕ) (book new : 
   next_fit below =
       let log : List Event = events_of book.history.items in
       let longer : List Event = events_of new.history.items in
-      let packet : FlowPacket = get_or packets index d in
+      let packet : Arrival = get_or packets index d in
       let grown : longer ≡ log ++ events_of handled.own =
       ap events_of handled.history ∙ events-append book.history.items handled.own in
       let so_many : length (take index packets) ≡ index = length-take index packets ∙ omega arith in
@@ -246,7 +246,7 @@ module _ (packets : List FlowPacket) (d : FlowPacket) (index : ℕ) (book new : 
         made = handled.made;
         named = subst (λ k. AllByRecursion (λ (n : Numbered). n.index ≡ k) handled.own) (omega (arith, so_many))
             (indices_of index handled.own handled.by);
-        fits = fits_lower pool longer (marks 0 book.history.items verdicts.items) (length book.history.items) packet
+        fits = arrival_lower pool longer (marks 0 book.history.items verdicts.items) (length book.history.items) packet
             (notes_of handled.own) v.class so_far.mark handled.fits;
       })))
 
@@ -279,7 +279,7 @@ one_thread [] h = tt
 one_thread (x ∷ xs) (h, hs) = (omega (arith, h), one_thread xs hs)
 
 -- a replay of all packets gives a well-formed report
-pub replayed_end : (packets : List FlowPacket) (index : ℕ) (book : Book) (verdicts : Roomed Verdict) (report : Report)
+pub replayed_end : (packets : List Arrival) (index : ℕ) (book : Book) (verdicts : Roomed Verdict) (report : Report)
     → IsReplayed packets index book verdicts → index ≡ length packets → report.history ≡ book.history
     → report.live ≡ length book.records.items → report.threads.items ≡ verdicts ∷ [] → IsWellFormed (packets ∷ []) report
 replayed_end packets index book verdicts report done all history live threads =

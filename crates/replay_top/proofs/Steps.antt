@@ -7,12 +7,15 @@ use Rattle.std.proofs.lemmas.List.Edits.{length-remove}
 use Rattle.std.proofs.lemmas.Option.{slice_get_within}
 use Rattle.tuple_core.specs.declared.Direction.TheVariants.{Original, Reply}
 use Rattle.tuple_core.specs.declared.Tuple.{Tuple}
+use Rattle.tuple_core.specs.Inverse.{inverse}
+use Rattle.history_book.specs.Error.{IsMisdirected, IsRelated, LooksUp}
 use Rattle.history_book.specs.declared.event.Event.{Event}
 use Rattle.history_book.specs.declared.event.Event.TheVariants.{Confirm, Destroy}
 use Rattle.history_book.specs.declared.event.Note.{Note}
 use Rattle.history_book.specs.declared.event.Numbered.{Numbered}
 use Rattle.history_book.specs.declared.event.Why.TheVariants as why
 use Rattle.history_book.specs.declared.find.Hit.{Hit}
+use Rattle.history_book.specs.declared.packet.Arrival.TheVariants as arrival
 use Rattle.history_book.specs.declared.packet.FlowPacket.{FlowPacket}
 use Rattle.history_book.specs.declared.protocol.Outcome.{Outcome}
 use Rattle.history_book.specs.declared.protocol.Outcome.TheVariants.{Accept, Expired}
@@ -214,7 +217,7 @@ live_at old new t o holds starts live =
 
 pub handled_full : (book : Book) (index : ℕ) (packet : FlowPacket) → Holds book → is_flow packet ≡ true
     → live_under packet.tuple book.records.items ≡ None → pool ≤ length book.records.items
-    → Handled book book index packet
+    → Handled book book index (arrival.Flow packet)
     (record { class = class.Full (length book.history.items); first = length book.history.items; made = 0 })
 handled_full book index packet holds flow absent full =
     let log : List Event = events_of book.history.items in
@@ -257,7 +260,7 @@ pub handled_passed : (old new : Book) (index : ℕ) (packet : FlowPacket) (hit :
     → Holds old → IsHit packet.tuple old.records.items hit → slice_get old.records.items hit.index ≡ Some s
     → Adds old new index (touch_of (record { subject = s; direction = hit.direction; packet = packet; after = part }))
     → label ≡ label_of s hit.direction
-    → Handled old new index packet (record {
+    → Handled old new index (arrival.Flow packet) (record {
       class = class.Passed label s.id (length new.history.items) Nothing;
       first = length old.history.items;
       made = 1;
@@ -360,7 +363,7 @@ places_killed old mid index s moment n adds below =
 pub handled_replaced : (old mid new : Book) (index : ℕ) (packet : FlowPacket) (hit : Hit) (s : Record) (verdict : Class)
     → Holds old → IsHit packet.tuple old.records.items hit → slice_get old.records.items hit.index ≡ Some s
     → Adds old mid index (Destroy s.id (why.Expired packet.moment)) → Begins mid new index packet s.place verdict
-    → Handled old new index packet (record { class = verdict; first = length old.history.items; made = 2 })
+    → Handled old new index (arrival.Flow packet) (record { class = verdict; first = length old.history.items; made = 2 })
 handled_replaced old mid new index packet hit s verdict holds is_hit item kills begins =
     let e : Event = Destroy s.id (why.Expired packet.moment) in
     let one : Numbered = record { number = length old.history.items; thread = 0; index = index; event = e } in
@@ -420,7 +423,7 @@ handled_replaced old mid new index packet hit s verdict holds is_hit item kills 
 
 pub handled_begun : (old new : Book) (index place : ℕ) (packet : FlowPacket) (verdict : Class) → length old.records.items < pool
     → Begins old new index packet place verdict
-    → Handled old new index packet (record { class = verdict; first = length old.history.items; made = 1 })
+    → Handled old new index (arrival.Flow packet) (record { class = verdict; first = length old.history.items; made = 1 })
 handled_begun old new index place packet verdict room begins =
     let first : Note = record { number = length old.history.items; event = Confirm begins.subject } in
     let one : Numbered = record { number = length old.history.items; thread = 0; index = index; event = Confirm begins.subject } in
@@ -438,3 +441,41 @@ handled_begun old new index place packet verdict room begins =
       records = omega (arith, ap length begins.adds.records, length-append old.records.items (begins.subject ∷ []));
       most = λ h. omega (arith, room, ap length begins.adds.records, length-append old.records.items (begins.subject ∷ []));
     }
+
+-- what is looked up at the book's end
+looks_up : (book : Book) (inner : Tuple) (found : Option Found) → Holds book
+    → live_under (inverse inner) book.records.items ≡ found
+    → LooksUp (events_of book.history.items) (length book.history.items) inner (length book.history.items) found
+looks_up book inner found holds live = record {
+  from = omega arith;
+  live = live_at book book (inverse inner) found holds (starts_refl (events_of book.history.items)) live;
+}
+
+module _ (book : Book) (inner looked_up : Tuple) (outer : ℕ) (hit : Hit) (s : Record) (holds : Holds book)
+    (inverted : looked_up ≡ inverse inner) (is_hit : IsHit looked_up book.records.items hit)
+    (item : slice_get book.records.items hit.index ≡ Some s) where
+  found_there : LooksUp (events_of book.history.items) (length book.history.items) inner (length book.history.items)
+      (Some (record { subject = s; direction = hit.direction }))
+  found_there =
+      looks_up book inner _ holds
+      (subst (λ (t : Tuple). live_under t book.records.items ≡ Some (record { subject = s; direction = hit.direction })) inverted
+      (hit_live looked_up book.records.items hit s is_hit item))
+
+  pub related : looked_up.dst ≡ outer
+      → IsRelated (events_of book.history.items) (length book.history.items) inner outer hit.direction s.id (length book.history.items)
+  related same = record {
+    found = record { subject = s; direction = hit.direction };
+    looked = found_there;
+    named = refl;
+    directed = refl;
+    address = sym (ap (λ (t : Tuple). t.dst) inverted) ∙ same;
+  }
+
+  pub misdirected : (looked_up.dst ≡ outer → ⊥)
+      → IsMisdirected (events_of book.history.items) (length book.history.items) inner outer s.id (length book.history.items)
+  misdirected other = record {
+    found = record { subject = s; direction = hit.direction };
+    looked = found_there;
+    named = refl;
+    address = λ e. other (ap (λ (t : Tuple). t.dst) inverted ∙ e);
+  }

@@ -5,6 +5,8 @@ use Rattle.tuple_core.specs.Tuple.{is_valid, number_of}
 use Rattle.tuple_core.specs.declared.Proto.TheVariants as proto
 use Rattle.tuple_core.specs.declared.Segment.{Segment}
 use Rattle.tuple_core.specs.declared.Segment.TheVariants.{Tcp, Udp, Icmp}
+use Rattle.history_book.specs.declared.packet.Arrival.{Arrival}
+use Rattle.history_book.specs.declared.packet.Arrival.TheVariants.{Untracked, Invalid, Flow, Error}
 use Rattle.history_book.specs.declared.packet.FlowPacket.{FlowPacket}
 
 abbrev pub is_udp : Segment → Bool
@@ -16,5 +18,12 @@ is_udp (Icmp kind) = false
 abbrev pub is_flow : FlowPacket → Bool
 is_flow p = is_valid p.tuple && number_of p.tuple.proto == number_of proto.Udp && is_udp p.segment && nat_le p.moment (10 ^ 16)
 
-abbrev pub AreFlows : List FlowPacket → Type 0
-AreFlows packets = list_all is_flow packets ≡ true
+-- what is tracked so far of what the headers say: no flow but those of UDP
+abbrev pub is_tracked : Arrival → Bool
+is_tracked (Untracked why) = true
+is_tracked Invalid = true
+is_tracked (Flow p) = is_flow p
+is_tracked (Error inner outer) = is_valid inner
+
+abbrev pub AreTracked : List Arrival → Type 0
+AreTracked arrivals = list_all is_tracked arrivals ≡ true

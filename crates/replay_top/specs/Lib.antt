@@ -1,11 +1,9 @@
+pub mod Arrivals
 pub mod Book
-pub mod Bytes
-pub mod Capture
 pub mod Causes
 pub mod Ending
 pub mod ErrorLine
 pub mod Flow
-pub mod Header
 pub mod History
 pub mod Line
 pub mod ReadFile

@@ -15,6 +15,8 @@ use Rattle.history_book.specs.declared.verdict.Class.{Class}
 use Rattle.history_book.specs.declared.verdict.Class.TheVariants as class
 use Rattle.history_book.specs.declared.verdict.Ftp.{Ftp}
 use Rattle.history_book.specs.declared.verdict.Ftp.TheVariants as ftp
+use Rattle.history_book.specs.declared.verdict.UntrackedWhy.{UntrackedWhy}
+use Rattle.history_book.specs.declared.verdict.UntrackedWhy.TheVariants as untracked
 use Rattle.history_book.specs.declared.verdict.Label.{Label}
 use Rattle.history_book.specs.declared.verdict.Label.TheVariants as label
 use Rattle.history_book.specs.declared.verdict.Verdict.{Verdict}
@@ -117,7 +119,22 @@ ftp_text (ftp.Clash id at) = codes " ftp clash=" ++ decimal id ++ point_text at
 ftp_text (ftp.Full at) = codes " ftp full" ++ point_text at
 ftp_text (ftp.Gone at) = codes " ftp gone" ++ point_text at
 
+abbrev pub untracked_word : UntrackedWhy → List ℕ
+untracked_word untracked.Link = codes "link"
+untracked_word untracked.Fragment = codes "fragment"
+untracked_word untracked.Protocol = codes "protocol"
+
+-- the way of an error within the flow that it is about
+abbrev pub error_word : Direction → List ℕ
+error_word Original = codes "RELATED error"
+error_word Reply = codes "RELATED_REPLY error"
+
 abbrev pub class_text : Class → List ℕ
+class_text (class.Untracked why) = codes "UNTRACKED " ++ untracked_word why
+class_text class.BadHeader = codes "INVALID header"
+class_text (class.ErrorLost at) = codes "INVALID error" ++ point_text at
+class_text (class.ErrorAddress id at) = codes "INVALID address" ++ entry_text id at
+class_text (class.Error direction id at) = error_word direction ++ entry_text id at
 class_text (class.Made id at translated unclaimed) = made_word unclaimed ++ entry_text id at
 class_text (class.Passed label id at ftp) = label_word label ++ entry_text id at ++ ftp_text ftp
 class_text (class.Full at) = codes "FULL" ++ point_text at

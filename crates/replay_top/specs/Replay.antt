@@ -1,9 +1,9 @@
 -- What a run of the program reports, and why one reports nothing.
 use Rattle.std.specs.Prelude.{◌≡◌, ℕ, ◌⊎◌, Option, Some, None, List, [], ◌∷◌}
 use Rattle.ct_io.specs.Counts.{Rose}
-use Rattle.history_book.specs.declared.packet.FlowPacket.{FlowPacket}
+use Rattle.history_book.specs.declared.packet.Arrival.{Arrival}
 use Rattle.history_book.specs.declared.report.Report.{Report}
-use Rattle.replay_top.specs.Capture.{IsNoPlainCapture, IsPlainCapture}
+use Rattle.replay_top.specs.Arrivals.{IsReadCapture}
 use Rattle.replay_top.specs.ReadFile.{AreContents}
 use Rattle.replay_top.specs.Report.{IsWellFormed}
 use Rattle.replay_top.specs.Text.{report_text}
@@ -21,9 +21,9 @@ pub record Names (words : List (List ℕ)) (P : List ℕ → Type 0) : Type 0 wh
 pub record IsReportOf (name : List ℕ) (contents : List ℕ → Option (List ℕ)) (report : Report) : Type 0 where
   pub bytes : List ℕ
   pub handed_over : AreContents (contents name) bytes
-  pub packets : List FlowPacket
-  pub capture : IsPlainCapture bytes packets
-  pub well_formed : IsWellFormed (packets ∷ []) report
+  pub arrivals : List Arrival
+  pub capture : IsReadCapture bytes arrivals
+  pub well_formed : IsWellFormed (arrivals ∷ []) report
 
 -- the report is that of the capture that the words name
 abbrev pub IsReplay : List (List ℕ) → (List ℕ → Option (List ℕ)) → Report → Type 0
@@ -35,10 +35,10 @@ pub record IsPrinted (words : List (List ℕ)) (contents : List ℕ → Option (
   pub replay : IsReplay words contents report
   pub text : after ≡ followed_by before (report_text report)
 
--- where the contents are told, they are no plain capture
-abbrev pub AreNoPlainCapture : Option (List ℕ) → Type 0
-AreNoPlainCapture None = Unit {0}
-AreNoPlainCapture (Some contents) = IsNoPlainCapture contents
+-- where the contents are told, this holds of them
+abbrev pub AreTold : Option (List ℕ) → (List ℕ → Type 0) → Type 0
+AreTold None P = Unit {0}
+AreTold (Some contents) P = P contents
 
 -- the file that the words name could not be opened, or a read failed
 abbrev pub FilesFailed : List (List ℕ) → (List ℕ → ℕ) → (List ℕ → ℕ) → ℕ → ℕ → Type 0

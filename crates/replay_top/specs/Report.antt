@@ -4,13 +4,13 @@ use Rattle.std.specs.List.{AllByRecursion}
 use Rattle.room_list.specs.Roomed.{Roomed}
 use Rattle.history_book.specs.declared.event.Event.{Event}
 use Rattle.history_book.specs.declared.event.Numbered.{Numbered}
-use Rattle.history_book.specs.declared.packet.FlowPacket.{FlowPacket}
+use Rattle.history_book.specs.declared.packet.Arrival.{Arrival}
 use Rattle.history_book.specs.declared.report.Report.{Report}
 use Rattle.history_book.specs.declared.verdict.Class.{Class}
 use Rattle.history_book.specs.declared.verdict.Verdict.{Verdict}
 use Rattle.history_book.specs.History.{after, is_legal}
 use Rattle.history_book.specs.Notes.{mark_at, mark_past}
-use Rattle.history_book.specs.Verdict.{Fits, points_of}
+use Rattle.history_book.specs.Verdict.{FitsArrival, points_of}
 use Rattle.replay_top.specs.History.{events_of, IsNumberedFrom, notes_of, pool}
 
 -- a thread's mark after a packet: no answer of it is older than its points and events so far
@@ -19,15 +19,15 @@ mark_after mark own class = mark_at (mark_past mark (notes_of own)) (points_of c
 
 -- the verdict on the packet of this index, which made the next of its thread's events: they are
 -- counted from `first`, each names this packet, and the verdict fits them at the thread's mark
-pub record VerdictFits (log : List Event) (mine : List Numbered) (first index mark : ℕ) (packet : FlowPacket)
+pub record VerdictFits (log : List Event) (mine : List Numbered) (first index mark : ℕ) (arrival : Arrival)
     (verdict : Verdict) : Type 0 where
   pub starts : verdict.first ≡ first
   pub within : verdict.made ≤ length mine
   pub named : AllByRecursion (λ (n : Numbered). n.index ≡ index) (take verdict.made mine)
-  pub fits : Fits pool log mark packet (notes_of (take verdict.made mine)) verdict.class
+  pub fits : FitsArrival pool log mark arrival (notes_of (take verdict.made mine)) verdict.class
 
 -- one verdict for each packet, in order; together they made all of the thread's events
-abbrev pub VerdictsFit : List Event → List Numbered → ℕ → ℕ → ℕ → List FlowPacket → List Verdict → Type 0
+abbrev pub VerdictsFit : List Event → List Numbered → ℕ → ℕ → ℕ → List Arrival → List Verdict → Type 0
 VerdictsFit log mine first index mark [] [] = mine ≡ []
 VerdictsFit log mine first index mark [] (v ∷ vs) = ⊥
 VerdictsFit log mine first index mark (p ∷ ps) [] = ⊥
@@ -40,7 +40,7 @@ abbrev pub made_by : ℕ → List Numbered → List Numbered
 made_by thread history = filter (λ (n : Numbered). n.thread == thread) history
 
 -- each capture is a thread, and each event was made by one of them
-abbrev pub ThreadsFit : List Numbered → ℕ → List (List FlowPacket) → List (Roomed Verdict) → Type 0
+abbrev pub ThreadsFit : List Numbered → ℕ → List (List Arrival) → List (Roomed Verdict) → Type 0
 ThreadsFit history thread [] [] = AllByRecursion (λ (n : Numbered). n.thread < thread) history
 ThreadsFit history thread [] (vs ∷ vss) = ⊥
 ThreadsFit history thread (ps ∷ pss) [] = ⊥
@@ -49,7 +49,7 @@ ThreadsFit history thread (ps ∷ pss) (vs ∷ vss) =
     × ThreadsFit history (thread + 1) pss vss
 
 -- the history is numbered from 0 and legal, the verdicts fit it, and so many entries are live after it
-pub record IsWellFormed (captures : List (List FlowPacket)) (report : Report) : Type 0 where
+pub record IsWellFormed (captures : List (List Arrival)) (report : Report) : Type 0 where
   pub numbered : IsNumberedFrom 0 report.history.items
   pub legal : is_legal pool (events_of report.history.items) ≡ true
   pub verdicts : ThreadsFit report.history.items 0 captures report.threads.items

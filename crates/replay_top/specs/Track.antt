@@ -4,13 +4,14 @@ use Rattle.std.specs.List.{AllByRecursion}
 use Rattle.history_book.specs.declared.event.Event.TheVariants.{Confirm}
 use Rattle.history_book.specs.declared.event.Numbered.{Numbered}
 use Rattle.history_book.specs.declared.find.Hit.{Hit}
+use Rattle.history_book.specs.declared.packet.Arrival.{Arrival}
 use Rattle.history_book.specs.declared.packet.FlowPacket.{FlowPacket}
 use Rattle.history_book.specs.declared.protocol.Outcome.{Outcome}
 use Rattle.history_book.specs.declared.record.Record.{Record}
 use Rattle.history_book.specs.declared.verdict.Class.{Class}
 use Rattle.history_book.specs.declared.verdict.Verdict.{Verdict}
 use Rattle.history_book.specs.Protocol.{step_of}
-use Rattle.history_book.specs.Verdict.{Fits, FitsClass, points_of}
+use Rattle.history_book.specs.Verdict.{FitsArrival, FitsClass, points_of}
 use Rattle.replay_top.specs.declared.book.Book.{Book}
 use Rattle.replay_top.specs.Book.{Adds}
 use Rattle.replay_top.specs.History.{events_of, notes_of, pool}
@@ -31,14 +32,14 @@ pub record Begins (old new : Book) (index : ℕ) (packet : FlowPacket) (place : 
   pub points : AllByRecursion (λ p. p ≤ length new.history.items) (points_of class)
 
 -- the packet's events were added, and the verdict fits them from the old book's end on
-pub record Handled (old new : Book) (index : ℕ) (packet : FlowPacket) (verdict : Verdict) : Type 0 where
+pub record Handled (old new : Book) (index : ℕ) (arrival : Arrival) (verdict : Verdict) : Type 0 where
   pub own : List Numbered
   pub history : new.history.items ≡ old.history.items ++ own
   pub by : AllByRecursion (IsBy index) own
   pub few : length own ≤ 2
   pub first : verdict.first ≡ length old.history.items
   pub made : verdict.made ≡ length own
-  pub fits : Fits pool (events_of new.history.items) (length old.history.items) packet (notes_of own) verdict.class
+  pub fits : FitsArrival pool (events_of new.history.items) (length old.history.items) arrival (notes_of own) verdict.class
   pub points : AllByRecursion (λ p. p ≤ length new.history.items) (points_of verdict.class)
   pub history_room : new.history.room ≡ old.history.room
   pub records_room : new.records.room ≡ old.records.room

@@ -1,8 +1,8 @@
 //! The whole program as one call.
 #![tactic(auto)]
 
+mod arrivals;
 mod book;
-mod capture;
 mod ending;
 mod gather;
 mod line;

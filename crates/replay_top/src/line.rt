@@ -8,7 +8,7 @@ ghost use Rattle.replay_top.specs.Line.{class_text, entry_text, event_line, even
 use crate::text::{put, put_if, put_number, put_tuple};
 use history_book::event::{Event, Numbered, Why};
 use history_book::record::Record;
-use history_book::verdict::{Class, Ftp, Label, Verdict};
+use history_book::verdict::{Class, Ftp, Label, UntrackedWhy, Verdict};
 use tuple_core::{Direction, Proto};
 
 /// No line has more bytes, its line feed included.
@@ -229,6 +229,51 @@ fn made_word(unclaimed: Option<u64>) -> &'static [u8]
     }
 }
 
+/// The word of why a packet is not tracked.
+fn untracked_word(why: UntrackedWhy) -> &'static [u8]
+    ensures text { result.now ≡ Line.untracked_word why }
+    ensures short { length result.now ≤ 8 }
+{
+    match why {
+        UntrackedWhy::Link => b"link",
+        UntrackedWhy::Fragment => b"fragment",
+        UntrackedWhy::Protocol => b"protocol",
+    }
+}
+
+/// The words of an ICMP error about an entry.
+fn error_word(direction: Direction) -> &'static [u8]
+    ensures text { result.now ≡ Line.error_word direction }
+    ensures short { length result.now ≤ 19 }
+{
+    match direction {
+        Direction::Original => b"RELATED error",
+        Direction::Reply => b"RELATED_REPLY error",
+    }
+}
+
+/// Writes a verdict that names an entry, and its point of the history.
+fn put_answer(buffer: &mut [u8], at: usize, words: &[u8], id: u64, point: u64) -> usize
+    requires { at + length words.now + 46 ≤ length buffer.old }
+    ensures start { at ≤ result }
+    ensures end { result ≤ at + length words.now + 46 }
+    ensures text { take result buffer.new ≡ take at buffer.old ++ words.now ++ entry_text id point }
+{
+    let at = put(buffer, at, words);
+    put_entry(buffer, at, id, point)
+}
+
+/// Writes a verdict that names no entry, and its point of the history.
+fn put_refusal(buffer: &mut [u8], at: usize, words: &[u8], point: u64) -> usize
+    requires { at + length words.now + 22 ≤ length buffer.old }
+    ensures start { at ≤ result }
+    ensures end { result ≤ at + length words.now + 22 }
+    ensures text { take result buffer.new ≡ take at buffer.old ++ words.now ++ point_text point }
+{
+    let at = put(buffer, at, words);
+    put_point(buffer, at, point)
+}
+
 /// Writes what became of a packet.
 fn put_class(buffer: &mut [u8], at: usize, class: Class) -> usize
     requires { at + 116 ≤ length buffer.old }
@@ -237,29 +282,36 @@ fn put_class(buffer: &mut [u8], at: usize, class: Class) -> usize
     ensures text { take result buffer.new ≡ take at buffer.old ++ class_text class }
 {
     match class {
+        Class::Untracked(why) => {
+            let at = put(buffer, at, b"UNTRACKED ");
+            put(buffer, at, untracked_word(why))
+        }
+        Class::BadHeader => put(buffer, at, b"INVALID header"),
+        Class::ErrorLost { at: point } => put_refusal(buffer, at, b"INVALID error", point),
+        Class::ErrorAddress { id, at: point } => {
+            put_answer(buffer, at, b"INVALID address", id, point)
+        }
+        Class::Error {
+            direction,
+            id,
+            at: point,
+        } => put_answer(buffer, at, error_word(direction), id, point),
         Class::Made {
             id,
             at: point,
             translated: _,
             unclaimed,
-        } => {
-            let at = put(buffer, at, made_word(unclaimed));
-            put_entry(buffer, at, id, point)
-        }
+        } => put_answer(buffer, at, made_word(unclaimed), id, point),
         Class::Passed {
             label,
             id,
             at: point,
             ftp,
         } => {
-            let at = put(buffer, at, label_word(label));
-            let at = put_entry(buffer, at, id, point);
+            let at = put_answer(buffer, at, label_word(label), id, point);
             put_ftp(buffer, at, ftp)
         }
-        Class::Full { at: point } => {
-            let at = put(buffer, at, b"FULL");
-            put_point(buffer, at, point)
-        }
+        Class::Full { at: point } => put_refusal(buffer, at, b"FULL", point),
     }
 }
 

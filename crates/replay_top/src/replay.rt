@@ -1,31 +1,31 @@
 //! Replays the packets of one capture.
 
 ghost use Rattle.std.specs.Prelude.{◌≡◌, ◌<◌, ◌^◌, [], ◌∷◌, length, IfOk};
-ghost use Rattle.replay_top.specs.Flow.{AreFlows};
+ghost use Rattle.replay_top.specs.Flow.{AreTracked};
 ghost use Rattle.replay_top.specs.Report.{IsWellFormed};
 
 use crate::book::{Book, ENTRIES};
 use crate::track::handle;
-use history_book::packet::FlowPacket;
+use history_book::packet::Arrival;
 use history_book::report::{History, Report, ThreadVerdicts, Verdicts};
 use room_list::RoomList;
 use std::alloc::Global;
 use tuple_core::NoMemory;
 
 /// Handles the packets of the one capture in their order, and reports what became of each.
-pub fn replay(alloc: Global, packets: &[FlowPacket]) -> Result<Report, NoMemory>
-    requires flows { AreFlows packets.now }
-    requires few { length packets.now < 2 ^ 32 }
-    ensures { IfOk result (IsWellFormed (packets.now ∷ [])) }
+pub fn replay(alloc: Global, arrivals: &[Arrival]) -> Result<Report, NoMemory>
+    requires flows { AreTracked arrivals.now }
+    requires few { length arrivals.now < 2 ^ 32 }
+    ensures { IfOk result (IsWellFormed (arrivals.now ∷ [])) }
 {
-    let count = packets.len();
+    let count = arrivals.len();
     let mut book = Book {
         records: RoomList::new(alloc, count.min(ENTRIES))?,
         history: History::new(alloc, 2 * count)?,
     };
     let mut verdicts = Verdicts::new(alloc, count)?;
-    'packets: for (index, packet) in packets.iter().enumerate() {
-        let verdict = handle(&mut book, index as u32, packet);
+    'packets: for (index, arrival) in arrivals.iter().enumerate() {
+        let verdict = handle(&mut book, index as u32, arrival);
         verdicts.push(verdict);
     }
     let mut threads = ThreadVerdicts::new(alloc, 1)?;

@@ -7,7 +7,7 @@ use history_book::event::{Event, Numbered, Why};
 use history_book::protocol::{Part, PartKind};
 use history_book::record::Record;
 use history_book::report::Report;
-use history_book::verdict::{Class, Ftp, Label, Translated, Verdict};
+use history_book::verdict::{Class, Ftp, Label, Translated, UntrackedWhy, Verdict};
 use room_list::RoomList;
 use std::alloc::Global;
 use std::process::Abort;
@@ -82,6 +82,14 @@ fn verdict(class: Class) -> Verdict {
         first: 0,
         made: 0,
     }
+}
+
+fn error(direction: Direction) -> Verdict {
+    verdict(Class::Error {
+        direction,
+        id: 16,
+        at: 17,
+    })
 }
 
 fn made(id: u64, at: u64) -> Verdict {
@@ -233,6 +241,34 @@ script 0
     Ok(())
 }
 
+/// A verdict of each class, with each label and each word of a payload.
+fn every_verdict() -> [Verdict; 17] {
+    [
+        made(4, 5),
+        verdict(Class::Made {
+            id: 6,
+            at: 8,
+            translated: Translated::Plain,
+            unclaimed: None,
+        }),
+        passed(Label::New, 1, Ftp::Nothing),
+        passed(Label::Related, 2, Ftp::Expected { id: 16 }),
+        passed(Label::Established, 3, Ftp::Address),
+        passed(Label::EstablishedReply, 4, Ftp::Clash { id: 7, at: 9 }),
+        passed(Label::Established, 5, Ftp::Full { at: 10 }),
+        passed(Label::Established, 6, Ftp::Gone { at: 11 }),
+        verdict(Class::Full { at: 12 }),
+        verdict(Class::Untracked(UntrackedWhy::Link)),
+        verdict(Class::Untracked(UntrackedWhy::Fragment)),
+        verdict(Class::Untracked(UntrackedWhy::Protocol)),
+        verdict(Class::BadHeader),
+        verdict(Class::ErrorLost { at: 13 }),
+        verdict(Class::ErrorAddress { id: 14, at: 15 }),
+        error(Direction::Original),
+        error(Direction::Reply),
+    ]
+}
+
 /// A report with each form of a line.
 fn every_form(alloc: Global) -> Result<Report, NoMemory> {
     let echo = |src: u32, dst: u32, kind: u16| Tuple {
@@ -278,23 +314,7 @@ fn every_form(alloc: Global) -> Result<Report, NoMemory> {
         touch(Direction::Reply, part(true, true, 1)),
         confirm(2, control, control, true, None),
     ];
-    let verdicts = [
-        made(4, 5),
-        verdict(Class::Made {
-            id: 6,
-            at: 8,
-            translated: Translated::Plain,
-            unclaimed: None,
-        }),
-        passed(Label::New, 1, Ftp::Nothing),
-        passed(Label::Related, 2, Ftp::Expected { id: 16 }),
-        passed(Label::Established, 3, Ftp::Address),
-        passed(Label::EstablishedReply, 4, Ftp::Clash { id: 7, at: 9 }),
-        passed(Label::Established, 5, Ftp::Full { at: 10 }),
-        passed(Label::Established, 6, Ftp::Gone { at: 11 }),
-        verdict(Class::Full { at: 12 }),
-    ];
-    report_of(alloc, &events, &[&[], &verdicts])
+    report_of(alloc, &events, &[&[], &every_verdict()])
 }
 
 const EVERY_FORM: &str = "\
@@ -303,7 +323,7 @@ events 3
 1 touch 0.1 id=0 reply until=1 replied assured
 2 confirm 1.3 tcp src=203.0.113.5 dst=198.51.100.21 sport=65535 dport=21 src=203.0.113.5 dst=198.51.100.21 sport=65535 dport=21 until=31000000 helper
 thread 0 packets 0
-thread 1 packets 9
+thread 1 packets 17
 0 NEW id=4 @5
 1 RELATED id=6 @8
 2 NEW id=0 @1
@@ -313,6 +333,14 @@ thread 1 packets 9
 6 ESTABLISHED id=0 @5 ftp full @10
 7 ESTABLISHED id=0 @6 ftp gone @11
 8 FULL @12
+9 UNTRACKED link
+10 UNTRACKED fragment
+11 UNTRACKED protocol
+12 INVALID header
+13 INVALID error @13
+14 INVALID address id=14 @15
+15 RELATED error id=16 @17
+16 RELATED_REPLY error id=16 @17
 script 0
 ";
 

@@ -1,24 +1,28 @@
-//! What the tracker does with one packet of a flow.
+//! What the tracker does with one packet.
 
 ghost use Rattle.std.specs.Prelude.{◌≡◌, ◌+◌, ◌<◌, ◌≤◌, true, false, length};
-ghost use Rattle.std.specs.List.{list_any};
+ghost use Rattle.std.specs.List.{AllByRecursion, list_any};
+ghost use Rattle.tuple_core.specs.Tuple.{is_valid};
+ghost use Rattle.history_book.specs.declared.packet.Arrival.TheVariants.{Flow};
 ghost use Rattle.history_book.specs.declared.protocol.Outcome.TheVariants.{Accept, Expired};
+ghost use Rattle.history_book.specs.Error.{FitsError};
 ghost use Rattle.history_book.specs.Find.{IsHit};
 ghost use Rattle.history_book.specs.Protocol.{start_of};
 ghost use Rattle.history_book.specs.Record.{has_place, has_tuple};
 ghost use Rattle.history_book.specs.State.{live_under};
+ghost use Rattle.history_book.specs.Verdict.{points_of};
 ghost use Rattle.replay_top.specs.Book.{Holds, PlacesBelow};
-ghost use Rattle.replay_top.specs.Flow.{is_flow};
-ghost use Rattle.replay_top.specs.History.{pool};
+ghost use Rattle.replay_top.specs.Flow.{is_flow, is_tracked};
+ghost use Rattle.replay_top.specs.History.{events_of, pool};
 ghost use Rattle.replay_top.specs.Track.{Begins, Handled, StepsTo};
 
 use crate::book::{Book, ENTRIES, Touched};
 use history_book::find::{Hit, find, label};
-use history_book::packet::FlowPacket;
+use history_book::packet::{Arrival, FlowPacket};
 use history_book::protocol::{Outcome, Part, start, step};
 use history_book::record::Record;
 use history_book::verdict::{Class, Ftp, Translated, Verdict};
-use tuple_core::invert;
+use tuple_core::{Tuple, invert};
 
 /// The part of the entry that begins with a packet.
 #[tactic(auto, using(crate::proofs::Flows::udp_starts))]
@@ -72,7 +76,7 @@ fn begin(book: &mut Book, index: u32, packet: &FlowPacket) -> Verdict
     requires places { PlacesBelow (length book.old.records.items) book.old.records.items }
     requires history_room { length book.old.history.items + 2 ≤ book.old.history.room }
     requires records_room { length book.old.records.items < pool → length book.old.records.items < book.old.records.room }
-    ensures handled { Handled book.old book.new index packet.now result }
+    ensures handled { Handled book.old book.new index (Flow packet.now) result }
     ensures holds { Holds book.new }
     ensures places { PlacesBelow (length book.new.records.items) book.new.records.items }
 {
@@ -101,7 +105,7 @@ fn pass(book: &mut Book, index: u32, packet: &FlowPacket, hit: Hit, after: Part)
     requires accepted { StepsTo hit packet.now book.old.records.items (Accept after) }
     requires places { PlacesBelow (length book.old.records.items) book.old.records.items }
     requires history_room { length book.old.history.items + 2 ≤ book.old.history.room }
-    ensures handled { Handled book.old book.new index packet.now result }
+    ensures handled { Handled book.old book.new index (Flow packet.now) result }
     ensures holds { Holds book.new }
     ensures places { PlacesBelow (length book.new.records.items) book.new.records.items }
 {
@@ -137,7 +141,7 @@ fn replace(book: &mut Book, index: u32, packet: &FlowPacket, hit: Hit) -> Verdic
     requires most { length book.old.records.items ≤ pool }
     requires history_room { length book.old.history.items + 2 ≤ book.old.history.room }
     requires records_room { length book.old.records.items ≤ book.old.records.room }
-    ensures handled { Handled book.old book.new index packet.now result }
+    ensures handled { Handled book.old book.new index (Flow packet.now) result }
     ensures holds { Holds book.new }
     ensures places { PlacesBelow (length book.new.records.items) book.new.records.items }
 {
@@ -152,9 +156,9 @@ fn replace(book: &mut Book, index: u32, packet: &FlowPacket, hit: Hit) -> Verdic
     }
 }
 
-/// Handles one packet: the entry of its flow accepts it, or, where there is none or it is expired, a
+/// Handles a packet of a flow: the entry of its flow accepts it, or, where there is none or it is expired, a
 /// flow begins.
-pub fn handle(book: &mut Book, index: u32, packet: &FlowPacket) -> Verdict
+fn handle_flow(book: &mut Book, index: u32, packet: &FlowPacket) -> Verdict
     requires flow { is_flow packet.now ≡ true }
     requires holds { Holds book.old }
     requires places { PlacesBelow (length book.old.records.items) book.old.records.items }
@@ -162,7 +166,7 @@ pub fn handle(book: &mut Book, index: u32, packet: &FlowPacket) -> Verdict
     requires history_room { length book.old.history.items + 2 ≤ book.old.history.room }
     requires kept { length book.old.records.items ≤ book.old.records.room }
     requires records_room { length book.old.records.items < pool → length book.old.records.items < book.old.records.room }
-    ensures handled { Handled book.old book.new index packet.now result }
+    ensures handled { Handled book.old book.new index (Flow packet.now) result }
     ensures holds { Holds book.new }
     ensures places { PlacesBelow (length book.new.records.items) book.new.records.items }
 {
@@ -175,5 +179,58 @@ pub fn handle(book: &mut Book, index: u32, packet: &FlowPacket) -> Verdict
                 Outcome::Expired => replace(book, index, packet, hit),
             }
         }
+    }
+}
+
+/// Looks up the entry that an ICMP error is about, by the inverse of the tuple in it.
+fn look_up(book: &Book, inner: &Tuple, outer_destination: u32) -> Class
+    requires holds { Holds book.now }
+    requires valid { is_valid inner.now ≡ true }
+    ensures fits { FitsError (events_of book.now.history.items) (length book.now.history.items) inner.now outer_destination result }
+    ensures points { AllByRecursion (λ p. p ≤ length book.now.history.items) (points_of result) }
+{
+    let looked_up = invert(inner);
+    let at = book.history.len() as u64;
+    let Some(hit) = find(book.records.as_slice(), &looked_up) else {
+        return Class::ErrorLost { at };
+    };
+    let id = book.records.at(hit.index).id;
+    if looked_up.dst == outer_destination {
+        Class::Error {
+            direction: hit.direction,
+            id,
+            at,
+        }
+    } else {
+        Class::ErrorAddress { id, at }
+    }
+}
+
+/// Handles one packet. Only a packet of a flow makes events.
+pub fn handle(book: &mut Book, index: u32, arrival: &Arrival) -> Verdict
+    requires tracked { is_tracked arrival.now ≡ true }
+    requires holds { Holds book.old }
+    requires places { PlacesBelow (length book.old.records.items) book.old.records.items }
+    requires most { length book.old.records.items ≤ pool }
+    requires history_room { length book.old.history.items + 2 ≤ book.old.history.room }
+    requires kept { length book.old.records.items ≤ book.old.records.room }
+    requires records_room { length book.old.records.items < pool → length book.old.records.items < book.old.records.room }
+    ensures handled { Handled book.old book.new index arrival.now result }
+    ensures holds { Holds book.new }
+    ensures places { PlacesBelow (length book.new.records.items) book.new.records.items }
+{
+    let class = match arrival {
+        Arrival::Flow(packet) => return handle_flow(book, index, packet),
+        Arrival::Untracked(why) => Class::Untracked(*why),
+        Arrival::Invalid => Class::BadHeader,
+        Arrival::Error {
+            inner,
+            outer_destination,
+        } => look_up(book, inner, *outer_destination),
+    };
+    Verdict {
+        class,
+        first: book.history.len() as u64,
+        made: 0,
     }
 }

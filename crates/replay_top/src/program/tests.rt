@@ -152,7 +152,8 @@ fn a_capture_is_replayed(rt: HostRuntime) -> Result<(), Fail> {
 #[test]
 fn what_is_refused(rt: HostRuntime) -> Result<(), Fail> {
     let usage = "ctreplay: the words are not of the stated form\n";
-    let no_form = "ctreplay: c.pcap: form not read yet\n";
+    let cut = "ctreplay: c.pcap: record 1 cut at offset 72\n";
+    let short = "ctreplay: c.pcap: short header\n";
     let rows: [(&[&str], &[u8], u8, &str); 9] = [
         (&[], &CAPTURE, 1, usage),
         (&["ctreplay"], &CAPTURE, 1, usage),
@@ -165,9 +166,9 @@ fn what_is_refused(rt: HostRuntime) -> Result<(), Fail> {
             "ctreplay: b.pcap: open failed\n",
         ),
         (&["ctreplay", ""], &CAPTURE, 3, "ctreplay: : open failed\n"),
-        (&["ctreplay", NAME], &CAPTURE[..119], 2, no_form),
-        (&["ctreplay", NAME], &CAPTURE[..23], 2, no_form),
-        (&["ctreplay", NAME], b"pcapng", 2, no_form),
+        (&["ctreplay", NAME], &CAPTURE[..119], 2, cut),
+        (&["ctreplay", NAME], &CAPTURE[..23], 2, short),
+        (&["ctreplay", NAME], b"pcapng", 2, short),
     ];
     for (words, bytes, status, line) in rows {
         let left = run(&rt, words, bytes, 1000, &NONE)?;
@@ -272,3 +273,5 @@ script 0
     assert!(rt; left.out.bytes().ends_with(tail.as_bytes()));
     Ok(())
 }
+
+mod captures;

@@ -1,0 +1,16 @@
+use Rattle.replay_top.proofs.Steps.{misdirected, related}
+use Rattle.replay_top.proofs.track.look_up.Goals as goal
+
+pub returns-then-looked_up-outer_destination-clause-fits :
+    goal.returns-then-looked_up-outer_destination-clause-fits
+returns-then-looked_up-outer_destination-clause-fits c =
+    rw c.len-at.ensures.exact
+    (related c.args.book.now c.args.inner.now c.invert-looked_up.result c.args.outer_destination c.in-Some.hit c.at.result.now
+    c.requires.holds c.invert-looked_up.ensures.exact (rw c.as_slice.ensures at c.in-Some.ensures.found) c.at.ensures c.if-looked_up-outer_destination.true)
+
+pub returns-else-looked_up-outer_destination-clause-fits :
+    goal.returns-else-looked_up-outer_destination-clause-fits
+returns-else-looked_up-outer_destination-clause-fits c =
+    rw c.len-at.ensures.exact
+    (misdirected c.args.book.now c.args.inner.now c.invert-looked_up.result c.args.outer_destination c.in-Some.hit c.at.result.now
+    c.requires.holds c.invert-looked_up.ensures.exact (rw c.as_slice.ensures at c.in-Some.ensures.found) c.at.ensures c.if-looked_up-outer_destination.false)
