@@ -9,6 +9,4 @@ pub mod Records
 pub mod Replays
 pub mod Steps
 pub mod Passing
-pub mod Texts
 pub mod Tracks
-pub mod Writes

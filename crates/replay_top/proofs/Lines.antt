@@ -4,9 +4,9 @@ use Rattle.std.proofs.Math.Seq.{take-append-add}
 use Rattle.std.proofs.lemmas.List.{take-append-le}
 use Rattle.ct_io.specs.Counts.{Rose}
 use Rattle.ct_io.proofs.Rises.{rose_from_earlier}
-use Rattle.replay_top.specs.declared.write.WriteFault.{WriteFault}
-use Rattle.replay_top.specs.Wrote.{followed_by, Wrote, WroteFront}
-use Rattle.replay_top.proofs.Writes.{followed_by-append}
+use Rattle.report_text.specs.declared.write.WriteFault.{WriteFault}
+use Rattle.report_text.specs.Wrote.{followed_by, Wrote, WroteFront}
+use Rattle.report_text.proofs.Writes.{followed_by-append}
 
 -- one text was written, and then a call wrote another
 pub wrote_then : (one two : List ℕ) (a b c : Option (List ℕ)) (first now last : ℕ) (r : Result (Unit {0}) WriteFault)

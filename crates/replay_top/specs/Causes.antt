@@ -6,8 +6,8 @@ use Rattle.history_book.specs.declared.packet.Arrival.{Arrival}
 use Rattle.history_book.specs.declared.report.Report.{Report}
 use Rattle.replay_top.specs.Arrivals.{IsReadCapture, IsUnreadCapture, most_bytes}
 use Rattle.replay_top.specs.Replay.{IsReplay, Names}
-use Rattle.replay_top.specs.Text.{report_text}
-use Rattle.replay_top.specs.Wrote.{WroteFront}
+use Rattle.report_text.specs.Text.{report_text}
+use Rattle.report_text.specs.Wrote.{WroteFront}
 
 -- the statuses of the program
 abbrev pub IsStatus : ℕ → Type 0

@@ -9,9 +9,9 @@ use Rattle.replay_top.specs.Arrivals.{IsUnreadCapture, most_bytes}
 use Rattle.replay_top.specs.ReadFile.{AreLonger}
 use Rattle.replay_top.specs.ErrorLine.{error_line, not_of_the_form, fault_text, not_read_yet, open_failed, out_of_memory, read_failed, write_failed, too_many_bytes}
 use Rattle.replay_top.specs.Replay.{AreTold, IsPrinted, IsReplay, IsReportOf, Names}
-use Rattle.replay_top.specs.Text.{report_text}
+use Rattle.report_text.specs.Text.{report_text}
 use Rattle.replay_top.specs.Words.{capture_named}
-use Rattle.replay_top.specs.Wrote.{WroteFront}
+use Rattle.report_text.specs.Wrote.{WroteFront}
 
 -- What is so where a run ends in this way: the counts of opens and of reads that failed, what is
 -- written to the output and its count of faults, each before the run and after it.

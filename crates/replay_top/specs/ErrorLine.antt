@@ -6,7 +6,7 @@ use Rattle.packet_headers.specs.declared.capture.CaptureFault.{CaptureFault}
 use Rattle.packet_headers.specs.declared.capture.CaptureFault.TheVariants.{ShortHeader, BadMagic, BadVersion, LinkType, CutRecord, TooLong, Fraction}
 use Rattle.replay_top.specs.Arrivals.{IsUnreadCapture}
 use Rattle.replay_top.specs.Replay.{AreTold, Names}
-use Rattle.replay_top.specs.Wrote.{followed_by, WroteFront}
+use Rattle.report_text.specs.Wrote.{followed_by, WroteFront}
 
 -- the program's name, what the line is about, and the problem
 abbrev pub error_line : List ℕ → List ℕ → List ℕ

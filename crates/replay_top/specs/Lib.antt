@@ -5,11 +5,8 @@ pub mod Ending
 pub mod ErrorLine
 pub mod Flow
 pub mod History
-pub mod Line
 pub mod ReadFile
 pub mod Replay
 pub mod Report
-pub mod Text
 pub mod Track
 pub mod Words
-pub mod Wrote

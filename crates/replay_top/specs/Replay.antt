@@ -6,9 +6,9 @@ use Rattle.history_book.specs.declared.report.Report.{Report}
 use Rattle.replay_top.specs.Arrivals.{IsReadCapture}
 use Rattle.replay_top.specs.ReadFile.{AreContents}
 use Rattle.replay_top.specs.Report.{IsWellFormed}
-use Rattle.replay_top.specs.Text.{report_text}
+use Rattle.report_text.specs.Text.{report_text}
 use Rattle.replay_top.specs.Words.{capture_named}
-use Rattle.replay_top.specs.Wrote.{followed_by}
+use Rattle.report_text.specs.Wrote.{followed_by}
 
 -- the words name a file of which this holds
 pub record Names (words : List (List ℕ)) (P : List ℕ → Type 0) : Type 0 where

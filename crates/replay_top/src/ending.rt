@@ -3,13 +3,13 @@
 ghost use Rattle.std.specs.Prelude.{◌≡◌, ◌≤◌, ◌++◌, codes, decimal, length, take};
 ghost use Rattle.replay_top.specs.Ending.{line_of, report_of, status_of};
 ghost use Rattle.replay_top.specs.ErrorLine.{error_line, fault_text, Tells};
-ghost use Rattle.replay_top.specs.Wrote.{Wrote};
+ghost use Rattle.report_text.specs.Wrote.{Wrote};
 
-use crate::text::{put, put_number};
-use crate::write::{WriteFault, write_all};
 use ct_io::Sink;
 use history_book::report::Report;
 use packet_headers::capture::CaptureFault;
+use report_text::text::{put, put_number};
+use report_text::write::{WriteFault, write_all};
 
 /// How a run ends.
 #[derive(Drop)]

@@ -4,17 +4,11 @@
 mod arrivals;
 mod book;
 mod ending;
-mod gather;
-mod line;
 mod program;
 mod read;
 mod replay;
-#[cfg(test)]
-mod tests;
-mod text;
 mod track;
 mod words;
-mod write;
 
 pub use ending::Run;
 pub use program::top;

@@ -1,9 +1,9 @@
 //! A report's text, written to a sink. No call takes memory.
 
 ghost use Rattle.std.specs.Prelude.{◌≡◌, ◌≤◌, length, take, IfOk};
-ghost use Rattle.replay_top.specs.Line.{verdict_line};
-ghost use Rattle.replay_top.specs.Text.{history_text, line_of_event, report_text, texts_from, thread_text, tracking_text};
-ghost use Rattle.replay_top.specs.Wrote.{Gathered, Wrote};
+ghost use Rattle.report_text.specs.Line.{verdict_line};
+ghost use Rattle.report_text.specs.Text.{history_text, line_of_event, report_text, texts_from, thread_text, tracking_text};
+ghost use Rattle.report_text.specs.Wrote.{Gathered, Wrote};
 
 use crate::gather::{
     write_event, write_history_head, write_script_head, write_thread_head, write_verdict,

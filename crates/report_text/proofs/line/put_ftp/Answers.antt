@@ -1,6 +1,6 @@
 -- The three pieces of a clash stand one after the other.
 use Rattle.std.proofs.Common.{append_assoc}
-use Rattle.replay_top.proofs.line.put_ftp.Goals as goal
+use Rattle.report_text.proofs.line.put_ftp.Goals as goal
 
 pub returns-in-Clash-clause-text : goal.returns-in-Clash-clause-text
 returns-in-Clash-clause-text c =

@@ -2,8 +2,8 @@
 #![tactic(auto, using(crate::proofs::Writes::sent_behind, crate::proofs::Writes::lost_line))]
 
 ghost use Rattle.std.specs.Prelude.{◌≡◌, ◌+◌, ◌≤◌, [], length, take, IfOk};
-ghost use Rattle.replay_top.specs.Line.{event_line, history_head, script_head, thread_head, verdict_line};
-ghost use Rattle.replay_top.specs.Wrote.{Gathered};
+ghost use Rattle.report_text.specs.Line.{event_line, history_head, script_head, thread_head, verdict_line};
+ghost use Rattle.report_text.specs.Wrote.{Gathered};
 
 use crate::line::{
     LONGEST_LINE, put_event_line, put_history_head, put_script_head, put_thread_head,

@@ -1,5 +1,5 @@
-use Rattle.replay_top.proofs.Writes.{wrote_rest}
-use Rattle.replay_top.proofs.write.write_report.Goals as goal
+use Rattle.report_text.proofs.Writes.{wrote_rest}
+use Rattle.report_text.proofs.write.write_report.Goals as goal
 
 pub returns-clause-wrote : goal.returns-clause-wrote
 returns-clause-wrote g c =

@@ -1,7 +1,7 @@
 use Rattle.std.proofs.Common.{arith}
-use Rattle.replay_top.specs.Line.{verdict_line}
-use Rattle.replay_top.proofs.Writes.{gathered_step, sent_step}
-use Rattle.replay_top.proofs.write.write_verdicts.Goals as goal
+use Rattle.report_text.specs.Line.{verdict_line}
+use Rattle.report_text.proofs.Writes.{gathered_step, sent_step}
+use Rattle.report_text.proofs.write.write_verdicts.Goals as goal
 
 pub returns-in_err-end-clause-gathered : goal.returns-in_err-end-clause-gathered
 returns-in_err-end-clause-gathered g c =

@@ -1,8 +1,8 @@
 use Rattle.std.proofs.Common.{◌≤◌, length, take}
-use Rattle.replay_top.specs.Line.{verdict_line}
-use Rattle.replay_top.specs.Text.{texts_from}
-use Rattle.replay_top.specs.Wrote.{Sent}
-use Rattle.replay_top.proofs.write.write_verdicts.Given as goal
+use Rattle.report_text.specs.Line.{verdict_line}
+use Rattle.report_text.specs.Text.{texts_from}
+use Rattle.report_text.specs.Wrote.{Sent}
+use Rattle.report_text.proofs.write.write_verdicts.Given as goal
 
 abbrev pub invariant-verdicts : goal.invariant-verdicts
 invariant-verdicts g l = record {

@@ -4,7 +4,7 @@ use Rattle.history_book.specs.declared.event.Numbered.{Numbered}
 use Rattle.history_book.specs.declared.report.Report.{Report}
 use Rattle.history_book.specs.declared.verdict.Verdict.{Verdict}
 use Rattle.room_list.specs.Roomed.{Roomed}
-use Rattle.replay_top.specs.Line.{event_line, history_head, script_head, thread_head, verdict_line}
+use Rattle.report_text.specs.Line.{event_line, history_head, script_head, thread_head, verdict_line}
 
 -- the texts of a list's items one after the other; a text may tell its item's index, and the first
 -- item's is `from`

@@ -1,7 +1,7 @@
 use Rattle.std.proofs.Common.{◌≤◌, length, take}
-use Rattle.replay_top.specs.Text.{line_of_event, texts_from}
-use Rattle.replay_top.specs.Wrote.{Sent}
-use Rattle.replay_top.proofs.write.write_events.Given as goal
+use Rattle.report_text.specs.Text.{line_of_event, texts_from}
+use Rattle.report_text.specs.Wrote.{Sent}
+use Rattle.report_text.proofs.write.write_events.Given as goal
 
 abbrev pub invariant-events : goal.invariant-events
 invariant-events g l = record {

@@ -1,7 +1,7 @@
 use Rattle.std.proofs.Common.{◌≤◌, length, take}
-use Rattle.replay_top.specs.Text.{texts_from, thread_text}
-use Rattle.replay_top.specs.Wrote.{Sent}
-use Rattle.replay_top.proofs.write.write_threads.Given as goal
+use Rattle.report_text.specs.Text.{texts_from, thread_text}
+use Rattle.report_text.specs.Wrote.{Sent}
+use Rattle.report_text.proofs.write.write_threads.Given as goal
 
 abbrev pub invariant-threads : goal.invariant-threads
 invariant-threads g l = record {

@@ -5,10 +5,10 @@ use Rattle.std.proofs.lemmas.List.{take_all, take-append-drop}
 use Rattle.ct_io.specs.Counts.{Rose}
 use Rattle.ct_io.specs.Writing.{Appended}
 use Rattle.ct_io.proofs.Rises.{rose_from_earlier}
-use Rattle.replay_top.specs.declared.write.WriteFault.{WriteFault}
-use Rattle.replay_top.specs.Text.{texts_from}
-use Rattle.replay_top.specs.Wrote.{followed_by, Gathered, Lost, Sent, Wrote, WroteFront}
-use Rattle.replay_top.proofs.Texts.{texts_from-more, texts_from-split}
+use Rattle.report_text.specs.declared.write.WriteFault.{WriteFault}
+use Rattle.report_text.specs.Text.{texts_from}
+use Rattle.report_text.specs.Wrote.{followed_by, Gathered, Lost, Sent, Wrote, WroteFront}
+use Rattle.report_text.proofs.Texts.{texts_from-more, texts_from-split}
 
 -- a text and then another one behind what is written
 pub followed_by-append : (before : Option (List ℕ)) (a b : List ℕ) →

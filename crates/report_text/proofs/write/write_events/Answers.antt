@@ -1,7 +1,7 @@
 use Rattle.std.proofs.Common.{arith}
-use Rattle.replay_top.specs.Text.{line_of_event}
-use Rattle.replay_top.proofs.Writes.{gathered_step, sent_step}
-use Rattle.replay_top.proofs.write.write_events.Goals as goal
+use Rattle.report_text.specs.Text.{line_of_event}
+use Rattle.report_text.proofs.Writes.{gathered_step, sent_step}
+use Rattle.report_text.proofs.write.write_events.Goals as goal
 
 pub returns-in_err-end-clause-gathered : goal.returns-in_err-end-clause-gathered
 returns-in_err-end-clause-gathered g c =

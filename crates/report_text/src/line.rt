@@ -2,8 +2,8 @@
 //! `LONGEST_LINE` bytes.
 
 ghost use Rattle.std.specs.Prelude.{◌≡◌, ◌+◌, ◌≤◌, ◌++◌, length, take};
-ghost use Rattle.replay_top.specs.Line;
-ghost use Rattle.replay_top.specs.Line.{class_text, entry_text, event_line, event_text, flow_text, ftp_text, history_head, master_text, point_text, record_text, script_head, thread_head, verdict_line, who_text};
+ghost use Rattle.report_text.specs.Line;
+ghost use Rattle.report_text.specs.Line.{class_text, entry_text, event_line, event_text, flow_text, ftp_text, history_head, master_text, point_text, record_text, script_head, thread_head, verdict_line, who_text};
 
 use crate::text::{put, put_if, put_number, put_tuple};
 use history_book::event::{Event, Numbered, Why};

@@ -1,6 +1,6 @@
 use Rattle.std.proofs.Common.{◌≡◌, ◌-◌, ◌≤◌, length, take}
-use Rattle.replay_top.specs.Wrote.{followed_by}
-use Rattle.replay_top.proofs.write.write_all.Given as goal
+use Rattle.report_text.specs.Wrote.{followed_by}
+use Rattle.report_text.proofs.write.write_all.Given as goal
 
 abbrev pub invariant-pieces : goal.invariant-pieces
 invariant-pieces g l = record {

@@ -1,7 +1,7 @@
 -- What writing a text does to a sink.
 use Rattle.std.specs.Prelude.{◌≡◌, ℕ, ◌<◌, List, ◌++◌, length, take, Option, None, Some, Result, Ok, Err}
 use Rattle.ct_io.specs.Counts.{Rose}
-use Rattle.replay_top.specs.declared.write.WriteFault.{WriteFault}
+use Rattle.report_text.specs.declared.write.WriteFault.{WriteFault}
 
 -- what is written once the text follows it; what was not told stays untold
 abbrev pub followed_by : Option (List ℕ) → List ℕ → Option (List ℕ)

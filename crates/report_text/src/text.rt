@@ -2,7 +2,7 @@
 //! where it ends; what stands before `at` stays. None takes memory.
 
 ghost use Rattle.std.specs.Prelude.{◌≡◌, ◌+◌, ◌≤◌, ◌++◌, length, take};
-ghost use Rattle.replay_top.specs.Line.{address_text, ends_text, tuple_text, word_if};
+ghost use Rattle.report_text.specs.Line.{address_text, ends_text, tuple_text, word_if};
 
 use itoa::{Buffer, Integer};
 use tuple_core::{Proto, Tuple};
