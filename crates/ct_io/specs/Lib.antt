@@ -1,4 +1,6 @@
 pub mod Counts
+pub mod Source
+pub mod Tape
 pub mod MemFiles
 pub mod MemSink
 pub mod Outlet

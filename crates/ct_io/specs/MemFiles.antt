@@ -1,7 +1,8 @@
 -- Files in memory, as contracts see them.
-use Rattle.std.specs.Prelude.{ℕ, ◌||◌, Bool, List, Option, is_none, option_and_then, position, find, unwrap_or, bytes_eq, drop, slice_get}
+use Rattle.std.specs.Prelude.{ℕ, ◌||◌, Bool, List, Option, is_none, is_some, option_and_then, position, find, unwrap_or, bytes_eq, drop, slice_get}
 use Rattle.std.specs.Option.{option_map}
 use Rattle.ct_io.specs.Counts.{is_listed}
+use Rattle.ct_io.specs.Source.{Source}
 
 -- one file: its name, its contents, and how often opening it failed
 pub record Kept : Type 0 where
@@ -61,3 +62,13 @@ is_next_failing s = is_listed s.fails s.calls
 -- whether opening this name fails: the call is to fail, or the name is unknown
 abbrev pub is_open_failing : Shelf → List ℕ → Bool
 is_open_failing s name = is_next_failing s || is_none (contents_of s name)
+
+-- files in memory as a source: the contents are told, and so is what is left
+abbrev pub source_of : Shelf → Source
+source_of s = record {
+  contents = λ name. contents_of s name;
+  left = left_in s;
+  is_open = is_some s.open_place;
+  open_faults = λ name. open_faults_of s name;
+  read_faults = s.read_faults;
+}

@@ -1,55 +1,45 @@
 //! Files that are opened by name and read from their beginning.
 
-ghost use Rattle.std.specs.Prelude.{◌≡◌, ℕ, ◌<◌, ◌≤◌, List, Bool, true, false, Option, None, length, IfOk, OnOk, OnErr};
+ghost use Rattle.std.specs.Prelude.{◌≡◌, ◌<◌, ◌≤◌, true, false, None, length, IfOk, OnOk, OnErr};
 ghost use Rattle.ct_io.specs.Counts.{Rose};
 ghost use Rattle.ct_io.specs.Reading.{Took};
+ghost use Rattle.ct_io.specs.Source.{SameFaults, Source, Stays};
 
 /// A call to the outside failed. The cause is not told; a count of the callee has risen.
 #[derive(Clone, Copy, Debug)]
 pub struct Failed;
 
-/// A source of files, of which one at a time is open.
+/// A source of files, of which one at a time is open. A count of failures rises only where a call
+/// fails.
 pub trait Files {
-    /// The contents of the file of this name, where they are told.
-    ghost contents: { Self → List ℕ → Option (List ℕ) };
-
-    /// What is left of the open file, where it is told.
-    ghost left: { Self → Option (List ℕ) };
-
-    /// Whether a file is open.
-    ghost is_open: { Self → Bool };
-
-    /// How often opening this name has failed.
-    ghost open_faults: { Self → List ℕ → ℕ };
-
-    /// How often reading has failed.
-    ghost read_faults: { Self → ℕ };
+    /// The contents of each file, what is left of the open one, and the counts of failures.
+    ghost source: { Self → Source };
 
     /// Opens the file of this name at its beginning, and closes the one that was open. After a
     /// failure no file is open.
     fn open(&mut self, name: &str) -> Result<(), Failed>
-        ensures same_contents { (n : List ℕ) → contents self.new n ≡ contents self.old n }
-        ensures opened { OnOk result (is_open self.new ≡ true) }
-        ensures whole { OnOk result (left self.new ≡ contents self.old name.now) }
-        ensures closed { OnErr result (is_open self.new ≡ false) }
-        ensures nothing_left { OnErr result (left self.new ≡ None) }
+        ensures stays { Stays (source self.old) (source self.new) }
+        ensures opened { OnOk result ((source self.new).is_open ≡ true) }
+        ensures whole { OnOk result ((source self.new).left ≡ (source self.old).contents name.now) }
+        ensures same_faults { OnOk result (SameFaults (source self.old) (source self.new)) }
+        ensures closed { OnErr result ((source self.new).is_open ≡ false) }
+        ensures nothing_left { OnErr result ((source self.new).left ≡ None) }
         ensures failed { OnErr result
-            (Rose (open_faults self.old name.now) (open_faults self.new name.now)) }
-        ensures open_faults_stay { (n : List ℕ) → open_faults self.old n ≤ open_faults self.new n }
-        ensures read_faults_stay { read_faults self.old ≤ read_faults self.new };
+            (Rose ((source self.old).open_faults name.now) ((source self.new).open_faults name.now)) };
 
     /// Moves the next bytes of the open file into the front of `buf`, and says how many; fewer
     /// than fit may come, and none only at the file's end. After a failure the file is open and
     /// has as much left as before.
     fn read(&mut self, buf: &mut [u8]) -> Result<usize, Failed>
-        requires open { is_open self.old ≡ true }
+        requires open { (source self.old).is_open ≡ true }
         requires room { 0 < length buf.old }
-        ensures same_contents { (n : List ℕ) → contents self.new n ≡ contents self.old n }
+        ensures stays { Stays (source self.old) (source self.new) }
+        ensures stays_open { (source self.new).is_open ≡ true }
         ensures fits { IfOk result (λ n. n ≤ length buf.new) }
-        ensures took { IfOk result (λ n. Took (left self.old) n buf.new (left self.new)) }
-        ensures stays_open { is_open self.new ≡ true }
-        ensures failed { OnErr result (Rose (read_faults self.old) (read_faults self.new)) }
-        ensures same_left { OnErr result (left self.new ≡ left self.old) }
-        ensures open_faults_stay { (n : List ℕ) → open_faults self.old n ≤ open_faults self.new n }
-        ensures read_faults_stay { read_faults self.old ≤ read_faults self.new };
+        ensures took { IfOk result (λ n.
+            Took (source self.old).left n buf.new (source self.new).left) }
+        ensures same_faults { OnOk result (SameFaults (source self.old) (source self.new)) }
+        ensures same_left { OnErr result ((source self.new).left ≡ (source self.old).left) }
+        ensures failed { OnErr result
+            (Rose (source self.old).read_faults (source self.new).read_faults) };
 }

@@ -2,8 +2,9 @@
 
 ghost use Rattle.std.specs.Prelude.{◌≡◌, ◌≢◌, ◌+◌, ◌<◌, ◌≤◌, ℕ, List, [], true, false, None, Some, length, min, drop, is_some, is_err, IfOk, IfSome, IsSome, OnOk, OnErr};
 ghost use Rattle.ct_io.specs.Counts.{Rose, risen};
-ghost use Rattle.ct_io.specs.MemFiles.{contents_of, is_next_failing, is_open_failing, left_in, open_faults_of, place_in};
+ghost use Rattle.ct_io.specs.MemFiles.{contents_of, is_next_failing, is_open_failing, left_in, open_faults_of, place_in, source_of};
 ghost use Rattle.ct_io.specs.Reading.{Took};
+ghost use Rattle.ct_io.specs.Source.{SameFaults, Stays};
 
 use crate::counts::{is_to_fail, one_more};
 use crate::mem_file::{MemFile, count_fault_at, place_of, push_file, replace_at};
@@ -116,28 +117,18 @@ impl MemFiles {
 }
 
 impl Files for MemFiles {
-    ghost contents = { λ s n. contents_of s n };
-
-    ghost left = { left_in };
-
-    ghost is_open = { λ s. is_some s.open_place };
-
-    ghost open_faults = { λ s n. open_faults_of s n };
-
-    ghost read_faults = { λ s. s.read_faults };
+    ghost source = { λ s. source_of s };
 
     #[tactic(auto, using(crate::proofs::Found::opening))]
     fn open(&mut self, name: &str) -> Result<(), Failed>
-        ensures same_contents { (n : List ℕ) → contents_of self.new n ≡ contents_of self.old n }
+        ensures stays { Stays (source_of self.old) (source_of self.new) }
         ensures opened { OnOk result (is_some self.new.open_place ≡ true) }
         ensures whole { OnOk result (left_in self.new ≡ contents_of self.old name.now) }
+        ensures same_faults { OnOk result (SameFaults (source_of self.old) (source_of self.new)) }
         ensures closed { OnErr result (is_some self.new.open_place ≡ false) }
         ensures nothing_left { OnErr result (left_in self.new ≡ None) }
         ensures failed { OnErr result
             (Rose (open_faults_of self.old name.now) (open_faults_of self.new name.now)) }
-        ensures open_faults_stay { (n : List ℕ) →
-            open_faults_of self.old n ≤ open_faults_of self.new n }
-        ensures read_faults_stay { self.old.read_faults ≤ self.new.read_faults }
         ensures exactly { is_err result ≡ is_open_failing self.old name.now }
         ensures ok { OnOk result (self.new ≡ record self.old {
           open_place = place_in self.old.files name.now;
@@ -179,15 +170,13 @@ impl Files for MemFiles {
     fn read(&mut self, buf: &mut [u8]) -> Result<usize, Failed>
         requires open { is_some self.old.open_place ≡ true }
         requires room { 0 < length buf.old }
-        ensures same_contents { (n : List ℕ) → contents_of self.new n ≡ contents_of self.old n }
+        ensures stays { Stays (source_of self.old) (source_of self.new) }
+        ensures stays_open { is_some self.new.open_place ≡ true }
         ensures fits { IfOk result (λ n. n ≤ length buf.new) }
         ensures took { IfOk result (λ n. Took (left_in self.old) n buf.new (left_in self.new)) }
-        ensures stays_open { is_some self.new.open_place ≡ true }
-        ensures failed { OnErr result (Rose self.old.read_faults self.new.read_faults) }
+        ensures same_faults { OnOk result (SameFaults (source_of self.old) (source_of self.new)) }
         ensures same_left { OnErr result (left_in self.new ≡ left_in self.old) }
-        ensures open_faults_stay { (n : List ℕ) →
-            open_faults_of self.old n ≤ open_faults_of self.new n }
-        ensures read_faults_stay { self.old.read_faults ≤ self.new.read_faults }
+        ensures failed { OnErr result (Rose self.old.read_faults self.new.read_faults) }
         ensures exactly { is_err result ≡ is_next_failing self.old }
         ensures most { IfOk result (λ n. IfSome (left_in self.old) (λ left. n
             ≡ min (length buf.new) (length left))) }

@@ -1,6 +1,6 @@
 //! A sink in memory.
 
-ghost use Rattle.std.specs.Prelude.{◌≡◌, ◌-◌, ◌≤◌, [], ◌++◌, length, min, take, is_err, IfOk, OnErr};
+ghost use Rattle.std.specs.Prelude.{◌≡◌, ◌-◌, ◌≤◌, [], ◌++◌, length, min, take, is_err, IfOk, OnOk, OnErr};
 ghost use Rattle.std.specs.Prelude.{◌<◌, Some};
 ghost use Rattle.ct_io.specs.Counts.{Rose, risen};
 ghost use Rattle.ct_io.specs.MemSink.{is_write_failing};
@@ -71,9 +71,7 @@ impl MemSink {
 impl Sink for MemSink {
     ghost use Rattle.std.specs.Prelude.{Some};
 
-    ghost written = { λ s. Some s.bytes };
-
-    ghost faults = { λ s. s.faults };
+    ghost tape = { λ s. record { written = Some s.bytes; faults = s.faults } };
 
     /// Takes no memory. As many bytes as fit are written.
     fn write(&mut self, piece: &[u8]) -> Result<usize, Failed>
@@ -82,9 +80,11 @@ impl Sink for MemSink {
         ensures fits { IfOk result (λ n. n ≤ length piece.now) }
         ensures appended { IfOk result (λ n. Some self.new.bytes
             ≡ Appended (Some self.old.bytes) n piece.now) }
-        ensures failed { OnErr result (Rose self.old.faults self.new.faults) }
+        ensures same_faults { OnOk result (self.new.faults ≡ self.old.faults) }
         ensures nothing { OnErr result (Some self.new.bytes ≡ Some self.old.bytes) }
+        ensures failed { OnErr result (Rose self.old.faults self.new.faults) }
         ensures faults_stay { self.old.faults ≤ self.new.faults }
+        ensures counted { OnErr result (self.new.faults ≡ risen self.old.faults) }
         ensures exactly { is_err result ≡ is_write_failing self.old }
         ensures most { IfOk result (λ n. n
             ≡ min (length piece.now) (self.old.room - length self.old.bytes)) }

@@ -1,7 +1,11 @@
 //! The files of the system.
 
-ghost use Rattle.std.specs.Prelude.{◌≡◌, ◌≤◌, false};
+ghost use Rattle.std.specs.Prelude.{◌≡◌, ◌<◌, ◌≤◌, true, None, length, is_some, IfOk, OnOk, OnErr};
+ghost use Rattle.std.specs.Io.KnownBytes.{ReadConsumes};
 ghost use Rattle.ct_io.specs.Counts.{Rose};
+ghost use Rattle.ct_io.specs.Reading.{Took};
+ghost use Rattle.ct_io.specs.Source.{SameFaults, Stays};
+ghost use Rattle.ct_io.specs.Untold.{left_under, untold_source};
 
 use crate::counts::one_more;
 use crate::{Failed, Files};
@@ -20,18 +24,17 @@ pub struct StdFiles<'r, R: rt::Files> {
 }
 
 impl<'r, R: rt::Files> Model for StdFiles<'r, R> {
-    ghost use Rattle.std.specs.Prelude.{is_some};
     ghost use Rattle.ct_io.specs.Untold.{Untold};
 
-    ghost Value = { Untold };
+    ghost Value = { Untold R.File };
 
-    ghost view = { λ s. record { is_open = is_some s.file; faults = s.faults } };
+    ghost view = { λ s. record { file = s.file; faults = s.faults } };
 }
 
 impl<'r, R: rt::Files> StdFiles<'r, R> {
     /// No file is open, and nothing has failed.
     pub fn new(rt: &'r R) -> Self
-        ensures closed { result.is_open ≡ false }
+        ensures closed { result.file ≡ None }
         ensures no_faults { result.faults ≡ 0 }
     {
         StdFiles {
@@ -42,7 +45,7 @@ impl<'r, R: rt::Files> StdFiles<'r, R> {
     }
 
     fn count_fault(&mut self) -> Failed
-        ensures same_open { self.new.is_open ≡ self.old.is_open }
+        ensures same_file { self.new.file ≡ self.old.file }
         ensures rose { Rose self.old.faults self.new.faults }
         ensures stays { self.old.faults ≤ self.new.faults }
     {
@@ -52,17 +55,7 @@ impl<'r, R: rt::Files> StdFiles<'r, R> {
 }
 
 impl<'r, R: rt::Files> Files for StdFiles<'r, R> {
-    ghost use Rattle.std.specs.Prelude.{None};
-
-    ghost contents = { λ s n. None };
-
-    ghost left = { λ s. None };
-
-    ghost is_open = { λ s. s.is_open };
-
-    ghost open_faults = { λ s n. s.faults };
-
-    ghost read_faults = { λ s. s.faults };
+    ghost source = { λ s. untold_source s };
 
     fn open(&mut self, name: &str) -> Result<(), Failed> {
         self.file = None;
@@ -75,7 +68,24 @@ impl<'r, R: rt::Files> Files for StdFiles<'r, R> {
         }
     }
 
-    fn read(&mut self, buf: &mut [u8]) -> Result<usize, Failed> {
+    fn read(&mut self, buf: &mut [u8]) -> Result<usize, Failed>
+        requires open { is_some self.old.file ≡ true }
+        requires room { 0 < length buf.old }
+        ensures stays { Stays (untold_source self.old) (untold_source self.new) }
+        ensures stays_open { is_some self.new.file ≡ true }
+        ensures fits { IfOk result (λ n. n ≤ length buf.new) }
+        ensures took { IfOk result (λ n.
+            Took (untold_source self.old).left n buf.new (untold_source self.new).left) }
+        ensures same_faults { OnOk result
+            (SameFaults (untold_source self.old) (untold_source self.new)) }
+        ensures same_left { OnErr result
+            ((untold_source self.new).left ≡ (untold_source self.old).left) }
+        ensures failed { OnErr result (Rose self.old.faults self.new.faults) }
+
+        // Where the reader under the open file tells what it has left, these are the bytes read.
+        ensures passed_on { ReadConsumes (left_under R.File.remaining self.old.file)
+            (left_under R.File.remaining self.new.file) result buf.new }
+    {
         match &mut self.file {
             Some(file) => match file.read(buf) {
                 Ok(n) => Ok(n),

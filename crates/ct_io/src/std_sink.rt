@@ -1,6 +1,6 @@
 //! The output streams of the system.
 
-ghost use Rattle.std.specs.Prelude.{◌≡◌, ◌<◌, ◌≤◌, length, IfOk, OnErr};
+ghost use Rattle.std.specs.Prelude.{◌≡◌, ◌<◌, ◌≤◌, length, IfOk, OnOk, OnErr};
 ghost use Rattle.std.specs.Io.KnownBytes.{WriteAppends};
 ghost use Rattle.ct_io.specs.Counts.{Rose};
 
@@ -40,14 +40,13 @@ impl<W: Write + Drop> StdSink<W> {
 impl<W: Write + Drop> Sink for StdSink<W> {
     ghost use Rattle.std.specs.Prelude.{None};
 
-    ghost written = { λ s. None };
-
-    ghost faults = { λ s. s.faults };
+    ghost tape = { λ s. record { written = None; faults = s.faults } };
 
     fn write(&mut self, piece: &[u8]) -> Result<usize, Failed>
         requires piece { 0 < length piece.now }
         ensures some { IfOk result (λ n. 1 ≤ n) }
         ensures fits { IfOk result (λ n. n ≤ length piece.now) }
+        ensures same_faults { OnOk result (self.new.faults ≡ self.old.faults) }
         ensures failed { OnErr result (Rose self.old.faults self.new.faults) }
         ensures faults_stay { self.old.faults ≤ self.new.faults }
 

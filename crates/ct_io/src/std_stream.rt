@@ -1,5 +1,7 @@
 //! The output streams of the system, as one type.
 
+ghost use Rattle.std.specs.Prelude.{◌≡◌};
+
 use crate::StdSink;
 use std::io::{Result, Write};
 use std::rt::{Stderr, Stdout};
@@ -28,13 +30,19 @@ impl Write for StdStream {
 }
 
 impl StdSink<StdStream> {
-    /// The standard output.
-    pub fn out(stream: Stdout) -> Self {
+    /// The standard output. Nothing is written yet, and nothing has failed.
+    pub fn out(stream: Stdout) -> Self
+        ensures writer { result.writer ≡ StdStream.Output stream }
+        ensures no_faults { result.faults ≡ 0 }
+    {
         StdSink::new(StdStream::Output(stream))
     }
 
-    /// The standard error.
-    pub fn err(stream: Stderr) -> Self {
+    /// The standard error. Nothing is written yet, and nothing has failed.
+    pub fn err(stream: Stderr) -> Self
+        ensures writer { result.writer ≡ StdStream.Error stream }
+        ensures no_faults { result.faults ≡ 0 }
+    {
         StdSink::new(StdStream::Error(stream))
     }
 }
