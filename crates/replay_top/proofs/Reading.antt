@@ -1,10 +1,8 @@
 -- Reading a file in pieces.
-use Rattle.std.proofs.Common.{◌≡◌, ℕ, ◌+◌, ◌<◌, List, [], ◌++◌, length, take, Option, None, Some, refl, sym, ◌∙◌, subst, arith, length-append}
-use Rattle.std.proofs.lemmas.List.{append-nil}
-use Rattle.std.specs.Option.{option_map}
+use Rattle.std.proofs.Common.{◌≡◌, ℕ, ◌+◌, ◌<◌, List, [], ◌++◌, length, take, drop, Option, None, Some, refl, sym, ap, ◌∙◌, subst, arith, append_assoc, length-append}
+use Rattle.std.proofs.lemmas.List.{append-nil, take-append-drop}
+use Rattle.std.specs.Option.{IfSome, option_map}
 use Rattle.ct_io.specs.Reading.{Took}
-use Rattle.ct_io.proofs.Taking.{took_more}
-use Rattle.replay_top.specs.ReadFile.{AreContents, AreLonger}
 
 -- what was read, and behind it what is left, are the contents; all or nothing of this is told
 abbrev pub AreRead : Option (List ℕ) → List ℕ → Option (List ℕ) → Type 0
@@ -18,18 +16,21 @@ nothing_read (Some contents) = refl
 -- one more piece
 pub more_read : (contents : Option (List ℕ)) (bytes : List ℕ) (n : ℕ) (buffer : List ℕ) (left after : Option (List ℕ)) →
     AreRead contents bytes left → Took left n buffer after → AreRead contents (bytes ++ take n buffer) after
-more_read contents bytes n buffer left after so_far took = took_more bytes buffer n left after took ∙ so_far
+more_read contents bytes n buffer None after so_far took = rw took so_far
+more_read contents bytes n buffer (Some left) after so_far took =
+    rw (took.0, took.1)
+    (ap Some (append_assoc bytes (take n left) (drop n left) ∙ ap (λ x. bytes ++ x) (take-append-drop n left)) ∙ so_far)
 
 -- at the end
 pub all_read : (contents : Option (List ℕ)) (bytes buffer : List ℕ) (left after : Option (List ℕ)) →
-    AreRead contents bytes left → Took left 0 buffer after → AreContents contents bytes
-all_read contents bytes buffer None after so_far took = subst (λ c. AreContents c bytes) so_far tt
+    AreRead contents bytes left → Took left 0 buffer after → IfSome contents (λ c. bytes ≡ c)
+all_read contents bytes buffer None after so_far took = subst (λ c. IfSome c (λ x. bytes ≡ x)) so_far tt
 all_read contents bytes buffer (Some left) after so_far took =
-    subst (λ c. AreContents c bytes) so_far (rw (took.3 refl) (sym (append-nil bytes)))
+    subst (λ c. IfSome c (λ x. bytes ≡ x)) so_far (rw (took.3 refl) (sym (append-nil bytes)))
 
 -- past the most
 pub too_many : (contents : Option (List ℕ)) (bytes : List ℕ) (n : ℕ) (buffer : List ℕ) (left after : Option (List ℕ)) (most : ℕ) →
-    AreRead contents bytes left → Took left n buffer after → most < length bytes + n → AreLonger contents most
-too_many contents bytes n buffer None after most so_far took past = subst (λ c. AreLonger c most) so_far tt
+    AreRead contents bytes left → Took left n buffer after → most < length bytes + n → IfSome contents (λ c. most < length c)
+too_many contents bytes n buffer None after most so_far took past = subst (λ c. IfSome c (λ x. most < length x)) so_far tt
 too_many contents bytes n buffer (Some left) after most so_far took past =
-    subst (λ c. AreLonger c most) so_far (omega (arith, length-append bytes left, took.2))
+    subst (λ c. IfSome c (λ x. most < length x)) so_far (omega (arith, length-append bytes left, took.2))

@@ -1,44 +1,65 @@
--- When each status comes, and when a run succeeds.
-use Rattle.std.specs.Prelude.{◌≡◌, ℕ, ◌<◌, ◌≤◌, ◌⊎◌, Option, List, length, IsSomeAnd}
-use Rattle.packet_headers.specs.Capture.{HasFault}
-use Rattle.packet_headers.specs.declared.capture.CaptureFault.{CaptureFault}
-use Rattle.history_book.specs.declared.packet.Arrival.{Arrival}
-use Rattle.history_book.specs.declared.report.Report.{Report}
-use Rattle.replay_top.specs.Arrivals.{IsReadCapture, IsUnreadCapture, most_bytes}
-use Rattle.replay_top.specs.Replay.{IsReplay, Names}
-use Rattle.report_text.specs.Text.{report_text}
-use Rattle.report_text.specs.Wrote.{WroteFront}
+-- Why a run is refused, and which status the inputs call for.
+use Rattle.std.specs.Prelude.{◌≡◌, ◌≢◌, ℕ, ◌<◌, ◌⊎◌, None, List, length, IfSome}
+use Rattle.ct_io.specs.Counts.{Rose}
+use Rattle.ct_io.specs.Source.{SameFaults, Source}
+use Rattle.ct_io.specs.Tape.{Tape}
+use Rattle.replay_top.specs.declared.flaw.Refusal.{Refusal}
+use Rattle.replay_top.specs.declared.flaw.Refusal.TheVariants.{Flawed, Misused, NoMemory, NotOpened, NotRead}
+use Rattle.replay_top.specs.ErrorLine.{line_of, Tells}
+use Rattle.replay_top.specs.Flaw.{flaw_status}
+use Rattle.replay_top.specs.Inputs.{clean, Finding, FirstFlaw, flawed, misused, Reaches}
+use Rattle.replay_top.specs.Words.{files_named, name_at, Named}
 
--- the statuses of the program
-abbrev pub IsStatus : ℕ → Type 0
-IsStatus status = status ≤ 6
+-- a file was reached, and its opening failed
+pub record FailsToOpen (files files' : Source) (names : List (List ℕ)) (file : ℕ) : Type 0 where
+  pub reached : Reaches IfSome files names file
+  pub rose : Rose (files.open_faults (name_at names file)) (files'.open_faults (name_at names file))
+
+-- a file was reached, and a read of it failed
+pub record FailsToRead (files files' : Source) (names : List (List ℕ)) (file : ℕ) : Type 0 where
+  pub reached : Reaches IfSome files names file
+  pub rose : Rose files.read_faults files'.read_faults
+
+-- the cause of a refusal, of a run that began with these files and left them so
+abbrev pub HasCause : List (List ℕ) → Source → Source → Refusal → Type 0
+HasCause words files files' Misused = files_named words ≡ None
+HasCause words files files' (Flawed file flaw) = Named words (λ names. FirstFlaw IfSome files names file flaw)
+HasCause words files files' (NotOpened file) = Named words (λ names. FailsToOpen files files' names file)
+HasCause words files files' (NotRead file) = Named words (λ names. FailsToRead files files' names file)
+HasCause words files files' NoMemory = Unit {0}
+
+-- the status of a refusal
+abbrev pub refusal_status : Refusal → ℕ
+refusal_status Misused = 1
+refusal_status (Flawed file flaw) = flaw_status flaw
+refusal_status (NotOpened file) = 3
+refusal_status (NotRead file) = 3
+refusal_status NoMemory = 6
+
+-- the run was refused for a reason that has its cause; this is the reason's status, and its line is on
+-- the error output
+pub record IsRefused (words : List (List ℕ)) (files files' : Source) (err err' : Tape) (status : ℕ) : Type 0 where
+  pub why : Refusal
+  pub cause : HasCause words files files' why
+  pub own : status ≡ refusal_status why
+  pub line : Tells (line_of words why) err err'
+
+-- opening a file that the words name failed, or a read did
+abbrev pub FilesFailed : List (List ℕ) → Source → Source → Type 0
+FilesFailed words files files' =
+    Named words (λ names. (file : ℕ) × (file < length names)
+        × Rose (files.open_faults (name_at names file)) (files'.open_faults (name_at names file)))
+    ⊎ Rose files.read_faults files'.read_faults
 
 -- this status, or that of want of memory
 abbrev pub IsOrMemory : ℕ → ℕ → Type 0
 IsOrMemory status expected = (status ≡ expected) ⊎ (status ≡ 6)
 
--- the words name a file whose contents are told, and of which this holds
-abbrev pub NamesTold : List (List ℕ) → (List ℕ → Option (List ℕ)) → (List ℕ → Type 0) → Type 0
-NamesTold words contents P = Names words (λ name. IsSomeAnd (contents name) P)
-
--- the bytes have a fault, or some flow of them is not tracked yet
-abbrev pub IsRefused : List ℕ → Type 0
-IsRefused bytes = ((fault : CaptureFault) × HasFault bytes fault) ⊎ IsUnreadCapture bytes
-
--- the same of bytes that are not too many
-abbrev pub IsRefusedCapture : List ℕ → Type 0
-IsRefusedCapture bytes = (length bytes ≤ most_bytes) × IsRefused bytes
-
--- there are more bytes than are read
-abbrev pub IsTooLong : List ℕ → Type 0
-IsTooLong bytes = most_bytes < length bytes
-
--- the bytes are a capture that is read
-abbrev pub IsRead : List ℕ → Type 0
-IsRead bytes = (arrivals : List Arrival) × IsReadCapture bytes arrivals
-
--- the report is well formed as with status 0, and only some first bytes of its text were written
-pub record IsCutShort (words : List (List ℕ)) (contents : List ℕ → Option (List ℕ)) (before after : Option (List ℕ))
-    (report : Report) : Type 0 where
-  pub replay : IsReplay words contents report
-  pub text : WroteFront (report_text report) before after
+-- The status of a run on inputs of which this was found: the one that they call for, or want of memory;
+-- or a file was to be read and that failed; or the report was to be written and that failed.
+abbrev pub Answers : List (List ℕ) → Source → Source → Tape → Tape → ℕ → Finding → Type 0
+Answers words files files' out out' status misused = IsOrMemory status 1
+Answers words files files' out out' status (flawed file flaw) =
+    IsOrMemory status (flaw_status flaw) ⊎ (status ≡ 3) × FilesFailed words files files'
+Answers words files files' out out' status clean =
+    IsOrMemory status 0 ⊎ (status ≡ 3) × FilesFailed words files files' ⊎ (status ≡ 4) × Rose out.faults out'.faults

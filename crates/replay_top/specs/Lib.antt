@@ -1,11 +1,12 @@
 pub mod Arrivals
 pub mod Book
 pub mod Causes
-pub mod Ending
 pub mod ErrorLine
+pub mod Flaw
 pub mod Flow
 pub mod History
-pub mod ReadFile
+pub mod Inputs
+pub mod Internal
 pub mod Replay
 pub mod Report
 pub mod Track

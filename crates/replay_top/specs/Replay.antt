@@ -1,46 +1,62 @@
--- What a run of the program reports, and why one reports nothing.
-use Rattle.std.specs.Prelude.{◌≡◌, ℕ, ◌⊎◌, Option, Some, None, List, [], ◌∷◌}
+-- What a run of the program reports and prints.
+use Rattle.std.specs.Prelude.{◌≡◌, ℕ, ◌<◌, List, [], ◌∷◌, length, take, IfSome, Result, Ok, Err}
 use Rattle.ct_io.specs.Counts.{Rose}
+use Rattle.ct_io.specs.Source.{Source}
+use Rattle.ct_io.specs.Tape.{Tape}
 use Rattle.history_book.specs.declared.packet.Arrival.{Arrival}
 use Rattle.history_book.specs.declared.report.Report.{Report}
+use Rattle.replay_top.specs.declared.flaw.ReplayError.{ReplayError}
+use Rattle.replay_top.specs.declared.flaw.ReplayError.TheVariants.{Flawed, NoMemory}
 use Rattle.replay_top.specs.Arrivals.{IsReadCapture}
-use Rattle.replay_top.specs.ReadFile.{AreContents}
+use Rattle.replay_top.specs.Flaw.{HasFlaw}
 use Rattle.replay_top.specs.Report.{IsWellFormed}
 use Rattle.report_text.specs.Text.{report_text}
-use Rattle.replay_top.specs.Words.{capture_named}
-use Rattle.report_text.specs.Wrote.{followed_by}
+use Rattle.replay_top.specs.Words.{Named}
+use Rattle.report_text.specs.Wrote.{followed_by, WroteFront}
 
--- the words name a file of which this holds
-pub record Names (words : List (List ℕ)) (P : List ℕ → Type 0) : Type 0 where
-  pub name : List ℕ
-  pub named : capture_named words ≡ Some name
-  pub holds : P name
-
--- The report is well formed for the packets of the capture of this name. Where the contents of that
--- file are told, the capture's bytes are these; else they are the bytes that were handed over.
-pub record IsReportOf (name : List ℕ) (contents : List ℕ → Option (List ℕ)) (report : Report) : Type 0 where
-  pub bytes : List ℕ
-  pub handed_over : AreContents (contents name) bytes
+-- the report is well formed for the packets of the capture that the bytes are
+pub record IsReportOf (bytes : List ℕ) (report : Report) : Type 0 where
   pub arrivals : List Arrival
   pub capture : IsReadCapture bytes arrivals
   pub well_formed : IsWellFormed (arrivals ∷ []) report
 
--- the report is that of the capture that the words name
-abbrev pub IsReplay : List (List ℕ) → (List ℕ → Option (List ℕ)) → Report → Type 0
-IsReplay words contents report = Names words (λ name. IsReportOf name contents report)
+-- what replaying these bytes gives: their report, or the flaw that they have; memory may be wanting
+abbrev pub ReplaysAs : List ℕ → Result Report ReplayError → Type 0
+ReplaysAs bytes (Ok report) = IsReportOf bytes report
+ReplaysAs bytes (Err (Flawed flaw)) = HasFlaw bytes flaw
+ReplaysAs bytes (Err NoMemory) = Unit {0}
+
+-- A file of this name gave the packets of a capture. Where its contents are told, the capture's bytes
+-- are these; else they are the bytes that were handed over.
+pub record Gave (files : Source) (name : List ℕ) (arrivals : List Arrival) : Type 0 where
+  pub bytes : List ℕ
+  pub handed_over : IfSome (files.contents name) (λ contents. bytes ≡ contents)
+  pub capture : IsReadCapture bytes arrivals
+
+-- each file gave the packets of one capture
+abbrev pub GaveEach : Source → List (List ℕ) → List (List Arrival) → Type 0
+GaveEach files [] [] = Unit {0}
+GaveEach files [] (arrivals ∷ more) = ⊥
+GaveEach files (name ∷ names) [] = ⊥
+GaveEach files (name ∷ names) (arrivals ∷ more) = Gave files name arrivals × GaveEach files names more
+
+-- the report is that of the captures of these names
+pub record IsReplayOf (files : Source) (names : List (List ℕ)) (report : Report) : Type 0 where
+  pub captures : List (List Arrival)
+  pub gave : GaveEach files names captures
+  pub well_formed : IsWellFormed captures report
+
+-- the report is that of the captures that the words name
+abbrev pub IsReplay : List (List ℕ) → Source → Report → Type 0
+IsReplay words files report = Named words (λ names. IsReplayOf files names report)
 
 -- the same, and what was written is followed by exactly the report's text
-pub record IsPrinted (words : List (List ℕ)) (contents : List ℕ → Option (List ℕ)) (before after : Option (List ℕ))
-    (report : Report) : Type 0 where
-  pub replay : IsReplay words contents report
-  pub text : after ≡ followed_by before (report_text report)
+pub record IsPrinted (words : List (List ℕ)) (files : Source) (before after : Tape) (report : Report) : Type 0 where
+  pub replay : IsReplay words files report
+  pub text : after.written ≡ followed_by before.written (report_text report)
 
--- where the contents are told, this holds of them
-abbrev pub AreTold : Option (List ℕ) → (List ℕ → Type 0) → Type 0
-AreTold None P = Unit {0}
-AreTold (Some contents) P = P contents
-
--- the file that the words name could not be opened, or a read failed
-abbrev pub FilesFailed : List (List ℕ) → (List ℕ → ℕ) → (List ℕ → ℕ) → ℕ → ℕ → Type 0
-FilesFailed words opens opens' reads reads' =
-    Names words (λ name. Rose (opens name) (opens' name)) ⊎ (Rose reads reads')
+-- the same report, but the count of faults rose, and only some first bytes of its text were written
+pub record IsCutShort (words : List (List ℕ)) (files : Source) (before after : Tape) (report : Report) : Type 0 where
+  pub replay : IsReplay words files report
+  pub failed : Rose before.faults after.faults
+  pub text : WroteFront (report_text report) before.written after.written

@@ -3,12 +3,17 @@
 
 mod arrivals;
 mod book;
+mod command_line;
 mod ending;
+mod error_line;
+mod flaw;
+mod input;
 mod program;
 mod read;
 mod replay;
 mod track;
-mod words;
 
 pub use ending::Run;
+pub use flaw::{Flaw, Refusal, ReplayError};
+pub use input::replay_bytes;
 pub use program::top;

@@ -1,81 +1,44 @@
 //! The whole program as one call.
 
-ghost use Rattle.std.specs.Prelude.{◌≡◌, ◌≢◌, ◌⊎◌, ℕ, List, None, IsSomeAnd, map};
+ghost use Rattle.std.specs.Prelude.{◌≡◌, ◌≢◌, ◌≤◌, None, IsSomeAnd, map};
 ghost use Rattle.std.specs.String.{string_bytes};
-ghost use Rattle.ct_io.specs.Counts.{Rose};
-ghost use Rattle.replay_top.specs.Causes.{IsCutShort, IsOrMemory, IsRead, IsRefusedCapture, IsStatus, IsTooLong, NamesTold};
-ghost use Rattle.replay_top.specs.Ending.{Ends, Replayed};
-ghost use Rattle.replay_top.specs.ErrorLine.{IsErrorLine, Tells};
-ghost use Rattle.replay_top.specs.Replay.{AreTold, FilesFailed, IsPrinted, Names};
-ghost use Rattle.replay_top.specs.Words.{capture_named};
+ghost use Rattle.ct_io.specs.Source.{SameFaults, Stays};
+ghost use Rattle.replay_top.specs.Causes.{Answers, FilesFailed, IsRefused};
+ghost use Rattle.replay_top.specs.ErrorLine.{Tells, write_failed};
+ghost use Rattle.replay_top.specs.Inputs.{Finding, Finds};
+ghost use Rattle.replay_top.specs.Internal.Ending.{Ends};
+ghost use Rattle.replay_top.specs.Replay.{IsCutShort, IsPrinted};
 
-use crate::arrivals::read_arrivals;
-use crate::ending::{Ending, Run, finish, tell};
-use crate::read::{ReadError, read_file};
-use crate::replay::replay;
-use crate::words::capture_name;
+use crate::command_line::capture_name;
+use crate::ending::{Ending, Run};
+use crate::error_line::{tell_not_written, tell_refusal};
+use crate::flaw::{Refusal, refusal_status};
+use crate::input::replay_file;
 use ct_io::{Files, Gate, Sink};
-use history_book::report::Report;
-use packet_headers::capture::{CaptureError, read_capture};
 use report_text::write::write_report;
 use std::alloc::Global;
 use std::sync::Wait;
 use std::thread::Threads;
 
-/// The most bytes of a capture that is read.
-const MOST_BYTES: usize = 268_435_456;
-
 /// Bytes of the buffer in which the report's text is gathered.
 const BUFFER: usize = 65_536;
 
-/// Reads the capture of this name and replays it. An `Err` is the ending that comes of it.
-fn replay_file<F: Files>(alloc: Global, files: &mut F, name: &str) -> Result<Report, Ending>
-    ensures replayed { Replayed name.now (F.contents files.old)
-        (F.open_faults files.old) (F.open_faults files.new)
-        (F.read_faults files.old) (F.read_faults files.new) result }
-    ensures same_contents { (n : List ℕ) → F.contents files.new n ≡ F.contents files.old n }
-{
-    let bytes = match read_file(alloc, files, name, MOST_BYTES) {
-        Ok(Some(bytes)) => bytes,
-        Ok(None) => return Err(Ending::TooLong),
-        Err(ReadError::Open) => return Err(Ending::NotOpened),
-        Err(ReadError::Read) => return Err(Ending::NotRead),
-        Err(ReadError::NoMemory) => return Err(Ending::NoMemory),
-    };
-    let frames = match read_capture(alloc, bytes.as_slice()) {
-        Ok(frames) => frames,
-        Err(CaptureError::Fault(fault)) => return Err(Ending::Input(fault)),
-        Err(CaptureError::NoMemory) => return Err(Ending::NoMemory),
-    };
-    let arrivals = match read_arrivals(alloc, bytes.as_slice(), frames.as_slice()) {
-        Ok(Some(arrivals)) => arrivals,
-        Ok(None) => return Err(Ending::NotYet),
-        Err(_) => return Err(Ending::NoMemory),
-    };
-    match replay(alloc, arrivals.as_slice()) {
-        Ok(report) => Ok(report),
-        Err(_) => Err(Ending::NoMemory),
-    }
-}
-
 /// Replays the capture that the words name, and writes the report's text to `out`.
 fn run<F: Files, K: Sink>(alloc: Global, words: &[String], files: &mut F, out: &mut K) -> Ending
-    ensures ends { Ends (map string_bytes words.now) (F.contents files.old)
-        (F.open_faults files.old) (F.open_faults files.new)
-        (F.read_faults files.old) (F.read_faults files.new)
-        (K.written out.old) (K.written out.new) (K.faults out.old) (K.faults out.new) result }
-    ensures same_contents { (n : List ℕ) → F.contents files.new n ≡ F.contents files.old n }
+    ensures ends { Ends (map string_bytes words.now) (F.source files.old) (F.source files.new)
+        (K.tape out.old) (K.tape out.new) result }
+    ensures stays { Stays (F.source files.old) (F.source files.new) }
 {
     let Some(name) = capture_name(words) else {
-        return Ending::Usage;
+        return Ending::Refused(Refusal::Misused);
     };
     let report = match replay_file(alloc, files, name) {
         Ok(report) => report,
-        Err(ending) => return ending,
+        Err(why) => return Ending::Refused(why),
     };
     let mut buffer = match vec![in alloc; 0; BUFFER] {
         Ok(buffer) => buffer,
-        Err(_) => return Ending::NoMemory,
+        Err(_) => return Ending::Refused(Refusal::NoMemory),
     };
     match write_report(&report, buffer.as_mut_slice(), out) {
         Ok(()) => Ending::Done(report),
@@ -102,47 +65,52 @@ pub fn top<R: Threads + Wait + Sync, F: Files, K: Sink, G: Gate + Sync>(
 ) -> Run
     // What is printed is the text of one legal history with its verdicts.
     ensures headline { result.status ≡ 0 → IsSomeAnd result.report
-        (IsPrinted (map string_bytes words.now) (F.contents files.old) (K.written out.old) (K.written out.new)) }
-
-    // When each status comes.
-    ensures statuses { IsStatus result.status }
-    ensures usage_only { result.status ≡ 1 → capture_named (map string_bytes words.now) ≡ None }
-    ensures usage { capture_named (map string_bytes words.now) ≡ None → IsOrMemory result.status 1 }
-    ensures input_only { result.status ≡ 2 →
-        Names (map string_bytes words.now) (λ name. AreTold (F.contents files.old name) IsRefusedCapture) }
-    ensures input { NamesTold (map string_bytes words.now) (F.contents files.old) IsRefusedCapture →
-        FilesFailed (map string_bytes words.now) (F.open_faults files.old) (F.open_faults files.new)
-        (F.read_faults files.old) (F.read_faults files.new)
-        ⊎ IsOrMemory result.status 2 }
-    ensures limit_only { result.status ≡ 5 →
-        Names (map string_bytes words.now) (λ name. AreTold (F.contents files.old name) IsTooLong) }
-    ensures limit { NamesTold (map string_bytes words.now) (F.contents files.old) IsTooLong →
-        FilesFailed (map string_bytes words.now) (F.open_faults files.old) (F.open_faults files.new)
-        (F.read_faults files.old) (F.read_faults files.new)
-        ⊎ IsOrMemory result.status 5 }
-    ensures files_failed { result.status ≡ 3 →
-        FilesFailed (map string_bytes words.now) (F.open_faults files.old) (F.open_faults files.new)
-        (F.read_faults files.old) (F.read_faults files.new) }
-    ensures output_failed { result.status ≡ 4 → Rose (K.faults out.old) (K.faults out.new) }
+        (IsPrinted (map string_bytes words.now) (F.source files.old) (K.tape out.old) (K.tape out.new)) }
     ensures cut_short { result.status ≡ 4 → IsSomeAnd result.report
-        (IsCutShort (map string_bytes words.now) (F.contents files.old) (K.written out.old) (K.written out.new)) }
-    ensures complete { NamesTold (map string_bytes words.now) (F.contents files.old) IsRead →
-        FilesFailed (map string_bytes words.now) (F.open_faults files.old) (F.open_faults files.new)
-        (F.read_faults files.old) (F.read_faults files.new)
-        ⊎ Rose (K.faults out.old) (K.faults out.new) ⊎ IsOrMemory result.status 0 }
+        (IsCutShort (map string_bytes words.now) (F.source files.old) (K.tape out.old) (K.tape out.new)) }
 
-    // What every other status leaves.
-    ensures nothing_written { result.status ≢ 0 → result.status ≢ 4 → K.written out.new ≡ K.written out.old }
+    // Every other status has its cause, the first in the order of the words and the files.
+    ensures refused { result.status ≢ 0 → result.status ≢ 4 →
+        IsRefused (map string_bytes words.now) (F.source files.old) (F.source files.new)
+        (K.tape err.old) (K.tape err.new) result.status }
+    ensures files_failed { result.status ≡ 3 →
+        FilesFailed (map string_bytes words.now) (F.source files.old) (F.source files.new) }
+
+    // What the inputs are decides the status, unless a call to the outside fails or memory is wanting.
+    ensures exact { (found : Finding) → Finds IsSomeAnd (map string_bytes words.now) (F.source files.old) found →
+        Answers (map string_bytes words.now) (F.source files.old) (F.source files.new)
+        (K.tape out.old) (K.tape out.new) result.status found }
+    ensures statuses { result.status ≤ 6 }
+
+    // What a run leaves. A failure is never hidden.
+    ensures nothing_written { result.status ≢ 0 → result.status ≢ 4 → K.tape out.new ≡ K.tape out.old }
     ensures no_report { result.status ≢ 0 → result.status ≢ 4 → result.report ≡ None }
-    ensures error_line { (line : List ℕ)
-        × IsErrorLine (map string_bytes words.now) (F.contents files.old) (F.open_faults files.old) (F.open_faults files.new)
-        (F.read_faults files.old) (F.read_faults files.new) result.status line
-        × Tells line (K.written err.old) (K.written err.new) (K.faults err.old) (K.faults err.new) }
-    ensures same_contents { (n : List ℕ) → F.contents files.new n ≡ F.contents files.old n }
+    ensures silent { result.status ≡ 0 → K.tape err.new ≡ K.tape err.old }
+    ensures not_written_line { result.status ≡ 4 → Tells write_failed (K.tape err.old) (K.tape err.new) }
+    ensures same_faults { result.status ≢ 3 → SameFaults (F.source files.old) (F.source files.new) }
+    ensures same_output_faults { result.status ≢ 4 → (K.tape out.new).faults ≡ (K.tape out.old).faults }
+    ensures stays { Stays (F.source files.old) (F.source files.new) }
 {
-    let ending = run(alloc, words, files, out);
-    tell(&ending, capture_name(words).unwrap_or(""), err);
-    finish(ending)
+    match run(alloc, words, files, out) {
+        Ending::Done(report) => Run {
+            status: 0,
+            report: Some(report),
+        },
+        Ending::NotWritten(report) => {
+            tell_not_written(err);
+            Run {
+                status: 4,
+                report: Some(report),
+            }
+        }
+        Ending::Refused(why) => {
+            tell_refusal(why, words, err);
+            Run {
+                status: refusal_status(why),
+                report: None,
+            }
+        }
+    }
 }
 
 #[cfg(test)]

@@ -1,8 +1,8 @@
 //! A whole file, read in pieces.
 
-ghost use Rattle.std.specs.Prelude.{◌≡◌, ℕ, ◌≤◌, List, length, vec_len, IfOk};
+ghost use Rattle.std.specs.Prelude.{◌≡◌, ◌≢◌, ◌<◌, ◌≤◌, Err, length, vec_len, IfOk, IfSome};
 ghost use Rattle.ct_io.specs.Counts.{Rose};
-ghost use Rattle.replay_top.specs.ReadFile.{AreContents, AreLonger, IfRead, OnOpenFault, OnReadFault, OnTooLong};
+ghost use Rattle.ct_io.specs.Source.{SameFaults, Stays};
 
 use ct_io::Files;
 use room_list::Bytes;
@@ -19,6 +19,8 @@ pub enum ReadError {
     Open,
     /// It was open, and a read failed.
     Read,
+    /// It has more bytes than were asked for, and was read no further than shows this.
+    TooLong,
     NoMemory,
 }
 
@@ -40,23 +42,26 @@ fn new_piece(alloc: Global) -> Result<Vec<u8>, NoMemory>
     Ok(piece)
 }
 
-/// Reads the file of this name to its end. `None`: it has more than `most` bytes, and was read no
-/// further than shows this. The file stays open.
+/// Reads the file of this name, of at most so many bytes, to its end. The file stays open.
 #[tactic(auto, using(crate::proofs::Reading::nothing_read, crate::proofs::Reading::more_read, crate::proofs::Reading::all_read, crate::proofs::Reading::too_many))]
 pub fn read_file<F: Files>(
     alloc: Global,
     files: &mut F,
     name: &str,
     most: usize,
-) -> Result<Option<Bytes>, ReadError>
-    ensures within { IfRead result (λ bytes. length bytes ≤ most) }
-    ensures whole { IfRead result (AreContents (F.contents files.old name.now)) }
-    ensures too_long { OnTooLong result (AreLonger (F.contents files.old name.now) most) }
-    ensures open { OnOpenFault result (Rose (F.open_faults files.old name.now) (F.open_faults files.new name.now)) }
-    ensures read { OnReadFault result (Rose (F.read_faults files.old) (F.read_faults files.new)) }
-    ensures same_contents { (n : List ℕ) → F.contents files.new n ≡ F.contents files.old n }
-    ensures open_faults_stay { (n : List ℕ) → F.open_faults files.old n ≤ F.open_faults files.new n }
-    ensures read_faults_stay { F.read_faults files.old ≤ F.read_faults files.new }
+) -> Result<Bytes, ReadError>
+    ensures within { IfOk result (λ bytes. length bytes.items ≤ most) }
+    ensures whole { IfOk result (λ bytes.
+        IfSome ((F.source files.old).contents name.now) (λ contents. bytes.items ≡ contents)) }
+    ensures too_long { result ≡ Err ReadError.TooLong →
+        IfSome ((F.source files.old).contents name.now) (λ contents. most < length contents) }
+    ensures open { result ≡ Err ReadError.Open →
+        Rose ((F.source files.old).open_faults name.now) ((F.source files.new).open_faults name.now) }
+    ensures read { result ≡ Err ReadError.Read →
+        Rose (F.source files.old).read_faults (F.source files.new).read_faults }
+    ensures same_faults { result ≢ Err ReadError.Open → result ≢ Err ReadError.Read →
+        SameFaults (F.source files.old) (F.source files.new) }
+    ensures stays { Stays (F.source files.old) (F.source files.new) }
 {
     let mut piece = new_piece(alloc)?;
     let mut bytes = Bytes::new(alloc, 0)?;
@@ -68,10 +73,10 @@ pub fn read_file<F: Files>(
             return Err(ReadError::Read);
         };
         if count == 0 {
-            return Ok(Some(bytes));
+            return Ok(bytes);
         }
         if count > most - bytes.len() {
-            return Ok(None);
+            return Err(ReadError::TooLong);
         }
         bytes.append(piece.as_slice().split_at(count).0)?;
     }
@@ -102,16 +107,16 @@ mod tests {
         bytes: &[u8],
     ) -> &'static str {
         match read_file(alloc, files, name, most) {
-            Ok(Some(whole)) => {
+            Ok(whole) => {
                 if whole.as_slice() == bytes {
                     "whole"
                 } else {
                     "other bytes"
                 }
             }
-            Ok(None) => "too long",
             Err(ReadError::Open) => "not opened",
             Err(ReadError::Read) => "not read",
+            Err(ReadError::TooLong) => "too long",
             Err(ReadError::NoMemory) => "no memory",
         }
     }

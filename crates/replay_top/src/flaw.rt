@@ -1,0 +1,61 @@
+//! What is wrong with the inputs of a run, and why one is refused.
+
+ghost use Rattle.std.specs.Prelude.{◌≡◌};
+ghost use Rattle.replay_top.specs.Causes;
+ghost use Rattle.replay_top.specs.Flaw;
+
+use packet_headers::capture::CaptureFault;
+
+/// What is wrong with a file.
+#[derive(Clone, Copy)]
+pub enum Flaw {
+    /// It has more bytes than are read.
+    TooLong,
+    /// It is no capture: its first fault.
+    Fault(CaptureFault),
+    /// It is a capture in which a frame is of a flow that is not tracked yet.
+    NotTracked,
+}
+
+/// Why bytes were not replayed.
+#[derive(Clone, Copy)]
+pub enum ReplayError {
+    Flawed(Flaw),
+    NoMemory,
+}
+
+/// Why a run is refused. Files are counted from 0, in the order in which they are read.
+#[derive(Clone, Copy)]
+pub enum Refusal {
+    /// The words are not of the form.
+    Misused,
+    /// This file is the first with a flaw.
+    Flawed { file: usize, flaw: Flaw },
+    /// This file could not be opened.
+    NotOpened { file: usize },
+    /// A read of this file failed.
+    NotRead { file: usize },
+    NoMemory,
+}
+
+/// The status of a run that ends with the flaw.
+fn flaw_status(flaw: Flaw) -> u8
+    ensures { result ≡ Flaw.flaw_status flaw }
+{
+    match flaw {
+        Flaw::TooLong => 5,
+        Flaw::Fault(_) | Flaw::NotTracked => 2,
+    }
+}
+
+/// The status of a refused run.
+pub fn refusal_status(why: Refusal) -> u8
+    ensures { result ≡ Causes.refusal_status why }
+{
+    match why {
+        Refusal::Misused => 1,
+        Refusal::Flawed { flaw, .. } => flaw_status(flaw),
+        Refusal::NotOpened { .. } | Refusal::NotRead { .. } => 3,
+        Refusal::NoMemory => 6,
+    }
+}
