@@ -1,3 +1,4 @@
+pub mod CaptureEnding
 pub mod CaptureEnds
 pub mod CaptureFrames
 pub mod Ports
