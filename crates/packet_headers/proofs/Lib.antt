@@ -2,3 +2,6 @@ pub mod CaptureEnding
 pub mod CaptureEnds
 pub mod CaptureFrames
 pub mod Ports
+pub mod SameBytes
+pub mod SamePackets
+pub mod SamePayload

@@ -14,3 +14,4 @@ pub mod IcmpError
 pub mod IcmpPacket
 pub mod Classify
 pub mod ClassifySound
+pub mod ClassifyLaws

@@ -5,6 +5,7 @@ mod byte_order;
 pub mod capture;
 pub mod capture_laws;
 pub mod classify;
+pub mod classify_laws;
 pub mod frame;
 pub mod packet;
 
