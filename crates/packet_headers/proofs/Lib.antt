@@ -1,3 +1,7 @@
+pub mod CaptureEnding
 pub mod CaptureEnds
 pub mod CaptureFrames
 pub mod Ports
+pub mod SameBytes
+pub mod SamePackets
+pub mod SamePayload

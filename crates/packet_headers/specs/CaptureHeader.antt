@@ -6,23 +6,13 @@ use Rattle.packet_headers.specs.declared.frame.Link.{Link}
 use Rattle.packet_headers.specs.declared.frame.Link.TheVariants.{Ethernet, Raw}
 use Rattle.packet_headers.specs.declared.capture.CaptureFault.{CaptureFault}
 use Rattle.packet_headers.specs.declared.capture.CaptureFault.TheVariants.{ShortHeader, BadMagic, BadVersion, LinkType}
-use Rattle.packet_headers.specs.declared.capture.Order.{Order}
-use Rattle.packet_headers.specs.declared.capture.Order.TheVariants.{Little, Big}
+use Rattle.packet_headers.specs.declared.byte_order.Endian.{Endian}
+use Rattle.packet_headers.specs.declared.byte_order.Endian.TheVariants.{Little, Big}
 use Rattle.packet_headers.specs.declared.capture.Resolution.{Resolution}
 use Rattle.packet_headers.specs.declared.capture.Resolution.TheVariants.{Microseconds, Nanoseconds}
 use Rattle.packet_headers.specs.declared.capture.Layout.{Layout}
 use Rattle.packet_headers.specs.declared.capture.Form.{Form}
-use Rattle.packet_headers.specs.Bytes.{little_16, little_32, big_16, big_32}
-
--- two bytes in an order
-abbrev pub number_16 : Order → List ℕ → ℕ → ℕ
-number_16 Little bytes at = little_16 bytes at
-number_16 Big bytes at = big_16 bytes at
-
--- four bytes in an order
-abbrev pub number_32 : Order → List ℕ → ℕ → ℕ
-number_32 Little bytes at = little_32 bytes at
-number_32 Big bytes at = big_32 bytes at
+use Rattle.packet_headers.specs.ByteOrder.{little_u32_at, big_u32_at, u16_at, u32_at}
 
 -- what a magic number says of the times
 abbrev pub resolution_of : ℕ → Option Resolution
@@ -36,14 +26,14 @@ layout_of None (Some resolution) = Some (record { order = Big; resolution = reso
 layout_of None None = None
 
 abbrev pub layout_at : List ℕ → Option Layout
-layout_at bytes = layout_of (resolution_of (little_32 bytes 0)) (resolution_of (big_32 bytes 0))
+layout_at bytes = layout_of (resolution_of (little_u32_at bytes 0)) (resolution_of (big_u32_at bytes 0))
 
-abbrev pub has_version : Order → List ℕ → Bool
-has_version order bytes = number_16 order bytes 4 == 2 && number_16 order bytes 6 == 4
+abbrev pub has_version : Endian → List ℕ → Bool
+has_version order bytes = u16_at order bytes 4 == 2 && u16_at order bytes 6 == 4
 
 -- the link type is the lower half of its word
-abbrev pub link_number : Order → List ℕ → ℕ
-link_number order bytes = number_32 order bytes 20 % 65536
+abbrev pub link_number : Endian → List ℕ → ℕ
+link_number order bytes = u32_at order bytes 20 % 65536
 
 abbrev pub link_of : ℕ → Option Link
 link_of number = (if number == 1 then Some Ethernet else (if number == 101 then Some Raw else None))

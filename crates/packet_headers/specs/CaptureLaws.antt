@@ -1,5 +1,5 @@
--- What a capture file is made of is determined by its bytes.
-use Rattle.std.specs.Prelude.{◌≡◌, ℕ, List}
+-- What bytes are: a capture file of some frames, or none for a reason; and they determine which.
+use Rattle.std.specs.Prelude.{◌≡◌, ◌⊎◌, ℕ, List}
 use Rattle.packet_headers.specs.declared.frame.Frame.{Frame}
 use Rattle.packet_headers.specs.declared.capture.CaptureFault.{CaptureFault}
 use Rattle.packet_headers.specs.Capture.{IsCapture, HasFault}
@@ -15,3 +15,7 @@ FaultsAreUnique = (bytes : List ℕ) (fault other : CaptureFault) → HasFault b
 -- a capture file has no fault
 abbrev pub CapturesHaveNoFault : Type 0
 CapturesHaveNoFault = (bytes : List ℕ) (frames : List Frame) (fault : CaptureFault) → IsCapture bytes frames → HasFault bytes fault → ⊥
+
+-- each list of bytes is a capture file of some frames, or has a fault
+abbrev pub BytesHaveFramesOrFault : Type 0
+BytesHaveFramesOrFault = (bytes : List ℕ) → ((frames : List Frame) × IsCapture bytes frames) ⊎ ((fault : CaptureFault) × HasFault bytes fault)

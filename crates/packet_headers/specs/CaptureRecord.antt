@@ -8,7 +8,7 @@ use Rattle.packet_headers.specs.declared.capture.Resolution.TheVariants.{Microse
 use Rattle.packet_headers.specs.declared.capture.Form.{Form}
 use Rattle.packet_headers.specs.declared.capture.RecordFault.{RecordFault}
 use Rattle.packet_headers.specs.declared.capture.RecordFault.TheVariants.{Cut, Oversized, BadFraction}
-use Rattle.packet_headers.specs.CaptureHeader.{number_32}
+use Rattle.packet_headers.specs.ByteOrder.{u32_at}
 
 -- the parts of a second in which the fraction counts
 abbrev pub parts_of_second : Resolution → ℕ
@@ -24,16 +24,16 @@ abbrev pub most_captured : ℕ
 most_captured = 262144
 
 abbrev pub seconds_at : List ℕ → Form → ℕ → ℕ
-seconds_at bytes form at = number_32 form.layout.order bytes at
+seconds_at bytes form at = u32_at form.layout.order bytes at
 
 abbrev pub fraction_at : List ℕ → Form → ℕ → ℕ
-fraction_at bytes form at = number_32 form.layout.order bytes (at + 4)
+fraction_at bytes form at = u32_at form.layout.order bytes (at + 4)
 
 abbrev pub captured_at : List ℕ → Form → ℕ → ℕ
-captured_at bytes form at = number_32 form.layout.order bytes (at + 8)
+captured_at bytes form at = u32_at form.layout.order bytes (at + 8)
 
 abbrev pub original_at : List ℕ → Form → ℕ → ℕ
-original_at bytes form at = number_32 form.layout.order bytes (at + 12)
+original_at bytes form at = u32_at form.layout.order bytes (at + 12)
 
 abbrev pub frame_of : List ℕ → Form → ℕ → Frame
 frame_of bytes form at = record {

@@ -3,25 +3,25 @@
 use Rattle.std.specs.Prelude.{ℕ, ◌+◌, ◌-◌, ◌==◌, nat_lt, not, if◌then◌else◌, List, Option, Some, None}
 use Rattle.tuple_core.specs.declared.Proto.{Proto}
 use Rattle.tuple_core.specs.declared.Proto.TheVariants.{Icmp, Tcp, Udp}
-use Rattle.packet_headers.specs.declared.classify.internet.Body.{Body}
+use Rattle.packet_headers.specs.declared.classify.ipv4.Ipv4Payload.{Ipv4Payload}
 use Rattle.packet_headers.specs.declared.frame.Frame.{Frame}
 use Rattle.packet_headers.specs.declared.frame.Link.{Link}
 use Rattle.packet_headers.specs.declared.frame.Link.TheVariants.{Ethernet, Raw}
 use Rattle.packet_headers.specs.declared.packet.Packet.{Packet}
 use Rattle.packet_headers.specs.declared.packet.Packet.TheVariants.{Untracked, Invalid}
 use Rattle.packet_headers.specs.declared.packet.Untracked.TheVariants as untracked
-use Rattle.packet_headers.specs.NetworkBytes.{short_at}
-use Rattle.packet_headers.specs.Headers.{version, has_internet_header, is_fragment, protocol, tracked_protocol, body_of}
+use Rattle.packet_headers.specs.ByteOrder.{big_u16_at}
+use Rattle.packet_headers.specs.Ipv4Header.{version, has_ipv4_header, is_fragment, protocol, tracked_protocol, ipv4_payload}
 use Rattle.packet_headers.specs.TcpHeader.{tcp_packet}
 use Rattle.packet_headers.specs.UdpHeader.{udp_packet}
 use Rattle.packet_headers.specs.IcmpPacket.{icmp_packet}
 
--- the packet, by the protocol that its body is of
-abbrev pub packet_of_protocol : Option Proto → List ℕ → Body → Packet
-packet_of_protocol None bytes body = Untracked untracked.Protocol
-packet_of_protocol (Some Icmp) bytes body = icmp_packet bytes body
-packet_of_protocol (Some Tcp) bytes body = tcp_packet bytes body
-packet_of_protocol (Some Udp) bytes body = udp_packet bytes body
+-- the packet, by the protocol that its payload is of
+abbrev pub packet_of_protocol : Option Proto → List ℕ → Ipv4Payload → Packet
+packet_of_protocol None bytes payload = Untracked untracked.Protocol
+packet_of_protocol (Some Icmp) bytes payload = icmp_packet bytes payload
+packet_of_protocol (Some Tcp) bytes payload = tcp_packet bytes payload
+packet_of_protocol (Some Udp) bytes payload = udp_packet bytes payload
 
 -- a packet of another version than 4: with no link header it may be IPv6, which is not tracked
 abbrev pub packet_of_version : Link → ℕ → Packet
@@ -29,25 +29,25 @@ packet_of_version Raw number = (if number == 6 then Untracked untracked.Link els
 packet_of_version Ethernet number = Invalid
 
 -- an IP packet (RFC 791)
-unfoldable pub internet_packet : Link → List ℕ → ℕ → ℕ → Packet
-internet_packet link bytes at captured =
+unfoldable pub ip_packet : Link → List ℕ → ℕ → ℕ → Packet
+ip_packet link bytes at captured =
     (if captured == 0 then Invalid else
     (if not (version bytes at == 4) then packet_of_version link (version bytes at) else
-    (if not (has_internet_header bytes at captured) then Invalid else
+    (if not (has_ipv4_header bytes at captured) then Invalid else
     (if is_fragment bytes at then Untracked untracked.Fragment else
-    packet_of_protocol (tracked_protocol (protocol bytes at)) bytes (body_of bytes at captured)))))
+    packet_of_protocol (tracked_protocol (protocol bytes at)) bytes (ipv4_payload bytes at captured)))))
 
 -- an Ethernet frame: two addresses of six bytes each, and a type, which is 0x0800 before an IPv4 packet
 -- (RFC 894)
 unfoldable pub ethernet_frame : List ℕ → ℕ → ℕ → Packet
 ethernet_frame bytes at captured =
     (if nat_lt captured 14 then Invalid else
-    (if not (short_at bytes (at + 12) == 0x0800) then Untracked untracked.Link else
-    internet_packet Ethernet bytes (at + 14) (captured - 14)))
+    (if not (big_u16_at bytes (at + 12) == 0x0800) then Untracked untracked.Link else
+    ip_packet Ethernet bytes (at + 14) (captured - 14)))
 
 abbrev pub packet_behind : Link → List ℕ → ℕ → ℕ → Packet
 packet_behind Ethernet bytes at captured = ethernet_frame bytes at captured
-packet_behind Raw bytes at captured = internet_packet Raw bytes at captured
+packet_behind Raw bytes at captured = ip_packet Raw bytes at captured
 
 unfoldable pub packet_of : List ℕ → Frame → Packet
 packet_of bytes frame = packet_behind frame.link bytes frame.start frame.captured

@@ -3,9 +3,9 @@
 use Rattle.std.specs.Prelude.{ℕ, ◌+◌, Bool, ◌&&◌, ◌||◌, nat_le, ◌==◌, if◌then◌else◌, List, Option, Some, None, slice_index}
 use Rattle.tuple_core.specs.Tuple.{icmp_tuple, is_query_type}
 use Rattle.tuple_core.specs.declared.Tuple.{Tuple}
-use Rattle.packet_headers.specs.declared.classify.internet.Addresses.{Addresses}
-use Rattle.packet_headers.specs.declared.classify.internet.Body.{Body}
-use Rattle.packet_headers.specs.NetworkBytes.{short_at}
+use Rattle.packet_headers.specs.declared.classify.ipv4.Addresses.{Addresses}
+use Rattle.packet_headers.specs.declared.classify.ipv4.Ipv4Payload.{Ipv4Payload}
+use Rattle.packet_headers.specs.ByteOrder.{big_u16_at}
 
 abbrev pub icmp_type : List ℕ → ℕ → ℕ
 icmp_type bytes at = slice_index bytes at
@@ -15,7 +15,7 @@ icmp_code bytes at = slice_index bytes (at + 1)
 
 -- of a query: what tells queries between two hosts apart
 abbrev pub icmp_identifier : List ℕ → ℕ → ℕ
-icmp_identifier bytes at = short_at bytes (at + 4)
+icmp_identifier bytes at = big_u16_at bytes (at + 4)
 
 -- a message about another packet: destination unreachable, source quench, redirect, time exceeded,
 -- parameter problem
@@ -23,8 +23,8 @@ abbrev pub is_error_type : ℕ → Bool
 is_error_type k = k == 3 || k == 4 || k == 5 || k == 11 || k == 12
 
 -- the packet has room for an ICMP header, which was captured up to its identifier
-abbrev pub has_icmp_header : Body → Bool
-has_icmp_header body = nat_le 8 body.length && nat_le 6 body.captured
+abbrev pub has_icmp_header : Ipv4Payload → Bool
+has_icmp_header payload = nat_le 8 payload.length && nat_le 6 payload.captured
 
 -- the tuple of a message, where it asks or answers
 abbrev pub query_tuple : Addresses → List ℕ → ℕ → Option Tuple

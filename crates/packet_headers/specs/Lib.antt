@@ -1,11 +1,10 @@
-pub mod Bytes
+pub mod ByteOrder
 pub mod Capture
 pub mod CaptureHeader
 pub mod CaptureLaws
 pub mod CaptureRecord
-pub mod NetworkBytes
 pub mod Span
-pub mod Headers
+pub mod Ipv4Header
 pub mod Ports
 pub mod TcpFlags
 pub mod TcpHeader
@@ -15,3 +14,4 @@ pub mod IcmpError
 pub mod IcmpPacket
 pub mod Classify
 pub mod ClassifySound
+pub mod ClassifyLaws

@@ -3,8 +3,8 @@ use Rattle.std.specs.Prelude.{ℕ, ◌+◌, Bool, true, false, List}
 use Rattle.tuple_core.specs.declared.Proto.{Proto}
 use Rattle.tuple_core.specs.declared.Proto.TheVariants.{Icmp, Tcp, Udp}
 use Rattle.tuple_core.specs.declared.Tuple.{Tuple}
-use Rattle.packet_headers.specs.declared.classify.internet.Addresses.{Addresses}
-use Rattle.packet_headers.specs.NetworkBytes.{short_at}
+use Rattle.packet_headers.specs.declared.classify.ipv4.Addresses.{Addresses}
+use Rattle.packet_headers.specs.ByteOrder.{big_u16_at}
 
 abbrev pub has_ports : Proto → Bool
 has_ports Icmp = false
@@ -17,6 +17,6 @@ ports_tuple proto addresses bytes at = record {
   proto = proto;
   src = addresses.source;
   dst = addresses.destination;
-  a = short_at bytes at;
-  b = short_at bytes (at + 2);
+  a = big_u16_at bytes at;
+  b = big_u16_at bytes (at + 2);
 }

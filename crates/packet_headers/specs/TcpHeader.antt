@@ -2,7 +2,7 @@
 use Rattle.std.specs.Prelude.{ℕ, ◌+◌, ◌*◌, ◌/◌, Bool, ◌&&◌, nat_le, if◌then◌else◌, List, slice_index}
 use Rattle.tuple_core.specs.declared.Proto.TheVariants as proto
 use Rattle.tuple_core.specs.declared.Segment.TheVariants as segment
-use Rattle.packet_headers.specs.declared.classify.internet.Body.{Body}
+use Rattle.packet_headers.specs.declared.classify.ipv4.Ipv4Payload.{Ipv4Payload}
 use Rattle.packet_headers.specs.declared.frame.Span.{Span}
 use Rattle.packet_headers.specs.declared.packet.Packet.{Packet}
 use Rattle.packet_headers.specs.declared.packet.Packet.TheVariants.{Invalid, Flow}
@@ -20,22 +20,22 @@ flags_at bytes at = slice_index bytes (at + 13)
 
 -- the packet has room for a TCP header, which was captured up to its control bits; the header has at
 -- least its fixed part, and no more bytes than the packet has; the control bits go together
-abbrev pub has_tcp_header : List ℕ → Body → Bool
-has_tcp_header bytes body =
-    nat_le 20 body.length && nat_le 14 body.captured
-    && nat_le 20 (data_offset bytes body.start) && nat_le (data_offset bytes body.start) body.length
-    && is_valid_flag_set (flags_at bytes body.start)
+abbrev pub has_tcp_header : List ℕ → Ipv4Payload → Bool
+has_tcp_header bytes payload =
+    nat_le 20 payload.length && nat_le 14 payload.captured
+    && nat_le 20 (data_offset bytes payload.start) && nat_le (data_offset bytes payload.start) payload.length
+    && is_valid_flag_set (flags_at bytes payload.start)
 
 -- the segment's data as far as it was captured; empty where the header itself was cut
-abbrev pub tcp_payload : List ℕ → Body → Span
-tcp_payload bytes body =
-    (if nat_le (data_offset bytes body.start) body.captured
-    then span_of (body.start + data_offset bytes body.start) (body.start + body.captured)
+abbrev pub tcp_payload : List ℕ → Ipv4Payload → Span
+tcp_payload bytes payload =
+    (if nat_le (data_offset bytes payload.start) payload.captured
+    then span_of (payload.start + data_offset bytes payload.start) (payload.start + payload.captured)
     else empty_span)
 
-unfoldable pub tcp_packet : List ℕ → Body → Packet
-tcp_packet bytes body =
-    (if has_tcp_header bytes body
-    then Flow (ports_tuple proto.Tcp body.addresses bytes body.start)
-    (segment.Tcp (kind (flags_at bytes body.start))) (tcp_payload bytes body)
+unfoldable pub tcp_packet : List ℕ → Ipv4Payload → Packet
+tcp_packet bytes payload =
+    (if has_tcp_header bytes payload
+    then Flow (ports_tuple proto.Tcp payload.addresses bytes payload.start)
+    (segment.Tcp (kind (flags_at bytes payload.start))) (tcp_payload bytes payload)
     else Invalid)

@@ -1,12 +1,12 @@
 //! Reads capture files (pcap 2.4): where their frames lie, and when they were captured.
 
 ghost use Rattle.std.specs.Prelude.{◌≡◌, ◌+◌, ◌^◌, ◌<◌, ◌≤◌, Ok, length, IfOk, IfErr, OnOk};
-ghost use Rattle.packet_headers.specs.CaptureHeader.{has_version, header_of, layout_at, link_of, number_16, number_32, resolution_of};
+ghost use Rattle.packet_headers.specs.CaptureHeader.{has_version, header_of, layout_at, link_of, resolution_of};
 ghost use Rattle.packet_headers.specs.CaptureRecord.{frame_end, microseconds_of, parts_of_second, record_at};
 ghost use Rattle.packet_headers.specs.Capture.{AreInside, AreTimely, capture_fault_of, HasFault, ReadsAs};
 
+use crate::byte_order::{Endian, u16_at, u32_at};
 use crate::frame::{Frame, Frames, Link};
-use byteorder::{BigEndian, ByteOrder, LittleEndian};
 use std::alloc::Global;
 use tuple_core::NoMemory;
 
@@ -83,69 +83,36 @@ impl From<CaptureFault> for CaptureError {
     }
 }
 
-/// The order of the bytes of a number.
-#[derive(Clone, Copy)]
-enum Order {
-    /// The lowest first.
-    Little,
-    /// The highest first.
-    Big,
-}
-
 /// In what the fraction of a record's time counts.
 #[derive(Clone, Copy)]
-enum Resolution {
+pub enum Resolution {
     Microseconds,
     Nanoseconds,
 }
 
 /// What a file's magic number says.
 #[derive(Clone, Copy)]
-struct Layout {
-    order: Order,
-    resolution: Resolution,
+pub struct Layout {
+    pub order: Endian,
+    pub resolution: Resolution,
 }
 
 /// What a file's header says.
 #[derive(Clone, Copy)]
-struct Form {
-    layout: Layout,
-    link: Link,
+pub struct Form {
+    pub layout: Layout,
+    pub link: Link,
 }
 
 /// What is wrong with a record.
 #[derive(Clone, Copy)]
-enum RecordFault {
+pub enum RecordFault {
     /// The bytes end within it.
     Cut,
     /// It has too many captured bytes.
     Oversized,
     /// The fraction of its time is a second or more.
     BadFraction,
-}
-
-/// The two bytes at `at` as a number.
-fn read_16(bytes: &[u8], order: Order, at: usize) -> u16
-    requires { at + 2 ≤ length bytes.now }
-    ensures { result ≡ number_16 order bytes.now at }
-{
-    let (_, rest) = bytes.split_at(at);
-    match order {
-        Order::Little => LittleEndian::read_u16(rest),
-        Order::Big => BigEndian::read_u16(rest),
-    }
-}
-
-/// The four bytes at `at` as a number.
-fn read_32(bytes: &[u8], order: Order, at: usize) -> u32
-    requires { at + 4 ≤ length bytes.now }
-    ensures { result ≡ number_32 order bytes.now at }
-{
-    let (_, rest) = bytes.split_at(at);
-    match order {
-        Order::Little => LittleEndian::read_u32(rest),
-        Order::Big => BigEndian::read_u32(rest),
-    }
 }
 
 /// What a magic number says of the times.
@@ -164,15 +131,15 @@ fn read_layout(bytes: &[u8]) -> Option<Layout>
     requires { 4 ≤ length bytes.now }
     ensures { result ≡ layout_at bytes.now }
 {
-    let little = known_resolution(read_32(bytes, Order::Little, 0));
-    let big = known_resolution(read_32(bytes, Order::Big, 0));
+    let little = known_resolution(u32_at(Endian::Little, bytes, 0));
+    let big = known_resolution(u32_at(Endian::Big, bytes, 0));
     match (little, big) {
         (Some(resolution), _) => Some(Layout {
-            order: Order::Little,
+            order: Endian::Little,
             resolution,
         }),
         (None, Some(resolution)) => Some(Layout {
-            order: Order::Big,
+            order: Endian::Big,
             resolution,
         }),
         (None, None) => None,
@@ -180,11 +147,11 @@ fn read_layout(bytes: &[u8]) -> Option<Layout>
 }
 
 /// Whether the version is 2.4.
-fn is_known_version(bytes: &[u8], order: Order) -> bool
+fn is_known_version(bytes: &[u8], order: Endian) -> bool
     requires { 8 ≤ length bytes.now }
     ensures { result ≡ has_version order bytes.now }
 {
-    read_16(bytes, order, 4) == 2 && read_16(bytes, order, 6) == 4
+    u16_at(order, bytes, 4) == 2 && u16_at(order, bytes, 6) == 4
 }
 
 /// The link of a link type.
@@ -214,7 +181,7 @@ fn read_header(bytes: &[u8]) -> Result<Form, CaptureFault>
     if !is_known_version(bytes, layout.order) {
         return Err(CaptureFault::BadVersion);
     }
-    let number = (read_32(bytes, layout.order, 20) % 65536) as u16;
+    let number = (u32_at(layout.order, bytes, 20) % 65536) as u16;
     let Some(link) = known_link(number) else {
         return Err(CaptureFault::LinkType(number));
     };
@@ -255,11 +222,11 @@ fn read_record(bytes: &[u8], form: Form, at: usize) -> Result<Frame, RecordFault
         return Err(RecordFault::Cut);
     }
     let order = form.layout.order;
-    let captured = read_32(bytes, order, at + 8);
+    let captured = u32_at(order, bytes, at + 8);
     if captured > MOST_CAPTURED {
         return Err(RecordFault::Oversized);
     }
-    let fraction = read_32(bytes, order, at + 4);
+    let fraction = u32_at(order, bytes, at + 4);
     if fraction >= second_parts(form.layout.resolution) {
         return Err(RecordFault::BadFraction);
     }
@@ -267,13 +234,13 @@ fn read_record(bytes: &[u8], form: Form, at: usize) -> Result<Frame, RecordFault
     if bytes.len() - start < captured as usize {
         return Err(RecordFault::Cut);
     }
-    let seconds = read_32(bytes, order, at);
+    let seconds = u32_at(order, bytes, at);
     let part = microseconds(form.layout.resolution, fraction);
     Ok(Frame {
         moment: u64::from(seconds) * SECOND + u64::from(part),
         start,
         captured,
-        original: read_32(bytes, order, at + 12),
+        original: u32_at(order, bytes, at + 12),
         link: form.link,
     })
 }

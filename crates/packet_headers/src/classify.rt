@@ -1,24 +1,24 @@
 //! What a frame is to the tracker, by its headers. Checksums are not looked at.
 
 ghost use Rattle.std.specs.Prelude.{◌≡◌, ◌+◌, ◌≤◌, length, true};
-ghost use Rattle.packet_headers.specs.Classify.{ethernet_frame, internet_packet, packet_of, packet_of_version};
+ghost use Rattle.packet_headers.specs.Classify.{ethernet_frame, ip_packet, packet_of, packet_of_version};
 ghost use Rattle.packet_headers.specs.ClassifySound.{has_valid_tuple, HasItsProtocol, HasPayloadIn, IsSound};
 
 mod icmp;
 mod icmp_error;
-mod internet;
-mod network;
+mod ipv4;
 mod ports;
 mod tcp;
 #[cfg(test)]
 mod tests;
 mod udp;
 
+use crate::byte_order::big_u16_at;
 use crate::frame::{Frame, Link};
 use crate::packet::{Packet, Untracked};
 use icmp::icmp_packet;
-use internet::{body_of, has_internet_header, is_fragment, tracked_protocol};
-use network::short_at;
+pub use ipv4::{Addresses, Ipv4Payload};
+use ipv4::{has_ipv4_header, ipv4_payload, is_fragment, tracked_protocol};
 use tcp::tcp_packet;
 use tuple_core::Proto;
 use udp::udp_packet;
@@ -27,7 +27,7 @@ use udp::udp_packet;
 const ETHERNET_HEADER: usize = 14;
 
 /// The type of an Ethernet frame with an IPv4 packet (RFC 894).
-const INTERNET: u16 = 0x0800;
+const IPV4: u16 = 0x0800;
 
 /// A packet of another version than 4. With no link header it may be IPv6, which is not tracked.
 fn packet_of_version(link: Link, version: u8) -> Packet
@@ -40,10 +40,10 @@ fn packet_of_version(link: Link, version: u8) -> Packet
 }
 
 /// The IP packet at `at`, of which `captured` bytes are there (RFC 791).
-#[tactic(auto, unfolding(crate::specs::Classify::internet_packet))]
-fn internet_packet(link: Link, bytes: &[u8], at: usize, captured: usize) -> Packet
+#[tactic(auto, unfolding(crate::specs::Classify::ip_packet))]
+fn ip_packet(link: Link, bytes: &[u8], at: usize, captured: usize) -> Packet
     requires { at + captured ≤ length bytes.now }
-    ensures exact { result ≡ internet_packet link bytes.now at captured }
+    ensures exact { result ≡ ip_packet link bytes.now at captured }
     ensures sound { IsSound bytes.now result }
 {
     if captured == 0 {
@@ -53,7 +53,7 @@ fn internet_packet(link: Link, bytes: &[u8], at: usize, captured: usize) -> Pack
     if version != 4 {
         return packet_of_version(link, version);
     }
-    if !has_internet_header(bytes, at, captured) {
+    if !has_ipv4_header(bytes, at, captured) {
         return Packet::Invalid;
     }
     if is_fragment(bytes, at) {
@@ -62,11 +62,11 @@ fn internet_packet(link: Link, bytes: &[u8], at: usize, captured: usize) -> Pack
     let Some(proto) = tracked_protocol(bytes[at + 9]) else {
         return Packet::Untracked(Untracked::Protocol);
     };
-    let body = body_of(bytes, at, captured);
+    let payload = ipv4_payload(bytes, at, captured);
     match proto {
-        Proto::Icmp => icmp_packet(bytes, &body),
-        Proto::Tcp => tcp_packet(bytes, &body),
-        Proto::Udp => udp_packet(bytes, &body),
+        Proto::Icmp => icmp_packet(bytes, &payload),
+        Proto::Tcp => tcp_packet(bytes, &payload),
+        Proto::Udp => udp_packet(bytes, &payload),
     }
 }
 
@@ -80,10 +80,10 @@ fn ethernet_frame(bytes: &[u8], at: usize, captured: usize) -> Packet
     if captured < ETHERNET_HEADER {
         return Packet::Invalid;
     }
-    if short_at(bytes, at + 12) != INTERNET {
+    if big_u16_at(bytes, at + 12) != IPV4 {
         return Packet::Untracked(Untracked::Link);
     }
-    internet_packet(
+    ip_packet(
         Link::Ethernet,
         bytes,
         at + ETHERNET_HEADER,
@@ -103,6 +103,6 @@ pub fn classify(bytes: &[u8], frame: &Frame) -> Packet
     let captured = frame.captured as usize;
     match frame.link {
         Link::Ethernet => ethernet_frame(bytes, frame.start, captured),
-        Link::Raw => internet_packet(Link::Raw, bytes, frame.start, captured),
+        Link::Raw => ip_packet(Link::Raw, bytes, frame.start, captured),
     }
 }

@@ -135,23 +135,23 @@ fn damaged_captures(rt: HostRuntime) -> Result<(), Fail> {
 }
 
 /// Appends a number of four bytes.
-fn put_32(bytes: &mut Bytes, order: Order, number: u32) -> Result<(), NoMemory> {
+fn put_32(bytes: &mut Bytes, order: Endian, number: u32) -> Result<(), NoMemory> {
     match order {
-        Order::Little => bytes.append(&number.to_le_bytes()),
-        Order::Big => bytes.append(&number.to_be_bytes()),
+        Endian::Little => bytes.append(&number.to_le_bytes()),
+        Endian::Big => bytes.append(&number.to_be_bytes()),
     }
 }
 
 /// Appends a number of two bytes.
-fn put_16(bytes: &mut Bytes, order: Order, number: u16) -> Result<(), NoMemory> {
+fn put_16(bytes: &mut Bytes, order: Endian, number: u16) -> Result<(), NoMemory> {
     match order {
-        Order::Little => bytes.append(&number.to_le_bytes()),
-        Order::Big => bytes.append(&number.to_be_bytes()),
+        Endian::Little => bytes.append(&number.to_le_bytes()),
+        Endian::Big => bytes.append(&number.to_be_bytes()),
     }
 }
 
 /// Appends a record with 60 bytes of a packet, 46 of them captured.
-fn put_record(bytes: &mut Bytes, order: Order, fraction: u32) -> Result<(), NoMemory> {
+fn put_record(bytes: &mut Bytes, order: Endian, fraction: u32) -> Result<(), NoMemory> {
     for number in [1000, fraction, 46, 60] {
         put_32(bytes, order, number)?;
     }
@@ -192,12 +192,12 @@ fn is_frame(frame: &Frame, moment: u64, start: usize, is_ethernet: bool) -> bool
 #[test]
 fn each_form_has_the_same_frames(rt: HostRuntime) -> Result<(), Fail> {
     let forms = [
-        (Order::Little, Resolution::Microseconds, false),
-        (Order::Little, Resolution::Nanoseconds, false),
-        (Order::Big, Resolution::Microseconds, false),
-        (Order::Big, Resolution::Nanoseconds, false),
-        (Order::Little, Resolution::Microseconds, true),
-        (Order::Big, Resolution::Nanoseconds, true),
+        (Endian::Little, Resolution::Microseconds, false),
+        (Endian::Little, Resolution::Nanoseconds, false),
+        (Endian::Big, Resolution::Microseconds, false),
+        (Endian::Big, Resolution::Nanoseconds, false),
+        (Endian::Little, Resolution::Microseconds, true),
+        (Endian::Big, Resolution::Nanoseconds, true),
     ];
     for (order, resolution, is_ethernet) in forms {
         let layout = Layout { order, resolution };

@@ -4,8 +4,8 @@ ghost use Rattle.std.specs.Prelude.{◌≡◌, ◌+◌, ◌≤◌, length, true}
 ghost use Rattle.tuple_core.specs.Tuple.{is_valid};
 ghost use Rattle.packet_headers.specs.Ports.{has_ports, ports_tuple};
 
-use crate::classify::internet::Addresses;
-use crate::classify::network::short_at;
+use crate::byte_order::big_u16_at;
+use crate::classify::ipv4::Addresses;
 use tuple_core::{Proto, Tuple};
 
 /// The bytes of the two ports.
@@ -23,7 +23,7 @@ pub fn ports_tuple(proto: Proto, addresses: Addresses, bytes: &[u8], at: usize) 
         proto,
         src: addresses.source,
         dst: addresses.destination,
-        a: short_at(bytes, at),
-        b: short_at(bytes, at + 2),
+        a: big_u16_at(bytes, at),
+        b: big_u16_at(bytes, at + 2),
     }
 }

@@ -2,12 +2,12 @@
 
 ghost use Rattle.std.specs.Prelude.{◌≡◌, ◌+◌, ◌<◌, ◌≤◌, length};
 ghost use Rattle.packet_headers.specs.ClassifySound.{IsSound};
-ghost use Rattle.packet_headers.specs.Headers.{LiesIn};
+ghost use Rattle.packet_headers.specs.Ipv4Header.{LiesIn};
 ghost use Rattle.packet_headers.specs.Span.{IsSpanIn};
 ghost use Rattle.packet_headers.specs.TcpFlags.{flag, is_valid_flag_set, kind};
 ghost use Rattle.packet_headers.specs.TcpHeader.{data_offset, has_tcp_header, tcp_packet, tcp_payload};
 
-use crate::classify::internet::Body;
+use crate::classify::ipv4::Ipv4Payload;
 use crate::classify::ports::ports_tuple;
 use crate::frame::Span;
 use crate::packet::Packet;
@@ -83,49 +83,49 @@ fn kind(flags: u8) -> Kind
     }
 }
 
-/// Whether the body has a right header of TCP, captured up to its control bits.
-fn has_tcp_header(bytes: &[u8], body: &Body) -> bool
-    requires { LiesIn bytes.now body.now }
-    ensures { result ≡ has_tcp_header bytes.now body.now }
+/// Whether the payload has a right header of TCP, captured up to its control bits.
+fn has_tcp_header(bytes: &[u8], payload: &Ipv4Payload) -> bool
+    requires { LiesIn bytes.now payload.now }
+    ensures { result ≡ has_tcp_header bytes.now payload.now }
 {
-    body.length >= LEAST_HEADER
-        && body.captured >= LEAST_CAPTURED
-        && data_offset(bytes, body.start) >= LEAST_HEADER
-        && data_offset(bytes, body.start) <= body.length
-        && is_valid_flag_set(bytes[body.start + 13])
+    payload.length >= LEAST_HEADER
+        && payload.captured >= LEAST_CAPTURED
+        && data_offset(bytes, payload.start) >= LEAST_HEADER
+        && data_offset(bytes, payload.start) <= payload.length
+        && is_valid_flag_set(bytes[payload.start + 13])
 }
 
 /// The captured data of the segment.
-fn tcp_payload(bytes: &[u8], body: &Body) -> Span
-    requires captured { 14 ≤ body.now.captured }
-    requires lies { LiesIn bytes.now body.now }
-    ensures exact { result ≡ tcp_payload bytes.now body.now }
+fn tcp_payload(bytes: &[u8], payload: &Ipv4Payload) -> Span
+    requires captured { 14 ≤ payload.now.captured }
+    requires lies { LiesIn bytes.now payload.now }
+    ensures exact { result ≡ tcp_payload bytes.now payload.now }
     ensures within { IsSpanIn bytes.now result }
 {
-    let offset = data_offset(bytes, body.start);
-    if body.captured < offset {
+    let offset = data_offset(bytes, payload.start);
+    if payload.captured < offset {
         Span { start: 0, end: 0 }
     } else {
         Span {
-            start: body.start + offset,
-            end: body.start + body.captured,
+            start: payload.start + offset,
+            end: payload.start + payload.captured,
         }
     }
 }
 
-/// The packet whose body is of TCP.
+/// The packet whose payload is of TCP.
 #[tactic(auto, unfolding(crate::specs::TcpHeader::tcp_packet))]
-pub fn tcp_packet(bytes: &[u8], body: &Body) -> Packet
-    requires { LiesIn bytes.now body.now }
-    ensures exact { result ≡ tcp_packet bytes.now body.now }
+pub fn tcp_packet(bytes: &[u8], payload: &Ipv4Payload) -> Packet
+    requires { LiesIn bytes.now payload.now }
+    ensures exact { result ≡ tcp_packet bytes.now payload.now }
     ensures sound { IsSound bytes.now result }
 {
-    if !has_tcp_header(bytes, body) {
+    if !has_tcp_header(bytes, payload) {
         return Packet::Invalid;
     }
     Packet::Flow {
-        tuple: ports_tuple(Proto::Tcp, body.addresses, bytes, body.start),
-        segment: Segment::Tcp(kind(bytes[body.start + 13])),
-        payload: tcp_payload(bytes, body),
+        tuple: ports_tuple(Proto::Tcp, payload.addresses, bytes, payload.start),
+        segment: Segment::Tcp(kind(bytes[payload.start + 13])),
+        payload: tcp_payload(bytes, payload),
     }
 }

@@ -1,11 +1,11 @@
--- The Internet header (RFC 791, section 3.1). `at` is the place of its first byte, and `captured` the
+-- The IPv4 header (RFC 791, section 3.1). `at` is the place of its first byte, and `captured` the
 -- number of bytes that were captured from there on, which may be fewer than the packet had.
 use Rattle.std.specs.Prelude.{ℕ, ◌+◌, ◌*◌, ◌-◌, ◌/◌, ◌%◌, ◌^◌, ◌<◌, ◌≤◌, Bool, ◌&&◌, not, nat_le, ◌==◌, min, if◌then◌else◌, List, length, Option, Some, None, slice_index}
 use Rattle.tuple_core.specs.declared.Proto.{Proto}
 use Rattle.tuple_core.specs.declared.Proto.TheVariants.{Icmp, Tcp, Udp}
-use Rattle.packet_headers.specs.declared.classify.internet.Addresses.{Addresses}
-use Rattle.packet_headers.specs.declared.classify.internet.Body.{Body}
-use Rattle.packet_headers.specs.NetworkBytes.{short_at, word_at}
+use Rattle.packet_headers.specs.declared.classify.ipv4.Addresses.{Addresses}
+use Rattle.packet_headers.specs.declared.classify.ipv4.Ipv4Payload.{Ipv4Payload}
+use Rattle.packet_headers.specs.ByteOrder.{big_u16_at, big_u32_at}
 
 abbrev pub version : List ℕ → ℕ → ℕ
 version bytes at = slice_index bytes at / 16
@@ -16,21 +16,21 @@ header_length bytes at = 4 * (slice_index bytes at % 16)
 
 -- the bytes of the packet, header and data
 abbrev pub total_length : List ℕ → ℕ → ℕ
-total_length bytes at = short_at bytes (at + 2)
+total_length bytes at = big_u16_at bytes (at + 2)
 
 -- the header's fixed part was captured, the header has at least that, and the packet has the header
-abbrev pub has_internet_header : List ℕ → ℕ → ℕ → Bool
-has_internet_header bytes at captured =
+abbrev pub has_ipv4_header : List ℕ → ℕ → ℕ → Bool
+has_ipv4_header bytes at captured =
     nat_le 20 captured && nat_le 20 (header_length bytes at)
     && nat_le (header_length bytes at) (total_length bytes at)
 
 -- the fragment's place in the packet that was cut, in units of eight bytes
 abbrev pub fragment_offset : List ℕ → ℕ → ℕ
-fragment_offset bytes at = short_at bytes (at + 6) % 2 ^ 13
+fragment_offset bytes at = big_u16_at bytes (at + 6) % 2 ^ 13
 
 -- 1 where more fragments follow
 abbrev pub more_fragments : List ℕ → ℕ → ℕ
-more_fragments bytes at = short_at bytes (at + 6) / 2 ^ 13 % 2
+more_fragments bytes at = big_u16_at bytes (at + 6) / 2 ^ 13 % 2
 
 -- a fragment is not the first, or not the last
 abbrev pub is_fragment : List ℕ → ℕ → Bool
@@ -48,20 +48,20 @@ tracked_protocol number =
 
 abbrev pub addresses_of : List ℕ → ℕ → Addresses
 addresses_of bytes at = record {
-  source = word_at bytes (at + 12);
-  destination = word_at bytes (at + 16);
+  source = big_u32_at bytes (at + 12);
+  destination = big_u32_at bytes (at + 16);
 }
 
 -- what the packet carries behind its header, and how many bytes of that were captured: none where the
 -- header itself was cut
-abbrev pub body_of : List ℕ → ℕ → ℕ → Body
-body_of bytes at captured = record {
+abbrev pub ipv4_payload : List ℕ → ℕ → ℕ → Ipv4Payload
+ipv4_payload bytes at captured = record {
   addresses = addresses_of bytes at;
   start = at + header_length bytes at;
   length = total_length bytes at - header_length bytes at;
   captured = min (total_length bytes at - header_length bytes at) (captured - header_length bytes at);
 }
 
--- what was captured of a body lies in the bytes
-abbrev pub LiesIn : List ℕ → Body → Type 0
-LiesIn bytes body = 0 < body.captured → body.start + body.captured ≤ length bytes
+-- what was captured of a payload lies in the bytes
+abbrev pub LiesIn : List ℕ → Ipv4Payload → Type 0
+LiesIn bytes payload = 0 < payload.captured → payload.start + payload.captured ≤ length bytes

@@ -1,9 +1,9 @@
-//! The Internet header (RFC 791).
+//! The IPv4 header (RFC 791).
 
 ghost use Rattle.std.specs.Prelude.{◌≡◌, ◌+◌, ◌<◌, ◌≤◌, length};
-ghost use Rattle.packet_headers.specs.Headers.{addresses_of, body_of, has_internet_header, header_length, is_fragment, fragment_offset, total_length, tracked_protocol, LiesIn};
+ghost use Rattle.packet_headers.specs.Ipv4Header.{addresses_of, ipv4_payload, has_ipv4_header, header_length, is_fragment, fragment_offset, total_length, tracked_protocol, LiesIn};
 
-use crate::classify::network::{short_at, word_at};
+use crate::byte_order::{big_u16_at, big_u32_at};
 use tuple_core::Proto;
 
 /// The least bytes of a header: five words.
@@ -30,7 +30,7 @@ pub struct Addresses {
 
 /// What a packet carries behind its header.
 #[derive(Clone, Copy)]
-pub struct Body {
+pub struct Ipv4Payload {
     /// The packet's addresses.
     pub addresses: Addresses,
     /// The offset of the first byte behind the header.
@@ -55,13 +55,13 @@ fn total_length(bytes: &[u8], at: usize) -> usize
     requires { at + 4 ≤ length bytes.now }
     ensures { result ≡ total_length bytes.now at }
 {
-    usize::from(short_at(bytes, at + 2))
+    usize::from(big_u16_at(bytes, at + 2))
 }
 
 /// Whether the header of the packet at `at` is right, and its fixed part among the captured bytes.
-pub fn has_internet_header(bytes: &[u8], at: usize, captured: usize) -> bool
+pub fn has_ipv4_header(bytes: &[u8], at: usize, captured: usize) -> bool
     requires { at + captured ≤ length bytes.now }
-    ensures { result ≡ has_internet_header bytes.now at captured }
+    ensures { result ≡ has_ipv4_header bytes.now at captured }
 {
     captured >= LEAST_HEADER
         && header_length(bytes, at) >= LEAST_HEADER
@@ -73,7 +73,7 @@ pub fn fragment_offset(bytes: &[u8], at: usize) -> u16
     requires { at + 20 ≤ length bytes.now }
     ensures { result ≡ fragment_offset bytes.now at }
 {
-    short_at(bytes, at + 6) % MORE_FRAGMENTS
+    big_u16_at(bytes, at + 6) % MORE_FRAGMENTS
 }
 
 /// Whether the packet at `at` is a fragment: others follow, or others stand before it.
@@ -81,7 +81,7 @@ pub fn is_fragment(bytes: &[u8], at: usize) -> bool
     requires { at + 20 ≤ length bytes.now }
     ensures { result ≡ is_fragment bytes.now at }
 {
-    let has_more = short_at(bytes, at + 6) / MORE_FRAGMENTS % 2 != 0;
+    let has_more = big_u16_at(bytes, at + 6) / MORE_FRAGMENTS % 2 != 0;
     has_more || fragment_offset(bytes, at) != 0
 }
 
@@ -103,22 +103,22 @@ pub fn addresses_of(bytes: &[u8], at: usize) -> Addresses
     ensures { result ≡ addresses_of bytes.now at }
 {
     Addresses {
-        source: word_at(bytes, at + 12),
-        destination: word_at(bytes, at + 16),
+        source: big_u32_at(bytes, at + 12),
+        destination: big_u32_at(bytes, at + 16),
     }
 }
 
 /// What the packet at `at` carries. `captured` of the packet's bytes are there.
-pub fn body_of(bytes: &[u8], at: usize, captured: usize) -> Body
+pub fn ipv4_payload(bytes: &[u8], at: usize, captured: usize) -> Ipv4Payload
     requires header { 20 ≤ captured }
     requires packet { header_length bytes.now at ≤ total_length bytes.now at }
     requires within { at + captured ≤ length bytes.now }
-    ensures exact { result ≡ body_of bytes.now at captured }
+    ensures exact { result ≡ ipv4_payload bytes.now at captured }
     ensures lies { LiesIn bytes.now result }
 {
     let header = header_length(bytes, at);
     let length = total_length(bytes, at) - header;
-    Body {
+    Ipv4Payload {
         addresses: addresses_of(bytes, at),
         start: at + header,
         length,
