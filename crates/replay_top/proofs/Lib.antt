@@ -1,7 +1,7 @@
 pub mod Arriving
 pub mod Books
-pub mod Causing
-pub mod Endings
+pub mod Findings
+pub mod Flaws
 pub mod Flows
 pub mod Lines
 pub mod Reading

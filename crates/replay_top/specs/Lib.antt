@@ -7,6 +7,7 @@ pub mod Flow
 pub mod History
 pub mod Inputs
 pub mod Internal
+pub mod Laws
 pub mod Replay
 pub mod Report
 pub mod Track

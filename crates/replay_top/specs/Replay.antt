@@ -10,7 +10,7 @@ use Rattle.replay_top.specs.declared.flaw.ReplayError.TheVariants.{Flawed, NoMem
 use Rattle.replay_top.specs.Arrivals.{IsReadCapture}
 use Rattle.replay_top.specs.Flaw.{HasFlaw}
 use Rattle.replay_top.specs.Report.{IsWellFormed}
-use Rattle.report_text.specs.Text.{report_text}
+use Rattle.report_text.specs.Report.{report_text}
 use Rattle.replay_top.specs.Words.{Named}
 use Rattle.report_text.specs.Wrote.{followed_by, WroteFront}
 

@@ -10,8 +10,7 @@ use crate::command_line::file_name;
 use crate::flaw::{Flaw, Refusal};
 use ct_io::Sink;
 use packet_headers::capture::CaptureFault;
-use report_text::line::LONGEST_LINE;
-use report_text::page::Page;
+use report_text::page::{LONGEST_LINE, Page};
 use report_text::write::{WriteFault, write_all};
 
 /// Writes two pieces, one after the other.
