@@ -1,3 +1,6 @@
+pub mod Internal
 pub mod Line
-pub mod Text
+pub mod Page
+pub mod Piece
+pub mod Report
 pub mod Wrote

@@ -1,156 +1,25 @@
--- The lines of a report. Numbers are plain decimal, and each line ends with a line feed.
-use Rattle.std.specs.Prelude.{ℕ, Bool, true, false, ◌/◌, ◌%◌, ◌^◌, List, [], ◌++◌, codes, decimal, Option, None, Some}
-use Rattle.tuple_core.specs.declared.Direction.{Direction}
-use Rattle.tuple_core.specs.declared.Direction.TheVariants.{Original, Reply}
-use Rattle.tuple_core.specs.declared.Proto.{Proto}
-use Rattle.tuple_core.specs.declared.Proto.TheVariants.{Icmp, Tcp, Udp}
-use Rattle.tuple_core.specs.declared.Tuple.{Tuple}
-use Rattle.history_book.specs.declared.event.Event.{Event}
-use Rattle.history_book.specs.declared.event.Event.TheVariants.{Confirm, Touch, Destroy}
+-- The lines of a report. Each ends with a line feed.
+use Rattle.std.specs.Prelude.{ℕ, List, ◌++◌, codes, decimal}
 use Rattle.history_book.specs.declared.event.Numbered.{Numbered}
-use Rattle.history_book.specs.declared.event.Why.{Why}
-use Rattle.history_book.specs.declared.event.Why.TheVariants.{Expired}
-use Rattle.history_book.specs.declared.record.Record.{Record}
-use Rattle.history_book.specs.declared.verdict.Class.{Class}
-use Rattle.history_book.specs.declared.verdict.Class.TheVariants as class
-use Rattle.history_book.specs.declared.verdict.Ftp.{Ftp}
-use Rattle.history_book.specs.declared.verdict.Ftp.TheVariants as ftp
-use Rattle.history_book.specs.declared.verdict.UntrackedWhy.{UntrackedWhy}
-use Rattle.history_book.specs.declared.verdict.UntrackedWhy.TheVariants as untracked
-use Rattle.history_book.specs.declared.verdict.Label.{Label}
-use Rattle.history_book.specs.declared.verdict.Label.TheVariants as label
 use Rattle.history_book.specs.declared.verdict.Verdict.{Verdict}
-
--- an IPv4 address (RFC 791): its four bytes with dots between them, the highest first
-unfoldable pub address_text : ℕ → List ℕ
-address_text a =
-    decimal (a / 2 ^ 24) ++ codes "." ++ decimal (a / 2 ^ 16 % 256) ++ codes "." ++
-    decimal (a / 2 ^ 8 % 256) ++ codes "." ++ decimal (a % 256)
-
--- what tells two flows between the same addresses apart: the ports; of ICMP (RFC 792) the type, the
--- code and the identifier
-abbrev pub ends_text : Proto → ℕ → ℕ → List ℕ
-ends_text Icmp a b =
-    codes " type=" ++ decimal (b / 256) ++ codes " code=" ++ decimal (b % 256) ++
-    codes " id=" ++ decimal a
-ends_text Tcp a b = codes " sport=" ++ decimal a ++ codes " dport=" ++ decimal b
-ends_text Udp a b = codes " sport=" ++ decimal a ++ codes " dport=" ++ decimal b
-
-unfoldable pub tuple_text : Tuple → List ℕ
-tuple_text t =
-    codes "src=" ++ address_text t.src ++ codes " dst=" ++ address_text t.dst ++
-    ends_text t.proto t.a t.b
-
-abbrev pub proto_word : Proto → List ℕ
-proto_word Icmp = codes "icmp"
-proto_word Tcp = codes "tcp"
-proto_word Udp = codes "udp"
-
-abbrev pub direction_word : Direction → List ℕ
-direction_word Original = codes "original"
-direction_word Reply = codes "reply"
-
--- a word that is printed only where something holds
-abbrev pub word_if : Bool → List ℕ → List ℕ
-word_if true word = word
-word_if false word = []
-
--- who made an event: the thread, and the index of its packet
-abbrev pub who_text : ℕ → ℕ → List ℕ
-who_text thread index = decimal thread ++ codes "." ++ decimal index
-
-abbrev pub master_text : Option ℕ → List ℕ
-master_text None = []
-master_text (Some id) = codes " master=" ++ decimal id
-
--- the flow of an entry: its protocol and both its tuples, the original one first
-unfoldable pub flow_text : Record → List ℕ
-flow_text r =
-    proto_word r.original.proto ++ codes " " ++ tuple_text r.original ++ codes " " ++
-    tuple_text r.reply
-
--- a new entry
-unfoldable pub record_text : Record → List ℕ
-record_text r =
-    flow_text r ++ codes " until=" ++ decimal r.part.deadline ++ master_text r.master ++
-    word_if r.helper (codes " helper")
-
-abbrev pub why_text : Why → List ℕ
-why_text (Expired moment) = codes " expired"
-
--- an event, made by `who`
-abbrev pub event_text : List ℕ → Event → List ℕ
-event_text who (Confirm subject) = codes " confirm " ++ who ++ codes " " ++ record_text subject
-event_text who (Touch id direction segment moment after) =
-    codes " touch " ++ who ++ codes " id=" ++ decimal id ++ codes " " ++ direction_word direction ++
-    codes " until=" ++ decimal after.deadline ++
-    word_if after.replied (codes " replied") ++ word_if after.assured (codes " assured")
-event_text who (Destroy id why) =
-    codes " destroy " ++ who ++ codes " id=" ++ decimal id ++ why_text why
-
-unfoldable pub event_line : Numbered → List ℕ
-event_line e = decimal e.number ++ event_text (who_text e.thread e.index) e.event ++ codes "\n"
-
--- a point of the history
-unfoldable pub point_text : ℕ → List ℕ
-point_text at = codes " @" ++ decimal at
-
--- the entry of a packet, and the point at which the verdict holds
-abbrev pub entry_text : ℕ → ℕ → List ℕ
-entry_text id at = codes " id=" ++ decimal id ++ point_text at
-
--- a new entry that met no expectation is new; one that claimed an expectation is related
-abbrev pub made_word : Option ℕ → List ℕ
-made_word None = codes "RELATED"
-made_word (Some at) = codes "NEW"
-
-abbrev pub label_word : Label → List ℕ
-label_word label.New = codes "NEW"
-label_word label.Related = codes "RELATED"
-label_word label.Established = codes "ESTABLISHED"
-label_word label.EstablishedReply = codes "ESTABLISHED_REPLY"
-
--- what the payload of a packet led to
-abbrev pub ftp_text : Ftp → List ℕ
-ftp_text ftp.Nothing = []
-ftp_text (ftp.Expected id) = codes " ftp expect=" ++ decimal id
-ftp_text ftp.Address = codes " ftp address"
-ftp_text (ftp.Clash id at) = codes " ftp clash=" ++ decimal id ++ point_text at
-ftp_text (ftp.Full at) = codes " ftp full" ++ point_text at
-ftp_text (ftp.Gone at) = codes " ftp gone" ++ point_text at
-
-abbrev pub untracked_word : UntrackedWhy → List ℕ
-untracked_word untracked.Link = codes "link"
-untracked_word untracked.Fragment = codes "fragment"
-untracked_word untracked.Protocol = codes "protocol"
-
--- the way of an error within the flow that it is about
-abbrev pub error_word : Direction → List ℕ
-error_word Original = codes "RELATED error"
-error_word Reply = codes "RELATED_REPLY error"
-
-abbrev pub class_text : Class → List ℕ
-class_text (class.Untracked why) = codes "UNTRACKED " ++ untracked_word why
-class_text class.BadHeader = codes "INVALID header"
-class_text (class.ErrorLost at) = codes "INVALID error" ++ point_text at
-class_text (class.ErrorAddress id at) = codes "INVALID address" ++ entry_text id at
-class_text (class.Error direction id at) = error_word direction ++ entry_text id at
-class_text (class.Made id at translated unclaimed) = made_word unclaimed ++ entry_text id at
-class_text (class.Passed label id at ftp) = label_word label ++ entry_text id at ++ ftp_text ftp
-class_text (class.Full at) = codes "FULL" ++ point_text at
-
--- the verdict on the packet of this index
-unfoldable pub verdict_line : ℕ → Verdict → List ℕ
-verdict_line index v = decimal index ++ codes " " ++ class_text v.class ++ codes "\n"
+use Rattle.report_text.specs.Piece.{class_text, event_text, who_text}
 
 -- the line before the events, of which there are so many
 unfoldable pub history_head : ℕ → List ℕ
 history_head events = codes "events " ++ decimal events ++ codes "\n"
 
+-- an event of the history
+unfoldable pub event_line : Numbered → List ℕ
+event_line e = decimal e.number ++ event_text (who_text e.thread e.index) e.event ++ codes "\n"
+
 -- the line before the verdicts on the packets of a thread
 unfoldable pub thread_head : ℕ → ℕ → List ℕ
 thread_head thread packets =
     codes "thread " ++ decimal thread ++ codes " packets " ++ decimal packets ++ codes "\n"
+
+-- the verdict on the packet of this index
+unfoldable pub verdict_line : ℕ → Verdict → List ℕ
+verdict_line index v = decimal index ++ codes " " ++ class_text v.class ++ codes "\n"
 
 -- the line before the answers to a script of so many commands
 unfoldable pub script_head : ℕ → List ℕ

@@ -1,6 +1,6 @@
 //! Whole texts of reports that are built by hand.
 
-use crate::line::LONGEST_LINE;
+use crate::page::LONGEST_LINE;
 use crate::write::write_report;
 use ct_io::MemSink;
 use history_book::event::{Event, Numbered, Why};

@@ -5,9 +5,9 @@ use Rattle.report_text.proofs.write.write_all.Given as goal
 abbrev pub invariant-pieces : goal.invariant-pieces
 invariant-pieces g l = record {
   within : l.done ≤ length l.piece;
-  written : g.K.Sink.written l.out
-      ≡ followed_by (g.K.Sink.written l.initial.out) (take l.done l.piece);
-  faults_stay : g.K.Sink.faults l.initial.out ≤ g.K.Sink.faults l.out;
+  written : (g.K.Sink.tape l.out).written
+      ≡ followed_by (g.K.Sink.tape l.initial.out).written (take l.done l.piece);
+  same_faults : (g.K.Sink.tape l.out).faults ≡ (g.K.Sink.tape l.initial.out).faults;
 }
 
 abbrev pub decreases-pieces : goal.decreases-pieces

@@ -1,0 +1,325 @@
+//! The pieces of a line, each written on a page that has room for it.
+
+ghost use Rattle.report_text.specs.Page.{Adds, HasRoom};
+ghost use Rattle.report_text.specs.Piece.{address_text, class_text, direction_word, ends_text, entry_text, error_word, event_text, flow_text, ftp_text, label_word, made_word, master_text, point_text, proto_word, record_text, tuple_text, untracked_word, who_text, why_text};
+
+use crate::page::Page;
+use history_book::event::{Event, Numbered, Why};
+use history_book::record::Record;
+use history_book::verdict::{Class, Ftp, Label, UntrackedWhy};
+use tuple_core::{Direction, Proto, Tuple};
+
+impl<'b> Page<'b> {
+    /// Writes an address as four numbers with dots between them.
+    #[tactic(auto, unfolding(crate::specs::Piece::address_text))]
+    fn address(&mut self, address: u32)
+        requires { HasRoom 15 self.old }
+        ensures { Adds 15 (address_text address) self.old self.new }
+    {
+        self.number((address / 0x100_0000) as u8);
+        self.text(b".");
+        self.number((address / 0x1_0000 % 256) as u8);
+        self.text(b".");
+        self.number((address / 0x100 % 256) as u8);
+        self.text(b".");
+        self.number((address % 256) as u8);
+    }
+
+    /// Writes what tells the flows between two addresses apart.
+    fn ends(&mut self, t: &Tuple)
+        requires { HasRoom 27 self.old }
+        ensures { Adds 27 (ends_text t.now.proto t.now.a t.now.b) self.old self.new }
+    {
+        match t.proto {
+            Proto::Icmp => {
+                self.text(b" type=");
+                self.number((t.b / 256) as u8);
+                self.text(b" code=");
+                self.number((t.b % 256) as u8);
+                self.text(b" id=");
+                self.number(t.a);
+            }
+            Proto::Tcp | Proto::Udp => {
+                self.text(b" sport=");
+                self.number(t.a);
+                self.text(b" dport=");
+                self.number(t.b);
+            }
+        }
+    }
+
+    /// Writes one direction of a flow.
+    #[tactic(auto, unfolding(crate::specs::Piece::tuple_text))]
+    fn tuple(&mut self, t: &Tuple)
+        requires { HasRoom 66 self.old }
+        ensures { Adds 66 (tuple_text t.now) self.old self.new }
+    {
+        self.text(b"src=");
+        self.address(t.src);
+        self.text(b" dst=");
+        self.address(t.dst);
+        self.ends(t);
+    }
+
+    /// Writes the word of a protocol.
+    fn proto(&mut self, proto: Proto)
+        requires { HasRoom 4 self.old }
+        ensures { Adds 4 (proto_word proto) self.old self.new }
+    {
+        match proto {
+            Proto::Icmp => self.text(b"icmp"),
+            Proto::Tcp => self.text(b"tcp"),
+            Proto::Udp => self.text(b"udp"),
+        }
+    }
+
+    /// Writes the word of a direction.
+    fn direction(&mut self, direction: Direction)
+        requires { HasRoom 8 self.old }
+        ensures { Adds 8 (direction_word direction) self.old self.new }
+    {
+        match direction {
+            Direction::Original => self.text(b"original"),
+            Direction::Reply => self.text(b"reply"),
+        }
+    }
+
+    /// Writes who made an event.
+    fn who(&mut self, thread: u32, index: u32)
+        requires { HasRoom 21 self.old }
+        ensures { Adds 21 (who_text thread index) self.old self.new }
+    {
+        self.number(thread);
+        self.text(b".");
+        self.number(index);
+    }
+
+    /// Writes the master of an entry, if it has one.
+    fn master(&mut self, master: Option<u64>)
+        requires { HasRoom 28 self.old }
+        ensures { Adds 28 (master_text master) self.old self.new }
+    {
+        match master {
+            None => {}
+            Some(id) => {
+                self.text(b" master=");
+                self.number(id);
+            }
+        }
+    }
+
+    /// Writes the protocol of an entry and its tuples.
+    #[tactic(auto, unfolding(crate::specs::Piece::flow_text))]
+    fn flow(&mut self, subject: &Record)
+        requires { HasRoom 138 self.old }
+        ensures { Adds 138 (flow_text subject.now) self.old self.new }
+    {
+        self.proto(subject.original.proto);
+        self.text(b" ");
+        self.tuple(&subject.original);
+        self.text(b" ");
+        self.tuple(&subject.reply);
+    }
+
+    /// Writes a new entry.
+    #[tactic(auto, unfolding(crate::specs::Piece::record_text))]
+    fn record(&mut self, subject: &Record)
+        requires { HasRoom 200 self.old }
+        ensures { Adds 200 (record_text subject.now) self.old self.new }
+    {
+        self.flow(subject);
+        self.text(b" until=");
+        self.number(subject.part.deadline);
+        self.master(subject.master);
+        self.text_if(subject.helper, b" helper");
+    }
+
+    /// Writes why an entry was destroyed.
+    fn why(&mut self, why: Why)
+        requires { HasRoom 8 self.old }
+        ensures { Adds 8 (why_text why) self.old self.new }
+    {
+        match why {
+            Why::Expired { moment: _ } => self.text(b" expired"),
+        }
+    }
+
+    /// Writes an event, and who made it.
+    pub(crate) fn event(&mut self, e: &Numbered)
+        requires { HasRoom 231 self.old }
+        ensures { Adds 231 (event_text (who_text e.now.thread e.now.index) e.now.event)
+            self.old self.new }
+    {
+        match e.event {
+            Event::Confirm { subject } => {
+                self.text(b" confirm ");
+                self.who(e.thread, e.index);
+                self.text(b" ");
+                self.record(&subject);
+            }
+            Event::Touch {
+                id,
+                direction,
+                after,
+                ..
+            } => {
+                self.text(b" touch ");
+                self.who(e.thread, e.index);
+                self.text(b" id=");
+                self.number(id);
+                self.text(b" ");
+                self.direction(direction);
+                self.text(b" until=");
+                self.number(after.deadline);
+                self.text_if(after.replied, b" replied");
+                self.text_if(after.assured, b" assured");
+            }
+            Event::Destroy { id, why } => {
+                self.text(b" destroy ");
+                self.who(e.thread, e.index);
+                self.text(b" id=");
+                self.number(id);
+                self.why(why);
+            }
+        }
+    }
+
+    /// Writes a point of the history.
+    #[tactic(auto, unfolding(crate::specs::Piece::point_text))]
+    fn point(&mut self, point: u64)
+        requires { HasRoom 22 self.old }
+        ensures { Adds 22 (point_text point) self.old self.new }
+    {
+        self.text(b" @");
+        self.number(point);
+    }
+
+    /// Writes the entry of a packet, and a point of the history.
+    fn entry(&mut self, id: u64, point: u64)
+        requires { HasRoom 46 self.old }
+        ensures { Adds 46 (entry_text id point) self.old self.new }
+    {
+        self.text(b" id=");
+        self.number(id);
+        self.point(point);
+    }
+
+    /// Writes the word of a new entry.
+    fn made(&mut self, unclaimed: Option<u64>)
+        requires { HasRoom 7 self.old }
+        ensures { Adds 7 (made_word unclaimed) self.old self.new }
+    {
+        match unclaimed {
+            None => self.text(b"RELATED"),
+            Some(_) => self.text(b"NEW"),
+        }
+    }
+
+    /// Writes the word of a state of a flow.
+    fn label(&mut self, label: Label)
+        requires { HasRoom 17 self.old }
+        ensures { Adds 17 (label_word label) self.old self.new }
+    {
+        match label {
+            Label::New => self.text(b"NEW"),
+            Label::Related => self.text(b"RELATED"),
+            Label::Established => self.text(b"ESTABLISHED"),
+            Label::EstablishedReply => self.text(b"ESTABLISHED_REPLY"),
+        }
+    }
+
+    /// Writes what the payload of a packet led to.
+    fn ftp(&mut self, ftp: Ftp)
+        requires { HasRoom 53 self.old }
+        ensures { Adds 53 (ftp_text ftp) self.old self.new }
+    {
+        match ftp {
+            Ftp::Nothing => {}
+            Ftp::Expected { id } => {
+                self.text(b" ftp expect=");
+                self.number(id);
+            }
+            Ftp::Address => self.text(b" ftp address"),
+            Ftp::Clash { id, at } => {
+                self.text(b" ftp clash=");
+                self.number(id);
+                self.point(at);
+            }
+            Ftp::Full { at } => {
+                self.text(b" ftp full");
+                self.point(at);
+            }
+            Ftp::Gone { at } => {
+                self.text(b" ftp gone");
+                self.point(at);
+            }
+        }
+    }
+
+    /// Writes the word of why a packet is not tracked.
+    fn untracked(&mut self, why: UntrackedWhy)
+        requires { HasRoom 8 self.old }
+        ensures { Adds 8 (untracked_word why) self.old self.new }
+    {
+        match why {
+            UntrackedWhy::Link => self.text(b"link"),
+            UntrackedWhy::Fragment => self.text(b"fragment"),
+            UntrackedWhy::Protocol => self.text(b"protocol"),
+        }
+    }
+
+    /// Writes the words of an ICMP error about an entry.
+    fn error(&mut self, direction: Direction)
+        requires { HasRoom 19 self.old }
+        ensures { Adds 19 (error_word direction) self.old self.new }
+    {
+        match direction {
+            Direction::Original => self.text(b"RELATED error"),
+            Direction::Reply => self.text(b"RELATED_REPLY error"),
+        }
+    }
+
+    /// Writes what became of a packet.
+    pub(crate) fn class(&mut self, class: Class)
+        requires { HasRoom 116 self.old }
+        ensures { Adds 116 (class_text class) self.old self.new }
+    {
+        match class {
+            Class::Untracked(why) => {
+                self.text(b"UNTRACKED ");
+                self.untracked(why);
+            }
+            Class::BadHeader => self.text(b"INVALID header"),
+            Class::ErrorLost { at } => {
+                self.text(b"INVALID error");
+                self.point(at);
+            }
+            Class::ErrorAddress { id, at } => {
+                self.text(b"INVALID address");
+                self.entry(id, at);
+            }
+            Class::Error { direction, id, at } => {
+                self.error(direction);
+                self.entry(id, at);
+            }
+            Class::Made {
+                id,
+                at,
+                translated: _,
+                unclaimed,
+            } => {
+                self.made(unclaimed);
+                self.entry(id, at);
+            }
+            Class::Passed { label, id, at, ftp } => {
+                self.label(label);
+                self.entry(id, at);
+                self.ftp(ftp);
+            }
+            Class::Full { at } => {
+                self.text(b"FULL");
+                self.point(at);
+            }
+        }
+    }
+}
