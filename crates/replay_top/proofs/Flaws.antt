@@ -62,36 +62,6 @@ capture_read bytes frames false is fits capture =
     inl (all.0, record { fits = fits; frames = frames; capture = capture; arrive = all.1 })
 
 pub read_or_flawed : BytesHaveFramesOrFault → FilesAreReadOrFlawed
-read_or_flawed either bytes = elim (le_or_lt (length bytes) most_bytes) [
-  | inr more ↦ inr (TooLong, more)
-  | inl fits ↦ elim (either bytes) [
-    | inl capture ↦ capture_read bytes capture.0 (has_other_flow bytes capture.0) refl fits capture.1
-    | inr fault ↦ inr (Fault fault.0, (fits, fault.1))
-  ]
-]
-
--- where no frame is of another flow, each gives the tracker something
-given_one : (bytes : List ℕ) (f : Frame) (fs : List Frame) (rest : Bool) (given : Option Arrival) → arrival_at bytes f ≡ given
-    → (is_none given || rest) ≡ false → (rest ≡ false → (arrivals : List Arrival) × Arrive bytes fs arrivals)
-    → (arrivals : List Arrival) × Arrive bytes (f ∷ fs) arrivals
-given_one bytes f fs rest None here none further = cc
-given_one bytes f fs rest (Some a) here none further =
-    let more = further none in (a ∷ more.0, cc (here, more.1))
-
-each_given : (bytes : List ℕ) (frames : List Frame) → has_other_flow bytes frames ≡ false
-    → (arrivals : List Arrival) × Arrive bytes frames arrivals
-each_given bytes [] none = ([], refl)
-each_given bytes (f ∷ fs) none =
-    given_one bytes f fs (has_other_flow bytes fs) (arrival_at bytes f) refl none (each_given bytes fs)
-
-capture_read : (bytes : List ℕ) (frames : List Frame) (other : Bool) → has_other_flow bytes frames ≡ other
-    → length bytes ≤ most_bytes → IsCapture bytes frames → IsRead bytes ⊎ ((flaw : Flaw) × HasFlaw bytes flaw)
-capture_read bytes frames true is fits capture = inr (NotTracked, (fits, record { frames = frames; capture = capture; other = is }))
-capture_read bytes frames false is fits capture =
-    let all = each_given bytes frames is in
-    inl (all.0, record { fits = fits; frames = frames; capture = capture; arrive = all.1 })
-
-pub read_or_flawed : BytesHaveFramesOrFault → FilesAreReadOrFlawed
 read_or_flawed either bytes = elim (cases_lt most_bytes (length bytes)) [
   | inl more ↦ inr (TooLong, more)
   | inr fits ↦ elim (either bytes) [

@@ -3,10 +3,10 @@ pub mod Books
 pub mod Findings
 pub mod Flaws
 pub mod Flows
-pub mod Lines
 pub mod Reading
 pub mod Records
 pub mod Replays
 pub mod Steps
 pub mod Passing
 pub mod Tracks
+pub mod Collecting

@@ -8,6 +8,7 @@ pub mod History
 pub mod Inputs
 pub mod Internal
 pub mod Laws
+pub mod Process
 pub mod Replay
 pub mod Report
 pub mod Track

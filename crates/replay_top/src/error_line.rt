@@ -11,26 +11,13 @@ use crate::flaw::{Flaw, Refusal};
 use ct_io::Sink;
 use packet_headers::capture::CaptureFault;
 use report_text::page::{LONGEST_LINE, Page};
-use report_text::write::{WriteFault, write_all};
-
-/// Writes two pieces, one after the other.
-fn write_both<K: Sink>(one: &[u8], two: &[u8], err: &mut K) -> Result<(), WriteFault>
-    ensures { Wrote (one.now ++ two.now) (K.tape err.old) (K.tape err.new) result }
-{
-    match write_all(one, err) {
-        Ok(()) => write_all(two, err),
-        Err(fault) => Err(fault),
-    }
-}
+use report_text::write::{WriteFault, write_each};
 
 /// Writes the line about this subject, which may be empty, with this problem.
 fn write_line<K: Sink>(about: &str, problem: &[u8], err: &mut K) -> Result<(), WriteFault>
     ensures { Wrote (error_line about.now problem.now) (K.tape err.old) (K.tape err.new) result }
 {
-    match write_all(b"ctreplay: ", err) {
-        Ok(()) => write_both(about.as_bytes(), problem, err),
-        Err(fault) => Err(fault),
-    }
+    write_each(&[b"ctreplay: ".as_slice(), about.as_bytes(), problem], err)
 }
 
 /// Writes the number of a faulty record.

@@ -2,7 +2,7 @@
 
 ghost use Rattle.std.specs.Prelude.{◌≡◌};
 ghost use Rattle.replay_top.specs.Causes;
-ghost use Rattle.replay_top.specs.Flaw;
+ghost use Rattle.replay_top.specs.Flaw.{flaw_status};
 
 use packet_headers::capture::CaptureFault;
 
@@ -39,8 +39,8 @@ pub enum Refusal {
 }
 
 /// The status of a run that ends with the flaw.
-fn flaw_status(flaw: Flaw) -> u8
-    ensures { result ≡ Flaw.flaw_status flaw }
+fn status_of(flaw: Flaw) -> u8
+    ensures { result ≡ flaw_status flaw }
 {
     match flaw {
         Flaw::TooLong => 5,
@@ -54,7 +54,7 @@ pub fn refusal_status(why: Refusal) -> u8
 {
     match why {
         Refusal::Misused => 1,
-        Refusal::Flawed { flaw, .. } => flaw_status(flaw),
+        Refusal::Flawed { flaw, .. } => status_of(flaw),
         Refusal::NotOpened { .. } | Refusal::NotRead { .. } => 3,
         Refusal::NoMemory => 6,
     }

@@ -1,10 +1,10 @@
 //! The steps between a process and the program: its words, and its exit code.
 
 ghost use Rattle.std.specs.Prelude.{◌≡◌, ◌≢◌, [], None, IfOk, IsErr, MatchResult};
-ghost use Rattle.std.specs.Io.{error_kind};
+ghost use Rattle.std.specs.IoError.{error_kind};
 ghost use Rattle.std.specs.Process.{exit_status};
-ghost use Rattle.std.specs.Vec.{into_iter_items};
 ghost use Rattle.replay_top.specs.ErrorLine.{line_of, Tells};
+ghost use Rattle.replay_top.specs.Process.{AreAllOf};
 
 use crate::ending::Run;
 use crate::error_line::tell_refusal;
@@ -13,20 +13,21 @@ use ct_io::Sink;
 use std::alloc::{AllocError, Global};
 use std::env::Args;
 use std::io;
+use std::io::ErrorKind;
 use std::process::ExitCode;
 
 /// All words of a process, in their order. Where one of them is no text there are none, which is of no
 /// form; an `Err` is want of memory, here or where the words were read.
 pub fn collect_words(alloc: Global, given: io::Result<Args>) -> Result<Vec<String>, AllocError>
     ensures words { MatchResult given
-        (λ args. IfOk result (λ words. words.items ≡ into_iter_items args))
+        (λ args. IfOk result (λ words. AreAllOf args words.items))
         (λ error. IfOk result (λ words. words.items ≡ [])) }
     ensures memory { MatchResult given (λ args. Unit {0})
-        (λ error. error_kind error ≡ io.ErrorKind.OutOfMemory → IsErr result) }
+        (λ error. error_kind error ≡ ErrorKind.OutOfMemory → IsErr result) }
 {
     match given {
         Ok(args) => args.collect(alloc),
-        Err(error) if matches!(error.kind(), io::ErrorKind::OutOfMemory) => Err(AllocError),
+        Err(error) if matches!(error.kind(), ErrorKind::OutOfMemory) => Err(AllocError),
         Err(_) => Ok(Vec::new(alloc)),
     }
 }

@@ -14,6 +14,7 @@ use crate::ending::{Ending, Run};
 use crate::error_line::{tell_not_written, tell_refusal};
 use crate::flaw::{Refusal, refusal_status};
 use crate::input::replay_file;
+use crate::laws::{flaws_are_unique, read_files_have_no_flaw};
 use ct_io::{Files, Gate, Sink};
 use report_text::write::write_report;
 use std::alloc::Global;
@@ -91,6 +92,8 @@ pub fn top<R: Threads + Wait + Sync, F: Files, K: Sink, G: Gate + Sync>(
     ensures same_output_faults { result.status ≢ 4 → (K.tape out.new).faults ≡ (K.tape out.old).faults }
     ensures stays { Stays (F.source files.old) (F.source files.new) }
 {
+    read_files_have_no_flaw();
+    flaws_are_unique();
     match run(alloc, words, files, out) {
         Ending::Done(report) => Run {
             status: 0,
