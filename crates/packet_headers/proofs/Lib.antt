@@ -5,3 +5,4 @@ pub mod Ports
 pub mod SameBytes
 pub mod SamePackets
 pub mod SamePayload
+pub mod LaidOut

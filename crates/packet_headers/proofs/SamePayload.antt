@@ -1,5 +1,5 @@
 -- What the headers behind an IPv4 header say does not change with their place.
-use Rattle.std.proofs.Common.{◌≡◌, ℕ, ◌+◌, ◌*◌, ◌/◌, ◌%◌, ◌^◌, ◌<◌, ◌≤◌, Bool, true, false, cond, ◌&&◌, Option, Some, None, List, refl, sym, ◌∙◌, subst, arith}
+use Rattle.std.proofs.Common.{◌≡◌, ℕ, ◌+◌, ◌*◌, ◌/◌, ◌%◌, ◌^◌, ◌<◌, ◌≤◌, Bool, true, false, cond, ◌&&◌, Option, Some, None, List, refl, sym, ◌∙◌, arith}
 use Rattle.std.proofs.lemmas.Bool.Decides.{nat_tests}
 use Rattle.std.specs.Prelude.{◌==◌, nat_le, slice_index}
 use Rattle.tuple_core.specs.declared.Proto.{Proto}
@@ -9,13 +9,10 @@ use Rattle.tuple_core.specs.declared.Tuple.{Tuple}
 use Rattle.tuple_core.specs.Tuple.{icmp_tuple, is_query_type}
 use Rattle.packet_headers.specs.declared.classify.ipv4.Addresses.{Addresses}
 use Rattle.packet_headers.specs.declared.classify.ipv4.Ipv4Payload.{Ipv4Payload}
-use Rattle.packet_headers.specs.declared.frame.Span.{Span}
-use Rattle.packet_headers.specs.declared.packet.Packet.{Packet}
-use Rattle.packet_headers.specs.declared.packet.Packet.TheVariants.{Invalid, Flow, Error}
-use Rattle.packet_headers.specs.ByteOrder.{big_u16_at, big_u32_at}
+use Rattle.packet_headers.specs.declared.packet.Packet.TheVariants.{Invalid, Flow}
 use Rattle.packet_headers.specs.ClassifyLaws.{moved, moved_span}
 use Rattle.packet_headers.specs.IcmpError.{error_about, has_inner_bytes, has_inner_header, icmp_error, inner_flow, inner_payload_start, inner_ports, inner_query, inner_start, inner_tuple}
-use Rattle.packet_headers.specs.IcmpHeader.{icmp_code, icmp_identifier, icmp_type, is_error_type, query_tuple}
+use Rattle.packet_headers.specs.IcmpHeader.{icmp_type, is_error_type, query_tuple}
 use Rattle.packet_headers.specs.IcmpPacket.{icmp_packet, message_of}
 use Rattle.packet_headers.specs.Ipv4Header.{addresses_of, fragment_offset, header_length, protocol, tracked_protocol, version}
 use Rattle.packet_headers.specs.Ports.{ports_tuple}
