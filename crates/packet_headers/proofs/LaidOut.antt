@@ -33,9 +33,11 @@ use Rattle.packet_headers.proofs.SamePackets.{ip_same}
 u16_read : (n : ℕ) → n < 2 ^ 16 → 256 * (n / 256 % 256) + n % 256 ≡ n
 u16_read n h = omega arith
 
+-- and so with four
 u32_read : (n : ℕ) → n < 2 ^ 32 → 65536 * (256 * (n / 16777216 % 256) + n / 65536 % 256) + (256 * (n / 256 % 256) + n % 256) ≡ n
 u32_read n h = omega arith
 
+-- the second of two tests that hold
 both_hold : (first second : Bool) → (first && second) ≡ true → second ≡ true
 both_hold true second h = h
 both_hold false second h = cc
@@ -47,6 +49,7 @@ record InRange (src dst a b : ℕ) : Type 0 where
   first : a < 2 ^ 16
   second : b < 2 ^ 16
 
+-- each number of a valid tuple is in its range
 in_range : (t : Tuple) → is_valid t ≡ true → InRange t.src t.dst t.a t.b
 in_range t h = record {
   source = grind (arith, nat_tests);
@@ -59,6 +62,7 @@ in_range t h = record {
 asks : (src dst a b : ℕ) → is_valid (record { proto = Icmp; src = src; dst = dst; a = a; b = b }) ≡ true → is_query_type (b / 256) ≡ true
 asks src dst a b h = both_hold (is_in_range (record { proto = Icmp; src = src; dst = dst; a = a; b = b })) (is_query_type (b / 256)) h
 
+-- a packet of UDP with no link header
 udp_read : (link : Link) (src dst a b : ℕ) → InRange src dst a b
     → ip_packet link (udp_layout (record { proto = Udp; src = src; dst = dst; a = a; b = b })) 0 28
     ≡ Flow (record { proto = Udp; src = src; dst = dst; a = a; b = b }) segment.Udp empty_span
@@ -70,6 +74,7 @@ udp_read link src dst a b range =
     let h = u16_read b range.second in
     λ i. Flow (record { proto = Udp; src = e i; dst = f i; a = g i; b = h i }) segment.Udp empty_span
 
+-- a segment of TCP
 tcp_read : (link : Link) (src dst a b flags : ℕ) → InRange src dst a b → is_valid_flag_set flags ≡ true
     → ip_packet link (tcp_layout (record { proto = Tcp; src = src; dst = dst; a = a; b = b }) flags) 0 40
     ≡ Flow (record { proto = Tcp; src = src; dst = dst; a = a; b = b }) (segment.Tcp (kind flags)) (span_of 40 40)
@@ -81,6 +86,7 @@ tcp_read link src dst a b flags range valid =
     let h = u16_read b range.second in
     rw valid (λ i. Flow (record { proto = Tcp; src = e i; dst = f i; a = g i; b = h i }) (segment.Tcp (kind flags)) (span_of 40 40))
 
+-- a message that asks or answers
 icmp_read : (link : Link) (src dst a b : ℕ) → InRange src dst a b → is_query_type (b / 256) ≡ true
     → ip_packet link (icmp_layout (record { proto = Icmp; src = src; dst = dst; a = a; b = b })) 0 28
     ≡ Flow (record { proto = Icmp; src = src; dst = dst; a = a; b = b }) (segment.Icmp (b / 256)) empty_span
@@ -129,9 +135,11 @@ module _ (bytes : List ℕ) (frame : Frame) (packet : List ℕ) (carries : Carri
   abbrev place : ℕ
   place = frame.start + length carries.front
 
+  -- the packet stands behind the front as it does alone
   there : (link : Link) → ip_packet link bytes place (length packet) ≡ moved place (ip_packet link packet 0 (length packet))
   there link = ip_same bytes packet place 0 (length packet) place (behind_front bytes frame packet carries) (omega arith) link
 
+  -- for each link
   carried_by : (link : Link) → IsLinkHeader link carries.front
       → packet_behind link bytes frame.start frame.captured ≡ moved place (ip_packet link packet 0 (length packet))
   carried_by Raw none =
@@ -157,6 +165,7 @@ module _ (bytes : List ℕ) (frame : Frame) (packet : List ℕ) (carries : Carri
 of_fields : (t : Tuple) (proto : Proto) → t.proto ≡ proto → record { proto = proto; src = t.src; dst = t.dst; a = t.a; b = t.b } ≡ t
 of_fields t proto is = λ i. record { proto = sym is i; src = t.src; dst = t.dst; a = t.a; b = t.b }
 
+-- a frame that carries a packet of UDP
 pub udp_laid_out : UdpLayoutsAreFlows
 udp_laid_out bytes frame t is valid carries =
     subst (λ (u : Tuple). is_valid u ≡ true → (c : Carries bytes frame (udp_layout u)) → packet_of bytes frame ≡ Flow u segment.Udp empty_span)
@@ -165,6 +174,7 @@ udp_laid_out bytes frame t is valid carries =
     ∙ ap (λ (p : Packet). moved (frame.start + length c.front) p) (udp_read frame.link t.src t.dst t.a t.b (in_range t valid)))
     valid carries
 
+-- a frame that carries a segment of TCP
 pub tcp_laid_out : TcpLayoutsAreFlows
 tcp_laid_out bytes frame t flags is valid set carries =
     subst (λ (u : Tuple). is_valid u ≡ true → (c : Carries bytes frame (tcp_layout u flags)) → packet_of bytes frame
@@ -177,6 +187,7 @@ tcp_laid_out bytes frame t flags is valid set carries =
     ∙ (λ i. Flow (record { proto = Tcp; src = t.src; dst = t.dst; a = t.a; b = t.b }) (segment.Tcp (kind flags)) (span_of (end i) (end i))))
     valid carries
 
+-- a frame that carries a message that asks or answers
 pub icmp_laid_out : IcmpLayoutsAreFlows
 icmp_laid_out bytes frame t is valid carries =
     subst (λ (u : Tuple). is_valid u ≡ true → (c : Carries bytes frame (icmp_layout u)) → packet_of bytes frame ≡ Flow u (segment.Icmp (u.b / 256)) empty_span)
@@ -190,6 +201,7 @@ icmp_laid_out bytes frame t is valid carries =
 no_query : (type : ℕ) → is_error_type type ≡ true → is_query_type type ≡ false
 no_query type h = grind (arith, nat_tests)
 
+-- an error about a packet of UDP
 of_udp : (link : Link) (source destination type code src dst a b : ℕ)
     → destination < 2 ^ 32 → is_error_type type ≡ true → InRange src dst a b
     → ip_packet link (error_layout source destination type code (record { proto = Udp; src = src; dst = dst; a = a; b = b })) 0 56
@@ -203,6 +215,7 @@ of_udp link source destination type code src dst a b below wrong range =
     let h = u16_read b range.second in
     rw (no_query type wrong, wrong) (λ i. Error (record { proto = Udp; src = e i; dst = f i; a = g i; b = h i }) (d i))
 
+-- an error about a segment of TCP
 of_tcp : (link : Link) (source destination type code src dst a b : ℕ)
     → destination < 2 ^ 32 → is_error_type type ≡ true → InRange src dst a b
     → ip_packet link (error_layout source destination type code (record { proto = Tcp; src = src; dst = dst; a = a; b = b })) 0 56
@@ -216,6 +229,7 @@ of_tcp link source destination type code src dst a b below wrong range =
     let h = u16_read b range.second in
     rw (no_query type wrong, wrong) (λ i. Error (record { proto = Tcp; src = e i; dst = f i; a = g i; b = h i }) (d i))
 
+-- an error about a message that asks or answers
 of_icmp : (link : Link) (source destination type code src dst a b : ℕ)
     → destination < 2 ^ 32 → is_error_type type ≡ true → InRange src dst a b → is_query_type (b / 256) ≡ true
     → ip_packet link (error_layout source destination type code (record { proto = Icmp; src = src; dst = dst; a = a; b = b })) 0 56
@@ -229,6 +243,7 @@ of_icmp link source destination type code src dst a b below wrong range asked =
     let h : b / 256 * 256 + b % 256 ≡ b = omega arith in
     rw (no_query type wrong, wrong, asked) (λ i. Error (record { proto = Icmp; src = e i; dst = f i; a = g i; b = h i }) (d i))
 
+-- an error about a packet of any protocol
 error_read : (link : Link) (source destination type code src dst a b : ℕ) (proto : Proto)
     → destination < 2 ^ 32 → is_error_type type ≡ true → is_valid (record { proto = proto; src = src; dst = dst; a = a; b = b }) ≡ true
     → ip_packet link (error_layout source destination type code (record { proto = proto; src = src; dst = dst; a = a; b = b })) 0 56
@@ -250,6 +265,7 @@ error_length source destination type code src dst a b Icmp = refl
 error_length source destination type code src dst a b Tcp = refl
 error_length source destination type code src dst a b Udp = refl
 
+-- a frame that carries an error
 pub error_laid_out : ErrorLayoutsAreErrors
 error_laid_out bytes frame source destination type code t below wrong valid carries =
     let long = error_length source destination type code t.src t.dst t.a t.b t.proto in

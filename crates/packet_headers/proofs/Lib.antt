@@ -1,4 +1,4 @@
-pub mod CaptureEnding
+pub mod CaptureOrFault
 pub mod CaptureEnds
 pub mod CaptureFrames
 pub mod Ports
