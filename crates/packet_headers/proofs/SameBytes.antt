@@ -1,6 +1,5 @@
 -- Two places from which on so many bytes are the same.
-use Rattle.std.proofs.Common.{◌≡◌, ℕ, ◌+◌, ◌*◌, ◌<◌, ◌≤◌, Bool, true, false, cond, ◌&&◌, List, take, drop, refl, sym, ◌∙◌, subst, arith}
-use Rattle.std.proofs.lemmas.Bool.Decides.{nat_tests}
+use Rattle.std.proofs.Common.{◌≡◌, ℕ, ◌+◌, ◌*◌, ◌<◌, ◌≤◌, Bool, true, false, cond, List, take, drop, refl, sym, ◌∙◌, subst, arith}
 use Rattle.std.proofs.lemmas.List.{get_or-take, get_or-drop}
 use Rattle.std.specs.Prelude.{slice_index}
 use Rattle.packet_headers.specs.ByteOrder.{big_u16_at, big_u32_at}
@@ -15,6 +14,7 @@ same_behind bytes other at place count same i j k rest here there fits = record 
   each = λ x y n from to below. same.each x y (k + n) (omega arith) (omega arith) (omega arith);
 }
 
+-- the two bytes at a place are the same number
 pub u16_same : (bytes other : List ℕ) (at place count : ℕ) → Same bytes other at place count
     → (k : ℕ) → k + 2 ≤ count → big_u16_at bytes (at + k) ≡ big_u16_at other (place + k)
 u16_same bytes other at place count same k fits =
@@ -22,6 +22,7 @@ u16_same bytes other at place count same k fits =
     let low = same.each (at + k + 1) (place + k + 1) (k + 1) (omega arith) (omega arith) (omega arith) in
     λ i. 256 * high i + low i
 
+-- and so are four bytes
 pub u32_same : (bytes other : List ℕ) (at place count : ℕ) → Same bytes other at place count
     → (k : ℕ) → k + 4 ≤ count → big_u32_at bytes (at + k) ≡ big_u32_at other (place + k)
 u32_same bytes other at place count same k fits =

@@ -1,8 +1,7 @@
 -- A capture file (pcap 2.4): a header, and records that follow one another without gaps up to the
 -- last byte.
-use Rattle.std.specs.Prelude.{◌≡◌, ◌<◌, ◌+◌, ◌^◌, ℕ, Bool, true, nat_le, List, [], ◌∷◌, length, Result, Ok, Err}
+use Rattle.std.specs.Prelude.{◌≡◌, ◌<◌, ◌+◌, ◌^◌, ℕ, Bool, true, nat_le, List, [], ◌∷◌, length, Ok, Err, ⊤}
 use Rattle.std.specs.List.{list_all}
-use Rattle.room_list.specs.Roomed.{Roomed}
 use Rattle.packet_headers.specs.declared.frame.Frame.{Frame}
 use Rattle.packet_headers.specs.declared.capture.CaptureFault.{CaptureFault}
 use Rattle.packet_headers.specs.declared.capture.CaptureFault.TheVariants.{ShortHeader, BadMagic, BadVersion, LinkType, CutRecord, TooLong, Fraction}
@@ -51,11 +50,10 @@ HasFault bytes (CutRecord index offset) = IsBroken bytes index offset Cut
 HasFault bytes (TooLong index) = (offset : ℕ) × IsBroken bytes index offset Oversized
 HasFault bytes (Fraction index) = (offset : ℕ) × IsBroken bytes index offset BadFraction
 
--- what reading the bytes answers; want of memory says nothing of them
-abbrev pub ReadsAs : List ℕ → Result (Roomed Frame) CaptureError → Type 0
-ReadsAs bytes (Ok frames) = IsCapture bytes frames.items
-ReadsAs bytes (Err (Fault fault)) = HasFault bytes fault
-ReadsAs bytes (Err NoMemory) = Unit {0}
+-- why bytes were not read: they have this fault; want of memory says nothing of them
+abbrev pub IsReason : List ℕ → CaptureError → Type 0
+IsReason bytes (Fault fault) = HasFault bytes fault
+IsReason bytes NoMemory = ⊤
 
 -- the fault of the record of this number, which begins at this offset
 abbrev pub capture_fault_of : RecordFault → ℕ → ℕ → CaptureFault

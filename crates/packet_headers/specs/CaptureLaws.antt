@@ -1,4 +1,4 @@
--- What bytes are: a capture file of some frames, or none for a reason; and they determine which.
+-- What holds of all bytes as capture files.
 use Rattle.std.specs.Prelude.{◌≡◌, ◌⊎◌, ℕ, List}
 use Rattle.packet_headers.specs.declared.frame.Frame.{Frame}
 use Rattle.packet_headers.specs.declared.capture.CaptureFault.{CaptureFault}

@@ -13,13 +13,7 @@ captured_bytes bytes frame = take frame.captured (drop frame.start bytes)
 
 -- the frame in a file that has nothing but its bytes
 abbrev pub alone : Frame → Frame
-alone frame = record {
-  moment = frame.moment;
-  start = 0;
-  captured = frame.captured;
-  original = frame.original;
-  link = frame.link;
-}
+alone frame = record frame { start = 0 }
 
 -- the span where so many bytes more stand before it; a span that tells no place stays as it is
 abbrev pub moved_span : ℕ → Span → Span

@@ -15,3 +15,5 @@ pub mod IcmpPacket
 pub mod Classify
 pub mod ClassifySound
 pub mod ClassifyLaws
+pub mod LayoutLaws
+pub mod PacketLayout

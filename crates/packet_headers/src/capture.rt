@@ -3,7 +3,7 @@
 ghost use Rattle.std.specs.Prelude.{◌≡◌, ◌+◌, ◌^◌, ◌<◌, ◌≤◌, Ok, length, IfOk, IfErr, OnOk};
 ghost use Rattle.packet_headers.specs.CaptureHeader.{has_version, header_of, layout_at, link_of, resolution_of};
 ghost use Rattle.packet_headers.specs.CaptureRecord.{frame_end, microseconds_of, parts_of_second, record_at};
-ghost use Rattle.packet_headers.specs.Capture.{AreInside, AreTimely, capture_fault_of, HasFault, ReadsAs};
+ghost use Rattle.packet_headers.specs.Capture.{AreInside, AreTimely, capture_fault_of, HasFault, IsCapture, IsReason};
 
 use crate::byte_order::{Endian, u16_at, u32_at};
 use crate::frame::{Frame, Frames, Link};
@@ -93,6 +93,7 @@ pub enum Resolution {
 /// What a file's magic number says.
 #[derive(Clone, Copy)]
 pub struct Layout {
+    /// That of all numbers of the file.
     pub order: Endian,
     pub resolution: Resolution,
 }
@@ -260,7 +261,8 @@ fn capture_fault(fault: RecordFault, index: u64, offset: u64) -> CaptureFault
 fn read_records(alloc: Global, bytes: &[u8], form: Form) -> Result<Frames, CaptureError>
     requires room { 24 ≤ length bytes.now }
     requires header { header_of bytes.now ≡ Ok form }
-    ensures exact { ReadsAs bytes.now result }
+    ensures frames { IfOk result (λ frames. IsCapture bytes.now frames.items) }
+    ensures reason { IfErr result (IsReason bytes.now) }
     ensures inside { IfOk result (λ frames. AreInside bytes.now frames.items) }
     ensures timely { IfOk result (λ frames. AreTimely frames.items) }
     ensures few { IfOk result (λ frames. length frames.items ≤ length bytes.now) }
@@ -284,7 +286,8 @@ fn read_records(alloc: Global, bytes: &[u8], form: Form) -> Result<Frames, Captu
 
 /// The frames of a capture, in the order of its records. The frames' bytes are not copied.
 pub fn read_capture(alloc: Global, bytes: &[u8]) -> Result<Frames, CaptureError>
-    ensures exact { ReadsAs bytes.now result }
+    ensures frames { IfOk result (λ frames. IsCapture bytes.now frames.items) }
+    ensures reason { IfErr result (IsReason bytes.now) }
     ensures inside { IfOk result (λ frames. AreInside bytes.now frames.items) }
     ensures timely { IfOk result (λ frames. AreTimely frames.items) }
     ensures few { IfOk result (λ frames. length frames.items ≤ length bytes.now) }

@@ -27,7 +27,7 @@ use udp::udp_packet;
 const ETHERNET_HEADER: usize = 14;
 
 /// The type of an Ethernet frame with an IPv4 packet (RFC 894).
-const IPV4: u16 = 0x0800;
+const ETHERTYPE_IPV4: u16 = 0x0800;
 
 /// A packet of another version than 4. With no link header it may be IPv6, which is not tracked.
 fn packet_of_version(link: Link, version: u8) -> Packet
@@ -80,7 +80,7 @@ fn ethernet_frame(bytes: &[u8], at: usize, captured: usize) -> Packet
     if captured < ETHERNET_HEADER {
         return Packet::Invalid;
     }
-    if big_u16_at(bytes, at + 12) != IPV4 {
+    if big_u16_at(bytes, at + 12) != ETHERTYPE_IPV4 {
         return Packet::Untracked(Untracked::Link);
     }
     ip_packet(

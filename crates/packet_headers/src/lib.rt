@@ -7,6 +7,7 @@ pub mod capture_laws;
 pub mod classify;
 pub mod classify_laws;
 pub mod frame;
+pub mod layout_laws;
 pub mod packet;
 
 pub use byte_order::Endian;

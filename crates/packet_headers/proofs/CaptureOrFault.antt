@@ -1,5 +1,5 @@
 -- Each list of bytes is a capture file of some frames, or has a fault.
-use Rattle.std.proofs.Common.{◌≡◌, ℕ, zero, suc, ◌+◌, ◌<◌, ◌≤◌, Bool, true, false, ltb, cond, ◌⊎◌, Option, Some, None, List, [], ◌∷◌, length, Result, Ok, Err, refl, sym, subst, inl, inr, arith}
+use Rattle.std.proofs.Common.{◌≡◌, ℕ, zero, suc, ◌+◌, ◌<◌, ◌≤◌, Bool, true, false, ltb, cond, ◌⊎◌, Option, Some, None, List, [], ◌∷◌, length, Result, Ok, Err, refl, subst, inl, inr, arith}
 use Rattle.std.specs.Prelude.{if◌then◌else◌, nat_le, nat_lt}
 use Rattle.std.proofs.lemmas.Bool.Decides.{nat_tests}
 use Rattle.packet_headers.specs.declared.frame.Frame.{Frame}
@@ -20,9 +20,11 @@ passed : {X E : Type 0} (test : Bool) (fault : E) (next : Result X E) (x : X)
 passed true fault next x h = cc
 passed false fault next x h = (refl, h)
 
+-- one record is one frame
 same_frame : (found : Result Frame RecordFault) (frame other : Frame) → found ≡ Ok frame → found ≡ Ok other → frame ≡ other
 same_frame found frame other h k = cc
 
+-- its end, where the last test for a cut record did not hold
 ends_of : (bytes : List ℕ) (at captured : ℕ) → nat_lt (length bytes) (at + 16 + captured) ≡ false
     → (at < at + 16 + captured) × (at + 16 + captured ≤ length bytes)
 ends_of bytes at captured h = (omega arith, grind (arith, nat_tests))
@@ -56,6 +58,7 @@ record Fills (bytes : List ℕ) (form : Form) (at : ℕ) : Type 0 where
   frames : List Frame
   records : Records bytes form at frames (length bytes)
 
+-- a whole record in front of what is known of the bytes behind it
 more : (bytes : List ℕ) (form : Form) (at : ℕ) (frame : Frame) → record_at bytes form at ≡ Ok frame
     → Fills bytes form (frame_end frame) ⊎ Breaks bytes form (frame_end frame) → Fills bytes form at ⊎ Breaks bytes form at
 more bytes form at frame here (inl f) = inl (record { frames = frame ∷ f.frames; records = (here, f.records) })
@@ -68,6 +71,7 @@ more bytes form at frame here (inr b) = inr (record {
   broken = b.broken;
 })
 
+-- at the end of the bytes no record is left
 at_end : (bytes : List ℕ) (form : Form) (at : ℕ) → at ≡ length bytes → Fills bytes form at
 at_end bytes form at h = record { frames = []; records = h }
 
@@ -107,14 +111,17 @@ IsOfHeader (Err (CutRecord index offset)) = ⊥
 IsOfHeader (Err (TooLong index)) = ⊥
 IsOfHeader (Err (Fraction index)) = ⊥
 
+-- a fault of the header on either side of a test
 by_test : (test : Bool) (one other : Result Form CaptureFault) → IsOfHeader one → IsOfHeader other → IsOfHeader (cond test one other)
 by_test true one other a b = a
 by_test false one other a b = b
 
+-- the link gives a form, or a fault of the header
 by_link : (layout : Layout) (number : ℕ) (link : Option Link) → IsOfHeader (form_of layout number link)
 by_link layout number (Some link) = tt
 by_link layout number None = tt
 
+-- and so does what the magic number says
 by_layout : (bytes : List ℕ) (layout : Option Layout) → IsOfHeader (form_in bytes layout)
 by_layout bytes None = tt
 by_layout bytes (Some layout) =
@@ -122,10 +129,12 @@ by_layout bytes (Some layout) =
     by_test (has_version layout.order bytes) (form_of layout number (link_of number)) (Err BadVersion)
     (by_link layout number (link_of number)) tt
 
+-- the header of a file has no fault of a record
 of_header : (bytes : List ℕ) → IsOfHeader (header_of bytes)
 unfolding header_of
 of_header bytes = by_test (nat_lt (length bytes) 24) (Err ShortHeader) (form_in bytes (layout_at bytes)) tt (by_layout bytes (layout_at bytes))
 
+-- a fault of the header is a fault of the bytes
 header_fault : (bytes : List ℕ) (fault : CaptureFault) → header_of bytes ≡ Err fault → HasFault bytes fault
 header_fault bytes ShortHeader h = h
 header_fault bytes BadMagic h = h
@@ -135,12 +144,14 @@ header_fault bytes (CutRecord index offset) h = absurd (subst IsOfHeader h (of_h
 header_fault bytes (TooLong index) h = absurd (subst IsOfHeader h (of_header bytes))
 header_fault bytes (Fraction index) h = absurd (subst IsOfHeader h (of_header bytes))
 
+-- a record with a fault is a fault of the bytes
 record_fault : (bytes : List ℕ) (index offset : ℕ) (fault : RecordFault)
     → IsBroken bytes index offset fault → HasFault bytes (capture_fault_of fault index offset)
 record_fault bytes index offset Cut broken = broken
 record_fault bytes index offset Oversized broken = (offset, broken)
 record_fault bytes index offset BadFraction broken = (offset, broken)
 
+-- room for a header
 enough : (n : ℕ) → nat_lt n 24 ≡ false → 24 ≤ n
 enough n h = grind (arith, nat_tests)
 
@@ -153,6 +164,7 @@ header_fits bytes form h =
 abbrev Ends : List ℕ → Type 0
 Ends bytes = ((frames : List Frame) × IsCapture bytes frames) ⊎ ((fault : CaptureFault) × HasFault bytes fault)
 
+-- what stands behind the header decides
 behind : (bytes : List ℕ) (form : Form) → header_of bytes ≡ Ok form
     → Fills bytes form first_record ⊎ Breaks bytes form first_record → Ends bytes
 behind bytes form header (inl f) = inl (f.frames, record { form = form; header = header; records = f.records })
@@ -170,10 +182,12 @@ behind bytes form header (inr b) =
       }),
     )
 
+-- the header decides first
 by_header : (bytes : List ℕ) (found : Result Form CaptureFault) → header_of bytes ≡ found → Ends bytes
 by_header bytes (Ok form) h =
     behind bytes form h (walk (length bytes) bytes form first_record (header_fits bytes form h) (omega arith))
 by_header bytes (Err fault) h = inr (fault, header_fault bytes fault h)
 
+-- bytes are a capture, or are told a fault
 pub captured_or_told : (bytes : List ℕ) → Ends bytes
 captured_or_told bytes = by_header bytes (header_of bytes) refl
