@@ -1,5 +1,5 @@
 -- What the inputs are decides how a run ends.
-use Rattle.std.proofs.Common.{◌≡◌, ◌≢◌, ℕ, zero, suc, ◌≤◌, ◌<◌, ◌⊎◌, Option, Some, None, List, [], ◌∷◌, length, refl, sym, ap, subst, inl, inr, arith, ◌∙◌}
+use Rattle.std.proofs.Common.{◌≡◌, ℕ, zero, suc, Option, Some, None, List, [], ◌∷◌, refl, sym, ap, subst, inl, inr, arith}
 use Rattle.std.specs.Prelude.{IfSome, IsSomeAnd}
 use Rattle.std.proofs.lemmas.Bool.{cases_order}
 use Rattle.ct_io.specs.Counts.{Rose}
@@ -16,7 +16,7 @@ use Rattle.replay_top.specs.Flaw.{flaw_status, HasFlaw, IsRead}
 use Rattle.replay_top.specs.Inputs.{AreAllRead, clean, Finding, Finds, FirstFlaw, flawed, misused, Reaches}
 use Rattle.replay_top.specs.Internal.Ending.{HasCauseAt}
 use Rattle.replay_top.specs.Laws.{FlawsAreUnique, ReadFilesHaveNoFlaw}
-use Rattle.replay_top.specs.Replay.{Gave, GaveEach, IsReplay, IsReplayOf}
+use Rattle.replay_top.specs.Replay.{GaveEach, IsReplay}
 use Rattle.replay_top.specs.Words.{files_named, name_at, Named}
 
 -- what holds of the bytes that were handed over holds of the contents, where they are told

@@ -1,14 +1,13 @@
 -- Which flaw bytes have.
-use Rattle.std.proofs.Common.{◌≡◌, ℕ, ◌≤◌, ◌<◌, ◌⊎◌, Bool, true, false, ◌||◌, is_none, Option, Some, None, List, [], ◌∷◌, map, length, refl, sym, ap, subst, inl, inr, arith, ◌∙◌}
+use Rattle.std.proofs.Common.{◌≡◌, ℕ, ◌≤◌, ◌⊎◌, Bool, true, false, ◌||◌, is_none, Option, Some, None, List, [], ◌∷◌, map, length, refl, ap, subst, inl, inr, arith}
 use Rattle.std.proofs.lemmas.Bool.{cases_lt}
-use Rattle.packet_headers.specs.declared.capture.CaptureFault.{CaptureFault}
 use Rattle.packet_headers.specs.declared.frame.Frame.{Frame}
-use Rattle.packet_headers.specs.Capture.{HasFault, IsCapture}
+use Rattle.packet_headers.specs.Capture.{IsCapture}
 use Rattle.packet_headers.specs.CaptureLaws.{BytesHaveFramesOrFault, CapturesAreUnique, CapturesHaveNoFault, FaultsAreUnique}
 use Rattle.history_book.specs.declared.packet.Arrival.{Arrival}
 use Rattle.replay_top.specs.declared.flaw.Flaw.{Flaw}
 use Rattle.replay_top.specs.declared.flaw.Flaw.TheVariants.{Fault, NotTracked, TooLong}
-use Rattle.replay_top.specs.Arrivals.{arrival_at, Arrive, has_other_flow, IsUnreadCapture, most_bytes}
+use Rattle.replay_top.specs.Arrivals.{arrival_at, Arrive, has_other_flow, most_bytes}
 use Rattle.replay_top.specs.Flaw.{HasFlaw, IsRead}
 use Rattle.replay_top.specs.Laws.{FilesAreReadOrFlawed, FlawsAreUnique, ReadFilesHaveNoFlaw}
 

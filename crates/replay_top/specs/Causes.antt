@@ -1,7 +1,7 @@
 -- Why a run is refused, and which status the inputs call for.
-use Rattle.std.specs.Prelude.{◌≡◌, ◌≢◌, ℕ, ◌<◌, ◌⊎◌, None, List, length, IfSome}
+use Rattle.std.specs.Prelude.{◌≡◌, ℕ, ◌<◌, ◌⊎◌, None, List, length, IfSome}
 use Rattle.ct_io.specs.Counts.{Rose}
-use Rattle.ct_io.specs.Source.{SameFaults, Source}
+use Rattle.ct_io.specs.Source.{Source}
 use Rattle.ct_io.specs.Tape.{Tape}
 use Rattle.replay_top.specs.declared.flaw.Refusal.{Refusal}
 use Rattle.replay_top.specs.declared.flaw.Refusal.TheVariants.{Flawed, Misused, NoMemory, NotOpened, NotRead}
@@ -48,7 +48,7 @@ pub record IsRefused (words : List (List ℕ)) (files files' : Source) (err err'
 abbrev pub FilesFailed : List (List ℕ) → Source → Source → Type 0
 FilesFailed words files files' =
     Named words (λ names. (file : ℕ) × (file < length names)
-        × Rose (files.open_faults (name_at names file)) (files'.open_faults (name_at names file)))
+    × Rose (files.open_faults (name_at names file)) (files'.open_faults (name_at names file)))
     ⊎ Rose files.read_faults files'.read_faults
 
 -- this status, or that of want of memory

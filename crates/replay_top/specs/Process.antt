@@ -1,5 +1,5 @@
 -- The words of a process.
-use Rattle.std.specs.Prelude.{◌≡◌, ℕ, List}
+use Rattle.std.specs.Prelude.{◌≡◌, List}
 use Rattle.std.specs.Iterator.Runs.{WholeRun}
 use Rattle.std.specs.Vec.Iter.{into_iter_steps}
 use Rattle.std.specs.declared.vec.IntoIter.{IntoIter}

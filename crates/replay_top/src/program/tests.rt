@@ -1,7 +1,11 @@
 //! Runs of the whole program, over files and sinks in memory.
 
 use super::top;
+use crate::flaw::{Flaw, ReplayError};
+use crate::input::replay_bytes;
+use builder::{Capture, PLAIN, QUERY, query_twice};
 use ct_io::{MemFiles, MemSink, NoGate};
+use packet_headers::capture::CaptureFault;
 use std::alloc::{AllocError, Global};
 use std::sync::Wait;
 use std::test::Fail;
@@ -52,25 +56,6 @@ thread 0 packets 2
 1 NEW id=0 @2
 script 0
 ";
-
-/// The query at 1 s, and again at this time in seconds and microseconds.
-fn query_twice(seconds: u8, micros: [u8; 3]) -> [u8; 120] {
-    let mut bytes = CAPTURE;
-    bytes[24] = 1;
-    bytes[25] = 0;
-    bytes[72] = seconds;
-    bytes[73] = 0;
-    bytes[76] = micros[0];
-    bytes[77] = micros[1];
-    bytes[78] = micros[2];
-    bytes[103] = 1;
-    bytes[107] = 2;
-    bytes[108] = 0x13;
-    bytes[109] = 0x88;
-    bytes[110] = 0;
-    bytes[111] = 0x35;
-    bytes
-}
 
 /// The calls of files, of writes to the output and of writes to the error output that are to fail.
 #[derive(Clone, Copy)]
@@ -131,13 +116,13 @@ fn run<R: Threads + Wait + Sync + AllocGlobal>(
 
 #[test]
 fn a_capture_is_replayed(rt: HostRuntime) -> Result<(), Fail> {
-    let expired = query_twice(31, [0, 0, 0]);
-    let touched = query_twice(30, [0x3f, 0x42, 0x0f]);
+    let expired = query_twice(rt.alloc(), 31, 0)?;
+    let touched = query_twice(rt.alloc(), 30, 999_999)?;
     let rows: [(&[u8], &str); 4] = [
         (&CAPTURE[..24], "events 0\nthread 0 packets 0\nscript 0\n"),
         (&CAPTURE, ANSWERED),
-        (&expired, EXPIRED),
-        (&touched, TOUCHED),
+        (expired.as_slice(), EXPIRED),
+        (touched.as_slice(), TOUCHED),
     ];
     for (bytes, text) in rows {
         let left = run(&rt, &["ctreplay", NAME], bytes, 1000, &NONE)?;
@@ -182,7 +167,7 @@ fn what_is_refused(rt: HostRuntime) -> Result<(), Fail> {
 
 #[test]
 fn each_call_of_the_outside_fails(rt: HostRuntime) -> Result<(), Fail> {
-    let expired = query_twice(31, [0, 0, 0]);
+    let expired = query_twice(rt.alloc(), 31, 0)?;
     let words: &[&str] = &["ctreplay", NAME];
     let rows: [(u64, u8, &str); 4] = [
         (0, 3, "ctreplay: c.pcap: open failed\n"),
@@ -196,7 +181,7 @@ fn each_call_of_the_outside_fails(rt: HostRuntime) -> Result<(), Fail> {
             out: NEVER,
             err: NEVER,
         };
-        let left = run(&rt, words, &expired, 1000, &faults)?;
+        let left = run(&rt, words, expired.as_slice(), 1000, &faults)?;
         assert_eq!(rt; left.status, status);
         assert_eq!(rt; left.reported, status == 0);
         assert_eq!(rt; left.out.bytes().is_empty(), status != 0);
@@ -206,8 +191,42 @@ fn each_call_of_the_outside_fails(rt: HostRuntime) -> Result<(), Fail> {
 }
 
 #[test]
+fn the_first_write_fails(rt: HostRuntime) -> Result<(), Fail> {
+    let faults = Faults {
+        files: NEVER,
+        out: 0,
+        err: NEVER,
+    };
+    let left = run(&rt, &["ctreplay", NAME], &CAPTURE[..24], 1000, &faults)?;
+    assert_eq!(rt; left.status, 4);
+    assert!(rt; left.reported);
+    assert!(rt; left.out.bytes().is_empty());
+    assert!(rt; left.err.bytes() == b"ctreplay: write failed\n".as_slice());
+    Ok(())
+}
+
+#[test]
+fn bytes_are_replayed(rt: HostRuntime) -> Result<(), Fail> {
+    let alloc = rt.alloc();
+    let report = replay_bytes(alloc, &CAPTURE).ok().ok_or("no report")?;
+    assert_eq!(rt; report.history.len(), 2);
+    assert_eq!(rt; report.live, 1);
+    let cut = replay_bytes(alloc, &CAPTURE[..119]);
+    assert!(rt;
+        matches!(
+            cut,
+            Err(ReplayError::Flawed(Flaw::Fault(CaptureFault::CutRecord {
+                index: 1,
+                offset: 72
+            })))
+        )
+    );
+    Ok(())
+}
+
+#[test]
 fn writes_fail(rt: HostRuntime) -> Result<(), Fail> {
-    let expired = query_twice(31, [0, 0, 0]);
+    let expired = query_twice(rt.alloc(), 31, 0)?;
     let words: &[&str] = &["ctreplay", NAME];
     let line = "ctreplay: write failed\n";
     for (out, room) in [(0, 1000), (1, 100), (NEVER, 100), (NEVER, 0)] {
@@ -216,7 +235,7 @@ fn writes_fail(rt: HostRuntime) -> Result<(), Fail> {
             out,
             err: NEVER,
         };
-        let left = run(&rt, words, &expired, room, &faults)?;
+        let left = run(&rt, words, expired.as_slice(), room, &faults)?;
         assert_eq!(rt; left.status, 4);
         assert!(rt; left.reported);
         let expected = if out == 0 { 0 } else { room };
@@ -230,7 +249,7 @@ fn writes_fail(rt: HostRuntime) -> Result<(), Fail> {
             out: 0,
             err,
         };
-        let left = run(&rt, words, &expired, 1000, &faults)?;
+        let left = run(&rt, words, expired.as_slice(), 1000, &faults)?;
         assert_eq!(rt; left.status, 4);
         assert!(rt; line.as_bytes().starts_with(left.err.bytes()));
         assert!(rt; left.err.bytes().len() < line.len());
@@ -239,22 +258,21 @@ fn writes_fail(rt: HostRuntime) -> Result<(), Fail> {
 }
 
 /// One query of each of so many clients, and then the first client's again.
-fn many_flows(alloc: Global, flows: u32) -> Result<Vec<u8>, AllocError> {
-    let mut bytes = Vec::from_slice(alloc, &CAPTURE[..24])?;
-    let (_, records) = CAPTURE.split_at(24);
-    let mut record = [0; 48];
-    record.copy_from_slice(records.split_at(48).0);
+fn many_flows(alloc: Global, flows: u32) -> Result<Capture, AllocError> {
+    let mut capture = Capture::new(alloc, PLAIN)?;
+    let mut query = QUERY;
     for flow in 0..flows {
-        record[29] = (flow / 65536 % 256) as u8;
-        record[30] = (flow / 256 % 256) as u8;
-        record[31] = (flow % 256) as u8;
-        bytes.extend_from_slice(&record)?;
+        let [_, high, middle, low] = flow.to_be_bytes();
+        query[13] = high;
+        query[14] = middle;
+        query[15] = low;
+        capture.packet(1000, 0, &query)?;
     }
-    record[29] = 0;
-    record[30] = 0;
-    record[31] = 0;
-    bytes.extend_from_slice(&record)?;
-    Ok(bytes)
+    query[13] = 0;
+    query[14] = 0;
+    query[15] = 0;
+    capture.packet(1000, 0, &query)?;
+    Ok(capture)
 }
 
 #[test]
@@ -274,4 +292,5 @@ script 0
     Ok(())
 }
 
+mod builder;
 mod captures;

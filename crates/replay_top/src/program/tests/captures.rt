@@ -1,7 +1,7 @@
 //! Captures with damage, and with frames that are not of UDP flows.
 
+use super::builder::{Form, QUERY, answered, captured};
 use super::{ANSWERED, CAPTURE, NAME, NONE, run};
-use std::alloc::{AllocError, Global};
 use std::test::Fail;
 
 /// The capture with this byte changed.
@@ -44,27 +44,6 @@ fn damaged_captures(rt: HostRuntime) -> Result<(), Fail> {
     }
     Ok(())
 }
-
-/// A raw IP packet of UDP, TCP or ICMP in a capture of its own.
-fn captured(alloc: Global, packets: &[&[u8]]) -> Result<Vec<u8>, AllocError> {
-    let mut bytes = Vec::from_slice(alloc, &CAPTURE[..24])?;
-    for packet in packets {
-        let mut header = [0; 16];
-        header[0] = 0xe8;
-        header[1] = 3;
-        header[8] = (packet.len() % 256) as u8;
-        header[12] = header[8];
-        bytes.extend_from_slice(&header)?;
-        bytes.extend_from_slice(packet)?;
-    }
-    Ok(bytes)
-}
-
-/// A query of UDP from 10.0.0.1:5000 to 10.0.0.2:53.
-const QUERY: [u8; 32] = [
-    0x45, 0, 0, 0x20, 0, 0, 0, 0, 0x40, 0x11, 0, 0, 10, 0, 0, 1, 10, 0, 0, 2, 0x13, 0x88, 0, 0x35,
-    0, 0x0c, 0, 0, 0, 0, 0, 0,
-];
 
 /// The word of 10.0.0.2 to 10.0.0.1 that the query's port is unreachable, with the query in it.
 const UNREACHABLE: [u8; 60] = [
@@ -184,66 +163,6 @@ fn a_flow_that_is_not_tracked_yet(rt: HostRuntime) -> Result<(), Fail> {
     Ok(())
 }
 
-/// The order of a file's numbers, what its times count in, and whether its frames have an Ethernet header.
-#[derive(Clone, Copy)]
-struct Form {
-    highest_first: bool,
-    nanoseconds: bool,
-    ethernet: bool,
-}
-
-fn number(bytes: &mut Vec<u8>, form: Form, value: u32) -> Result<(), AllocError> {
-    let lowest_first = [
-        (value % 256) as u8,
-        (value / 256 % 256) as u8,
-        (value / 65536 % 256) as u8,
-        (value / 0x100_0000) as u8,
-    ];
-    let [a, b, c, d] = lowest_first;
-    if form.highest_first {
-        bytes.extend_from_slice(&[d, c, b, a])
-    } else {
-        bytes.extend_from_slice(&[a, b, c, d])
-    }
-}
-
-/// The query and its answer in a file of this form.
-fn of_form(alloc: Global, form: Form) -> Result<Vec<u8>, AllocError> {
-    let mut bytes = Vec::new(alloc);
-    let magic = if form.nanoseconds {
-        0xa1b2_3c4d
-    } else {
-        0xa1b2_c3d4
-    };
-    let version = if form.highest_first {
-        0x0002_0004
-    } else {
-        0x0004_0002
-    };
-    let link = if form.ethernet { 1 } else { 101 };
-    for value in [magic, version, 0, 0, 65535, link] {
-        number(&mut bytes, form, value)?;
-    }
-    let half = if form.nanoseconds {
-        500_000_000
-    } else {
-        500_000
-    };
-    let length = if form.ethernet { 46 } else { 32 };
-    let (_, records) = CAPTURE.split_at(24);
-    let (query, answer) = records.split_at(48);
-    for (record, fraction) in [(query, 0), (answer, half)] {
-        for value in [1000, fraction, length, length] {
-            number(&mut bytes, form, value)?;
-        }
-        if form.ethernet {
-            bytes.extend_from_slice(&[2, 0, 0, 0, 0, 2, 2, 0, 0, 0, 0, 1, 8, 0])?;
-        }
-        bytes.extend_from_slice(record.split_at(16).1)?;
-    }
-    Ok(bytes)
-}
-
 #[test]
 fn each_form_has_the_same_report(rt: HostRuntime) -> Result<(), Fail> {
     for highest_first in [false, true] {
@@ -254,7 +173,7 @@ fn each_form_has_the_same_report(rt: HostRuntime) -> Result<(), Fail> {
                     nanoseconds,
                     ethernet,
                 };
-                let bytes = of_form(rt.alloc(), form)?;
+                let bytes = answered(rt.alloc(), form)?;
                 let left = run(&rt, &["ctreplay", NAME], bytes.as_slice(), 1000, &NONE)?;
                 assert_eq!(rt; left.status, 0);
                 assert!(rt; left.out.bytes() == ANSWERED.as_bytes());

@@ -1,0 +1,120 @@
+//! Captures for tests, made record by record.
+
+use std::alloc::{AllocError, Global};
+
+/// The order of a file's numbers, what its times count in, and whether its frames have an Ethernet header.
+#[derive(Clone, Copy)]
+pub struct Form {
+    pub highest_first: bool,
+    pub nanoseconds: bool,
+    pub ethernet: bool,
+}
+
+/// The form of most tests: the lowest byte first, microseconds, raw IP.
+pub const PLAIN: Form = Form {
+    highest_first: false,
+    nanoseconds: false,
+    ethernet: false,
+};
+
+/// A query of UDP from 10.0.0.1:5000 to 10.0.0.2:53.
+pub const QUERY: [u8; 32] = [
+    0x45, 0, 0, 0x20, 0, 0, 0, 0, 0x40, 0x11, 0, 0, 10, 0, 0, 1, 10, 0, 0, 2, 0x13, 0x88, 0, 0x35,
+    0, 0x0c, 0, 0, 0, 0, 0, 0,
+];
+
+/// The answer to the query.
+pub const ANSWER: [u8; 32] = [
+    0x45, 0, 0, 0x20, 0, 0, 0, 0, 0x40, 0x11, 0, 0, 10, 0, 0, 2, 10, 0, 0, 1, 0, 0x35, 0x13, 0x88,
+    0, 0x0c, 0, 0, 0, 0, 0, 0,
+];
+
+/// A capture as it grows.
+#[derive(Drop)]
+pub struct Capture {
+    bytes: Vec<u8>,
+    form: Form,
+}
+
+impl Capture {
+    /// A file of this form without records.
+    pub fn new(alloc: Global, form: Form) -> Result<Capture, AllocError> {
+        let mut capture = Capture {
+            bytes: Vec::new(alloc),
+            form,
+        };
+        let magic = if form.nanoseconds {
+            0xa1b2_3c4d
+        } else {
+            0xa1b2_c3d4
+        };
+        let version = if form.highest_first {
+            0x0002_0004
+        } else {
+            0x0004_0002
+        };
+        let link = if form.ethernet { 1 } else { 101 };
+        for value in [magic, version, 0, 0, 65535, link] {
+            capture.number(value)?;
+        }
+        Ok(capture)
+    }
+
+    fn number(&mut self, value: u32) -> Result<(), AllocError> {
+        if self.form.highest_first {
+            self.bytes.extend_from_slice(&value.to_be_bytes())
+        } else {
+            self.bytes.extend_from_slice(&value.to_le_bytes())
+        }
+    }
+
+    /// Adds a record of this packet at a time in seconds and microseconds.
+    pub fn packet(&mut self, seconds: u32, micros: u32, packet: &[u8]) -> Result<(), AllocError> {
+        let fraction = if self.form.nanoseconds {
+            micros.wrapping_mul(1000)
+        } else {
+            micros
+        };
+        let header: &[u8] = if self.form.ethernet {
+            &[2, 0, 0, 0, 0, 2, 2, 0, 0, 0, 0, 1, 8, 0]
+        } else {
+            &[]
+        };
+        let length = ((header.len() % 65536) + (packet.len() % 65536)) as u32;
+        for value in [seconds, fraction, length, length] {
+            self.number(value)?;
+        }
+        self.bytes.extend_from_slice(header)?;
+        self.bytes.extend_from_slice(packet)
+    }
+
+    /// The bytes of the file so far.
+    pub fn as_slice(&self) -> &[u8] {
+        self.bytes.as_slice()
+    }
+}
+
+/// A plain capture of these packets, all at 1000 s.
+pub fn captured(alloc: Global, packets: &[&[u8]]) -> Result<Capture, AllocError> {
+    let mut capture = Capture::new(alloc, PLAIN)?;
+    for packet in packets {
+        capture.packet(1000, 0, packet)?;
+    }
+    Ok(capture)
+}
+
+/// The query at 1000 s and its answer half a second later, in a file of this form.
+pub fn answered(alloc: Global, form: Form) -> Result<Capture, AllocError> {
+    let mut capture = Capture::new(alloc, form)?;
+    capture.packet(1000, 0, &QUERY)?;
+    capture.packet(1000, 500_000, &ANSWER)?;
+    Ok(capture)
+}
+
+/// The query at 1 s, and again at this time in seconds and microseconds.
+pub fn query_twice(alloc: Global, seconds: u32, micros: u32) -> Result<Capture, AllocError> {
+    let mut capture = Capture::new(alloc, PLAIN)?;
+    capture.packet(1, 0, &QUERY)?;
+    capture.packet(seconds, micros, &QUERY)?;
+    Ok(capture)
+}
