@@ -2,16 +2,12 @@
 use Rattle.std.specs.Prelude.{◌≡◌, ◌≢◌, ℕ, ◌+◌, ◌<◌, ◌≤◌, true, Some, List, [], ◌∷◌, ◌++◌, length, slice_get, AllPairs, All}
 use Rattle.history_book.specs.declared.event.Event.{Event}
 use Rattle.history_book.specs.declared.event.Event.TheVariants.{Confirm, Destroy}
-use Rattle.history_book.specs.declared.event.Note.{Note}
 use Rattle.history_book.specs.declared.event.Why.{Why}
-use Rattle.history_book.specs.declared.packet.Arrival.{Arrival}
 use Rattle.history_book.specs.declared.record.Record.{Record}
-use Rattle.history_book.specs.declared.verdict.Class.{Class}
 use Rattle.history_book.specs.Event.{may_happen}
 use Rattle.history_book.specs.History.{after, is_legal}
 use Rattle.history_book.specs.Point.{StartsWith}
 use Rattle.history_book.specs.State.{next}
-use Rattle.history_book.specs.Verdict.{FitsArrival}
 
 -- a legal history goes on with any event that may happen in the state it leaves
 abbrev pub LegalHistoriesGoOn : Type 0
@@ -29,6 +25,18 @@ abbrev pub FirstEventsStay : Type 0
 FirstEventsStay =
     (entries : ℕ) (log front : List Event) (p : ℕ) → StartsWith log front → is_legal entries log ≡ true → p ≤ length front
     → (is_legal entries front ≡ true) × (after log p ≡ after front p)
+
+-- the state at a point of a history is there, and the same, when the history goes on
+abbrev pub StatesStay : Type 0
+StatesStay =
+    (log front : List Event) (p : ℕ) → StartsWith log front → p ≤ length front
+    → (p ≤ length log) × (after log p ≡ after front p)
+
+-- an event of a history has its number when the history goes on
+abbrev pub EventsStay : Type 0
+EventsStay =
+    (log front : List Event) (n : ℕ) (e : Event) → StartsWith log front → slice_get front n ≡ Some e
+    → slice_get log n ≡ Some e
 
 -- two records share no id, no place, and no tuple in either direction
 pub record AreApart (r s : Record) : Type 0 where
@@ -70,9 +78,3 @@ DestroyedIdsStayDead =
     (entries : ℕ) (log : List Event) (n p id : ℕ) (why : Why) → is_legal entries log ≡ true
     → slice_get log n ≡ Some (Destroy id why) → n < p → p ≤ length log
     → All (λ r. r.id ≢ id) (after log p)
-
--- a verdict that fits still fits when the history goes on
-abbrev pub VerdictsStillFit : Type 0
-VerdictsStillFit =
-    (entries : ℕ) (log longer : List Event) (mark : ℕ) (arrival : Arrival) (own : List Note) (class : Class)
-    → StartsWith longer log → FitsArrival entries log mark arrival own class → FitsArrival entries longer mark arrival own class

@@ -1,15 +1,10 @@
 pub mod Protocol
 pub mod Record
 pub mod State
-pub mod Error
 pub mod Event
 pub mod History
 pub mod Point
 pub mod Find
 pub mod Label
 pub mod Notes
-pub mod Made
-pub mod Passed
-pub mod Full
-pub mod Verdict
 pub mod Laws

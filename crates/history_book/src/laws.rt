@@ -1,6 +1,6 @@
 //! What holds of every legal history: each law is the contract of a function that does nothing.
 
-ghost use Rattle.history_book.specs.Laws.{LegalHistoriesGoOn, StatesFollow, FirstEventsStay, RecordsAreApart, LiveRecordsAreConfirmed, DestroyedIdsStayDead, VerdictsStillFit};
+ghost use Rattle.history_book.specs.Laws.{LegalHistoriesGoOn, StatesFollow, FirstEventsStay, RecordsAreApart, LiveRecordsAreConfirmed, DestroyedIdsStayDead, EventsStay, StatesStay};
 
 /// A legal history goes on with any event that may happen in the state that it leaves.
 pub fn legal_histories_go_on()
@@ -17,6 +17,16 @@ pub fn first_events_stay()
     ensures { FirstEventsStay }
 {}
 
+/// The state at a point of a history stays as the history goes on.
+pub fn states_stay()
+    ensures { StatesStay }
+{}
+
+/// An event of a history keeps its number as the history goes on.
+pub fn events_stay()
+    ensures { EventsStay }
+{}
+
 /// In every state of a legal history no two records share a tuple in either direction, a place or an
 /// id.
 pub fn records_are_apart()
@@ -31,9 +41,4 @@ pub fn live_records_are_confirmed()
 /// An id that was destroyed is never live again.
 pub fn destroyed_ids_stay_dead()
     ensures { DestroyedIdsStayDead }
-{}
-
-/// A verdict that fits its packet still fits it when the history goes on.
-pub fn verdicts_still_fit()
-    ensures { VerdictsStillFit }
 {}

@@ -4,7 +4,6 @@
 pub mod event;
 pub mod find;
 pub mod laws;
-pub mod packet;
 pub mod protocol;
 pub mod record;
 pub mod report;

@@ -2,7 +2,7 @@
 use Rattle.std.proofs.Common.{◌≡◌, ℕ, ◌≤◌, List, take, length}
 use Rattle.room_list.specs.Roomed.{Roomed}
 use Rattle.packet_headers.specs.declared.frame.Frame.{Frame}
-use Rattle.history_book.specs.declared.packet.Arrival.{Arrival}
+use Rattle.packet_path.specs.declared.packet.Arrival.{Arrival}
 use Rattle.replay_top.specs.Arrivals.{Arrive}
 use Rattle.replay_top.specs.Flow.{AreTracked}
 

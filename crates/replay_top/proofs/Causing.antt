@@ -6,7 +6,7 @@ use Rattle.packet_headers.specs.Capture.{HasFault}
 use Rattle.packet_headers.specs.declared.frame.Frame.{Frame}
 use Rattle.packet_headers.specs.declared.capture.CaptureFault.{CaptureFault}
 use Rattle.packet_headers.proofs.CaptureEnds.{none_told, one_capture}
-use Rattle.history_book.specs.declared.packet.Arrival.{Arrival}
+use Rattle.packet_path.specs.declared.packet.Arrival.{Arrival}
 use Rattle.history_book.specs.declared.report.Report.{Report}
 use Rattle.replay_top.specs.declared.ending.Ending.{Ending}
 use Rattle.replay_top.specs.declared.ending.Ending.TheVariants.{Done, Usage, Input, NotYet, TooLong, NotOpened, NotRead, NotWritten, NoMemory}

@@ -7,16 +7,15 @@ use Rattle.std.proofs.Math.Seq.{take-length}
 use Rattle.room_list.specs.Roomed.{Roomed}
 use Rattle.history_book.specs.declared.event.Event.{Event}
 use Rattle.history_book.specs.declared.event.Numbered.{Numbered}
-use Rattle.history_book.specs.declared.packet.Arrival.{Arrival}
+use Rattle.packet_path.specs.declared.packet.Arrival.{Arrival}
 use Rattle.history_book.specs.declared.verdict.Verdict.{Verdict}
 use Rattle.history_book.specs.declared.record.Record.{Record}
 use Rattle.history_book.specs.declared.report.Report.{Report}
 use Rattle.history_book.specs.History.{after, is_legal}
 use Rattle.history_book.specs.Notes.{mark_at, mark_past}
 use Rattle.history_book.specs.Point.{StartsWith}
-use Rattle.history_book.specs.Verdict.{FitsArrival, points_of}
-use Rattle.history_book.proofs.Growth.{arrival_grows}
-use Rattle.history_book.proofs.Marks.{arrival_lower}
+use Rattle.packet_path.specs.Verdict.{FitsArrival, points_of}
+use Rattle.packet_path.specs.Laws.{LowerMarksFit, VerdictsStillFit}
 use Rattle.replay_top.specs.declared.book.Book.{Book}
 use Rattle.replay_top.specs.Book.{Holds, IsPlain, PlacesBelow}
 use Rattle.replay_top.specs.History.{events_of, IsNumberedFrom, notes_of, pool}
@@ -102,7 +101,7 @@ last_verdict log own first index mark p v new =
       ap (λ n. drop n own) new.made ∙ drop_all own,
     )
 
-module _ (longer log : List Event) (starts : StartsWith longer log) where
+module _ (still : VerdictsStillFit) (longer log : List Event) (starts : StartsWith longer log) where
   verdict_grows : (mine own : List Numbered) (first index mark : ℕ) (p : Arrival) (v : Verdict)
       → VerdictFits log mine first index mark p v → VerdictFits longer (mine ++ own) first index mark p v
   verdict_grows mine own first index mark p v f =
@@ -112,7 +111,7 @@ module _ (longer log : List Event) (starts : StartsWith longer log) where
         within = omega (arith, f.within, length-append mine own);
         named = subst (λ xs. AllByRecursion (λ (n : Numbered). n.index ≡ index) xs) same f.named;
         fits = subst (λ xs. FitsArrival pool longer mark p (notes_of xs) v.class) same
-            (arrival_grows longer log starts pool mark p (notes_of (take v.made mine)) v.class f.fits);
+            (still pool log longer mark p (notes_of (take v.made mine)) v.class starts f.fits);
       }
 
   pub verdicts_push : (mine own : List Numbered) (first index mark : ℕ) (ps : List Arrival) (vs : List Verdict)
@@ -207,7 +206,7 @@ replayed_start packets book verdicts records history none a b c = record {
   records_room = c;
 }
 
-module _ (packets : List Arrival) (d : Arrival) (index : ℕ) (book new : Book) (verdicts more : Roomed Verdict) (v : Verdict)
+module _ (still : VerdictsStillFit) (lower : LowerMarksFit) (packets : List Arrival) (d : Arrival) (index : ℕ) (book new : Book) (verdicts more : Roomed Verdict) (v : Verdict)
     (so_far : IsReplayed packets index book verdicts) (handled : Handled book new index (get_or packets index d) v)
     (holds : Holds new) where
   next_mark : marks 0 new.history.items (verdicts.items ++ v ∷ []) ≤ length new.history.items
@@ -239,14 +238,14 @@ module _ (packets : List Arrival) (d : Arrival) (index : ℕ) (book new : Book) 
       let more : take index packets ++ packet ∷ [] ≡ take (index + 1) packets = sym (take_more packets index d below) in
       subst (λ ps. VerdictsFit longer new.history.items 0 0 0 ps (verdicts.items ++ v ∷ [])) more
       (subst (λ h. VerdictsFit longer h 0 0 0 (take index packets ++ packet ∷ []) (verdicts.items ++ v ∷ [])) (sym handled.history)
-      (verdicts_push longer log (events_of handled.own, grown) book.history.items handled.own 0 0 0 (take index packets)
+      (verdicts_push still longer log (events_of handled.own, grown) book.history.items handled.own 0 0 0 (take index packets)
       verdicts.items packet v so_far.fit
       (record {
         starts = handled.first ∙ omega arith;
         made = handled.made;
         named = subst (λ k. AllByRecursion (λ (n : Numbered). n.index ≡ k) handled.own) (omega (arith, so_many))
             (indices_of index handled.own handled.by);
-        fits = arrival_lower pool longer (marks 0 book.history.items verdicts.items) (length book.history.items) packet
+        fits = lower pool longer (marks 0 book.history.items verdicts.items) (length book.history.items) packet
             (notes_of handled.own) v.class so_far.mark handled.fits;
       })))
 

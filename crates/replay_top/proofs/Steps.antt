@@ -8,15 +8,15 @@ use Rattle.std.proofs.lemmas.Option.{slice_get_within}
 use Rattle.tuple_core.specs.declared.Direction.TheVariants.{Original, Reply}
 use Rattle.tuple_core.specs.declared.Tuple.{Tuple}
 use Rattle.tuple_core.specs.Inverse.{inverse}
-use Rattle.history_book.specs.Error.{IsMisdirected, IsRelated, LooksUp}
+use Rattle.packet_path.specs.Error.{IsMisdirected, IsRelated, LooksUp}
 use Rattle.history_book.specs.declared.event.Event.{Event}
 use Rattle.history_book.specs.declared.event.Event.TheVariants.{Confirm, Destroy}
 use Rattle.history_book.specs.declared.event.Note.{Note}
 use Rattle.history_book.specs.declared.event.Numbered.{Numbered}
 use Rattle.history_book.specs.declared.event.Why.TheVariants as why
 use Rattle.history_book.specs.declared.find.Hit.{Hit}
-use Rattle.history_book.specs.declared.packet.Arrival.TheVariants as arrival
-use Rattle.history_book.specs.declared.packet.FlowPacket.{FlowPacket}
+use Rattle.packet_path.specs.declared.packet.Arrival.TheVariants as arrival
+use Rattle.packet_path.specs.declared.packet.FlowPacket.{FlowPacket}
 use Rattle.history_book.specs.declared.protocol.Outcome.{Outcome}
 use Rattle.history_book.specs.declared.protocol.Outcome.TheVariants.{Accept, Expired}
 use Rattle.history_book.specs.declared.protocol.Part.{Part}
@@ -37,7 +37,7 @@ use Rattle.history_book.specs.Point.{At, StartsWith}
 use Rattle.history_book.specs.Protocol.{accepted, is_expired, step_of}
 use Rattle.history_book.specs.Record.{has_id, has_original, has_place, has_reply, has_tuple}
 use Rattle.history_book.specs.State.{Found, live_under, original_first, with_part}
-use Rattle.history_book.specs.Verdict.{FitsClass}
+use Rattle.packet_path.specs.Verdict.{FitsClass}
 use Rattle.history_book.proofs.Entries.{each_filter, or_false_left, or_false_right, with_part-same}
 use Rattle.history_book.proofs.Points.{after-grows, get_grows, length_grows, starts_refl, starts_trans}
 use Rattle.history_book.proofs.Tuples.{same_tuple-true}

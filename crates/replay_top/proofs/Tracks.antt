@@ -8,7 +8,7 @@ use Rattle.tuple_core.specs.declared.Tuple.{Tuple}
 use Rattle.history_book.specs.declared.event.Event.{Event}
 use Rattle.history_book.specs.declared.event.Event.TheVariants.{Confirm}
 use Rattle.history_book.specs.declared.event.Numbered.{Numbered}
-use Rattle.history_book.specs.declared.packet.FlowPacket.{FlowPacket}
+use Rattle.packet_path.specs.declared.packet.FlowPacket.{FlowPacket}
 use Rattle.history_book.specs.declared.protocol.PartKind.{PartKind}
 use Rattle.history_book.specs.declared.protocol.PartKind.TheVariants as kind
 use Rattle.history_book.specs.declared.record.Record.{Record}

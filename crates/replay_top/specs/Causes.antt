@@ -2,7 +2,7 @@
 use Rattle.std.specs.Prelude.{◌≡◌, ℕ, ◌<◌, ◌≤◌, ◌⊎◌, Option, List, length, IsSomeAnd}
 use Rattle.packet_headers.specs.Capture.{HasFault}
 use Rattle.packet_headers.specs.declared.capture.CaptureFault.{CaptureFault}
-use Rattle.history_book.specs.declared.packet.Arrival.{Arrival}
+use Rattle.packet_path.specs.declared.packet.Arrival.{Arrival}
 use Rattle.history_book.specs.declared.report.Report.{Report}
 use Rattle.replay_top.specs.Arrivals.{IsReadCapture, IsUnreadCapture, most_bytes}
 use Rattle.replay_top.specs.Replay.{IsReplay, Names}

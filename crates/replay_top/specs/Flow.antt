@@ -5,9 +5,9 @@ use Rattle.tuple_core.specs.Tuple.{is_valid, number_of}
 use Rattle.tuple_core.specs.declared.Proto.TheVariants as proto
 use Rattle.tuple_core.specs.declared.Segment.{Segment}
 use Rattle.tuple_core.specs.declared.Segment.TheVariants.{Tcp, Udp, Icmp}
-use Rattle.history_book.specs.declared.packet.Arrival.{Arrival}
-use Rattle.history_book.specs.declared.packet.Arrival.TheVariants.{Untracked, Invalid, Flow, Error}
-use Rattle.history_book.specs.declared.packet.FlowPacket.{FlowPacket}
+use Rattle.packet_path.specs.declared.packet.Arrival.{Arrival}
+use Rattle.packet_path.specs.declared.packet.Arrival.TheVariants.{Untracked, Invalid, Flow, Error}
+use Rattle.packet_path.specs.declared.packet.FlowPacket.{FlowPacket}
 
 abbrev pub is_udp : Segment → Bool
 is_udp (Tcp kind) = false

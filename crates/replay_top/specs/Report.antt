@@ -4,13 +4,13 @@ use Rattle.std.specs.List.{AllByRecursion}
 use Rattle.room_list.specs.Roomed.{Roomed}
 use Rattle.history_book.specs.declared.event.Event.{Event}
 use Rattle.history_book.specs.declared.event.Numbered.{Numbered}
-use Rattle.history_book.specs.declared.packet.Arrival.{Arrival}
+use Rattle.packet_path.specs.declared.packet.Arrival.{Arrival}
 use Rattle.history_book.specs.declared.report.Report.{Report}
 use Rattle.history_book.specs.declared.verdict.Class.{Class}
 use Rattle.history_book.specs.declared.verdict.Verdict.{Verdict}
 use Rattle.history_book.specs.History.{after, is_legal}
 use Rattle.history_book.specs.Notes.{mark_at, mark_past}
-use Rattle.history_book.specs.Verdict.{FitsArrival, points_of}
+use Rattle.packet_path.specs.Verdict.{FitsArrival, points_of}
 use Rattle.replay_top.specs.History.{events_of, IsNumberedFrom, notes_of, pool}
 
 -- a thread's mark after a packet: no answer of it is older than its points and events so far

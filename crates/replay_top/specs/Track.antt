@@ -4,14 +4,14 @@ use Rattle.std.specs.List.{AllByRecursion}
 use Rattle.history_book.specs.declared.event.Event.TheVariants.{Confirm}
 use Rattle.history_book.specs.declared.event.Numbered.{Numbered}
 use Rattle.history_book.specs.declared.find.Hit.{Hit}
-use Rattle.history_book.specs.declared.packet.Arrival.{Arrival}
-use Rattle.history_book.specs.declared.packet.FlowPacket.{FlowPacket}
+use Rattle.packet_path.specs.declared.packet.Arrival.{Arrival}
+use Rattle.packet_path.specs.declared.packet.FlowPacket.{FlowPacket}
 use Rattle.history_book.specs.declared.protocol.Outcome.{Outcome}
 use Rattle.history_book.specs.declared.record.Record.{Record}
 use Rattle.history_book.specs.declared.verdict.Class.{Class}
 use Rattle.history_book.specs.declared.verdict.Verdict.{Verdict}
 use Rattle.history_book.specs.Protocol.{step_of}
-use Rattle.history_book.specs.Verdict.{FitsArrival, FitsClass, points_of}
+use Rattle.packet_path.specs.Verdict.{FitsArrival, FitsClass, points_of}
 use Rattle.replay_top.specs.declared.book.Book.{Book}
 use Rattle.replay_top.specs.Book.{Adds}
 use Rattle.replay_top.specs.History.{events_of, notes_of, pool}

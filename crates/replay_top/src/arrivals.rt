@@ -5,7 +5,7 @@ ghost use Rattle.packet_headers.specs.Capture.{AreInside, AreTimely};
 ghost use Rattle.replay_top.specs.Arrivals.{Arrive, arrival_at, flow_arrival, has_other_flow, why_of};
 ghost use Rattle.replay_top.specs.Flow.{AreTracked, is_tracked};
 
-use history_book::packet::{Arrival, FlowPacket};
+use packet_path::packet::{Arrival, FlowPacket};
 use history_book::verdict::UntrackedWhy;
 use packet_headers::classify::classify;
 use packet_headers::frame::Frame;

@@ -9,7 +9,7 @@ ghost use Rattle.replay_top.specs.Book.{Adds, Holds, IsPlain, touch_of};
 ghost use Rattle.replay_top.specs.History.{pool};
 
 use history_book::event::{Event, Numbered, Why};
-use history_book::packet::FlowPacket;
+use packet_path::packet::FlowPacket;
 use history_book::protocol::Part;
 use history_book::record::Record;
 use history_book::report::History;

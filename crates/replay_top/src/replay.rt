@@ -6,8 +6,9 @@ ghost use Rattle.replay_top.specs.Report.{IsWellFormed};
 
 use crate::book::{Book, ENTRIES};
 use crate::track::handle;
-use history_book::packet::Arrival;
+use packet_path::packet::Arrival;
 use history_book::report::{History, Report, ThreadVerdicts, Verdicts};
+use packet_path::laws::{lower_marks_fit, verdicts_still_fit};
 use room_list::RoomList;
 use std::alloc::Global;
 use tuple_core::NoMemory;
@@ -24,6 +25,8 @@ pub fn replay(alloc: Global, arrivals: &[Arrival]) -> Result<Report, NoMemory>
         history: History::new(alloc, 2 * count)?,
     };
     let mut verdicts = Verdicts::new(alloc, count)?;
+    lower_marks_fit();
+    verdicts_still_fit();
     'packets: for (index, arrival) in arrivals.iter().enumerate() {
         let verdict = handle(&mut book, index as u32, arrival);
         verdicts.push(verdict);

@@ -3,14 +3,14 @@
 ghost use Rattle.std.specs.Prelude.{◌≡◌, ◌+◌, ◌<◌, ◌≤◌, true, false, length};
 ghost use Rattle.std.specs.List.{AllByRecursion, list_any};
 ghost use Rattle.tuple_core.specs.Tuple.{is_valid};
-ghost use Rattle.history_book.specs.declared.packet.Arrival.TheVariants.{Flow};
+ghost use Rattle.packet_path.specs.declared.packet.Arrival.TheVariants.{Flow};
 ghost use Rattle.history_book.specs.declared.protocol.Outcome.TheVariants.{Accept, Expired};
-ghost use Rattle.history_book.specs.Error.{FitsError};
+ghost use Rattle.packet_path.specs.Error.{FitsError};
 ghost use Rattle.history_book.specs.Find.{IsHit};
 ghost use Rattle.history_book.specs.Protocol.{start_of};
 ghost use Rattle.history_book.specs.Record.{has_place, has_tuple};
 ghost use Rattle.history_book.specs.State.{live_under};
-ghost use Rattle.history_book.specs.Verdict.{points_of};
+ghost use Rattle.packet_path.specs.Verdict.{points_of};
 ghost use Rattle.replay_top.specs.Book.{Holds, PlacesBelow};
 ghost use Rattle.replay_top.specs.Flow.{is_flow, is_tracked};
 ghost use Rattle.replay_top.specs.History.{events_of, pool};
@@ -18,7 +18,7 @@ ghost use Rattle.replay_top.specs.Track.{Begins, Handled, StepsTo};
 
 use crate::book::{Book, ENTRIES, Touched};
 use history_book::find::{Hit, find, label};
-use history_book::packet::{Arrival, FlowPacket};
+use packet_path::packet::{Arrival, FlowPacket};
 use history_book::protocol::{Outcome, Part, start, step};
 use history_book::record::Record;
 use history_book::verdict::{Class, Ftp, Translated, Verdict};

@@ -11,7 +11,7 @@ packets-init c =
 
 pub packets-preserved : goal.packets-preserved
 packets-preserved c =
-    replayed_next c.args.arrivals.now _ c.packets.index c.packets.book c.handle-verdict.new.book c.packets.verdicts c.push.new.self
+    replayed_next c.verdicts_still_fit.ensures c.lower_marks_fit.ensures c.args.arrivals.now _ c.packets.index c.packets.book c.handle-verdict.new.book c.packets.verdicts c.push.new.self
     c.handle-verdict.result c.packets.invariant c.handle-verdict.ensures.handled c.handle-verdict.ensures.holds c.packets-test.true
     c.handle-verdict.ensures.places c.push.ensures.items c.push.ensures.room
 

@@ -2,18 +2,18 @@
 use Rattle.std.proofs.Common.{ℕ, ◌+◌, ◌≤◌, List, [], ◌∷◌, max, arith, Option, Some, None}
 use Rattle.history_book.specs.declared.event.Event.{Event}
 use Rattle.history_book.specs.declared.event.Note.{Note}
-use Rattle.history_book.specs.declared.packet.Arrival.{Arrival}
-use Rattle.history_book.specs.declared.packet.Arrival.TheVariants as arrival
-use Rattle.history_book.specs.declared.packet.FlowPacket.{FlowPacket}
-use Rattle.history_book.specs.Error.{FitsError, LooksUp}
+use Rattle.packet_path.specs.declared.packet.Arrival.{Arrival}
+use Rattle.packet_path.specs.declared.packet.Arrival.TheVariants as arrival
+use Rattle.packet_path.specs.declared.packet.FlowPacket.{FlowPacket}
+use Rattle.packet_path.specs.Error.{FitsError, LooksUp}
 use Rattle.history_book.specs.State.{Found}
 use Rattle.tuple_core.specs.declared.Tuple.{Tuple}
 use Rattle.history_book.specs.declared.record.Record.{Record}
 use Rattle.history_book.specs.declared.verdict.Class.{Class}
 use Rattle.history_book.specs.declared.verdict.Class.TheVariants as class
-use Rattle.history_book.specs.Made.{IsUnclaimed}
+use Rattle.packet_path.specs.Made.{IsUnclaimed}
 use Rattle.history_book.specs.Notes.{Happened, mark_past}
-use Rattle.history_book.specs.Verdict.{Fits, FitsArrival, FitsClass, KillsAll}
+use Rattle.packet_path.specs.Verdict.{Fits, FitsArrival, FitsClass, KillsAll}
 
 mark_past-le : (m n : ℕ) (notes : List Note) → m ≤ n → mark_past m notes ≤ mark_past n notes
 mark_past-le m n [] le = le

@@ -1,6 +1,6 @@
 //! A packet as the tracker is given it.
 
-use crate::verdict::UntrackedWhy;
+use history_book::verdict::UntrackedWhy;
 use tuple_core::{Segment, Tuple};
 
 /// A packet of a flow: its tuple, what else is read of it, and the time of its capture record in

@@ -5,20 +5,20 @@ use Rattle.history_book.specs.declared.event.Event.TheVariants.{Confirm, Touch, 
 use Rattle.history_book.specs.declared.event.Note.{Note}
 use Rattle.history_book.specs.declared.event.Why.{Why}
 use Rattle.history_book.specs.declared.event.Why.TheVariants as why
-use Rattle.history_book.specs.declared.packet.Arrival.{Arrival}
-use Rattle.history_book.specs.declared.packet.Arrival.TheVariants as arrival
-use Rattle.history_book.specs.declared.packet.FlowPacket.{FlowPacket}
+use Rattle.packet_path.specs.declared.packet.Arrival.{Arrival}
+use Rattle.packet_path.specs.declared.packet.Arrival.TheVariants as arrival
+use Rattle.packet_path.specs.declared.packet.FlowPacket.{FlowPacket}
 use Rattle.history_book.specs.declared.verdict.Class.{Class}
 use Rattle.history_book.specs.declared.verdict.Class.TheVariants as class
 use Rattle.history_book.specs.declared.verdict.Ftp.{Ftp}
 use Rattle.history_book.specs.declared.verdict.Ftp.TheVariants as ftp
 use Rattle.history_book.specs.declared.verdict.Translated.{Translated}
 use Rattle.history_book.specs.declared.verdict.Translated.TheVariants.{Chosen, Plain}
-use Rattle.history_book.specs.Error.{FitsError}
-use Rattle.history_book.specs.Full.{FindsNoRoom}
-use Rattle.history_book.specs.Made.{Makes}
+use Rattle.packet_path.specs.Error.{FitsError}
+use Rattle.packet_path.specs.Full.{FindsNoRoom}
+use Rattle.packet_path.specs.Made.{Makes}
 use Rattle.history_book.specs.Notes.{Happened, mark_past}
-use Rattle.history_book.specs.Passed.{Passes}
+use Rattle.packet_path.specs.Passed.{Passes}
 use Rattle.history_book.specs.Point.{At}
 use Rattle.history_book.specs.State.{Found, live_under}
 

@@ -1,29 +1,39 @@
 -- A verdict that fits still fits when the history goes on: one line for each class.
-use Rattle.std.proofs.Common.{ℕ, ◌+◌, List, [], ◌∷◌, Option}
+use Rattle.std.proofs.Common.{ℕ, ◌+◌, List, [], ◌∷◌, Option, subst, sym}
 use Rattle.history_book.specs.declared.event.Event.{Event}
 use Rattle.history_book.specs.declared.event.Note.{Note}
-use Rattle.history_book.specs.declared.packet.Arrival.{Arrival}
-use Rattle.history_book.specs.declared.packet.Arrival.TheVariants as arrival
-use Rattle.history_book.specs.declared.packet.FlowPacket.{FlowPacket}
+use Rattle.packet_path.specs.declared.packet.Arrival.{Arrival}
+use Rattle.packet_path.specs.declared.packet.Arrival.TheVariants as arrival
+use Rattle.packet_path.specs.declared.packet.FlowPacket.{FlowPacket}
 use Rattle.history_book.specs.declared.verdict.Class.{Class}
 use Rattle.history_book.specs.declared.verdict.Class.TheVariants as class
 use Rattle.history_book.specs.Notes.{Happened}
 use Rattle.history_book.specs.Point.{StartsWith}
-use Rattle.history_book.specs.Verdict.{Fits, FitsArrival, FitsClass, Kills, KillsAll}
-use Rattle.history_book.specs.Error.{FitsError, LooksUp}
+use Rattle.packet_path.specs.Verdict.{Fits, FitsArrival, FitsClass, Kills, KillsAll}
+use Rattle.packet_path.specs.Error.{FitsError, LooksUp}
 use Rattle.history_book.specs.State.{Found}
 use Rattle.tuple_core.specs.declared.Tuple.{Tuple}
-use Rattle.history_book.proofs.Points.{at_grows, get_grows}
+use Rattle.history_book.specs.History.{after}
+use Rattle.history_book.specs.Laws.{EventsStay, StatesStay}
+use Rattle.history_book.specs.Point.{At}
+use Rattle.history_book.specs.declared.record.Record.{Record}
 
-module _ (longer log : List Event) (starts : StartsWith longer log) where
+-- a fact at a point stays as the history goes on
+pub at_grows : StatesStay → (longer log : List Event) (p : ℕ) (F : List Record → Type 0) → StartsWith longer log
+    → At log p F → At longer p F
+at_grows stay longer log p F starts fact =
+    let same = stay longer log p starts fact.within in
+    record { within = same.0; fact = subst F (sym same.1) fact.fact }
+
+module _ (events : EventsStay) (states : StatesStay) (longer log : List Event) (starts : StartsWith longer log) where
   pub happened_grows : (mark : ℕ) (note : Note) → Happened log mark note → Happened longer mark note
-  happened_grows mark note h = record { event = get_grows longer log _ _ starts h.event; later = h.later }
+  happened_grows mark note h = record { event = events longer log _ _ starts h.event; later = h.later }
 
   pub kills_grows : (mark : ℕ) (packet : FlowPacket) (note : Note) → Kills log mark packet note → Kills longer mark packet note
   kills_grows mark packet note k = record {
     happened = happened_grows mark note k.happened;
     found = k.found;
-    live = at_grows longer log _ _ starts k.live;
+    live = at_grows states longer log _ _ starts k.live;
     kill = k.kill;
   }
 
@@ -54,7 +64,7 @@ module _ (longer log : List Event) (starts : StartsWith longer log) where
     part = f.part;
     own = f.own;
     happened = happened_grows k _ f.happened;
-    live = at_grows longer log _ _ starts f.live;
+    live = at_grows states longer log _ _ starts f.live;
     named = f.named;
     labelled = f.labelled;
     payload = f.payload;
@@ -66,8 +76,8 @@ module _ (longer log : List Event) (starts : StartsWith longer log) where
     absent_at = f.absent_at;
     from = f.from;
     upto = f.upto;
-    absent = at_grows longer log _ _ starts f.absent;
-    full = at_grows longer log _ _ starts f.full;
+    absent = at_grows states longer log _ _ starts f.absent;
+    full = at_grows states longer log _ _ starts f.full;
   }
 
   pub fits_grows : (entries mark : ℕ) (packet : FlowPacket) (own : List Note) (verdict : Class)
@@ -83,7 +93,7 @@ module _ (longer log : List Event) (starts : StartsWith longer log) where
 
   looked_grows : (mark : ℕ) (inner : Tuple) (at : ℕ) (found : Option Found) → LooksUp log mark inner at found
       → LooksUp longer mark inner at found
-  looked_grows mark inner at found l = record { from = l.from; live = at_grows longer log _ _ starts l.live }
+  looked_grows mark inner at found l = record { from = l.from; live = at_grows states longer log _ _ starts l.live }
 
   error_grows : (mark : ℕ) (inner : Tuple) (outer : ℕ) (verdict : Class) → FitsError log mark inner outer verdict
       → FitsError longer mark inner outer verdict
