@@ -5,4 +5,7 @@ pub mod Tuples
 pub mod Entries
 pub mod Pairs
 pub mod Sound
+pub mod Passing
+pub mod Records
+pub mod Live
 pub mod Examples

@@ -1,6 +1,5 @@
 -- Which events may happen in a state of the table.
-use Rattle.std.specs.Prelude.{ℕ, Bool, true, false, ◌==◌, ◌&&◌, not, nat_lt, Option, Some, None, List}
-use Rattle.std.specs.List.{list_any}
+use Rattle.std.specs.Prelude.{ℕ, Bool, true, false, ◌==◌, ◌&&◌, not, nat_lt, Option, Some, None}
 use Rattle.tuple_core.specs.Tuple.{is_valid, number_of}
 use Rattle.tuple_core.specs.declared.Direction.{Direction}
 use Rattle.tuple_core.specs.declared.Proto.{Proto}
@@ -17,8 +16,8 @@ use Rattle.history_book.specs.declared.protocol.PartKind.{PartKind}
 use Rattle.history_book.specs.declared.protocol.PartKind.TheVariants as kind
 use Rattle.history_book.specs.declared.record.Record.{Record}
 use Rattle.history_book.specs.Protocol.{is_expired, is_of_protocol, step_of}
-use Rattle.history_book.specs.Record.{has_place}
-use Rattle.history_book.specs.State.{is_free, record_of}
+use Rattle.history_book.specs.declared.sizes.Sizes.{Sizes}
+use Rattle.history_book.specs.State.{State, is_free, is_unused, record_of}
 
 -- the protocol that a part is of
 abbrev pub proto_of : PartKind → Proto
@@ -34,14 +33,14 @@ is_of_one_protocol r =
     && same_proto r.original.proto (proto_of r.part.kind) && same_proto r.reply.proto (proto_of r.part.kind)
 
 -- the place is one of the pool's and of no live record
-abbrev pub is_open_place : ℕ → ℕ → List Record → Bool
-is_open_place entries place rs = nat_lt place entries && not (list_any (has_place place) rs)
+abbrev pub is_open_place : Sizes → ℕ → State → Bool
+is_open_place sizes place s = nat_lt place sizes.entries && is_unused place s
 
 -- a record may be confirmed as event n: its id is that number, it is of one protocol, its place is
 -- open, and neither of its tuples is live in either direction
-abbrev pub may_confirm : ℕ → List Record → ℕ → Record → Bool
-may_confirm entries rs n r =
-    r.id == n && is_of_one_protocol r && is_open_place entries r.place rs && is_free r.original rs && is_free r.reply rs
+abbrev pub may_confirm : Sizes → State → ℕ → Record → Bool
+may_confirm sizes s n r =
+    r.id == n && is_of_one_protocol r && is_open_place sizes r.place s && is_free r.original s && is_free r.reply s
 
 abbrev pub same_bool : Bool → Bool → Bool
 same_bool true b = b
@@ -74,12 +73,12 @@ abbrev pub may_destroy : Option Record → Why → Bool
 may_destroy None why = false
 may_destroy (Some r) why = is_reason why r
 
--- event n may happen in this state, in a pool of that many entries
-abbrev pub may_happen : ℕ → List Record → ℕ → Event → Bool
-may_happen entries rs n (Confirm r) = may_confirm entries rs n r
-may_happen entries rs n (Touch id direction segment moment after) =
-    may_touch (record_of id rs) direction segment moment after
-may_happen entries rs n (Destroy id why) = may_destroy (record_of id rs) why
+-- event n may happen in this state of a tracker of these sizes
+abbrev pub may_happen : Sizes → State → ℕ → Event → Bool
+may_happen sizes s n (Confirm r) = may_confirm sizes s n r
+may_happen sizes s n (Touch id direction segment moment after) =
+    may_touch (record_of id s) direction segment moment after
+may_happen sizes s n (Destroy id why) = may_destroy (record_of id s) why
 
 -- the moment of the packet that an event was made by, where the step reads it
 abbrev pub step_moment_of : Event → ℕ

@@ -1,5 +1,6 @@
 pub mod Protocol
 pub mod Record
+pub mod Sizes
 pub mod State
 pub mod Event
 pub mod History
@@ -7,4 +8,6 @@ pub mod Point
 pub mod Find
 pub mod Label
 pub mod Notes
+pub mod Numbered
 pub mod Laws
+pub mod StateLaws

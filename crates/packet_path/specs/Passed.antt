@@ -26,7 +26,7 @@ pub record Passes (log : List Event) (k : ℕ) (packet : FlowPacket) (rest : Lis
   pub part : Part
   pub own : rest ≡ record { number = number; event = touch_by packet found part } ∷ []
   pub happened : Happened log k (record { number = number; event = touch_by packet found part })
-  pub live : At log number (λ rs. live_under packet.tuple rs ≡ Some found)
+  pub live : At log number (λ s. live_under packet.tuple s ≡ Some found)
   pub named : found.subject.id ≡ id
   pub labelled : label ≡ label_of found.subject found.direction
   pub payload : ftp ≡ Nothing

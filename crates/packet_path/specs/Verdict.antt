@@ -1,5 +1,5 @@
 -- When a verdict fits a packet and the events that the packet made.
-use Rattle.std.specs.Prelude.{◌≡◌, ℕ, ◌+◌, ◌≤◌, Some, List, [], ◌∷◌, ◌++◌, length, option_to_list}
+use Rattle.std.specs.Prelude.{◌≡◌, ℕ, ◌+◌, ◌≤◌, Some, None, List, [], ◌∷◌, ◌++◌, length, option_to_list}
 use Rattle.history_book.specs.declared.event.Event.{Event}
 use Rattle.history_book.specs.declared.event.Event.TheVariants.{Confirm, Touch, Destroy}
 use Rattle.history_book.specs.declared.event.Note.{Note}
@@ -14,13 +14,14 @@ use Rattle.history_book.specs.declared.verdict.Ftp.{Ftp}
 use Rattle.history_book.specs.declared.verdict.Ftp.TheVariants as ftp
 use Rattle.history_book.specs.declared.verdict.Translated.{Translated}
 use Rattle.history_book.specs.declared.verdict.Translated.TheVariants.{Chosen, Plain}
-use Rattle.packet_path.specs.Error.{FitsError}
+use Rattle.packet_path.specs.Error.{AnswersError, IsMisdirected, IsRelated, LooksUp}
 use Rattle.packet_path.specs.Full.{FindsNoRoom}
 use Rattle.packet_path.specs.Made.{Makes}
 use Rattle.history_book.specs.Notes.{Happened, mark_past}
 use Rattle.packet_path.specs.Passed.{Passes}
 use Rattle.history_book.specs.Point.{At}
 use Rattle.history_book.specs.State.{Found, live_under}
+use Rattle.history_book.specs.declared.sizes.Sizes.{Sizes}
 
 -- a packet may kill an entry for this reason: it was expired at the packet's moment
 abbrev pub IsKillReason : FlowPacket → Why → Type 0
@@ -36,7 +37,7 @@ IsKillOf packet found (Destroy id why) = (id ≡ found.subject.id) × IsKillReas
 pub record Kills (log : List Event) (mark : ℕ) (packet : FlowPacket) (note : Note) : Type 0 where
   pub happened : Happened log mark note
   pub found : Found
-  pub live : At log note.number (λ rs. live_under packet.tuple rs ≡ Some found)
+  pub live : At log note.number (λ s. live_under packet.tuple s ≡ Some found)
   pub kill : IsKillOf packet found note.event
 
 -- the packet killed one entry after another
@@ -44,35 +45,36 @@ abbrev pub KillsAll : List Event → ℕ → FlowPacket → List Note → Type 0
 KillsAll log mark packet [] = Unit {0}
 KillsAll log mark packet (n ∷ ns) = Kills log mark packet n × KillsAll log (n.number + 1) packet ns
 
--- the class fits what the packet did from point k on
-abbrev pub FitsClass : ℕ → List Event → ℕ → FlowPacket → List Note → Class → Type 0
-FitsClass entries log k packet rest (class.Untracked why) = ⊥
-FitsClass entries log k packet rest class.BadHeader = ⊥
-FitsClass entries log k packet rest (class.ErrorLost at) = ⊥
-FitsClass entries log k packet rest (class.ErrorAddress id at) = ⊥
-FitsClass entries log k packet rest (class.Error direction id at) = ⊥
-FitsClass entries log k packet rest (class.Made id at translated unclaimed) =
-    Makes log k packet rest id at translated unclaimed
-FitsClass entries log k packet rest (class.Passed label id at ftp) = Passes log k packet rest label id at ftp
-FitsClass entries log k packet rest (class.Full at) = FindsNoRoom entries log k packet rest at
-
--- the packet's own events are at most four kills, and then those of its class
-pub record Fits (entries : ℕ) (log : List Event) (mark : ℕ) (packet : FlowPacket) (own : List Note)
-    (verdict : Class) : Type 0 where
+-- it was a packet of a flow; its own events are at most four kills, and then the rest; and this is so of
+-- the packet, the number of kills, the mark past them, and the rest
+pub record AnswersFlow (log : List Event) (mark : ℕ) (given : Arrival) (own : List Note)
+    (Fits : FlowPacket → ℕ → ℕ → List Note → Type 0) : Type 0 where
+  pub packet : FlowPacket
+  pub flow : given ≡ arrival.Flow packet
   pub kills : List Note
   pub rest : List Note
   pub all : own ≡ kills ++ rest
   pub few : length kills ≤ 4
   pub killed : KillsAll log mark packet kills
-  pub fits : FitsClass entries log (mark_past mark kills) packet rest verdict
+  pub fits : Fits packet (length kills) (mark_past mark kills) rest
 
--- The verdict fits what the tracker was given of a packet: the bytes alone decide where it is not
--- tracked or a header is wrong, and an error makes no event.
-abbrev pub FitsArrival : ℕ → List Event → ℕ → Arrival → List Note → Class → Type 0
-FitsArrival entries log mark (arrival.Untracked why) own verdict = (own ≡ []) × (verdict ≡ class.Untracked why)
-FitsArrival entries log mark arrival.Invalid own verdict = (own ≡ []) × (verdict ≡ class.BadHeader)
-FitsArrival entries log mark (arrival.Flow packet) own verdict = Fits entries log mark packet own verdict
-FitsArrival entries log mark (arrival.Error inner outer) own verdict = (own ≡ []) × FitsError log mark inner outer verdict
+-- The class fits what the tracker was given of a packet and the events that the packet made. The bytes
+-- alone decide where it is not tracked or a header is wrong.
+abbrev pub FitsArrival : Sizes → List Event → ℕ → Arrival → List Note → Class → Type 0
+FitsArrival sizes log mark given own (class.Untracked why) = (given ≡ arrival.Untracked why) × (own ≡ [])
+FitsArrival sizes log mark given own class.BadHeader = (given ≡ arrival.Invalid) × (own ≡ [])
+FitsArrival sizes log mark given own (class.ErrorLost at) =
+    AnswersError given own (λ inner outer. LooksUp log mark inner at None)
+FitsArrival sizes log mark given own (class.ErrorAddress id at) =
+    AnswersError given own (λ inner outer. IsMisdirected log mark inner outer id at)
+FitsArrival sizes log mark given own (class.Error direction id at) =
+    AnswersError given own (λ inner outer. IsRelated log mark inner outer direction id at)
+FitsArrival sizes log mark given own (class.Made id at translated unclaimed) =
+    AnswersFlow log mark given own (λ packet kills k rest. Makes log k packet rest id at translated unclaimed)
+FitsArrival sizes log mark given own (class.Passed label id at ftp) =
+    AnswersFlow log mark given own (λ packet kills k rest. Passes log k packet rest label id at ftp)
+FitsArrival sizes log mark given own (class.Full at) =
+    AnswersFlow log mark given own (λ packet kills k rest. FindsNoRoom sizes log k packet rest at)
 
 -- the point that a translation names
 abbrev pub translated_points : Translated → List ℕ

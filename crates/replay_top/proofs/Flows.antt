@@ -10,7 +10,7 @@ use Rattle.packet_path.specs.declared.packet.FlowPacket.{FlowPacket}
 use Rattle.history_book.specs.declared.protocol.PartKind.{PartKind}
 use Rattle.history_book.specs.declared.protocol.PartKind.TheVariants as kind
 use Rattle.history_book.specs.Protocol.{is_of_protocol, start_of}
-use Rattle.replay_top.specs.Flow.{is_udp, is_flow}
+use Rattle.replay_top.specs.Internal.Flow.{is_udp, is_flow}
 
 pub record IsFlow (p : FlowPacket) : Type 0 where
   pub valid : is_valid p.tuple ≡ true

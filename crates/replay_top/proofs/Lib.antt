@@ -5,10 +5,8 @@ pub mod Endings
 pub mod Flows
 pub mod Lines
 pub mod Reading
-pub mod Records
 pub mod Replays
 pub mod Steps
-pub mod Passing
 pub mod Texts
 pub mod Tracks
 pub mod Writes

@@ -1,15 +1,13 @@
 pub mod Arrivals
-pub mod Book
 pub mod Causes
 pub mod Ending
 pub mod ErrorLine
-pub mod Flow
-pub mod History
+pub mod Internal
 pub mod Line
 pub mod ReadFile
 pub mod Replay
 pub mod Report
+pub mod Sizes
 pub mod Text
-pub mod Track
 pub mod Words
 pub mod Wrote

@@ -6,6 +6,7 @@ use Rattle.history_book.specs.declared.report.Report.{Report}
 use Rattle.replay_top.specs.Arrivals.{IsReadCapture}
 use Rattle.replay_top.specs.ReadFile.{AreContents}
 use Rattle.replay_top.specs.Report.{IsWellFormed}
+use Rattle.replay_top.specs.Sizes.{program_sizes}
 use Rattle.replay_top.specs.Text.{report_text}
 use Rattle.replay_top.specs.Words.{capture_named}
 use Rattle.replay_top.specs.Wrote.{followed_by}
@@ -23,7 +24,7 @@ pub record IsReportOf (name : List ℕ) (contents : List ℕ → Option (List �
   pub handed_over : AreContents (contents name) bytes
   pub arrivals : List Arrival
   pub capture : IsReadCapture bytes arrivals
-  pub well_formed : IsWellFormed (arrivals ∷ []) report
+  pub well_formed : IsWellFormed program_sizes (arrivals ∷ []) report
 
 -- the report is that of the capture that the words name
 abbrev pub IsReplay : List (List ℕ) → (List ℕ → Option (List ℕ)) → Report → Type 0

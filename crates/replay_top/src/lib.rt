@@ -9,6 +9,7 @@ mod line;
 mod program;
 mod read;
 mod replay;
+mod sizes;
 #[cfg(test)]
 mod tests;
 mod text;

@@ -13,6 +13,7 @@ use crate::arrivals::read_arrivals;
 use crate::ending::{Ending, Run, finish, tell};
 use crate::read::{ReadError, read_file};
 use crate::replay::replay;
+use crate::sizes::program_sizes;
 use crate::words::capture_name;
 use crate::write::write_report;
 use ct_io::{Files, Gate, Sink};
@@ -52,7 +53,7 @@ fn replay_file<F: Files>(alloc: Global, files: &mut F, name: &str) -> Result<Rep
         Ok(None) => return Err(Ending::NotYet),
         Err(_) => return Err(Ending::NoMemory),
     };
-    match replay(alloc, arrivals.as_slice()) {
+    match replay(alloc, &program_sizes(), arrivals.as_slice()) {
         Ok(report) => Ok(report),
         Err(_) => Err(Ending::NoMemory),
     }

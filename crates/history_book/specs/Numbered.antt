@@ -1,12 +1,8 @@
--- The history of a report, as a list of events.
+-- Lists of events with their numbers.
 use Rattle.std.specs.Prelude.{◌≡◌, ℕ, ◌+◌, List, [], ◌∷◌, map}
 use Rattle.history_book.specs.declared.event.Event.{Event}
 use Rattle.history_book.specs.declared.event.Note.{Note}
 use Rattle.history_book.specs.declared.event.Numbered.{Numbered}
-
--- how many entries the table holds
-abbrev pub pool : ℕ
-pool = 65536
 
 -- the events alone
 abbrev pub events_of : List Numbered → List Event

@@ -2,20 +2,17 @@
 use Rattle.std.proofs.Common.{◌≡◌, Bool, true, false, cond, List, [], ◌∷◌, refl, Some, None}
 use Rattle.std.specs.List.{find, list_any}
 use Rattle.std.specs.Prelude.{◌||◌}
+use Rattle.std.proofs.lemmas.Bool.{or_from}
 
 -- a test that passes only where nothing can be fails
 pub fails_by : (b : Bool) → (b ≡ true → ⊥) → b ≡ false
 fails_by true h = absurd (h refl)
 fails_by false h = refl
 
-pub or_false : (a b : Bool) → a ≡ false → b ≡ false → (a || b) ≡ false
-or_false true b h k = h
-or_false false b h k = k
-
 none_first : {X : Type 0} (p : X → Bool) (x : X) (xs : List X) (b : Bool) → p x ≡ b
     → cond b (Some x) (find p xs) ≡ None → (find p xs ≡ None → list_any p xs ≡ false) → (p x || list_any p xs) ≡ false
 none_first p x xs true e h rest = cc
-none_first p x xs false e h rest = or_false (p x) (list_any p xs) e (rest h)
+none_first p x xs false e h rest = or_from (p x) (list_any p xs) e (rest h)
 
 -- where no item is found none passes
 pub none_found : {X : Type 0} (p : X → Bool) (xs : List X) → find p xs ≡ None → list_any p xs ≡ false

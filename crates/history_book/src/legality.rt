@@ -1,15 +1,17 @@
-//! Which events may happen, and what they leave: the plain programs of the definitions.
+//! Which events may happen: the plain programs of the definitions.
 
 ghost use Rattle.std.specs.Prelude.{◌≡◌, ◌≤◌, ◌^◌, Some};
 ghost use Rattle.std.specs.List.{list_any};
 ghost use Rattle.history_book.specs.Event.{is_of_one_protocol, is_reason, may_confirm, may_happen, may_touch, step_moment_of, same_part};
 ghost use Rattle.history_book.specs.Protocol.{is_of_protocol};
 ghost use Rattle.history_book.specs.Record.{has_place, has_tuple};
+ghost use Rattle.history_book.specs.State.{is_free, is_unused, state_of};
 
 use crate::event::{Event, Why};
 use crate::find::find_id;
 use crate::protocol::{Outcome, Part, PartKind, step};
 use crate::record::Record;
+use crate::sizes::Sizes;
 use tuple_core::{Direction, Proto, Segment, Tuple, is_valid};
 
 /// Whether the segment is of the protocol.
@@ -57,13 +59,14 @@ fn is_of_one_protocol(r: &Record) -> bool
         && r.reply.proto == proto
 }
 
-/// Whether this record may be confirmed as event `number`, beside these records of a pool of `entries`.
-fn is_confirmable(entries: u32, records: &[Record], number: u64, subject: &Record) -> bool
-    ensures { result ≡ may_confirm entries records.now number subject.now }
+/// Whether this record may be confirmed as event `number`, beside these records, in a tracker of these
+/// sizes.
+fn is_confirmable(sizes: &Sizes, records: &[Record], number: u64, subject: &Record) -> bool
+    ensures { result ≡ may_confirm sizes.now (state_of records.now) number subject.now }
 {
     subject.id == number
         && is_of_one_protocol(subject)
-        && subject.place < entries
+        && subject.place < sizes.entries
         && !is_place_used(records, subject.place)
         && !is_taken(records, &subject.original)
         && !is_taken(records, &subject.reply)
@@ -108,13 +111,14 @@ fn is_reason_for(why: &Why, r: &Record) -> bool
     }
 }
 
-/// Whether `event` may happen as event `number`, beside these records of a pool of `entries`.
-pub fn is_lawful(entries: u32, records: &[Record], number: u64, event: &Event) -> bool
+/// Whether `event` may happen as event `number`, beside these records, in a tracker of these
+/// sizes.
+pub fn is_lawful(sizes: &Sizes, records: &[Record], number: u64, event: &Event) -> bool
     requires { step_moment_of event.now ≤ 10 ^ 16 }
-    ensures { result ≡ may_happen entries records.now number event.now }
+    ensures { result ≡ may_happen sizes.now (state_of records.now) number event.now }
 {
     match event {
-        Event::Confirm { subject } => is_confirmable(entries, records, number, subject),
+        Event::Confirm { subject } => is_confirmable(sizes, records, number, subject),
         Event::Touch {
             id,
             direction,

@@ -1,13 +1,13 @@
 -- The records of a state, found by their index.
 use Rattle.std.proofs.Common.{◌≡◌, ℕ, zero, suc, true, false, not, cond, List, [], ◌∷◌, refl, sym, ap, subst, ◌∙◌, Some}
-use Rattle.std.specs.List.{AllByRecursion, filter, slice_get, remove}
+use Rattle.std.specs.List.{AllByRecursion, filter, find, slice_get, remove}
 use Rattle.std.specs.Prelude.{map, slice_set, ◌≢◌}
 use Rattle.std.proofs.lemmas.Bool.{eq-eqb, ne_eqb}
 use Rattle.history_book.specs.declared.protocol.Part.{Part}
 use Rattle.history_book.specs.declared.record.Record.{Record}
 use Rattle.history_book.specs.Laws.{AreApart}
 use Rattle.history_book.specs.Record.{has_id}
-use Rattle.history_book.specs.State.{record_of, with_part}
+use Rattle.history_book.specs.State.{with_part}
 use Rattle.history_book.proofs.Pairs.{Pairs}
 
 pub each_at : {X : Type 0} (P : X → Type 0) (xs : List X) (i : ℕ) (x : X) → AllByRecursion P xs → slice_get xs i ≡ Some x → P x
@@ -15,19 +15,16 @@ each_at P [] i x h at = cc
 each_at P (y ∷ ys) zero x (h, hs) at = let same : y ≡ x = cc in subst P same h
 each_at P (y ∷ ys) (suc i) x (h, hs) at = each_at P ys i x hs at
 
-has_id-self : (r : Record) → has_id r.id r ≡ true
-has_id-self r = eq-eqb r.id r.id refl
-
 -- a record of the state is the one with its id
-pub own_record : (rs : List Record) (i : ℕ) (r : Record) → Pairs rs → slice_get rs i ≡ Some r → record_of r.id rs ≡ Some r
+pub own_record : (rs : List Record) (i : ℕ) (r : Record) → Pairs rs → slice_get rs i ≡ Some r → find (has_id r.id) rs ≡ Some r
 own_record [] i r h at = cc
 own_record (q ∷ rs) zero r (h, hs) at =
     let same : q ≡ r = cc in
     let here : has_id r.id q ≡ true = eq-eqb q.id r.id (ap (λ (x : Record). x.id) same) in
-    ap (λ b. cond b (Some q) (record_of r.id rs)) here ∙ ap Some same
+    ap (λ b. cond b (Some q) (find (has_id r.id) rs)) here ∙ ap Some same
 own_record (q ∷ rs) (suc i) r (h, hs) at =
     let other : has_id r.id q ≡ false = ne_eqb q.id r.id (each_at (AreApart q) rs i r h at).ids in
-    ap (λ b. cond b (Some q) (record_of r.id rs)) other ∙ own_record rs i r hs at
+    ap (λ b. cond b (Some q) (find (has_id r.id) rs)) other ∙ own_record rs i r hs at
 
 apart_sym : (r s : Record) → AreApart r s → AreApart s r
 apart_sym r s h = record {
