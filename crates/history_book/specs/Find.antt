@@ -6,10 +6,10 @@ use Rattle.history_book.specs.declared.record.Record.{Record}
 use Rattle.history_book.specs.State.{State, live_under, record_of}
 
 -- the record at this index is live under the tuple, which names it in this direction
-pub record IsFoundAt (t : Tuple) (s : State) (place : FoundAt) : Type 0 where
+pub record IsFoundAt (t : Tuple) (s : State) (found : FoundAt) : Type 0 where
   pub subject : Record
-  pub item : slice_get s.records place.index ≡ Some subject
-  pub live : live_under t s ≡ Some (record { subject = subject; direction = place.direction })
+  pub item : slice_get s.records found.index ≡ Some subject
+  pub live : live_under t s ≡ Some (record { subject = subject; direction = found.direction })
 
 -- the record at the index is the one with the id
 pub record IsRecordAt (id : ℕ) (s : State) (index : ℕ) : Type 0 where

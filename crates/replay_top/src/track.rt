@@ -88,7 +88,8 @@ fn begin_flow(book: &mut Book, index: u32, packet: &FlowPacket) -> Verdict
     states_stay();
     let first = book.history.len() as u64;
     let place = book.records.len();
-    if place >= book.sizes.entries as usize {
+    let is_full = place >= book.sizes.entries as usize;
+    if is_full {
         return Verdict {
             class: Class::Full { at: first },
             first,

@@ -3,8 +3,8 @@ use Rattle.history_book.specs.State.{state_of}
 use Rattle.replay_top.proofs.Steps.{handled_begun, handled_full, place_open, places_begin, places_more}
 use Rattle.replay_top.proofs.track.begin_flow.Goals as goal
 
-pub returns-then-place-book-clause-handled : goal.returns-then-place-book-clause-handled
-returns-then-place-book-clause-handled c =
+pub returns-then-is_full-clause-handled : goal.returns-then-is_full-clause-handled
+returns-then-is_full-clause-handled c =
     rw c.len-first.ensures.exact
     (handled_full c.states_stay.ensures c.args.book.now c.args.index c.args.packet.now c.requires.holds c.requires.flow
     c.requires.absent (omega arith))

@@ -1,20 +1,16 @@
 use Rattle.std.proofs.Common.{◌≡◌, ◌+◌, ◌<◌, length, arith}
-use Rattle.history_book.specs.State.{state_of}
-use Rattle.history_book.specs.StateLaws.{IsGone}
 use Rattle.replay_top.proofs.Steps.{handled_replaced, one_fewer, others_gone, place_below, places_begin, places_more, places_removed}
 use Rattle.replay_top.proofs.track.replace_expired.Goals as goal
-use Rattle.replay_top.proofs.track.replace_expired.Goals.{After-confirm_entry-arg-1}
-
-gone : (c : After-confirm_entry-arg-1) → IsGone c.args.packet.now.tuple c.at.result.now.place (state_of c.kill.new.self.records.items)
-gone c =
-    others_gone c.records_are_apart.ensures c.destroys_free.ensures c.args.book.now c.kill.new.self c.args.index
-    c.args.packet.now c.args.found c.at.result.now c.requires.holds c.requires.found c.at.ensures c.kill.ensures.adds
 
 pub confirm_entry-class-requires-clause-absent : goal.confirm_entry-class-requires-clause-absent
-confirm_entry-class-requires-clause-absent c = (gone c).free
+confirm_entry-class-requires-clause-absent c =
+    (others_gone c.records_are_apart.ensures c.destroys_free.ensures c.args.book.now c.kill.new.self c.args.index
+    c.args.packet.now c.args.found c.at.result.now c.requires.holds c.requires.found c.at.ensures c.kill.ensures.adds).free
 
 pub confirm_entry-class-requires-clause-place : goal.confirm_entry-class-requires-clause-place
-confirm_entry-class-requires-clause-place c = (gone c).unused
+confirm_entry-class-requires-clause-place c =
+    (others_gone c.records_are_apart.ensures c.destroys_free.ensures c.args.book.now c.kill.new.self c.args.index
+    c.args.packet.now c.args.found c.at.result.now c.requires.holds c.requires.found c.at.ensures c.kill.ensures.adds).unused
 
 pub confirm_entry-class-requires-clause-below : goal.confirm_entry-class-requires-clause-below
 confirm_entry-class-requires-clause-below c =
