@@ -3,7 +3,7 @@ use Rattle.std.proofs.Common.{◌≡◌, ℕ, ◌+◌, suc, true, List, [], ◌�
 use Rattle.std.proofs.lemmas.Bool.{and_from, and_parts}
 use Rattle.history_book.specs.declared.event.Event.{Event}
 use Rattle.history_book.specs.declared.sizes.Sizes.{Sizes}
-use Rattle.history_book.specs.Event.{may_happen}
+use Rattle.history_book.specs.Legality.{may_happen}
 use Rattle.history_book.specs.History.{after, is_legal, is_legal_from, run}
 use Rattle.history_book.specs.Point.{StartsWith}
 use Rattle.history_book.specs.State.{State, empty_state, next}

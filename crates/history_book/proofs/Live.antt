@@ -11,7 +11,7 @@ use Rattle.history_book.specs.declared.protocol.Part.{Part}
 use Rattle.history_book.specs.declared.protocol.PartKind.{PartKind}
 use Rattle.history_book.specs.declared.protocol.PartKind.TheVariants as kind
 use Rattle.history_book.specs.declared.record.Record.{Record}
-use Rattle.history_book.specs.Event.{same_bool, same_kind, same_part}
+use Rattle.history_book.specs.Legality.{same_bool, same_kind, same_part}
 use Rattle.history_book.specs.Laws.{AreApart}
 use Rattle.history_book.specs.Record.{has_original, has_place, has_reply, has_tuple}
 use Rattle.history_book.specs.State.{Found, State, is_free, live_under, next, original_first}

@@ -8,7 +8,7 @@ use Rattle.history_book.specs.declared.event.Event.TheVariants.{Confirm, Touch, 
 use Rattle.history_book.specs.declared.event.Why.{Why}
 use Rattle.history_book.specs.declared.protocol.Part.{Part}
 use Rattle.history_book.specs.declared.record.Record.{Record}
-use Rattle.history_book.specs.Event.{is_of_one_protocol, is_open_place, may_confirm, may_destroy, may_happen}
+use Rattle.history_book.specs.Legality.{is_of_one_protocol, is_open_place, may_confirm, may_destroy, may_happen}
 use Rattle.history_book.specs.History.{after, is_legal, is_legal_from, run}
 use Rattle.history_book.specs.Laws.{IsConfirmed, IsSameEntry}
 use Rattle.history_book.specs.Record.{has_id, has_place, has_tuple}

@@ -2,7 +2,7 @@
 use Rattle.std.specs.Prelude.{ℕ, ◌+◌, Bool, true, ◌&&◌, List, [], ◌∷◌, take}
 use Rattle.history_book.specs.declared.event.Event.{Event}
 use Rattle.history_book.specs.declared.sizes.Sizes.{Sizes}
-use Rattle.history_book.specs.Event.{may_happen}
+use Rattle.history_book.specs.Legality.{may_happen}
 use Rattle.history_book.specs.State.{State, empty_state, next}
 
 -- the state that a list of events leaves

@@ -5,7 +5,7 @@ use Rattle.history_book.specs.declared.event.Event.TheVariants.{Confirm, Destroy
 use Rattle.history_book.specs.declared.event.Why.{Why}
 use Rattle.history_book.specs.declared.record.Record.{Record}
 use Rattle.history_book.specs.declared.sizes.Sizes.{Sizes}
-use Rattle.history_book.specs.Event.{may_happen}
+use Rattle.history_book.specs.Legality.{may_happen}
 use Rattle.history_book.specs.History.{after, is_legal}
 use Rattle.history_book.specs.Point.{StartsWith}
 use Rattle.history_book.specs.State.{next}

@@ -2,7 +2,7 @@ pub mod Protocol
 pub mod Record
 pub mod Sizes
 pub mod State
-pub mod Event
+pub mod Legality
 pub mod History
 pub mod Point
 pub mod Find

@@ -8,7 +8,7 @@ use Rattle.history_book.specs.declared.event.Event.TheVariants.{Touch, Destroy}
 use Rattle.history_book.specs.declared.event.Why.{Why}
 use Rattle.history_book.specs.declared.protocol.Part.{Part}
 use Rattle.history_book.specs.declared.record.Record.{Record}
-use Rattle.history_book.specs.Event.{same_part}
+use Rattle.history_book.specs.Legality.{same_part}
 use Rattle.history_book.specs.Laws.{AreApart}
 use Rattle.history_book.specs.Record.{same_tuple}
 use Rattle.history_book.specs.State.{Found, State, is_free, is_unused, live_under, next, record_of}

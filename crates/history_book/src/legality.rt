@@ -2,8 +2,8 @@
 
 ghost use Rattle.std.specs.Prelude.{◌≡◌, ◌≤◌, ◌^◌, Some};
 ghost use Rattle.std.specs.List.{list_any};
-ghost use Rattle.history_book.specs.Event.{is_of_one_protocol, is_reason, may_confirm, may_happen};
-ghost use Rattle.history_book.specs.Event.{may_touch, same_part, step_moment_of};
+ghost use Rattle.history_book.specs.Legality.{is_of_one_protocol, is_reason, may_confirm, may_happen};
+ghost use Rattle.history_book.specs.Legality.{may_touch, same_part, step_moment_of};
 ghost use Rattle.history_book.specs.Protocol.{is_of_protocol};
 ghost use Rattle.history_book.specs.Record.{has_place, has_tuple};
 ghost use Rattle.history_book.specs.State.{state_of};

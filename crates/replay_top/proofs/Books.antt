@@ -10,7 +10,7 @@ use Rattle.history_book.specs.declared.event.Why.TheVariants.{Expired}
 use Rattle.history_book.specs.declared.protocol.Part.{Part}
 use Rattle.history_book.specs.declared.record.Record.{Record}
 use Rattle.history_book.specs.declared.sizes.Sizes.{Sizes}
-use Rattle.history_book.specs.Event.{may_destroy, may_happen, may_touch}
+use Rattle.history_book.specs.Legality.{may_destroy, may_happen, may_touch}
 use Rattle.history_book.specs.History.{after, is_legal}
 use Rattle.history_book.specs.Laws.{AreApart, LegalHistoriesGoOn, RecordsAreApart, StatesFollow}
 use Rattle.history_book.specs.Numbered.{events_of, IsNumberedFrom}

@@ -23,7 +23,7 @@ use Rattle.history_book.specs.declared.verdict.Class.TheVariants as class
 use Rattle.history_book.specs.declared.verdict.Ftp.TheVariants.{Nothing}
 use Rattle.history_book.specs.declared.verdict.Label.{Label}
 use Rattle.history_book.specs.declared.verdict.Translated.TheVariants.{Plain}
-use Rattle.history_book.specs.Event.{accepts, may_touch}
+use Rattle.history_book.specs.Legality.{accepts, may_touch}
 use Rattle.history_book.specs.Find.{IsFoundAt}
 use Rattle.history_book.specs.History.{after}
 use Rattle.history_book.specs.Label.{label_of}

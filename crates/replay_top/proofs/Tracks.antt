@@ -15,7 +15,7 @@ use Rattle.history_book.specs.declared.record.Record.{Record}
 use Rattle.history_book.specs.declared.sizes.Sizes.{Sizes}
 use Rattle.history_book.specs.declared.verdict.Class.TheVariants as class
 use Rattle.history_book.specs.declared.verdict.Translated.TheVariants.{Plain}
-use Rattle.history_book.specs.Event.{is_of_one_protocol, may_confirm, proto_of}
+use Rattle.history_book.specs.Legality.{is_of_one_protocol, may_confirm, proto_of}
 use Rattle.history_book.specs.Numbered.{events_of}
 use Rattle.history_book.specs.Protocol.{start_of}
 use Rattle.history_book.specs.Record.{has_original, has_reply, has_tuple}

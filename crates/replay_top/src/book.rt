@@ -4,7 +4,7 @@ ghost use Rattle.std.specs.Prelude.{◌≡◌, ◌+◌, ◌<◌, true, Some, [],
 ghost use Rattle.std.specs.List.{remove};
 ghost use Rattle.history_book.specs.declared.event.Event.TheVariants.{Confirm, Destroy};
 ghost use Rattle.history_book.specs.declared.event.Why.TheVariants.{Expired};
-ghost use Rattle.history_book.specs.Event.{may_confirm, may_touch};
+ghost use Rattle.history_book.specs.Legality.{may_confirm, may_touch};
 ghost use Rattle.history_book.specs.Protocol.{is_expired};
 ghost use Rattle.history_book.specs.State.{state_of};
 ghost use Rattle.replay_top.specs.Internal.Book.{Adds, Holds, IsPlain, touch_of};

@@ -1,4 +1,4 @@
--- Which events may happen in a state of the table.
+-- Which events may happen in a state of the table, in a tracker of some sizes.
 use Rattle.std.specs.Prelude.{ℕ, Bool, true, false, ◌==◌, ◌&&◌, not, nat_lt, Option, Some, None}
 use Rattle.tuple_core.specs.Tuple.{is_valid, number_of}
 use Rattle.tuple_core.specs.declared.Direction.{Direction}
