@@ -1,7 +1,7 @@
 -- What a change of its part leaves of a record, and what tests say of it.
 use Rattle.std.proofs.Common.{◌≡◌, ℕ, Bool, true, false, cond, refl, sym, ◌∙◌, List, [], ◌∷◌}
 use Rattle.std.specs.List.{AllByRecursion, list_any, filter}
-use Rattle.std.specs.Prelude.{◌||◌}
+use Rattle.std.proofs.lemmas.Bool.{or_parts}
 use Rattle.history_book.specs.declared.protocol.Part.{Part}
 use Rattle.history_book.specs.declared.record.Record.{Record}
 use Rattle.history_book.specs.Laws.{AreApart, IsSameEntry}
@@ -46,15 +46,7 @@ each_filter P keep (x ∷ xs) (h, hs) =
     elim (keep x) as (λ b. AllByRecursion P (cond b (x ∷ filter keep xs) (filter keep xs)))
     [ true ↦ (h, each_filter P keep xs hs) | false ↦ each_filter P keep xs hs ]
 
-pub or_false_left : (x y : Bool) → (x || y) ≡ false → x ≡ false
-or_false_left true y h = h
-or_false_left false y h = refl
-
-pub or_false_right : (x y : Bool) → (x || y) ≡ false → y ≡ false
-or_false_right true y h = cc
-or_false_right false y h = h
-
 -- where no item passes a test, each fails it
 pub each_fails : {X : Type 0} (p : X → Bool) (xs : List X) → list_any p xs ≡ false → AllByRecursion (λ x. p x ≡ false) xs
 each_fails p [] h = tt
-each_fails p (x ∷ xs) h = (or_false_left (p x) (list_any p xs) h, each_fails p xs (or_false_right (p x) (list_any p xs) h))
+each_fails p (x ∷ xs) h = ((or_parts (p x) (list_any p xs) h).0, each_fails p xs (or_parts (p x) (list_any p xs) h).1)

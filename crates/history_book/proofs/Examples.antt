@@ -9,7 +9,12 @@ use Rattle.history_book.specs.declared.event.Event.TheVariants.{Confirm, Touch, 
 use Rattle.history_book.specs.declared.event.Why.TheVariants.{Expired}
 use Rattle.history_book.specs.declared.protocol.Part.{Part}
 use Rattle.history_book.specs.declared.protocol.PartKind.TheVariants as kind
+use Rattle.history_book.specs.declared.sizes.Sizes.{Sizes}
 use Rattle.history_book.specs.History.{after, is_legal}
+
+-- the sizes of a tracker with 65,536 places
+abbrev sizes : Sizes
+sizes = record { entries = 65536; buckets = 16384; seed = 1; passes = 1; expectations = 1024 }
 
 -- the tuple of a query from this port, and that of the answer to port 5000
 abbrev query : ℕ → Tuple
@@ -44,54 +49,54 @@ answered deadline = Touch 0 Reply segment.Udp 1000500000 (part true deadline)
 abbrev begun_anew : ℕ → List Event
 begun_anew moment = begins 0 0 5000 31000000 ∷ Destroy 0 (Expired moment) ∷ begins 2 0 5000 61000000 ∷ []
 
-a_query_and_its_answer : is_legal 65536 (asked ∷ answered 1120500000 ∷ []) ≡ true
+a_query_and_its_answer : is_legal sizes (asked ∷ answered 1120500000 ∷ []) ≡ true
 unfolding is_legal
 a_query_and_its_answer = refl
 
-an_answer_keeps_the_deadline : is_legal 65536 (asked ∷ answered 1030000000 ∷ []) ≡ false
+an_answer_keeps_the_deadline : is_legal sizes (asked ∷ answered 1030000000 ∷ []) ≡ false
 unfolding is_legal
 an_answer_keeps_the_deadline = refl
 
-an_answer_comes_first : is_legal 65536 (answered 1120500000 ∷ []) ≡ false
+an_answer_comes_first : is_legal sizes (answered 1120500000 ∷ []) ≡ false
 unfolding is_legal
 an_answer_comes_first = refl
 
-a_flow_begins_twice : is_legal 65536 (asked ∷ begins 1 1 5000 1030000000 ∷ []) ≡ false
+a_flow_begins_twice : is_legal sizes (asked ∷ begins 1 1 5000 1030000000 ∷ []) ≡ false
 unfolding is_legal
 a_flow_begins_twice = refl
 
-a_reply_tuple_is_taken : is_legal 65536 (asked ∷ begins 1 1 5001 1030000000 ∷ []) ≡ false
+a_reply_tuple_is_taken : is_legal sizes (asked ∷ begins 1 1 5001 1030000000 ∷ []) ≡ false
 unfolding is_legal
 a_reply_tuple_is_taken = refl
 
-an_expired_flow_begins_anew : is_legal 65536 (begun_anew 31000000) ≡ true
+an_expired_flow_begins_anew : is_legal sizes (begun_anew 31000000) ≡ true
 unfolding is_legal
 an_expired_flow_begins_anew = refl
 
-an_entry_ends_before_its_deadline : is_legal 65536 (begun_anew 30999999) ≡ false
+an_entry_ends_before_its_deadline : is_legal sizes (begun_anew 30999999) ≡ false
 unfolding is_legal
 an_entry_ends_before_its_deadline = refl
 
-none_is_live_before_the_query : length (after (asked ∷ answered 1120500000 ∷ []) 0) ≡ 0
+none_is_live_before_the_query : length (after (asked ∷ answered 1120500000 ∷ []) 0).records ≡ 0
 unfolding after
 none_is_live_before_the_query = refl
 
-one_is_live_after_the_query : length (after (asked ∷ answered 1120500000 ∷ []) 1) ≡ 1
+one_is_live_after_the_query : length (after (asked ∷ answered 1120500000 ∷ []) 1).records ≡ 1
 unfolding after
 one_is_live_after_the_query = refl
 
-one_is_live_after_the_answer : length (after (asked ∷ answered 1120500000 ∷ []) 2) ≡ 1
+one_is_live_after_the_answer : length (after (asked ∷ answered 1120500000 ∷ []) 2).records ≡ 1
 unfolding after
 one_is_live_after_the_answer = refl
 
-one_is_live_until_it_expires : length (after (begun_anew 31000000) 1) ≡ 1
+one_is_live_until_it_expires : length (after (begun_anew 31000000) 1).records ≡ 1
 unfolding after
 one_is_live_until_it_expires = refl
 
-none_is_live_once_it_expired : length (after (begun_anew 31000000) 2) ≡ 0
+none_is_live_once_it_expired : length (after (begun_anew 31000000) 2).records ≡ 0
 unfolding after
 none_is_live_once_it_expired = refl
 
-one_is_live_anew : length (after (begun_anew 31000000) 3) ≡ 1
+one_is_live_anew : length (after (begun_anew 31000000) 3).records ≡ 1
 unfolding after
 one_is_live_anew = refl

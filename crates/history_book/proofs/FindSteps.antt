@@ -7,9 +7,9 @@ use Rattle.tuple_core.specs.declared.Direction.{Direction}
 use Rattle.tuple_core.specs.declared.Direction.TheVariants.{Original, Reply}
 use Rattle.tuple_core.specs.declared.Tuple.{Tuple}
 use Rattle.history_book.specs.declared.record.Record.{Record}
-use Rattle.history_book.specs.Find.{IsHit, IsRecordAt}
+use Rattle.history_book.specs.Find.{IsFoundAt, IsRecordAt}
 use Rattle.history_book.specs.Record.{direction_of, has_id, has_original, has_reply}
-use Rattle.history_book.specs.State.{original_first, record_of}
+use Rattle.history_book.specs.State.{original_first, state_of}
 
 find_at : {X : Type 0} (p : X → Bool) (xs : List X) (i : ℕ) (d : X) → i < length xs
     → find p (drop i xs) ≡ cond (p (get_or xs i d)) (Some (get_or xs i d)) (find p (drop (i + 1) xs))
@@ -28,7 +28,7 @@ passed_here p xs i d within so_far fails =
     sym (find_at p xs i d within ∙ ap (λ b. cond b (Some (get_or xs i d)) (find p (drop (i + 1) xs))) fails) ∙ so_far
 
 pub record_here : (id : ℕ) (rs : List Record) (i : ℕ) (d : Record) → i < length rs
-    → record_of id (drop i rs) ≡ record_of id rs → has_id id (get_or rs i d) ≡ true → IsRecordAt id rs i
+    → find (has_id id) (drop i rs) ≡ find (has_id id) rs → has_id id (get_or rs i d) ≡ true → IsRecordAt id (state_of rs) i
 record_here id rs i d within so_far passes = record {
   subject = get_or rs i d;
   item = slice_get-get_or rs i d within;
@@ -64,9 +64,9 @@ chosen_none false true h = cc
 chosen_none false false h = (refl, refl)
 
 module _ (t : Tuple) (rs : List Record) (i : ℕ) (d : Record) (within : i < length rs) where
-  pub hit_original : (reply : Option ℕ) → FoundSoFar t rs i reply → direction_of t (get_or rs i d) ≡ Some Original
-      → IsHit t rs (record { index = i; direction = Original })
-  hit_original reply so_far here =
+  pub found_original : (reply : Option ℕ) → FoundSoFar t rs i reply → direction_of t (get_or rs i d) ≡ Some Original
+      → IsFoundAt t (state_of rs) (record { index = i; direction = Original })
+  found_original reply so_far here =
       let passes = chosen_original (has_original t (get_or rs i d)) (has_reply t (get_or rs i d)) here in
       let first = found_here (has_original t) rs i d within so_far.original passes in
       record {

@@ -1,10 +1,11 @@
 pub mod FindSteps
 pub mod Points
-pub mod Growth
 pub mod Histories
 pub mod Tuples
 pub mod Entries
-pub mod Marks
 pub mod Pairs
 pub mod Sound
+pub mod Passing
+pub mod Records
+pub mod Live
 pub mod Examples

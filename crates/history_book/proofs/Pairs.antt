@@ -1,16 +1,16 @@
 -- Any two records of a list are apart, by recursion on the list.
-use Rattle.std.proofs.Common.{◌≡◌, ℕ, ◌<◌, Bool, true, false, cond, List, [], ◌∷◌, ◌++◌, arith}
+use Rattle.std.proofs.Common.{◌≡◌, ℕ, ◌<◌, zero, suc, Bool, true, false, cond, List, [], ◌∷◌, ◌++◌, arith}
 use Rattle.std.specs.List.{AllByRecursion, AllPairs, filter}
 use Rattle.std.specs.Prelude.{map}
-use Rattle.std.proofs.lemmas.Bool.{eqb-false}
-use Rattle.std.proofs.lemmas.List.Elements.{All-from_recursion}
+use Rattle.std.proofs.lemmas.Bool.{eqb-false, or_parts}
+use Rattle.std.proofs.lemmas.List.Elements.{All-from_recursion, recursion_from_All}
 use Rattle.std.proofs.lemmas.List.Kept.{AllPairs-cons}
 use Rattle.history_book.specs.declared.protocol.Part.{Part}
 use Rattle.history_book.specs.declared.record.Record.{Record}
 use Rattle.history_book.specs.Laws.{AreApart}
 use Rattle.history_book.specs.Record.{has_original, has_place, has_reply, has_tuple}
 use Rattle.history_book.specs.State.{with_part}
-use Rattle.history_book.proofs.Entries.{apart_same, each_filter, or_false_left, or_false_right, with_part-same}
+use Rattle.history_book.proofs.Entries.{apart_same, each_filter, with_part-same}
 use Rattle.history_book.proofs.Tuples.{same_tuple-false}
 
 abbrev pub Pairs : List Record → Type 0
@@ -21,6 +21,13 @@ pub AllPairs-from_pairs : (rs : List Record) → Pairs rs → AllPairs AreApart 
 AllPairs-from_pairs [] h = λ i j d below short. absurd (omega arith)
 AllPairs-from_pairs (r ∷ rs) (h, hs) =
     AllPairs-cons AreApart r rs (All-from_recursion (AreApart r) rs h) (AllPairs-from_pairs rs hs)
+
+pub pairs_of : (rs : List Record) → AllPairs AreApart rs → Pairs rs
+pairs_of [] h = tt
+pairs_of (r ∷ rs) h = (
+  recursion_from_All (AreApart r) rs (λ k d within. h zero (suc k) d (omega arith) (omega arith)),
+  pairs_of rs (λ i j d below within. h (suc i) (suc j) d (omega arith) (omega arith)),
+)
 
 -- the record is apart from one that is tested against it
 pub record IsNewBeside (s r : Record) : Type 0 where
@@ -33,10 +40,10 @@ pub apart_new : (s r : Record) → IsNewBeside s r → AreApart r s
 apart_new s r h = record {
   ids = λ e. omega (arith, e, h.older);
   places = eqb-false r.place s.place h.place;
-  originals = same_tuple-false r.original s.original (or_false_left (has_original s.original r) (has_reply s.original r) h.original);
-  original_reply = same_tuple-false r.original s.reply (or_false_left (has_original s.reply r) (has_reply s.reply r) h.reply);
-  reply_original = same_tuple-false r.reply s.original (or_false_right (has_original s.original r) (has_reply s.original r) h.original);
-  replies = same_tuple-false r.reply s.reply (or_false_right (has_original s.reply r) (has_reply s.reply r) h.reply);
+  originals = same_tuple-false r.original s.original (or_parts (has_original s.original r) (has_reply s.original r) h.original).0;
+  original_reply = same_tuple-false r.original s.reply (or_parts (has_original s.reply r) (has_reply s.reply r) h.reply).0;
+  reply_original = same_tuple-false r.reply s.original (or_parts (has_original s.original r) (has_reply s.original r) h.original).1;
+  replies = same_tuple-false r.reply s.reply (or_parts (has_original s.reply r) (has_reply s.reply r) h.reply).1;
 }
 
 pub each_new : (s : Record) (rs : List Record) → AllByRecursion (λ r. r.id < s.id) rs

@@ -1,11 +1,11 @@
 -- Facts at points and events at numbers stay as a history goes on.
-use Rattle.std.proofs.Common.{◌≡◌, ℕ, ◌≤◌, zero, suc, List, [], ◌∷◌, ◌++◌, length, take, Some, sym, ap, ◌∙◌, subst, append_assoc, append-nil, length-append, arith}
+use Rattle.std.proofs.Common.{◌≡◌, ℕ, ◌≤◌, zero, suc, List, [], ◌∷◌, ◌++◌, length, take, Some, sym, ap, ◌∙◌, append_assoc, append-nil, length-append, arith}
 use Rattle.std.proofs.lemmas.List.{take-append-le}
 use Rattle.std.specs.List.{slice_get}
 use Rattle.history_book.specs.declared.event.Event.{Event}
-use Rattle.history_book.specs.declared.record.Record.{Record}
 use Rattle.history_book.specs.History.{after, run}
-use Rattle.history_book.specs.Point.{At, StartsWith}
+use Rattle.history_book.specs.Point.{StartsWith}
+use Rattle.history_book.specs.State.{empty_state}
 
 pub starts_refl : (log : List Event) → StartsWith log log
 starts_refl log = ([], sym (append-nil log))
@@ -32,11 +32,4 @@ get_grows longer log i e (r, h) at = rw h (get_append log r i e at)
 pub after-grows : (longer log : List Event) (p : ℕ) → StartsWith longer log → p ≤ length log
     → after longer p ≡ after log p
 unfolding after
-after-grows longer log p (r, h) within = ap (run []) (ap (take p) h ∙ take-append-le p log r within)
-
-pub at_grows : (longer log : List Event) (p : ℕ) (F : List Record → Type 0) → StartsWith longer log
-    → At log p F → At longer p F
-at_grows longer log p F starts fact = record {
-  within = omega (arith, length_grows longer log starts, fact.within);
-  fact = subst F (sym (after-grows longer log p starts fact.within)) fact.fact;
-}
+after-grows longer log p (r, h) within = ap (run empty_state) (ap (take p) h ∙ take-append-le p log r within)

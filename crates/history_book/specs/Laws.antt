@@ -2,22 +2,19 @@
 use Rattle.std.specs.Prelude.{◌≡◌, ◌≢◌, ℕ, ◌+◌, ◌<◌, ◌≤◌, true, Some, List, [], ◌∷◌, ◌++◌, length, slice_get, AllPairs, All}
 use Rattle.history_book.specs.declared.event.Event.{Event}
 use Rattle.history_book.specs.declared.event.Event.TheVariants.{Confirm, Destroy}
-use Rattle.history_book.specs.declared.event.Note.{Note}
 use Rattle.history_book.specs.declared.event.Why.{Why}
-use Rattle.history_book.specs.declared.packet.Arrival.{Arrival}
 use Rattle.history_book.specs.declared.record.Record.{Record}
-use Rattle.history_book.specs.declared.verdict.Class.{Class}
-use Rattle.history_book.specs.Event.{may_happen}
+use Rattle.history_book.specs.declared.sizes.Sizes.{Sizes}
+use Rattle.history_book.specs.Legality.{may_happen}
 use Rattle.history_book.specs.History.{after, is_legal}
 use Rattle.history_book.specs.Point.{StartsWith}
 use Rattle.history_book.specs.State.{next}
-use Rattle.history_book.specs.Verdict.{FitsArrival}
 
 -- a legal history goes on with any event that may happen in the state it leaves
 abbrev pub LegalHistoriesGoOn : Type 0
 LegalHistoriesGoOn =
-    (entries : ℕ) (log : List Event) (e : Event) → is_legal entries log ≡ true
-    → may_happen entries (after log (length log)) (length log) e ≡ true → is_legal entries (log ++ e ∷ []) ≡ true
+    (sizes : Sizes) (log : List Event) (e : Event) → is_legal sizes log ≡ true
+    → may_happen sizes (after log (length log)) (length log) e ≡ true → is_legal sizes (log ++ e ∷ []) ≡ true
 
 -- the state after one event more is the next of the state before
 abbrev pub StatesFollow : Type 0
@@ -27,8 +24,20 @@ StatesFollow =
 -- later events change neither a legal history's first events nor the states at their points
 abbrev pub FirstEventsStay : Type 0
 FirstEventsStay =
-    (entries : ℕ) (log front : List Event) (p : ℕ) → StartsWith log front → is_legal entries log ≡ true → p ≤ length front
-    → (is_legal entries front ≡ true) × (after log p ≡ after front p)
+    (sizes : Sizes) (log front : List Event) (p : ℕ) → StartsWith log front → is_legal sizes log ≡ true → p ≤ length front
+    → (is_legal sizes front ≡ true) × (after log p ≡ after front p)
+
+-- the state at a point of a history is there, and the same, when the history goes on
+abbrev pub StatesStay : Type 0
+StatesStay =
+    (log front : List Event) (p : ℕ) → StartsWith log front → p ≤ length front
+    → (p ≤ length log) × (after log p ≡ after front p)
+
+-- an event of a history has its number when the history goes on
+abbrev pub EventsStay : Type 0
+EventsStay =
+    (log front : List Event) (n : ℕ) (e : Event) → StartsWith log front → slice_get front n ≡ Some e
+    → slice_get log n ≡ Some e
 
 -- two records share no id, no place, and no tuple in either direction
 pub record AreApart (r s : Record) : Type 0 where
@@ -42,7 +51,7 @@ pub record AreApart (r s : Record) : Type 0 where
 -- in every state of a legal history any two records are apart
 abbrev pub RecordsAreApart : Type 0
 RecordsAreApart =
-    (entries : ℕ) (log : List Event) (p : ℕ) → is_legal entries log ≡ true → AllPairs AreApart (after log p)
+    (sizes : Sizes) (log : List Event) (p : ℕ) → is_legal sizes log ≡ true → AllPairs AreApart (after log p).records
 
 -- all of a record but its part is as it was confirmed
 pub record IsSameEntry (s r : Record) : Type 0 where
@@ -59,20 +68,15 @@ pub record IsConfirmed (log : List Event) (r : Record) : Type 0 where
   pub event : slice_get log r.id ≡ Some (Confirm subject)
   pub same : IsSameEntry subject r
 
--- each live record is that of the Confirm at its id
+-- each live record is that of the Confirm at its id, which is an event before the point
 abbrev pub LiveRecordsAreConfirmed : Type 0
 LiveRecordsAreConfirmed =
-    (entries : ℕ) (log : List Event) (p : ℕ) → is_legal entries log ≡ true → All (IsConfirmed log) (after log p)
+    (sizes : Sizes) (log : List Event) (p : ℕ) → is_legal sizes log ≡ true
+    → All (IsConfirmed log) (after log p).records × All (λ r. r.id < p) (after log p).records
 
 -- an id that was destroyed is never live again
 abbrev pub DestroyedIdsStayDead : Type 0
 DestroyedIdsStayDead =
-    (entries : ℕ) (log : List Event) (n p id : ℕ) (why : Why) → is_legal entries log ≡ true
+    (sizes : Sizes) (log : List Event) (n p id : ℕ) (why : Why) → is_legal sizes log ≡ true
     → slice_get log n ≡ Some (Destroy id why) → n < p → p ≤ length log
-    → All (λ r. r.id ≢ id) (after log p)
-
--- a verdict that fits still fits when the history goes on
-abbrev pub VerdictsStillFit : Type 0
-VerdictsStillFit =
-    (entries : ℕ) (log longer : List Event) (mark : ℕ) (arrival : Arrival) (own : List Note) (class : Class)
-    → StartsWith longer log → FitsArrival entries log mark arrival own class → FitsArrival entries longer mark arrival own class
+    → All (λ r. r.id ≢ id) (after log p).records

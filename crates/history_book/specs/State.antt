@@ -1,4 +1,4 @@
--- A state of the table is the list of its live records. What is found in it, and how an event changes it.
+-- A state of the table: what is found in it, and how an event changes it.
 use Rattle.std.specs.Prelude.{ℕ, Bool, not, if◌then◌else◌, Option, Some, None, List, [], ◌∷◌, ◌++◌, map, filter, find}
 use Rattle.std.specs.List.{list_any}
 use Rattle.tuple_core.specs.declared.Direction.{Direction}
@@ -8,7 +8,17 @@ use Rattle.history_book.specs.declared.event.Event.{Event}
 use Rattle.history_book.specs.declared.event.Event.TheVariants.{Confirm, Touch, Destroy}
 use Rattle.history_book.specs.declared.protocol.Part.{Part}
 use Rattle.history_book.specs.declared.record.Record.{Record}
-use Rattle.history_book.specs.Record.{has_id, has_original, has_reply, has_tuple}
+use Rattle.history_book.specs.Record.{has_id, has_original, has_place, has_reply, has_tuple}
+
+-- a state has its live records
+pub record State : Type 0 where
+  pub records : List Record
+
+abbrev pub state_of : List Record → State
+state_of rs = record { records = rs }
+
+abbrev pub empty_state : State
+empty_state = state_of []
 
 -- a live record and the direction in which a tuple names it
 pub record Found : Type 0 where
@@ -16,8 +26,8 @@ pub record Found : Type 0 where
   pub direction : Direction
 
 -- the record with this id, if it is live
-abbrev pub record_of : ℕ → List Record → Option Record
-record_of id rs = find (has_id id) rs
+abbrev pub record_of : ℕ → State → Option Record
+record_of id s = find (has_id id) s.records
 
 -- the record found by its original tuple, else the one found by its reply tuple
 abbrev pub original_first : Option Record → Option Record → Option Found
@@ -26,19 +36,23 @@ original_first None (Some r) = Some (record { subject = r; direction = Reply })
 original_first None None = None
 
 -- what is live under a tuple
-abbrev pub live_under : Tuple → List Record → Option Found
-live_under t rs = original_first (find (has_original t) rs) (find (has_reply t) rs)
+abbrev pub live_under : Tuple → State → Option Found
+live_under t s = original_first (find (has_original t) s.records) (find (has_reply t) s.records)
 
 -- no live record has the tuple in either direction
-abbrev pub is_free : Tuple → List Record → Bool
-is_free t rs = not (list_any (has_tuple t) rs)
+abbrev pub is_free : Tuple → State → Bool
+is_free t s = not (list_any (has_tuple t) s.records)
+
+-- no live record has the place
+abbrev pub is_unused : ℕ → State → Bool
+is_unused place s = not (list_any (has_place place) s.records)
 
 -- the record goes on with this part, if it is the one with the id
 abbrev pub with_part : ℕ → Part → Record → Record
 with_part id part r = (if has_id id r then record r { part = part } else r)
 
 -- the state after an event
-abbrev pub next : List Record → Event → List Record
-next rs (Confirm r) = rs ++ r ∷ []
-next rs (Touch id direction segment moment after) = map (with_part id after) rs
-next rs (Destroy id why) = filter (λ r. not (has_id id r)) rs
+abbrev pub next : State → Event → State
+next s (Confirm r) = record s { records = s.records ++ r ∷ [] }
+next s (Touch id direction segment moment after) = record s { records = map (with_part id after) s.records }
+next s (Destroy id why) = record s { records = filter (λ r. not (has_id id r)) s.records }

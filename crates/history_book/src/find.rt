@@ -1,10 +1,10 @@
-//! What is found in a list of records: the plain programs of the definitions.
+//! What is found among the records of a state: the plain programs of the definitions.
 
 ghost use Rattle.std.specs.Prelude.{◌≡◌, IfNone, IfSome, Some, None};
-ghost use Rattle.history_book.specs.Find.{IsHit, IsRecordAt};
+ghost use Rattle.history_book.specs.Find.{IsFoundAt, IsRecordAt};
 ghost use Rattle.history_book.specs.Label.{label_of};
 ghost use Rattle.history_book.specs.Record.{direction_of, has_id};
-ghost use Rattle.history_book.specs.State.{live_under, record_of};
+ghost use Rattle.history_book.specs.State.{live_under, record_of, state_of};
 
 use crate::record::Record;
 use crate::verdict::Label;
@@ -12,7 +12,7 @@ use tuple_core::{Direction, Tuple};
 
 /// Where a record stands in a list, and the direction in which a tuple names it.
 #[derive(Clone, Copy)]
-pub struct Hit {
+pub struct FoundAt {
     pub index: usize,
     pub direction: Direction,
 }
@@ -32,15 +32,15 @@ fn direction_under(t: &Tuple, r: &Record) -> Option<Direction>
 
 /// The record that is live under a tuple: the one that has it as its original tuple, else the one that
 /// has it as its reply tuple. Takes one pass over the records.
-pub fn find(records: &[Record], t: &Tuple) -> Option<Hit>
-    ensures absent { IfNone result (live_under t.now records.now ≡ None) }
-    ensures found { IfSome result (IsHit t.now records.now) }
+pub fn find(records: &[Record], t: &Tuple) -> Option<FoundAt>
+    ensures absent { IfNone result (live_under t.now (state_of records.now) ≡ None) }
+    ensures found { IfSome result (IsFoundAt t.now (state_of records.now)) }
 {
     let mut reply: Option<usize> = None;
     for (index, r) in records.iter().enumerate() {
         match direction_under(t, r) {
             Some(Direction::Original) => {
-                return Some(Hit {
+                return Some(FoundAt {
                     index,
                     direction: Direction::Original,
                 });
@@ -54,7 +54,7 @@ pub fn find(records: &[Record], t: &Tuple) -> Option<Hit>
         }
     }
     match reply {
-        Some(index) => Some(Hit {
+        Some(index) => Some(FoundAt {
             index,
             direction: Direction::Reply,
         }),
@@ -71,8 +71,8 @@ fn is_of_id(r: &Record, id: u64) -> bool
 
 /// The index of the record with this id.
 pub fn find_id(records: &[Record], id: u64) -> Option<usize>
-    ensures absent { IfNone result (record_of id records.now ≡ None) }
-    ensures found { IfSome result (IsRecordAt id records.now) }
+    ensures absent { IfNone result (record_of id (state_of records.now) ≡ None) }
+    ensures found { IfSome result (IsRecordAt id (state_of records.now)) }
 {
     for (index, r) in records.iter().enumerate() {
         if is_of_id(r, id) {

@@ -1,6 +1,12 @@
-//! What holds of every legal history: each law is the contract of a function that does nothing.
+//! What holds of every legal history, and of states: each law is the contract of a function that does
+//! nothing.
 
-ghost use Rattle.history_book.specs.Laws.{LegalHistoriesGoOn, StatesFollow, FirstEventsStay, RecordsAreApart, LiveRecordsAreConfirmed, DestroyedIdsStayDead, VerdictsStillFit};
+ghost use Rattle.history_book.specs.Laws.{LegalHistoriesGoOn, StatesFollow, FirstEventsStay};
+ghost use Rattle.history_book.specs.Laws.{EventsStay, StatesStay, RecordsAreApart};
+ghost use Rattle.history_book.specs.Laws.{LiveRecordsAreConfirmed, DestroyedIdsStayDead};
+ghost use Rattle.history_book.specs.StateLaws.{TuplesAreTold, PartsAreTold, AbsentIsFree};
+ghost use Rattle.history_book.specs.StateLaws.{IdsNameRecords, TouchesChangeOne};
+ghost use Rattle.history_book.specs.StateLaws.{DestroysTakeOne, DestroysFree};
 
 /// A legal history goes on with any event that may happen in the state that it leaves.
 pub fn legal_histories_go_on()
@@ -17,13 +23,24 @@ pub fn first_events_stay()
     ensures { FirstEventsStay }
 {}
 
+/// The state at a point of a history stays as the history goes on.
+pub fn states_stay()
+    ensures { StatesStay }
+{}
+
+/// An event of a history keeps its number as the history goes on.
+pub fn events_stay()
+    ensures { EventsStay }
+{}
+
 /// In every state of a legal history no two records share a tuple in either direction, a place or an
 /// id.
 pub fn records_are_apart()
     ensures { RecordsAreApart }
 {}
 
-/// A live record has the tuples, the place, the helper and the master of the Confirm at its id.
+/// A live record has the tuples, the place, the helper and the master of the Confirm at its id, which
+/// is an event before the point.
 pub fn live_records_are_confirmed()
     ensures { LiveRecordsAreConfirmed }
 {}
@@ -33,7 +50,37 @@ pub fn destroyed_ids_stay_dead()
     ensures { DestroyedIdsStayDead }
 {}
 
-/// A verdict that fits its packet still fits it when the history goes on.
-pub fn verdicts_still_fit()
-    ensures { VerdictsStillFit }
+/// The test of two tuples tells whether they are equal.
+pub fn tuples_are_told()
+    ensures { TuplesAreTold }
+{}
+
+/// A part passes the test against itself.
+pub fn parts_are_told()
+    ensures { PartsAreTold }
+{}
+
+/// A tuple under which nothing is live is free.
+pub fn absent_is_free()
+    ensures { AbsentIsFree }
+{}
+
+/// Where the records of a state are apart, each is the one that is found by its id.
+pub fn ids_name_records()
+    ensures { IdsNameRecords }
+{}
+
+/// A Touch gives one record its new part, and leaves each other as it is.
+pub fn touches_change_one()
+    ensures { TouchesChangeOne }
+{}
+
+/// A Destroy takes one record out, and leaves each other as it is.
+pub fn destroys_take_one()
+    ensures { DestroysTakeOne }
+{}
+
+/// A destroyed entry leaves its place unused, and the tuple that it was live under free.
+pub fn destroys_free()
+    ensures { DestroysFree }
 {}

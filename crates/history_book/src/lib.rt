@@ -4,11 +4,11 @@
 pub mod event;
 pub mod find;
 pub mod laws;
-pub mod packet;
+pub mod legality;
 pub mod protocol;
 pub mod record;
 pub mod report;
-pub mod rule;
+pub mod sizes;
 #[cfg(test)]
 mod tests;
 pub mod verdict;

@@ -1,10 +1,11 @@
 //! Worked flows of UDP: a query with its answer, and a flow that falls silent.
 
 use crate::event::{Event, Why};
-use crate::find::{Hit, find, find_id, label};
+use crate::find::{FoundAt, find, find_id, label};
+use crate::legality::is_lawful;
 use crate::protocol::{Outcome, Part, PartKind, start, step};
 use crate::record::Record;
-use crate::rule::is_lawful;
+use crate::sizes::Sizes;
 use crate::verdict::Label;
 use tuple_core::{Direction, Kind, Proto, Segment, Tuple};
 
@@ -93,7 +94,7 @@ fn found_in_each_direction(rt: HostRuntime) {
     assert!(rt;
         matches!(
             original,
-            Some(Hit {
+            Some(FoundAt {
                 index: 0,
                 direction: Direction::Original
             })
@@ -103,7 +104,7 @@ fn found_in_each_direction(rt: HostRuntime) {
     assert!(rt;
         matches!(
             reply,
-            Some(Hit {
+            Some(FoundAt {
                 index: 0,
                 direction: Direction::Reply
             })
@@ -130,11 +131,22 @@ fn labels(rt: HostRuntime) {
     assert!(rt; matches!(label(&claimed, Direction::Original), Label::Related));
 }
 
+/// The sizes of a tracker with so many places.
+fn sizes(entries: u32) -> Sizes {
+    Sizes {
+        entries,
+        buckets: 1,
+        seed: 1,
+        passes: 1,
+        expectations: 0,
+    }
+}
+
 #[test]
 fn lawful_events(rt: HostRuntime) {
     let confirm = Event::Confirm { subject: ENTRY };
-    assert!(rt; is_lawful(1, &[], 0, &confirm));
-    assert!(rt; !is_lawful(0, &[], 0, &confirm));
+    assert!(rt; is_lawful(&sizes(1), &[], 0, &confirm));
+    assert!(rt; !is_lawful(&sizes(0), &[], 0, &confirm));
     let touch = Event::Touch {
         id: 0,
         direction: Direction::Reply,
@@ -142,8 +154,8 @@ fn lawful_events(rt: HostRuntime) {
         moment: 1_000_500_000,
         after: ANSWERED,
     };
-    assert!(rt; is_lawful(1, &[ENTRY], 1, &touch));
-    assert!(rt; !is_lawful(1, &[], 1, &touch));
+    assert!(rt; is_lawful(&sizes(1), &[ENTRY], 1, &touch));
+    assert!(rt; !is_lawful(&sizes(1), &[], 1, &touch));
     let early = Event::Destroy {
         id: 0,
         why: Why::Expired {
@@ -156,6 +168,6 @@ fn lawful_events(rt: HostRuntime) {
             moment: 1_030_000_000,
         },
     };
-    assert!(rt; !is_lawful(1, &[ENTRY], 1, &early));
-    assert!(rt; is_lawful(1, &[ENTRY], 1, &due));
+    assert!(rt; !is_lawful(&sizes(1), &[ENTRY], 1, &early));
+    assert!(rt; is_lawful(&sizes(1), &[ENTRY], 1, &due));
 }

@@ -4,7 +4,7 @@ use Rattle.std.proofs.lemmas.Bool.{cases_lt}
 use Rattle.packet_headers.specs.declared.frame.Frame.{Frame}
 use Rattle.packet_headers.specs.Capture.{IsCapture}
 use Rattle.packet_headers.specs.CaptureLaws.{BytesHaveFramesOrFault, CapturesAreUnique, CapturesHaveNoFault, FaultsAreUnique}
-use Rattle.history_book.specs.declared.packet.Arrival.{Arrival}
+use Rattle.packet_path.specs.declared.packet.Arrival.{Arrival}
 use Rattle.replay_top.specs.declared.flaw.Flaw.{Flaw}
 use Rattle.replay_top.specs.declared.flaw.Flaw.TheVariants.{Fault, NotTracked, TooLong}
 use Rattle.replay_top.specs.Arrivals.{arrival_at, Arrive, has_other_flow, most_bytes}

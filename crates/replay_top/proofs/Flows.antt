@@ -6,11 +6,11 @@ use Rattle.tuple_core.specs.Tuple.{is_valid, number_of}
 use Rattle.tuple_core.specs.declared.Proto.TheVariants as proto
 use Rattle.tuple_core.specs.declared.Segment.{Segment}
 use Rattle.tuple_core.specs.declared.Segment.TheVariants.{Tcp, Udp, Icmp}
-use Rattle.history_book.specs.declared.packet.FlowPacket.{FlowPacket}
+use Rattle.packet_path.specs.declared.packet.FlowPacket.{FlowPacket}
 use Rattle.history_book.specs.declared.protocol.PartKind.{PartKind}
 use Rattle.history_book.specs.declared.protocol.PartKind.TheVariants as kind
 use Rattle.history_book.specs.Protocol.{is_of_protocol, start_of}
-use Rattle.replay_top.specs.Flow.{is_udp, is_flow}
+use Rattle.replay_top.specs.Internal.Flow.{is_udp, is_flow}
 
 pub record IsFlow (p : FlowPacket) : Type 0 where
   pub valid : is_valid p.tuple ≡ true

@@ -1,12 +1,10 @@
 pub mod Arriving
 pub mod Books
+pub mod Collecting
 pub mod Findings
 pub mod Flaws
 pub mod Flows
 pub mod Reading
-pub mod Records
 pub mod Replays
 pub mod Steps
-pub mod Passing
 pub mod Tracks
-pub mod Collecting

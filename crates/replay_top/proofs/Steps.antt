@@ -1,84 +1,62 @@
 -- What each way of handling a packet leaves.
-use Rattle.std.proofs.Common.{◌≡◌, ℕ, ◌+◌, ◌<◌, ◌≤◌, suc, Bool, true, false, not, cond, List, [], ◌∷◌, ◌++◌, length, refl, sym, ap, subst, ◌∙◌, arith, append-nil, append_assoc, length-append, ⊎_elim, inl, inr, Option, Some, None}
-use Rattle.std.specs.List.{AllByRecursion, find, list_any, remove, slice_get}
-use Rattle.std.specs.Prelude.{◌||◌, ◌⊎◌, map}
-use Rattle.std.proofs.lemmas.Bool.{and_from, eq-eqb, ne_eqb, or_cases}
+use Rattle.std.proofs.Common.{◌≡◌, ℕ, ◌+◌, ◌<◌, ◌≤◌, true, false, not, List, [], ◌∷◌, ◌++◌, length, refl, sym, ap, subst, ◌∙◌, arith, append-nil, length-append, append_assoc, Option, Some, None}
+use Rattle.std.specs.List.{list_any, remove, slice_get}
+use Rattle.std.specs.Prelude.{slice_set}
+use Rattle.std.proofs.lemmas.Bool.{and_from, ne_eqb, or_from}
+use Rattle.std.proofs.lemmas.List.{length-set}
 use Rattle.std.proofs.lemmas.List.Edits.{length-remove}
 use Rattle.std.proofs.lemmas.Option.{slice_get_within}
-use Rattle.tuple_core.specs.declared.Direction.TheVariants.{Original, Reply}
-use Rattle.tuple_core.specs.declared.Tuple.{Tuple}
 use Rattle.tuple_core.specs.Inverse.{inverse}
-use Rattle.history_book.specs.Error.{IsMisdirected, IsRelated, LooksUp}
+use Rattle.tuple_core.specs.declared.Tuple.{Tuple}
 use Rattle.history_book.specs.declared.event.Event.{Event}
 use Rattle.history_book.specs.declared.event.Event.TheVariants.{Confirm, Destroy}
 use Rattle.history_book.specs.declared.event.Note.{Note}
 use Rattle.history_book.specs.declared.event.Numbered.{Numbered}
 use Rattle.history_book.specs.declared.event.Why.TheVariants as why
-use Rattle.history_book.specs.declared.find.Hit.{Hit}
-use Rattle.history_book.specs.declared.packet.Arrival.TheVariants as arrival
-use Rattle.history_book.specs.declared.packet.FlowPacket.{FlowPacket}
+use Rattle.history_book.specs.declared.find.FoundAt.{FoundAt}
 use Rattle.history_book.specs.declared.protocol.Outcome.{Outcome}
-use Rattle.history_book.specs.declared.protocol.Outcome.TheVariants.{Accept, Expired}
+use Rattle.history_book.specs.declared.protocol.Outcome.TheVariants.{Accept}
 use Rattle.history_book.specs.declared.protocol.Part.{Part}
-use Rattle.history_book.specs.declared.protocol.PartKind.{PartKind}
-use Rattle.history_book.specs.declared.protocol.PartKind.TheVariants as kind
 use Rattle.history_book.specs.declared.record.Record.{Record}
 use Rattle.history_book.specs.declared.verdict.Class.{Class}
 use Rattle.history_book.specs.declared.verdict.Class.TheVariants as class
 use Rattle.history_book.specs.declared.verdict.Ftp.TheVariants.{Nothing}
 use Rattle.history_book.specs.declared.verdict.Label.{Label}
-use Rattle.history_book.specs.Event.{accepts, may_touch, same_bool, same_kind, same_part}
-use Rattle.history_book.specs.Find.{IsHit}
+use Rattle.history_book.specs.declared.verdict.Translated.TheVariants.{Plain}
+use Rattle.history_book.specs.Legality.{accepts, may_touch}
+use Rattle.history_book.specs.Find.{IsFoundAt}
 use Rattle.history_book.specs.History.{after}
 use Rattle.history_book.specs.Label.{label_of}
-use Rattle.history_book.specs.Laws.{AreApart}
+use Rattle.history_book.specs.Laws.{EventsStay, RecordsAreApart, StatesStay}
 use Rattle.history_book.specs.Notes.{mark_past}
+use Rattle.history_book.specs.Numbered.{events_of}
 use Rattle.history_book.specs.Point.{At, StartsWith}
-use Rattle.history_book.specs.Protocol.{accepted, is_expired, step_of}
-use Rattle.history_book.specs.Record.{has_id, has_original, has_place, has_reply, has_tuple}
-use Rattle.history_book.specs.State.{Found, live_under, original_first, with_part}
-use Rattle.history_book.specs.Verdict.{FitsClass}
-use Rattle.history_book.proofs.Entries.{each_filter, or_false_left, or_false_right, with_part-same}
-use Rattle.history_book.proofs.Points.{after-grows, get_grows, length_grows, starts_refl, starts_trans}
-use Rattle.history_book.proofs.Tuples.{same_tuple-true}
+use Rattle.history_book.specs.Protocol.{step_of}
+use Rattle.history_book.specs.Record.{has_place}
+use Rattle.history_book.specs.Sizes.{fewest_of_full}
+use Rattle.history_book.specs.State.{Found, State, is_unused, live_under, state_of}
+use Rattle.history_book.specs.StateLaws.{DestroysFree, IsGone, PartsAreTold}
+use Rattle.packet_path.specs.declared.packet.Arrival.TheVariants as arrival
+use Rattle.packet_path.specs.declared.packet.FlowPacket.{FlowPacket}
+use Rattle.packet_path.specs.Error.{LooksUp}
+use Rattle.packet_path.specs.Made.{Makes}
+use Rattle.packet_path.specs.Verdict.{FitsArrival}
 use Rattle.replay_top.specs.declared.book.Book.{Book}
-use Rattle.replay_top.specs.declared.book.Touched.{Touched}
-use Rattle.replay_top.specs.Book.{Adds, Holds, PlacesBelow, touch_of}
-use Rattle.replay_top.specs.Flow.{is_flow}
-use Rattle.replay_top.specs.History.{events_of, pool}
-use Rattle.replay_top.specs.Track.{Begins, Handled, StepsTo}
-use Rattle.replay_top.proofs.Books.{events-push, length-events, pairs_of}
+use Rattle.replay_top.specs.Internal.Book.{Adds, Holds, PlacesBelow, touch_of}
+use Rattle.replay_top.specs.Internal.Flow.{is_flow}
+use Rattle.replay_top.specs.Internal.Track.{Begins, Handled, StepsTo}
+use Rattle.replay_top.proofs.Books.{apart_of, each_at, each_remove, each_set, events-append, length-events}
 use Rattle.replay_top.proofs.Flows.{udp_of_protocol, udp_starts}
-use Rattle.replay_top.proofs.Records.{each_at, others_apart, remove-filter}
-use Rattle.replay_top.proofs.Passing.{fails_by, found_passes, none_found, or_false}
 use Rattle.replay_top.proofs.Tracks.{event_added, length_added}
 
-none_both : (o r : Option Record) → original_first o r ≡ None → (o ≡ None) × (r ≡ None)
-none_both (Some a) r h = cc
-none_both None (Some b) h = cc
-none_both None None h = (refl, refl)
-
-neither : (t : Tuple) (rs : List Record) → list_any (has_original t) rs ≡ false → list_any (has_reply t) rs ≡ false
-    → list_any (has_tuple t) rs ≡ false
-neither t [] a b = refl
-neither t (r ∷ rs) a b =
-    or_false (has_tuple t r) (list_any (has_tuple t) rs)
-    (or_false (has_original t r) (has_reply t r)
-    (or_false_left (has_original t r) (list_any (has_original t) rs) a)
-    (or_false_left (has_reply t r) (list_any (has_reply t) rs) b))
-    (neither t rs (or_false_right (has_original t r) (list_any (has_original t) rs) a)
-    (or_false_right (has_reply t r) (list_any (has_reply t) rs) b))
-
-pub absent_from : (t : Tuple) (rs : List Record) → live_under t rs ≡ None → list_any (has_tuple t) rs ≡ false
-absent_from t rs h =
-    let both = none_both (find (has_original t) rs) (find (has_reply t) rs) h in
-    neither t rs (none_found (has_original t) rs both.0) (none_found (has_reply t) rs both.1)
+elsewhere : (n m : ℕ) (rs : List Record) → n ≤ m → PlacesBelow n rs → list_any (has_place m) rs ≡ false
+elsewhere n m [] le h = refl
+elsewhere n m (r ∷ rs) le (h, hs) =
+    or_from (has_place m r) (list_any (has_place m) rs) (ne_eqb r.place m (λ e. omega (arith, h, e))) (elsewhere n m rs le hs)
 
 -- a place that all places are below is nobody's
-pub place_open : (n m : ℕ) (rs : List Record) → n ≤ m → PlacesBelow n rs → list_any (has_place m) rs ≡ false
-place_open n m [] le h = refl
-place_open n m (r ∷ rs) le (h, hs) =
-    or_false (has_place m r) (list_any (has_place m) rs) (ne_eqb r.place m (λ e. omega (arith, h, e))) (place_open n m rs le hs)
+pub place_open : (n m : ℕ) (rs : List Record) → n ≤ m → PlacesBelow n rs → is_unused m (state_of rs) ≡ true
+place_open n m rs le h = ap not (elsewhere n m rs le h)
 
 pub places_more : (m n : ℕ) (rs : List Record) → m ≤ n → PlacesBelow m rs → PlacesBelow n rs
 places_more m n [] le h = tt
@@ -88,142 +66,104 @@ places_push : (n : ℕ) (rs : List Record) (s : Record) → PlacesBelow n rs →
 places_push n [] s h one = (one, tt)
 places_push n (r ∷ rs) s (h, hs) one = (h, places_push n rs s hs one)
 
-places_touched : (n id : ℕ) (part : Part) (rs : List Record) → PlacesBelow n rs → PlacesBelow n (map (with_part id part) rs)
-places_touched n id part [] h = tt
-places_touched n id part (r ∷ rs) (h, hs) =
-    (omega (arith, h, (with_part-same id part r).place), places_touched n id part rs hs)
+pub place_below : (n at : ℕ) (rs : List Record) (s : Record) → PlacesBelow n rs → slice_get rs at ≡ Some s → s.place < n
+place_below n at rs s below item = each_at (λ (r : Record). r.place < n) rs at s below item
 
-length_touched : (id : ℕ) (part : Part) (rs : List Record) → length (map (with_part id part) rs) ≡ length rs
-length_touched id part [] = refl
-length_touched id part (r ∷ rs) = ap suc (length_touched id part rs)
+pub places_written : (old new : Book) (at : ℕ) (s : Record) (part : Part) → slice_get old.records.items at ≡ Some s
+    → new.records.items ≡ slice_set old.records.items at (record s { part = part })
+    → PlacesBelow (length old.records.items) old.records.items → PlacesBelow (length new.records.items) new.records.items
+places_written old new at s part item written below =
+    let n : ℕ = length old.records.items in
+    let same : length new.records.items ≡ n = ap length written ∙ length-set old.records.items at (record s { part = part }) in
+    rw same (subst (PlacesBelow n) (sym written)
+    (each_set (λ (r : Record). r.place < n) old.records.items at (record s { part = part }) below
+    (place_below n at old.records.items s below item)))
 
--- the record that is live under a tuple has it
-original_found : (o r : Option Record) (f : Found) → original_first o r ≡ Some f
-    → ((o ≡ Some f.subject) × (f.direction ≡ Original)) ⊎ ((r ≡ Some f.subject) × (f.direction ≡ Reply))
-original_found (Some a) r f h =
-    let same : record { subject = a; direction = Original } ≡ f = cc in
-    inl (ap (λ (x : Found). Some x.subject) same, sym (ap (λ (x : Found). x.direction) same))
-original_found None (Some b) f h =
-    let same : record { subject = b; direction = Reply } ≡ f = cc in
-    inr (ap (λ (x : Found). Some x.subject) same, sym (ap (λ (x : Found). x.direction) same))
-original_found None None f h = cc
+records_begun : (old new : Book) (index place : ℕ) (packet : FlowPacket) (answer : Class)
+    → (begins : Begins old new index packet place answer) → new.records.items ≡ old.records.items ++ begins.subject ∷ []
+records_begun old new index place packet answer begins = ap (λ (s : State). s.records) begins.adds.records
 
-or_true_left : (a b : Bool) → a ≡ true → (a || b) ≡ true
-or_true_left true b h = refl
-or_true_left false b h = cc
+one_more : (old new : Book) (index place : ℕ) (packet : FlowPacket) (answer : Class)
+    → Begins old new index packet place answer → length new.records.items ≡ length old.records.items + 1
+one_more old new index place packet answer begins =
+    ap length (records_begun old new index place packet answer begins)
+    ∙ length-append old.records.items (begins.subject ∷ [])
 
-or_true_right : (a b : Bool) → b ≡ true → (a || b) ≡ true
-or_true_right true b h = refl
-or_true_right false b h = h
+-- where the place of the new entry is below the number of entries
+pub places_begin : (old new : Book) (index place : ℕ) (packet : FlowPacket) (answer : Class)
+    → Begins old new index packet place answer → PlacesBelow (length old.records.items + 1) old.records.items
+    → place ≤ length old.records.items → PlacesBelow (length new.records.items) new.records.items
+places_begin old new index place packet answer begins below low =
+    rw (one_more old new index place packet answer begins)
+    (subst (PlacesBelow (length old.records.items + 1)) (sym (records_begun old new index place packet answer begins))
+    (places_push (length old.records.items + 1) old.records.items begins.subject below (omega (arith, begins.placed))))
 
-live_has : (t : Tuple) (rs : List Record) (f : Found) → live_under t rs ≡ Some f → has_tuple t f.subject ≡ true
-live_has t rs f h =
-    ⊎_elim
-    (λ e. or_true_left (has_original t f.subject) (has_reply t f.subject) (found_passes (has_original t) rs f.subject e.0))
-    (λ e. or_true_right (has_original t f.subject) (has_reply t f.subject) (found_passes (has_reply t) rs f.subject e.0))
-    (original_found (find (has_original t) rs) (find (has_reply t) rs) f h)
+pub places_removed : (old mid : Book) (at n : ℕ) → mid.records.items ≡ remove old.records.items at
+    → PlacesBelow n old.records.items → PlacesBelow n mid.records.items
+places_removed old mid at n removed below =
+    subst (PlacesBelow n) (sym removed) (each_remove (λ (r : Record). r.place < n) old.records.items at below)
 
--- a record apart from one that has the tuple has it not
-apart_absent : (t : Tuple) (r q : Record) → has_tuple t r ≡ true → AreApart r q → has_tuple t q ≡ false
-apart_absent t r q has apart =
-    ⊎_elim
-    (λ h. let same : r.original ≡ t = same_tuple-true r.original t h in
-    or_false (has_original t q) (has_reply t q)
-    (fails_by (has_original t q) (λ k. apart.originals (same ∙ sym (same_tuple-true q.original t k))))
-    (fails_by (has_reply t q) (λ k. apart.original_reply (same ∙ sym (same_tuple-true q.reply t k)))))
-    (λ h. let same : r.reply ≡ t = same_tuple-true r.reply t h in
-    or_false (has_original t q) (has_reply t q)
-    (fails_by (has_original t q) (λ k. apart.reply_original (same ∙ sym (same_tuple-true q.original t k))))
-    (fails_by (has_reply t q) (λ k. apart.replies (same ∙ sym (same_tuple-true q.reply t k)))))
-    (or_cases (has_original t r) (has_reply t r) has)
+pub one_fewer : (old mid : Book) (at : ℕ) (s : Record) → slice_get old.records.items at ≡ Some s
+    → mid.records.items ≡ remove old.records.items at → length mid.records.items + 1 ≡ length old.records.items
+one_fewer old mid at s item removed =
+    ap (λ (rs : List Record). length rs + 1) removed
+    ∙ length-remove old.records.items at (slice_get_within old.records.items at s item)
 
-all_absent : (t : Tuple) (r : Record) (qs : List Record) → has_tuple t r ≡ true → AllByRecursion (AreApart r) qs
-    → list_any (has_tuple t) qs ≡ false
-all_absent t r [] has h = refl
-all_absent t r (q ∷ qs) has (h, hs) =
-    or_false (has_tuple t q) (list_any (has_tuple t) qs) (apart_absent t r q has h) (all_absent t r qs has hs)
+-- what is said of the record at the index where one was found
+pub found_live : (t : Tuple) (s : State) (found : FoundAt) (r : Record) → IsFoundAt t s found → slice_get s.records found.index ≡ Some r
+    → live_under t s ≡ Some (record { subject = r; direction = found.direction })
+found_live t s found r h item =
+    let same : h.subject ≡ r = cc (h.item, item) in
+    h.live ∙ ap (λ (x : Record). Some (record { subject = x; direction = found.direction })) same
 
-all_elsewhere : (r : Record) (qs : List Record) → AllByRecursion (AreApart r) qs → list_any (has_place r.place) qs ≡ false
-all_elsewhere r [] h = refl
-all_elsewhere r (q ∷ qs) (h, hs) =
-    or_false (has_place r.place q) (list_any (has_place r.place) qs)
-    (ne_eqb q.place r.place (λ e. h.places (sym e))) (all_elsewhere r qs hs)
-
--- what a hit says of the record at its index
-pub hit_live : (t : Tuple) (rs : List Record) (hit : Hit) (s : Record) → IsHit t rs hit → slice_get rs hit.index ≡ Some s
-    → live_under t rs ≡ Some (record { subject = s; direction = hit.direction })
-hit_live t rs hit s h item =
+step_here : (found : FoundAt) (packet : FlowPacket) (rs : List Record) (o : Outcome) (s : Record) → StepsTo found packet rs o
+    → slice_get rs found.index ≡ Some s → step_of s.part found.direction packet.segment packet.moment ≡ o
+step_here found packet rs o s h item =
     let same : h.subject ≡ s = cc (h.item, item) in
-    h.live ∙ ap (λ (x : Record). Some (record { subject = x; direction = hit.direction })) same
+    ap (λ (x : Record). step_of x.part found.direction packet.segment packet.moment) (sym same) ∙ h.step
 
-pub step_here : (hit : Hit) (packet : FlowPacket) (rs : List Record) (o : Outcome) (s : Record) → StepsTo hit packet rs o
-    → slice_get rs hit.index ≡ Some s → step_of s.part hit.direction packet.segment packet.moment ≡ o
-step_here hit packet rs o s h item =
-    let same : h.subject ≡ s = cc (h.item, item) in
-    ap (λ (x : Record). step_of x.part hit.direction packet.segment packet.moment) (sym same) ∙ h.step
-
-same_bool-refl : (b : Bool) → same_bool b b ≡ true
-same_bool-refl true = refl
-same_bool-refl false = refl
-
-same_kind-refl : (k : PartKind) → same_kind k k ≡ true
-same_kind-refl kind.Udp = refl
-
-same_part-refl : (p : Part) → same_part p p ≡ true
-same_part-refl p =
-    and_from _ _ (and_from _ _ (and_from _ _ (same_kind-refl p.kind) (same_bool-refl p.replied)) (same_bool-refl p.assured))
-    (eq-eqb p.deadline p.deadline refl)
-
-pub may_touch_here : (hit : Hit) (packet : FlowPacket) (rs : List Record) (part : Part) (s : Record) → is_flow packet ≡ true
-    → StepsTo hit packet rs (Accept part) → slice_get rs hit.index ≡ Some s
-    → may_touch (Some s) hit.direction packet.segment packet.moment part ≡ true
-may_touch_here hit packet rs part s flow steps item =
+pub may_touch_here : PartsAreTold → (found : FoundAt) (packet : FlowPacket) (rs : List Record) (part : Part) (s : Record)
+    → is_flow packet ≡ true → StepsTo found packet rs (Accept part) → slice_get rs found.index ≡ Some s
+    → may_touch (Some s) found.direction packet.segment packet.moment part ≡ true
+may_touch_here told found packet rs part s flow steps item =
     and_from _ _ (udp_of_protocol packet s.part.kind flow)
-    (ap (λ o. accepts o part) (step_here hit packet rs (Accept part) s steps item) ∙ same_part-refl part)
+    (ap (λ o. accepts o part) (step_here found packet rs (Accept part) s steps item) ∙ told part)
 
-expired_by : (b : Bool) (part : Part) → cond b Expired (Accept part) ≡ Expired → b ≡ true
-expired_by true part h = refl
-expired_by false part h = cc
-
-pub expired_here : (hit : Hit) (packet : FlowPacket) (rs : List Record) (s : Record) → StepsTo hit packet rs Expired
-    → slice_get rs hit.index ≡ Some s → is_expired s.part packet.moment ≡ true
-expired_here hit packet rs s steps item =
-    expired_by (is_expired s.part packet.moment) (accepted s.part hit.direction packet.moment)
-    (step_here hit packet rs Expired s steps item)
-
-starts_adds : (old new : Book) (index : ℕ) (e : Event) → Adds old new index e
+-- the new history begins with the old one
+starts_own : (old new : Book) (own : List Numbered) → new.history.items ≡ old.history.items ++ own
     → StartsWith (events_of new.history.items) (events_of old.history.items)
-starts_adds old new index e adds = (
-  e ∷ [],
-  ap events_of adds.history
-      ∙ events-push old.history.items (record { number = length old.history.items; thread = 0; index = index; event = e }),
-)
+starts_own old new own history = (events_of own, ap events_of history ∙ events-append old.history.items own)
 
 -- what was live at the old end, in a history that begins with the old one
-live_at : (old new : Book) (t : Tuple) (o : Option Found) → Holds old
-    → StartsWith (events_of new.history.items) (events_of old.history.items) → live_under t old.records.items ≡ o
-    → At (events_of new.history.items) (length old.history.items) (λ rs. live_under t rs ≡ o)
-live_at old new t o holds starts live =
+live_at : StatesStay → (old new : Book) (t : Tuple) (o : Option Found) → Holds old
+    → StartsWith (events_of new.history.items) (events_of old.history.items) → live_under t (state_of old.records.items) ≡ o
+    → At (events_of new.history.items) (length old.history.items) (λ s. live_under t s ≡ o)
+live_at stay old new t o holds starts live =
     let log : List Event = events_of old.history.items in
     let longer : List Event = events_of new.history.items in
     let same_length : length log ≡ length old.history.items = length-events old.history.items in
-    let here : old.records.items ≡ after longer (length old.history.items) =
-    holds.state ∙ ap (after log) same_length
-    ∙ sym (after-grows longer log (length old.history.items) starts (omega (arith, same_length))) in
-    record {
-      within = omega (arith, same_length, length_grows longer log starts);
-      fact = subst (λ (rs : List Record). live_under t rs ≡ o) here live;
-    }
+    let stays = stay longer log (length old.history.items) starts (omega (arith, same_length)) in
+    let here : state_of old.records.items ≡ after longer (length old.history.items) =
+    holds.state ∙ ap (after log) same_length ∙ sym stays.1 in
+    record { within = stays.0; fact = subst (λ (s : State). live_under t s ≡ o) here live }
 
-pub handled_full : (book : Book) (index : ℕ) (packet : FlowPacket) → Holds book → is_flow packet ≡ true
-    → live_under packet.tuple book.records.items ≡ None → pool ≤ length book.records.items
+-- what is live at the book's end
+live_now : StatesStay → (book : Book) (t : Tuple) (o : Option Found) → Holds book
+    → live_under t (state_of book.records.items) ≡ o
+    → At (events_of book.history.items) (length book.history.items) (λ s. live_under t s ≡ o)
+live_now stay book t o holds live = live_at stay book book t o holds (starts_own book book [] (sym (append-nil book.history.items))) live
+
+pub handled_full : StatesStay → (book : Book) (index : ℕ) (packet : FlowPacket) → Holds book → is_flow packet ≡ true
+    → live_under packet.tuple (state_of book.records.items) ≡ None → book.sizes.entries ≤ length book.records.items
     → Handled book book index (arrival.Flow packet)
     (record { class = class.Full (length book.history.items); first = length book.history.items; made = 0 })
-handled_full book index packet holds flow absent full =
+handled_full stay book index packet holds flow absent full =
     let log : List Event = events_of book.history.items in
     let same_length : length log ≡ length book.history.items = length-events book.history.items in
-    let here : book.records.items ≡ after log (length book.history.items) = holds.state ∙ ap (after log) same_length in
+    let here : state_of book.records.items ≡ after log (length book.history.items) = holds.state ∙ ap (after log) same_length in
+    let most : fewest_of_full book.sizes ≤ length book.records.items = omega (arith, full) in
     record {
+      same_sizes = refl;
       own = [];
       history = sym (append-nil book.history.items);
       by = tt;
@@ -231,6 +171,8 @@ handled_full book index packet holds flow absent full =
       first = refl;
       made = refl;
       fits = record {
+        packet = packet;
+        flow = refl;
         kills = [];
         rest = [];
         all = refl;
@@ -242,10 +184,10 @@ handled_full book index packet holds flow absent full =
           absent_at = length book.history.items;
           from = omega arith;
           upto = omega arith;
-          absent = live_at book book packet.tuple None holds (starts_refl log) absent;
+          absent = live_now stay book packet.tuple None holds absent;
           full = record {
             within = omega (arith, same_length);
-            fact = subst (λ (rs : List Record). pool ≤ length rs) here full;
+            fact = subst (λ (s : State). fewest_of_full book.sizes ≤ length s.records) here most;
           };
         };
       };
@@ -256,26 +198,34 @@ handled_full book index packet holds flow absent full =
       most = λ h. h;
     }
 
-pub handled_passed : (old new : Book) (index : ℕ) (packet : FlowPacket) (hit : Hit) (s : Record) (part : Part) (label : Label)
-    → Holds old → IsHit packet.tuple old.records.items hit → slice_get old.records.items hit.index ≡ Some s
-    → Adds old new index (touch_of (record { subject = s; direction = hit.direction; packet = packet; after = part }))
-    → label ≡ label_of s hit.direction
+pub handled_passed : StatesStay → (old new : Book) (index : ℕ) (packet : FlowPacket) (found : FoundAt) (s : Record) (part : Part)
+    (label : Label) → Holds old → IsFoundAt packet.tuple (state_of old.records.items) found
+    → slice_get old.records.items found.index ≡ Some s
+    → Adds old new index (touch_of (record { subject = s; direction = found.direction; packet = packet; after = part }))
+    → new.records.items ≡ slice_set old.records.items found.index (record s { part = part })
+    → label ≡ label_of s found.direction
     → Handled old new index (arrival.Flow packet) (record {
       class = class.Passed label s.id (length new.history.items) Nothing;
       first = length old.history.items;
       made = 1;
     })
-handled_passed old new index packet hit s part label holds is_hit item adds labelled =
-    let e : Event = touch_of (record { subject = s; direction = hit.direction; packet = packet; after = part }) in
+handled_passed stay old new index packet found s part label holds is_found item adds written labelled =
+    let e : Event = touch_of (record { subject = s; direction = found.direction; packet = packet; after = part }) in
     let more : length new.history.items ≡ length old.history.items + 1 = length_added old new index e adds in
+    let as_many : length new.records.items ≡ length old.records.items =
+    ap length written ∙ length-set old.records.items found.index (record s { part = part }) in
+    let one : Numbered = record { number = length old.history.items; thread = 0; index = index; event = e } in
     record {
-      own = record { number = length old.history.items; thread = 0; index = index; event = e } ∷ [];
+      same_sizes = adds.same_sizes;
+      own = one ∷ [];
       history = adds.history;
       by = (record { thread = refl; index = refl }, tt);
       few = omega arith;
       first = refl;
       made = refl;
       fits = record {
+        packet = packet;
+        flow = refl;
         kills = [];
         rest = record { number = length old.history.items; event = e } ∷ [];
         all = refl;
@@ -283,12 +233,12 @@ handled_passed old new index packet hit s part label holds is_hit item adds labe
         killed = tt;
         fits = record {
           number = length old.history.items;
-          found = record { subject = s; direction = hit.direction };
+          found = record { subject = s; direction = found.direction };
           part = part;
           own = refl;
           happened = record { event = event_added old new index e adds; later = omega arith };
-          live = live_at old new packet.tuple _ holds (starts_adds old new index e adds)
-              (hit_live packet.tuple old.records.items hit s is_hit item);
+          live = live_at stay old new packet.tuple _ holds (starts_own old new (one ∷ []) adds.history)
+              (found_live packet.tuple (state_of old.records.items) found s is_found item);
           named = refl;
           labelled = labelled;
           payload = refl;
@@ -298,92 +248,89 @@ handled_passed old new index packet hit s part label holds is_hit item adds labe
       points = (omega arith, tt);
       history_room = adds.history_room;
       records_room = adds.records_room;
-      records = omega (arith, ap length adds.records, length_touched s.id part old.records.items);
-      most = λ h. omega (arith, h, ap length adds.records, length_touched s.id part old.records.items);
+      records = omega (arith, as_many);
+      most = λ h. omega (arith, h, as_many);
     }
 
--- what is left beside the killed record
-killed_records : (old mid : Book) (index at : ℕ) (s : Record) (moment : ℕ) → Holds old → slice_get old.records.items at ≡ Some s
-    → Adds old mid index (Destroy s.id (why.Expired moment)) → remove old.records.items at ≡ mid.records.items
-killed_records old mid index at s moment holds item adds =
-    remove-filter old.records.items at s (pairs_of old holds) item ∙ sym adds.records
+pub handled_begun : (old new : Book) (index place : ℕ) (packet : FlowPacket) (answer : Class)
+    → length old.records.items < old.sizes.entries → Begins old new index packet place answer
+    → Handled old new index (arrival.Flow packet) (record { class = answer; first = length old.history.items; made = 1 })
+handled_begun old new index place packet answer room begins =
+    let first : Note = record { number = length old.history.items; event = Confirm begins.subject } in
+    let one : Numbered = record { number = length old.history.items; thread = 0; index = index; event = Confirm begins.subject } in
+    let more : length new.history.items ≡ length old.history.items + 1 = length_added old new index (Confirm begins.subject) begins.adds in
+    let added = one_more old new index place packet answer begins in
+    subst (λ (c : Class). Handled old new index (arrival.Flow packet) (record { class = c; first = length old.history.items; made = 1 }))
+    (sym begins.made)
+    (record {
+      same_sizes = begins.adds.same_sizes;
+      own = one ∷ [];
+      history = begins.adds.history;
+      by = (record { thread = refl; index = refl }, tt);
+      few = omega arith;
+      first = refl;
+      made = refl;
+      fits = record {
+        packet = packet;
+        flow = refl;
+        kills = [];
+        rest = first ∷ [];
+        all = refl;
+        few = omega arith;
+        killed = tt;
+        fits = begins.fits;
+      };
+      points = (omega arith, (omega (arith, more), tt));
+      history_room = begins.adds.history_room;
+      records_room = begins.adds.records_room;
+      records = omega (arith, added);
+      most = λ h. omega (arith, room, added);
+    })
 
-pub others_absent : (old mid : Book) (index : ℕ) (packet : FlowPacket) (hit : Hit) (s : Record) → Holds old
-    → IsHit packet.tuple old.records.items hit → slice_get old.records.items hit.index ≡ Some s
-    → Adds old mid index (Destroy s.id (why.Expired packet.moment)) → list_any (has_tuple packet.tuple) mid.records.items ≡ false
-others_absent old mid index packet hit s holds is_hit item adds =
-    let has : has_tuple packet.tuple s ≡ true =
-    live_has packet.tuple old.records.items _ (hit_live packet.tuple old.records.items hit s is_hit item) in
-    subst (λ (rs : List Record). list_any (has_tuple packet.tuple) rs ≡ false)
-    (killed_records old mid index hit.index s packet.moment holds item adds)
-    (all_absent packet.tuple s (remove old.records.items hit.index) has
-    (others_apart old.records.items hit.index s (pairs_of old holds) item))
+-- the killed record leaves its place unused and the packet's tuple free
+pub others_gone : RecordsAreApart → DestroysFree → (old mid : Book) (index : ℕ) (packet : FlowPacket) (found : FoundAt) (s : Record)
+    → Holds old → IsFoundAt packet.tuple (state_of old.records.items) found → slice_get old.records.items found.index ≡ Some s
+    → Adds old mid index (Destroy s.id (why.Expired packet.moment)) → IsGone packet.tuple s.place (state_of mid.records.items)
+others_gone apart frees old mid index packet found s holds is_found item adds =
+    subst (λ (z : State). IsGone packet.tuple s.place z) (sym adds.records)
+    (frees (state_of old.records.items) found.index (record { subject = s; direction = found.direction }) packet.tuple
+    (why.Expired packet.moment) (apart_of apart old holds) item
+    (found_live packet.tuple (state_of old.records.items) found s is_found item))
 
-pub others_elsewhere : (old mid : Book) (index at : ℕ) (s : Record) (moment : ℕ) → Holds old
-    → slice_get old.records.items at ≡ Some s → Adds old mid index (Destroy s.id (why.Expired moment))
-    → list_any (has_place s.place) mid.records.items ≡ false
-others_elsewhere old mid index at s moment holds item adds =
-    subst (λ (rs : List Record). list_any (has_place s.place) rs ≡ false)
-    (killed_records old mid index at s moment holds item adds)
-    (all_elsewhere s (remove old.records.items at) (others_apart old.records.items at s (pairs_of old holds) item))
-
-pub one_fewer : (old mid : Book) (index at : ℕ) (s : Record) (moment : ℕ) → Holds old
-    → slice_get old.records.items at ≡ Some s → Adds old mid index (Destroy s.id (why.Expired moment))
-    → length mid.records.items + 1 ≡ length old.records.items
-one_fewer old mid index at s moment holds item adds =
-    ap (λ (rs : List Record). length rs + 1) (sym (killed_records old mid index at s moment holds item adds))
-    ∙ length-remove old.records.items at (slice_get_within old.records.items at s item)
-
-pub place_below : (n at : ℕ) (rs : List Record) (s : Record) → PlacesBelow n rs → slice_get rs at ≡ Some s → s.place < n
-place_below n at rs s below item = each_at (λ (r : Record). r.place < n) rs at s below item
-
-pub places_touch : (old new : Book) (index : ℕ) (t : Touched) → Adds old new index (touch_of t)
-    → PlacesBelow (length old.records.items) old.records.items → PlacesBelow (length new.records.items) new.records.items
-places_touch old new index t adds below =
-    let same : length new.records.items ≡ length old.records.items =
-    ap length adds.records ∙ length_touched t.subject.id t.after old.records.items in
-    rw same (subst (PlacesBelow (length old.records.items)) (sym adds.records)
-    (places_touched (length old.records.items) t.subject.id t.after old.records.items below))
-
--- where the place of the new entry is below the number of entries
-pub places_begin : (old new : Book) (index place : ℕ) (packet : FlowPacket) (class : Class) → Begins old new index packet place class
-    → PlacesBelow (length old.records.items + 1) old.records.items → place ≤ length old.records.items
-    → PlacesBelow (length new.records.items) new.records.items
-places_begin old new index place packet class begins below low =
-    let same : length new.records.items ≡ length old.records.items + 1 = ap length begins.adds.records ∙ simp length-append in
-    rw same (subst (PlacesBelow (length old.records.items + 1)) (sym begins.adds.records)
-    (places_push (length old.records.items + 1) old.records.items begins.subject below (omega (arith, begins.placed))))
-
-pub places_killed : (old mid : Book) (index : ℕ) (s : Record) (moment n : ℕ) → Adds old mid index (Destroy s.id (why.Expired moment))
-    → PlacesBelow n old.records.items → PlacesBelow n mid.records.items
-places_killed old mid index s moment n adds below =
-    subst (PlacesBelow n) (sym adds.records)
-    (each_filter (λ (r : Record). r.place < n) (λ r. not (has_id s.id r)) old.records.items below)
-
-pub handled_replaced : (old mid new : Book) (index : ℕ) (packet : FlowPacket) (hit : Hit) (s : Record) (verdict : Class)
-    → Holds old → IsHit packet.tuple old.records.items hit → slice_get old.records.items hit.index ≡ Some s
-    → Adds old mid index (Destroy s.id (why.Expired packet.moment)) → Begins mid new index packet s.place verdict
-    → Handled old new index (arrival.Flow packet) (record { class = verdict; first = length old.history.items; made = 2 })
-handled_replaced old mid new index packet hit s verdict holds is_hit item kills begins =
+pub handled_replaced : EventsStay → StatesStay → (old mid new : Book) (index : ℕ) (packet : FlowPacket) (found : FoundAt) (s : Record)
+    (answer : Class) → Holds old → IsFoundAt packet.tuple (state_of old.records.items) found
+    → slice_get old.records.items found.index ≡ Some s → Adds old mid index (Destroy s.id (why.Expired packet.moment))
+    → mid.records.items ≡ remove old.records.items found.index → Begins mid new index packet s.place answer
+    → Handled old new index (arrival.Flow packet) (record { class = answer; first = length old.history.items; made = 2 })
+handled_replaced events states old mid new index packet found s answer holds is_found item kills removed begins =
     let e : Event = Destroy s.id (why.Expired packet.moment) in
     let one : Numbered = record { number = length old.history.items; thread = 0; index = index; event = e } in
     let two : Numbered = record { number = length mid.history.items; thread = 0; index = index; event = Confirm begins.subject } in
     let first : Note = record { number = length old.history.items; event = e } in
     let second : Note = record { number = length mid.history.items; event = Confirm begins.subject } in
     let more : length mid.history.items ≡ length old.history.items + 1 = length_added old mid index e kills in
+    let last : length new.history.items ≡ length mid.history.items + 1 =
+    length_added mid new index (Confirm begins.subject) begins.adds in
     let mark : length mid.history.items ≡ mark_past (length old.history.items) (first ∷ []) = omega arith in
-    let later = starts_adds mid new index (Confirm begins.subject) begins.adds in
-    let starts = starts_trans (events_of new.history.items) (events_of mid.history.items) (events_of old.history.items)
-    later (starts_adds old mid index e kills) in
-    record {
+    let later = starts_own mid new (two ∷ []) begins.adds.history in
+    let whole : new.history.items ≡ old.history.items ++ one ∷ two ∷ [] =
+    begins.adds.history ∙ ap (λ (h : List Numbered). h ++ two ∷ []) kills.history
+    ∙ append_assoc old.history.items (one ∷ []) (two ∷ []) in
+    let fewer = one_fewer old mid found.index s item removed in
+    let added = one_more mid new index s.place packet answer begins in
+    subst (λ (c : Class). Handled old new index (arrival.Flow packet) (record { class = c; first = length old.history.items; made = 2 }))
+    (sym begins.made)
+    (record {
+      same_sizes = begins.adds.same_sizes ∙ kills.same_sizes;
       own = one ∷ two ∷ [];
-      history = begins.adds.history ∙ ap (λ (h : List Numbered). h ++ two ∷ []) kills.history
-          ∙ append_assoc old.history.items (one ∷ []) (two ∷ []);
+      history = whole;
       by = (record { thread = refl; index = refl }, (record { thread = refl; index = refl }, tt));
       few = omega arith;
       first = refl;
       made = refl;
       fits = record {
+        packet = packet;
+        flow = refl;
         kills = first ∷ [];
         rest = second ∷ [];
         all = refl;
@@ -391,91 +338,84 @@ handled_replaced old mid new index packet hit s verdict holds is_hit item kills 
         killed = (
           record {
             happened = record {
-              event = get_grows (events_of new.history.items) (events_of mid.history.items) (length old.history.items) e later
+              event = events (events_of new.history.items) (events_of mid.history.items) (length old.history.items) e later
                   (event_added old mid index e kills);
               later = omega arith;
             };
-            found = record { subject = s; direction = hit.direction };
-            live = live_at old new packet.tuple _ holds starts (hit_live packet.tuple old.records.items hit s is_hit item);
+            found = record { subject = s; direction = found.direction };
+            live = live_at states old new packet.tuple _ holds (starts_own old new (one ∷ two ∷ []) whole)
+                (found_live packet.tuple (state_of old.records.items) found s is_found item);
             kill = (refl, refl);
           },
           tt,
         );
-        fits = subst (λ k. FitsClass pool (events_of new.history.items) k packet (second ∷ []) verdict) mark begins.fits;
+        fits = subst (λ k. Makes (events_of new.history.items) k packet (second ∷ []) (length mid.history.items)
+            (length new.history.items) Plain (Some (length mid.history.items))) mark begins.fits;
       };
-      points = begins.points;
+      points = (omega arith, (omega (arith, last), tt));
       history_room = begins.adds.history_room ∙ kills.history_room;
       records_room = begins.adds.records_room ∙ kills.records_room;
-      records = omega (
-        arith,
-        ap length begins.adds.records,
-        length-append mid.records.items (begins.subject ∷ []),
-        one_fewer old mid index hit.index s packet.moment holds item kills,
-      );
-      most = λ h. omega (
-        arith,
-        h,
-        ap length begins.adds.records,
-        length-append mid.records.items (begins.subject ∷ []),
-        one_fewer old mid index hit.index s packet.moment holds item kills,
-      );
-    }
+      records = omega (arith, fewer, added);
+      most = λ h. omega (arith, h, fewer, added);
+    })
 
-pub handled_begun : (old new : Book) (index place : ℕ) (packet : FlowPacket) (verdict : Class) → length old.records.items < pool
-    → Begins old new index packet place verdict
-    → Handled old new index (arrival.Flow packet) (record { class = verdict; first = length old.history.items; made = 1 })
-handled_begun old new index place packet verdict room begins =
-    let first : Note = record { number = length old.history.items; event = Confirm begins.subject } in
-    let one : Numbered = record { number = length old.history.items; thread = 0; index = index; event = Confirm begins.subject } in
-    record {
-      own = one ∷ [];
-      history = begins.adds.history;
-      by = (record { thread = refl; index = refl }, tt);
-      few = omega arith;
-      first = refl;
-      made = refl;
-      fits = record { kills = []; rest = first ∷ []; all = refl; few = omega arith; killed = tt; fits = begins.fits };
-      points = begins.points;
-      history_room = begins.adds.history_room;
-      records_room = begins.adds.records_room;
-      records = omega (arith, ap length begins.adds.records, length-append old.records.items (begins.subject ∷ []));
-      most = λ h. omega (arith, room, ap length begins.adds.records, length-append old.records.items (begins.subject ∷ []));
-    }
-
--- what is looked up at the book's end
-looks_up : (book : Book) (inner : Tuple) (found : Option Found) → Holds book
-    → live_under (inverse inner) book.records.items ≡ found
-    → LooksUp (events_of book.history.items) (length book.history.items) inner (length book.history.items) found
-looks_up book inner found holds live = record {
-  from = omega arith;
-  live = live_at book book (inverse inner) found holds (starts_refl (events_of book.history.items)) live;
-}
-
-module _ (book : Book) (inner looked_up : Tuple) (outer : ℕ) (hit : Hit) (s : Record) (holds : Holds book)
-    (inverted : looked_up ≡ inverse inner) (is_hit : IsHit looked_up book.records.items hit)
-    (item : slice_get book.records.items hit.index ≡ Some s) where
+module _ (states : StatesStay) (book : Book) (inner looked_up : Tuple) (outer : ℕ) (found : FoundAt) (s : Record) (holds : Holds book)
+    (inverted : looked_up ≡ inverse inner) (is_found : IsFoundAt looked_up (state_of book.records.items) found)
+    (item : slice_get book.records.items found.index ≡ Some s) where
   found_there : LooksUp (events_of book.history.items) (length book.history.items) inner (length book.history.items)
-      (Some (record { subject = s; direction = hit.direction }))
-  found_there =
-      looks_up book inner _ holds
-      (subst (λ (t : Tuple). live_under t book.records.items ≡ Some (record { subject = s; direction = hit.direction })) inverted
-      (hit_live looked_up book.records.items hit s is_hit item))
+      (Some (record { subject = s; direction = found.direction }))
+  found_there = record {
+    from = omega arith;
+    live = live_now states book (inverse inner) _ holds
+        (subst (λ (t : Tuple). live_under t (state_of book.records.items) ≡ Some (record { subject = s; direction = found.direction })) inverted
+        (found_live looked_up (state_of book.records.items) found s is_found item));
+  }
 
   pub related : looked_up.dst ≡ outer
-      → IsRelated (events_of book.history.items) (length book.history.items) inner outer hit.direction s.id (length book.history.items)
+      → FitsArrival book.sizes (events_of book.history.items) (length book.history.items) (arrival.Error inner outer) []
+      (class.Error found.direction s.id (length book.history.items))
   related same = record {
-    found = record { subject = s; direction = hit.direction };
-    looked = found_there;
-    named = refl;
-    directed = refl;
-    address = sym (ap (λ (t : Tuple). t.dst) inverted) ∙ same;
+    inner = inner;
+    outer = outer;
+    error = refl;
+    none = refl;
+    fits = record {
+      found = record { subject = s; direction = found.direction };
+      looked = found_there;
+      named = refl;
+      directed = refl;
+      address = sym (ap (λ (t : Tuple). t.dst) inverted) ∙ same;
+    };
   }
 
   pub misdirected : (looked_up.dst ≡ outer → ⊥)
-      → IsMisdirected (events_of book.history.items) (length book.history.items) inner outer s.id (length book.history.items)
+      → FitsArrival book.sizes (events_of book.history.items) (length book.history.items) (arrival.Error inner outer) []
+      (class.ErrorAddress s.id (length book.history.items))
   misdirected other = record {
-    found = record { subject = s; direction = hit.direction };
-    looked = found_there;
-    named = refl;
-    address = λ e. other (ap (λ (t : Tuple). t.dst) inverted ∙ e);
+    inner = inner;
+    outer = outer;
+    error = refl;
+    none = refl;
+    fits = record {
+      found = record { subject = s; direction = found.direction };
+      looked = found_there;
+      named = refl;
+      address = λ e. other (ap (λ (t : Tuple). t.dst) inverted ∙ e);
+    };
   }
+
+pub lost : StatesStay → (book : Book) (inner looked_up : Tuple) (outer : ℕ) → Holds book → looked_up ≡ inverse inner
+    → live_under looked_up (state_of book.records.items) ≡ None
+    → FitsArrival book.sizes (events_of book.history.items) (length book.history.items) (arrival.Error inner outer) []
+    (class.ErrorLost (length book.history.items))
+lost states book inner looked_up outer holds inverted absent = record {
+  inner = inner;
+  outer = outer;
+  error = refl;
+  none = refl;
+  fits = record {
+    from = omega arith;
+    live = live_now states book (inverse inner) None holds
+        (subst (λ (t : Tuple). live_under t (state_of book.records.items) ≡ None) inverted absent);
+  };
+}

@@ -1,69 +1,75 @@
--- What the tracker's steps do to the book.
+-- What a Confirm asks, and what it leaves.
 use Rattle.std.proofs.Common.{◌≡◌, ℕ, ◌+◌, ◌<◌, true, false, not, List, [], ◌∷◌, ◌++◌, length, refl, sym, ap, subst, ◌∙◌, arith, rules, length-append, Some, None}
 use Rattle.std.specs.List.{AllByRecursion, list_any, slice_get}
-use Rattle.std.proofs.lemmas.Bool.{and_from, eq-eqb, lt-ltb, true≢false}
+use Rattle.std.specs.Prelude.{Bool}
+use Rattle.std.proofs.lemmas.Bool.{and_from, eq-eqb, lt-ltb, not-true, or_from, or_parts, true≢false}
 use Rattle.tuple_core.specs.Inverse.{inverse}
 use Rattle.tuple_core.specs.Tuple.{is_valid, number_of}
 use Rattle.tuple_core.specs.declared.Tuple.{Tuple}
 use Rattle.history_book.specs.declared.event.Event.{Event}
 use Rattle.history_book.specs.declared.event.Event.TheVariants.{Confirm}
 use Rattle.history_book.specs.declared.event.Numbered.{Numbered}
-use Rattle.history_book.specs.declared.packet.FlowPacket.{FlowPacket}
 use Rattle.history_book.specs.declared.protocol.PartKind.{PartKind}
 use Rattle.history_book.specs.declared.protocol.PartKind.TheVariants as kind
 use Rattle.history_book.specs.declared.record.Record.{Record}
+use Rattle.history_book.specs.declared.sizes.Sizes.{Sizes}
 use Rattle.history_book.specs.declared.verdict.Class.TheVariants as class
 use Rattle.history_book.specs.declared.verdict.Translated.TheVariants.{Plain}
-use Rattle.history_book.specs.Event.{is_of_one_protocol, may_confirm, proto_of}
-use Rattle.history_book.specs.Record.{has_original, has_place, has_reply, has_tuple}
-use Rattle.history_book.proofs.Entries.{or_false_left, or_false_right}
-use Rattle.history_book.proofs.Tuples.{same_tuple-equal, same_tuple-true}
+use Rattle.history_book.specs.Legality.{is_of_one_protocol, may_confirm, proto_of}
+use Rattle.history_book.specs.Numbered.{events_of}
 use Rattle.history_book.specs.Protocol.{start_of}
+use Rattle.history_book.specs.Record.{has_original, has_reply, has_tuple}
+use Rattle.history_book.specs.State.{State, is_free, is_unused}
+use Rattle.history_book.specs.StateLaws.{TuplesAreTold}
+use Rattle.packet_path.specs.declared.packet.FlowPacket.{FlowPacket}
 use Rattle.replay_top.specs.declared.book.Book.{Book}
-use Rattle.replay_top.specs.Book.{Adds, IsPlain}
-use Rattle.replay_top.specs.History.{events_of, pool}
-use Rattle.replay_top.specs.Track.{Begins}
-use Rattle.replay_top.proofs.Books.{events-push, length-events}
-use Rattle.replay_top.proofs.Passing.{fails_by, or_false}
+use Rattle.replay_top.specs.Internal.Book.{Adds, IsPlain}
+use Rattle.replay_top.specs.Internal.Track.{Begins}
+use Rattle.replay_top.proofs.Books.{events-append, length-events}
 
-pub inverse_twice : (t : Tuple) → is_valid t ≡ true → inverse (inverse t) ≡ t
+inverse_twice : (t : Tuple) → is_valid t ≡ true → inverse (inverse t) ≡ t
 inverse_twice t h = search rules
 
 inverse_valid : (t : Tuple) → is_valid t ≡ true → is_valid (inverse t) ≡ true
 inverse_valid t h = search rules
 
+-- a test that passes only where nothing can be fails
+fails_by : (b : Bool) → (b ≡ true → ⊥) → b ≡ false
+fails_by true h = absurd (h refl)
+fails_by false h = refl
+
 -- a plain record that has not the tuple has not its inverse either
-no_inverse : (t : Tuple) (r : Record) → is_valid t ≡ true → IsPlain r → has_tuple t r ≡ false → has_tuple (inverse t) r ≡ false
-no_inverse t r valid plain no_tuple =
-    let not_original = or_false_left (has_original t r) (has_reply t r) no_tuple in
-    let not_reply = or_false_right (has_original t r) (has_reply t r) no_tuple in
-    or_false (has_original (inverse t) r) (has_reply (inverse t) r)
+no_inverse : TuplesAreTold → (t : Tuple) (r : Record) → is_valid t ≡ true → IsPlain r → has_tuple t r ≡ false
+    → has_tuple (inverse t) r ≡ false
+no_inverse told t r valid plain no_tuple =
+    let none = or_parts (has_original t r) (has_reply t r) no_tuple in
+    or_from (has_original (inverse t) r) (has_reply (inverse t) r)
     (fails_by (has_original (inverse t) r) (λ h.
-    let original : r.original ≡ inverse t = same_tuple-true r.original (inverse t) h in
+    let original : r.original ≡ inverse t = (told r.original (inverse t)).0 h in
     let reply : r.reply ≡ t = plain.inverse ∙ ap inverse original ∙ inverse_twice t valid in
-    true≢false (sym (same_tuple-equal r.reply t reply) ∙ not_reply)))
+    true≢false (sym ((told r.reply t).1 reply) ∙ none.1)))
     (fails_by (has_reply (inverse t) r) (λ h.
-    let reply : r.reply ≡ inverse t = same_tuple-true r.reply (inverse t) h in
+    let reply : r.reply ≡ inverse t = (told r.reply (inverse t)).0 h in
     let original : r.original ≡ t =
     sym (inverse_twice r.original plain.valid) ∙ ap inverse (sym plain.inverse ∙ reply) ∙ inverse_twice t valid in
-    true≢false (sym (same_tuple-equal r.original t original) ∙ not_original)))
+    true≢false (sym ((told r.original t).1 original) ∙ none.0)))
+
+no_inverses : TuplesAreTold → (t : Tuple) (rs : List Record) → is_valid t ≡ true → AllByRecursion IsPlain rs
+    → list_any (has_tuple t) rs ≡ false → list_any (has_tuple (inverse t)) rs ≡ false
+no_inverses told t [] valid plain absent = refl
+no_inverses told t (r ∷ rs) valid (p, ps) absent =
+    let none = or_parts (has_tuple t r) (list_any (has_tuple t) rs) absent in
+    or_from (has_tuple (inverse t) r) (list_any (has_tuple (inverse t)) rs)
+    (no_inverse told t r valid p none.0) (no_inverses told t rs valid ps none.1)
 
 -- what the test of a Confirm asks, for a record of a flow beside plain records
-pub record CanConfirm (n : ℕ) (rs : List Record) (r : Record) : Type 0 where
+pub record CanConfirm (sizes : Sizes) (n : ℕ) (s : State) (r : Record) : Type 0 where
   pub named : r.id ≡ n
   pub plain : IsPlain r
   pub proto : number_of r.original.proto ≡ 17
-  pub below : r.place < pool
-  pub open_place : list_any (has_place r.place) rs ≡ false
-  pub absent : list_any (has_tuple r.original) rs ≡ false
-
-no_inverses : (t : Tuple) (rs : List Record) → is_valid t ≡ true → AllByRecursion IsPlain rs
-    → list_any (has_tuple t) rs ≡ false → list_any (has_tuple (inverse t)) rs ≡ false
-no_inverses t [] valid plain absent = refl
-no_inverses t (r ∷ rs) valid (p, ps) absent =
-    or_false (has_tuple (inverse t) r) (list_any (has_tuple (inverse t)) rs)
-    (no_inverse t r valid p (or_false_left (has_tuple t r) (list_any (has_tuple t) rs) absent))
-    (no_inverses t rs valid ps (or_false_right (has_tuple t r) (list_any (has_tuple t) rs) absent))
+  pub below : r.place < sizes.entries
+  pub open_place : is_unused r.place s ≡ true
+  pub absent : is_free r.original s ≡ true
 
 kind_number : (k : PartKind) → number_of (proto_of k) ≡ 17
 kind_number kind.Udp = refl
@@ -76,16 +82,16 @@ one_protocol r plain proto =
     and_from _ _ (and_from _ _ (and_from _ _ plain.valid reply_valid)
     (eq-eqb _ _ (proto ∙ sym (kind_number r.part.kind)))) (eq-eqb _ _ (reply_proto ∙ sym (kind_number r.part.kind)))
 
-pub may_confirm_from : (n : ℕ) (rs : List Record) (r : Record) → AllByRecursion IsPlain rs → CanConfirm n rs r
-    → may_confirm pool rs n r ≡ true
-may_confirm_from n rs r plain can =
+pub may_confirm_from : TuplesAreTold → (sizes : Sizes) (n : ℕ) (s : State) (r : Record) → AllByRecursion IsPlain s.records
+    → CanConfirm sizes n s r → may_confirm sizes s n r ≡ true
+may_confirm_from told sizes n s r plain can =
     and_from _ _ (and_from _ _ (and_from _ _ (and_from _ _
     (eq-eqb r.id n can.named)
     (one_protocol r can.plain can.proto))
-    (and_from _ _ (lt-ltb r.place pool can.below) (ap not can.open_place)))
-    (ap not can.absent))
-    (ap not (ap (λ t. list_any (has_tuple t) rs) can.plain.inverse
-    ∙ no_inverses r.original rs can.plain.valid plain can.absent))
+    (and_from _ _ (lt-ltb r.place sizes.entries can.below) can.open_place))
+    can.absent)
+    (ap not (ap (λ t. list_any (has_tuple t) s.records) can.plain.inverse
+    ∙ no_inverses told r.original s.records can.plain.valid plain (not-true _ can.absent)))
 
 get_last : {X : Type 0} (xs : List X) (x : X) → slice_get (xs ++ x ∷ []) (length xs) ≡ Some x
 get_last [] x = refl
@@ -96,7 +102,7 @@ pub event_added : (old new : Book) (index : ℕ) (e : Event) → Adds old new in
     → slice_get (events_of new.history.items) (length old.history.items) ≡ Some e
 event_added old new index e adds =
     let n : Numbered = record { number = length old.history.items; thread = 0; index = index; event = e } in
-    ap (λ l. slice_get l (length old.history.items)) (ap events_of adds.history ∙ events-push old.history.items n)
+    ap (λ l. slice_get l (length old.history.items)) (ap events_of adds.history ∙ events-append old.history.items (n ∷ []))
     ∙ ap (slice_get (events_of old.history.items ++ e ∷ [])) (sym (length-events old.history.items))
     ∙ get_last (events_of old.history.items) e
 
@@ -116,25 +122,23 @@ pub record IsOfPacket (n : ℕ) (packet : FlowPacket) (r : Record) : Type 0 wher
 pub begins_made : (old new : Book) (index : ℕ) (packet : FlowPacket) (r : Record) → Adds old new index (Confirm r)
     → IsOfPacket (length old.history.items) packet r
     → Begins old new index packet r.place (class.Made (length old.history.items) (length new.history.items) Plain (Some (length old.history.items)))
-begins_made old new index packet r adds of_packet =
-    let more : length new.history.items ≡ length old.history.items + 1 = length_added old new index (Confirm r) adds in
-    record {
-      subject = r;
-      placed = refl;
-      adds = adds;
-      fits = record {
-        subject = r;
-        own = refl;
-        happened = record { event = event_added old new index (Confirm r) adds; later = omega arith };
-        named = of_packet.named;
-        started = record {
-          original = of_packet.original;
-          reply = of_packet.reply;
-          part = of_packet.part;
-          helper = of_packet.helper;
-        };
-        alone = (of_packet.master, omega arith, omega (arith, of_packet.named));
-        point = more;
-      };
-      points = (omega arith, (omega arith, tt));
-    }
+begins_made old new index packet r adds of_packet = record {
+  subject = r;
+  placed = refl;
+  adds = adds;
+  made = refl;
+  fits = record {
+    subject = r;
+    own = refl;
+    happened = record { event = event_added old new index (Confirm r) adds; later = omega arith };
+    named = of_packet.named;
+    started = record {
+      original = of_packet.original;
+      reply = of_packet.reply;
+      part = of_packet.part;
+      helper = of_packet.helper;
+    };
+    alone = (of_packet.master, omega arith, omega (arith, of_packet.named));
+    point = length_added old new index (Confirm r) adds;
+  };
+}

@@ -11,8 +11,8 @@ use Rattle.packet_headers.specs.declared.packet.Untracked.{Untracked}
 use Rattle.packet_headers.specs.declared.packet.Untracked.TheVariants as untracked
 use Rattle.packet_headers.specs.Capture.{IsCapture}
 use Rattle.packet_headers.specs.Classify.{packet_of}
-use Rattle.history_book.specs.declared.packet.Arrival.{Arrival}
-use Rattle.history_book.specs.declared.packet.Arrival.TheVariants as arrival
+use Rattle.packet_path.specs.declared.packet.Arrival.{Arrival}
+use Rattle.packet_path.specs.declared.packet.Arrival.TheVariants as arrival
 use Rattle.history_book.specs.declared.verdict.UntrackedWhy.{UntrackedWhy}
 use Rattle.history_book.specs.declared.verdict.UntrackedWhy.TheVariants as why
 

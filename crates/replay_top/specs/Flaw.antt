@@ -1,7 +1,7 @@
 -- What is wrong with a file that is not read.
 use Rattle.std.specs.Prelude.{ℕ, ◌<◌, ◌≤◌, List, length}
 use Rattle.packet_headers.specs.Capture.{HasFault}
-use Rattle.history_book.specs.declared.packet.Arrival.{Arrival}
+use Rattle.packet_path.specs.declared.packet.Arrival.{Arrival}
 use Rattle.replay_top.specs.declared.flaw.Flaw.{Flaw}
 use Rattle.replay_top.specs.declared.flaw.Flaw.TheVariants.{Fault, NotTracked, TooLong}
 use Rattle.replay_top.specs.Arrivals.{IsReadCapture, IsUnreadCapture, most_bytes}

@@ -1,2 +1,5 @@
--- What private functions keep for the clauses of the public ones. A reader of these need not open it.
+-- What private functions keep for the clauses of the public ones. A reader of those need not open it.
+pub mod Book
 pub mod Ending
+pub mod Flow
+pub mod Track

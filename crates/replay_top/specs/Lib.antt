@@ -1,15 +1,12 @@
 pub mod Arrivals
-pub mod Book
 pub mod Causes
 pub mod ErrorLine
 pub mod Flaw
-pub mod Flow
-pub mod History
 pub mod Inputs
 pub mod Internal
 pub mod Laws
 pub mod Process
 pub mod Replay
 pub mod Report
-pub mod Track
+pub mod Sizes
 pub mod Words

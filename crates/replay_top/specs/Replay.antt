@@ -3,13 +3,14 @@ use Rattle.std.specs.Prelude.{◌≡◌, ℕ, List, [], ◌∷◌, IfSome, Resul
 use Rattle.ct_io.specs.Counts.{Rose}
 use Rattle.ct_io.specs.Source.{Source}
 use Rattle.ct_io.specs.Tape.{Tape}
-use Rattle.history_book.specs.declared.packet.Arrival.{Arrival}
+use Rattle.packet_path.specs.declared.packet.Arrival.{Arrival}
 use Rattle.history_book.specs.declared.report.Report.{Report}
 use Rattle.replay_top.specs.declared.flaw.ReplayError.{ReplayError}
 use Rattle.replay_top.specs.declared.flaw.ReplayError.TheVariants.{Flawed, NoMemory}
 use Rattle.replay_top.specs.Arrivals.{IsReadCapture}
 use Rattle.replay_top.specs.Flaw.{HasFlaw}
 use Rattle.replay_top.specs.Report.{IsWellFormed}
+use Rattle.replay_top.specs.Sizes.{program_sizes}
 use Rattle.report_text.specs.Report.{report_text}
 use Rattle.replay_top.specs.Words.{Named}
 use Rattle.report_text.specs.Wrote.{followed_by, WroteFront}
@@ -18,7 +19,7 @@ use Rattle.report_text.specs.Wrote.{followed_by, WroteFront}
 pub record IsReportOf (bytes : List ℕ) (report : Report) : Type 0 where
   pub arrivals : List Arrival
   pub capture : IsReadCapture bytes arrivals
-  pub well_formed : IsWellFormed (arrivals ∷ []) report
+  pub well_formed : IsWellFormed program_sizes (arrivals ∷ []) report
 
 -- what replaying these bytes gives: their report, or the flaw that they have; memory may be wanting
 abbrev pub ReplaysAs : List ℕ → Result Report ReplayError → Type 0
@@ -44,7 +45,7 @@ GaveEach files (name ∷ names) (arrivals ∷ more) = Gave files name arrivals �
 pub record IsReplayOf (files : Source) (names : List (List ℕ)) (report : Report) : Type 0 where
   pub captures : List (List Arrival)
   pub gave : GaveEach files names captures
-  pub well_formed : IsWellFormed captures report
+  pub well_formed : IsWellFormed program_sizes captures report
 
 -- the report is that of the captures that the words name
 abbrev pub IsReplay : List (List ℕ) → Source → Report → Type 0

@@ -1,17 +1,19 @@
--- When a report is well formed for the captures that were read, one list of packets each.
+-- When a report of a tracker of some sizes is well formed for the captures that were read, one list of
+-- packets each.
 use Rattle.std.specs.Prelude.{◌≡◌, ℕ, ◌+◌, ◌<◌, ◌≤◌, true, ◌==◌, List, [], ◌∷◌, length, take, drop, filter}
 use Rattle.std.specs.List.{AllByRecursion}
 use Rattle.room_list.specs.Roomed.{Roomed}
 use Rattle.history_book.specs.declared.event.Event.{Event}
 use Rattle.history_book.specs.declared.event.Numbered.{Numbered}
-use Rattle.history_book.specs.declared.packet.Arrival.{Arrival}
+use Rattle.packet_path.specs.declared.packet.Arrival.{Arrival}
 use Rattle.history_book.specs.declared.report.Report.{Report}
 use Rattle.history_book.specs.declared.verdict.Class.{Class}
 use Rattle.history_book.specs.declared.verdict.Verdict.{Verdict}
 use Rattle.history_book.specs.History.{after, is_legal}
 use Rattle.history_book.specs.Notes.{mark_at, mark_past}
-use Rattle.history_book.specs.Verdict.{FitsArrival, points_of}
-use Rattle.replay_top.specs.History.{events_of, IsNumberedFrom, notes_of, pool}
+use Rattle.history_book.specs.Numbered.{events_of, IsNumberedFrom, notes_of}
+use Rattle.history_book.specs.declared.sizes.Sizes.{Sizes}
+use Rattle.packet_path.specs.Verdict.{FitsArrival, points_of}
 
 -- a thread's mark after a packet: no answer of it is older than its points and events so far
 abbrev pub mark_after : ℕ → List Numbered → Class → ℕ
@@ -19,38 +21,38 @@ mark_after mark own class = mark_at (mark_past mark (notes_of own)) (points_of c
 
 -- the verdict on the packet of this index, which made the next of its thread's events: they are
 -- counted from `first`, each names this packet, and the verdict fits them at the thread's mark
-pub record VerdictFits (log : List Event) (mine : List Numbered) (first index mark : ℕ) (arrival : Arrival)
+pub record VerdictFits (sizes : Sizes) (log : List Event) (mine : List Numbered) (first index mark : ℕ) (arrival : Arrival)
     (verdict : Verdict) : Type 0 where
   pub starts : verdict.first ≡ first
   pub within : verdict.made ≤ length mine
   pub named : AllByRecursion (λ (n : Numbered). n.index ≡ index) (take verdict.made mine)
-  pub fits : FitsArrival pool log mark arrival (notes_of (take verdict.made mine)) verdict.class
+  pub fits : FitsArrival sizes log mark arrival (notes_of (take verdict.made mine)) verdict.class
 
 -- one verdict for each packet, in order; together they made all of the thread's events
-abbrev pub VerdictsFit : List Event → List Numbered → ℕ → ℕ → ℕ → List Arrival → List Verdict → Type 0
-VerdictsFit log mine first index mark [] [] = mine ≡ []
-VerdictsFit log mine first index mark [] (v ∷ vs) = ⊥
-VerdictsFit log mine first index mark (p ∷ ps) [] = ⊥
-VerdictsFit log mine first index mark (p ∷ ps) (v ∷ vs) =
-    VerdictFits log mine first index mark p v
-    × VerdictsFit log (drop v.made mine) (first + v.made) (index + 1) (mark_after mark (take v.made mine) v.class) ps vs
+abbrev pub VerdictsFit : Sizes → List Event → List Numbered → ℕ → ℕ → ℕ → List Arrival → List Verdict → Type 0
+VerdictsFit sizes log mine first index mark [] [] = mine ≡ []
+VerdictsFit sizes log mine first index mark [] (v ∷ vs) = ⊥
+VerdictsFit sizes log mine first index mark (p ∷ ps) [] = ⊥
+VerdictsFit sizes log mine first index mark (p ∷ ps) (v ∷ vs) =
+    VerdictFits sizes log mine first index mark p v
+    × VerdictsFit sizes log (drop v.made mine) (first + v.made) (index + 1) (mark_after mark (take v.made mine) v.class) ps vs
 
 -- the events that a thread made, in order
 abbrev pub made_by : ℕ → List Numbered → List Numbered
 made_by thread history = filter (λ (n : Numbered). n.thread == thread) history
 
 -- each capture is a thread, and each event was made by one of them
-abbrev pub ThreadsFit : List Numbered → ℕ → List (List Arrival) → List (Roomed Verdict) → Type 0
-ThreadsFit history thread [] [] = AllByRecursion (λ (n : Numbered). n.thread < thread) history
-ThreadsFit history thread [] (vs ∷ vss) = ⊥
-ThreadsFit history thread (ps ∷ pss) [] = ⊥
-ThreadsFit history thread (ps ∷ pss) (vs ∷ vss) =
-    VerdictsFit (events_of history) (made_by thread history) 0 0 0 ps vs.items
-    × ThreadsFit history (thread + 1) pss vss
+abbrev pub ThreadsFit : Sizes → List Numbered → ℕ → List (List Arrival) → List (Roomed Verdict) → Type 0
+ThreadsFit sizes history thread [] [] = AllByRecursion (λ (n : Numbered). n.thread < thread) history
+ThreadsFit sizes history thread [] (vs ∷ vss) = ⊥
+ThreadsFit sizes history thread (ps ∷ pss) [] = ⊥
+ThreadsFit sizes history thread (ps ∷ pss) (vs ∷ vss) =
+    VerdictsFit sizes (events_of history) (made_by thread history) 0 0 0 ps vs.items
+    × ThreadsFit sizes history (thread + 1) pss vss
 
 -- the history is numbered from 0 and legal, the verdicts fit it, and so many entries are live after it
-pub record IsWellFormed (captures : List (List Arrival)) (report : Report) : Type 0 where
+pub record IsWellFormed (sizes : Sizes) (captures : List (List Arrival)) (report : Report) : Type 0 where
   pub numbered : IsNumberedFrom 0 report.history.items
-  pub legal : is_legal pool (events_of report.history.items) ≡ true
-  pub verdicts : ThreadsFit report.history.items 0 captures report.threads.items
-  pub live : report.live ≡ length (after (events_of report.history.items) (length report.history.items))
+  pub legal : is_legal sizes (events_of report.history.items) ≡ true
+  pub verdicts : ThreadsFit sizes report.history.items 0 captures report.threads.items
+  pub live : report.live ≡ length (after (events_of report.history.items) (length report.history.items)).records

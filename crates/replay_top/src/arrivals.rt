@@ -3,13 +3,13 @@
 ghost use Rattle.std.specs.Prelude.{◌≡◌, ◌+◌, ◌≤◌, ◌^◌, true, length, IfOk, IfSome, MatchOption};
 ghost use Rattle.packet_headers.specs.Capture.{AreInside, AreTimely};
 ghost use Rattle.replay_top.specs.Arrivals.{Arrive, arrival_at, flow_arrival, has_other_flow, why_of};
-ghost use Rattle.replay_top.specs.Flow.{AreTracked, is_tracked};
+ghost use Rattle.replay_top.specs.Internal.Flow.{AreTracked, is_tracked};
 
-use history_book::packet::{Arrival, FlowPacket};
 use history_book::verdict::UntrackedWhy;
 use packet_headers::classify::classify;
 use packet_headers::frame::Frame;
 use packet_headers::packet::{Packet, Untracked};
+use packet_path::packet::{Arrival, FlowPacket};
 use room_list::RoomList;
 use std::alloc::Global;
 use tuple_core::{NoMemory, Segment, Tuple};

@@ -1,27 +1,31 @@
 //! The tracker's book: a list of live records, and the history that leaves them.
 
-ghost use Rattle.std.specs.Prelude.{◌≡◌, ◌+◌, ◌<◌, true, Some, [], ◌∷◌, ◌++◌, length, slice_get};
+ghost use Rattle.std.specs.Prelude.{◌≡◌, ◌+◌, ◌<◌, true, Some, [], ◌∷◌, ◌++◌, length, slice_get, slice_set};
+ghost use Rattle.std.specs.List.{remove};
 ghost use Rattle.history_book.specs.declared.event.Event.TheVariants.{Confirm, Destroy};
 ghost use Rattle.history_book.specs.declared.event.Why.TheVariants.{Expired};
-ghost use Rattle.history_book.specs.Event.{may_confirm, may_touch};
+ghost use Rattle.history_book.specs.Legality.{may_confirm, may_touch};
 ghost use Rattle.history_book.specs.Protocol.{is_expired};
-ghost use Rattle.replay_top.specs.Book.{Adds, Holds, IsPlain, touch_of};
-ghost use Rattle.replay_top.specs.History.{pool};
+ghost use Rattle.history_book.specs.State.{state_of};
+ghost use Rattle.replay_top.specs.Internal.Book.{Adds, Holds, IsPlain, touch_of};
 
 use history_book::event::{Event, Numbered, Why};
-use history_book::packet::FlowPacket;
+use history_book::laws::{
+    destroys_take_one, ids_name_records, legal_histories_go_on, records_are_apart, states_follow,
+    touches_change_one,
+};
 use history_book::protocol::Part;
 use history_book::record::Record;
 use history_book::report::History;
+use history_book::sizes::Sizes;
+use packet_path::packet::FlowPacket;
 use room_list::RoomList;
 use tuple_core::Direction;
-
-/// How many entries the table holds.
-pub const ENTRIES: usize = 65_536;
 
 /// The live records, and the history that leaves them.
 #[derive(Drop)]
 pub struct Book {
+    pub sizes: Sizes,
     pub records: RoomList<Record>,
     pub history: History,
 }
@@ -39,9 +43,11 @@ impl Book {
     /// Notes an event of the one thread, made by the packet of this index.
     fn note(&mut self, index: u32, event: Event)
         requires { length self.old.history.items < self.old.history.room }
-        ensures history { self.new.history.items ≡ self.old.history.items ++ record { number = length self.old.history.items; thread = 0; index = index; event = event } ∷ [] }
+        ensures history { self.new.history.items ≡ self.old.history.items
+            ++ record { number = length self.old.history.items; thread = 0; index = index; event = event } ∷ [] }
         ensures room { self.new.history.room ≡ self.old.history.room }
         ensures records { self.new.records ≡ self.old.records }
+        ensures same_sizes { self.new.sizes ≡ self.old.sizes }
     {
         let number = self.history.len() as u64;
         self.history.push(Numbered {
@@ -57,11 +63,14 @@ impl Book {
         requires history_room { length self.old.history.items < self.old.history.room }
         requires records_room { length self.old.records.items < self.old.records.room }
         requires holds { Holds self.old }
-        requires may { may_confirm pool self.old.records.items (length self.old.history.items) subject.now ≡ true }
+        requires may { may_confirm self.old.sizes (state_of self.old.records.items)
+            (length self.old.history.items) subject.now ≡ true }
         requires plain { IsPlain subject.now }
         ensures adds { Adds self.old self.new index (Confirm subject.now) }
         ensures holds { Holds self.new }
     {
+        legal_histories_go_on();
+        states_follow();
         self.note(index, Event::Confirm { subject: *subject });
         self.records.push(*subject);
     }
@@ -71,10 +80,18 @@ impl Book {
         requires history_room { length self.old.history.items < self.old.history.room }
         requires holds { Holds self.old }
         requires item { slice_get self.old.records.items at ≡ Some touched.now.subject }
-        requires may { may_touch (Some touched.now.subject) touched.now.direction touched.now.packet.segment touched.now.packet.moment touched.now.after ≡ true }
+        requires may { may_touch (Some touched.now.subject) touched.now.direction
+            touched.now.packet.segment touched.now.packet.moment touched.now.after ≡ true }
         ensures adds { Adds self.old self.new index (touch_of touched.now) }
+        ensures written { self.new.records.items
+            ≡ slice_set self.old.records.items at (record touched.now.subject { part = touched.now.after }) }
         ensures holds { Holds self.new }
     {
+        records_are_apart();
+        ids_name_records();
+        touches_change_one();
+        legal_histories_go_on();
+        states_follow();
         let Touched {
             subject,
             direction,
@@ -107,8 +124,14 @@ impl Book {
         requires item { slice_get self.old.records.items at ≡ Some subject.now }
         requires expired { is_expired subject.now.part moment ≡ true }
         ensures adds { Adds self.old self.new index (Destroy subject.now.id (Expired moment)) }
+        ensures removed { self.new.records.items ≡ remove self.old.records.items at }
         ensures holds { Holds self.new }
     {
+        records_are_apart();
+        ids_name_records();
+        destroys_take_one();
+        legal_histories_go_on();
+        states_follow();
         let _ = self.records.remove(at);
         self.note(
             index,

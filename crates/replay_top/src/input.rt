@@ -9,6 +9,7 @@ use crate::arrivals::read_arrivals;
 use crate::flaw::{Flaw, Refusal, ReplayError};
 use crate::read::{ReadError, read_file};
 use crate::replay::replay;
+use crate::sizes::program_sizes;
 use ct_io::Files;
 use history_book::report::Report;
 use packet_headers::capture::{CaptureError, read_capture};
@@ -35,7 +36,7 @@ pub fn replay_bytes(alloc: Global, bytes: &[u8]) -> Result<Report, ReplayError>
         Ok(None) => return Err(ReplayError::Flawed(Flaw::NotTracked)),
         Err(_) => return Err(ReplayError::NoMemory),
     };
-    match replay(alloc, arrivals.as_slice()) {
+    match replay(alloc, &program_sizes(), arrivals.as_slice()) {
         Ok(report) => Ok(report),
         Err(_) => Err(ReplayError::NoMemory),
     }

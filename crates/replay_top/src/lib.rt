@@ -13,6 +13,7 @@ mod process;
 mod program;
 mod read;
 mod replay;
+mod sizes;
 mod track;
 
 pub use ending::Run;

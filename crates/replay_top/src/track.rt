@@ -1,27 +1,29 @@
 //! What the tracker does with one packet.
 
-ghost use Rattle.std.specs.Prelude.{◌≡◌, ◌+◌, ◌<◌, ◌≤◌, true, false, length};
-ghost use Rattle.std.specs.List.{AllByRecursion, list_any};
+ghost use Rattle.std.specs.Prelude.{◌≡◌, ◌+◌, ◌<◌, ◌≤◌, true, None, [], length};
+ghost use Rattle.std.specs.List.{AllByRecursion};
 ghost use Rattle.tuple_core.specs.Tuple.{is_valid};
-ghost use Rattle.history_book.specs.declared.packet.Arrival.TheVariants.{Flow};
+ghost use Rattle.packet_path.specs.declared.packet.Arrival.TheVariants.{Error, Flow};
 ghost use Rattle.history_book.specs.declared.protocol.Outcome.TheVariants.{Accept, Expired};
-ghost use Rattle.history_book.specs.Error.{FitsError};
-ghost use Rattle.history_book.specs.Find.{IsHit};
+ghost use Rattle.history_book.specs.Find.{IsFoundAt};
+ghost use Rattle.history_book.specs.Numbered.{events_of};
 ghost use Rattle.history_book.specs.Protocol.{start_of};
-ghost use Rattle.history_book.specs.Record.{has_place, has_tuple};
-ghost use Rattle.history_book.specs.State.{live_under};
-ghost use Rattle.history_book.specs.Verdict.{points_of};
-ghost use Rattle.replay_top.specs.Book.{Holds, PlacesBelow};
-ghost use Rattle.replay_top.specs.Flow.{is_flow, is_tracked};
-ghost use Rattle.replay_top.specs.History.{events_of, pool};
-ghost use Rattle.replay_top.specs.Track.{Begins, Handled, StepsTo};
+ghost use Rattle.history_book.specs.State.{is_free, is_unused, live_under, state_of};
+ghost use Rattle.packet_path.specs.Verdict.{FitsArrival, points_of};
+ghost use Rattle.replay_top.specs.Internal.Book.{Holds, PlacesBelow};
+ghost use Rattle.replay_top.specs.Internal.Flow.{is_flow, is_tracked};
+ghost use Rattle.replay_top.specs.Internal.Track.{Begins, Handled, StepsTo};
 
-use crate::book::{Book, ENTRIES, Touched};
-use history_book::find::{Hit, find, label};
-use history_book::packet::{Arrival, FlowPacket};
+use crate::book::{Book, Touched};
+use history_book::find::{FoundAt, find, label};
+use history_book::laws::{
+    absent_is_free, destroys_free, events_stay, parts_are_told, records_are_apart, states_stay,
+    tuples_are_told,
+};
 use history_book::protocol::{Outcome, Part, start, step};
 use history_book::record::Record;
 use history_book::verdict::{Class, Ftp, Translated, Verdict};
+use packet_path::packet::{Arrival, FlowPacket};
 use tuple_core::{Tuple, invert};
 
 /// The part of the entry that begins with a packet.
@@ -37,17 +39,18 @@ fn first_part(packet: &FlowPacket) -> Part
 }
 
 /// Confirms a new entry for a packet whose tuple has none, in a place that no entry has.
-fn make(book: &mut Book, index: u32, packet: &FlowPacket, place: u32) -> Class
+fn confirm_entry(book: &mut Book, index: u32, packet: &FlowPacket, place: u32) -> Class
     requires flow { is_flow packet.now ≡ true }
     requires holds { Holds book.old }
-    requires absent { list_any (has_tuple packet.now.tuple) book.old.records.items ≡ false }
-    requires place { list_any (has_place place) book.old.records.items ≡ false }
-    requires below { place < pool }
+    requires absent { is_free packet.now.tuple (state_of book.old.records.items) ≡ true }
+    requires place { is_unused place (state_of book.old.records.items) ≡ true }
+    requires below { place < book.old.sizes.entries }
     requires history_room { length book.old.history.items < book.old.history.room }
     requires records_room { length book.old.records.items < book.old.records.room }
     ensures begins { Begins book.old book.new index packet.now place result }
     ensures holds { Holds book.new }
 {
+    tuples_are_told();
     let id = book.history.len() as u64;
     let subject = Record {
         id,
@@ -69,27 +72,31 @@ fn make(book: &mut Book, index: u32, packet: &FlowPacket, place: u32) -> Class
 }
 
 /// Begins a flow for a packet whose tuple has no entry, if the table has room.
-fn begin(book: &mut Book, index: u32, packet: &FlowPacket) -> Verdict
+fn begin_flow(book: &mut Book, index: u32, packet: &FlowPacket) -> Verdict
     requires flow { is_flow packet.now ≡ true }
     requires holds { Holds book.old }
-    requires absent { live_under packet.now.tuple book.old.records.items ≡ None }
+    requires absent { live_under packet.now.tuple (state_of book.old.records.items) ≡ None }
     requires places { PlacesBelow (length book.old.records.items) book.old.records.items }
     requires history_room { length book.old.history.items + 2 ≤ book.old.history.room }
-    requires records_room { length book.old.records.items < pool → length book.old.records.items < book.old.records.room }
+    requires records_room { length book.old.records.items < book.old.sizes.entries
+        → length book.old.records.items < book.old.records.room }
     ensures handled { Handled book.old book.new index (Flow packet.now) result }
     ensures holds { Holds book.new }
     ensures places { PlacesBelow (length book.new.records.items) book.new.records.items }
 {
+    absent_is_free();
+    states_stay();
     let first = book.history.len() as u64;
     let place = book.records.len();
-    if place >= ENTRIES {
+    let is_full = place >= book.sizes.entries as usize;
+    if is_full {
         return Verdict {
             class: Class::Full { at: first },
             first,
             made: 0,
         };
     }
-    let class = make(book, index, packet, place as u32);
+    let class = confirm_entry(book, index, packet, place as u32);
     Verdict {
         class,
         first,
@@ -98,28 +105,36 @@ fn begin(book: &mut Book, index: u32, packet: &FlowPacket) -> Verdict
 }
 
 /// Touches the entry that a packet found, which goes on with the part `after`.
-fn pass(book: &mut Book, index: u32, packet: &FlowPacket, hit: Hit, after: Part) -> Verdict
+fn refresh_entry(
+    book: &mut Book,
+    index: u32,
+    packet: &FlowPacket,
+    found: FoundAt,
+    after: Part,
+) -> Verdict
     requires flow { is_flow packet.now ≡ true }
     requires holds { Holds book.old }
-    requires hit { IsHit packet.now.tuple book.old.records.items hit }
-    requires accepted { StepsTo hit packet.now book.old.records.items (Accept after) }
+    requires found { IsFoundAt packet.now.tuple (state_of book.old.records.items) found }
+    requires accepted { StepsTo found packet.now book.old.records.items (Accept after) }
     requires places { PlacesBelow (length book.old.records.items) book.old.records.items }
     requires history_room { length book.old.history.items + 2 ≤ book.old.history.room }
     ensures handled { Handled book.old book.new index (Flow packet.now) result }
     ensures holds { Holds book.new }
     ensures places { PlacesBelow (length book.new.records.items) book.new.records.items }
 {
+    parts_are_told();
+    states_stay();
     let first = book.history.len() as u64;
-    let subject = *book.records.at(hit.index);
+    let subject = *book.records.at(found.index);
     let touched = Touched {
         subject,
-        direction: hit.direction,
+        direction: found.direction,
         packet: *packet,
         after,
     };
-    book.touch(index, hit.index, &touched);
+    book.touch(index, found.index, &touched);
     let class = Class::Passed {
-        label: label(&subject, hit.direction),
+        label: label(&subject, found.direction),
         id: subject.id,
         at: book.history.len() as u64,
         ftp: Ftp::Nothing,
@@ -132,23 +147,27 @@ fn pass(book: &mut Book, index: u32, packet: &FlowPacket, hit: Hit, after: Part)
 }
 
 /// Kills the expired entry that a packet found, and begins a flow in its place.
-fn replace(book: &mut Book, index: u32, packet: &FlowPacket, hit: Hit) -> Verdict
+fn replace_expired(book: &mut Book, index: u32, packet: &FlowPacket, found: FoundAt) -> Verdict
     requires flow { is_flow packet.now ≡ true }
     requires holds { Holds book.old }
-    requires hit { IsHit packet.now.tuple book.old.records.items hit }
-    requires expired { StepsTo hit packet.now book.old.records.items Expired }
+    requires found { IsFoundAt packet.now.tuple (state_of book.old.records.items) found }
+    requires expired { StepsTo found packet.now book.old.records.items Expired }
     requires places { PlacesBelow (length book.old.records.items) book.old.records.items }
-    requires most { length book.old.records.items ≤ pool }
+    requires most { length book.old.records.items ≤ book.old.sizes.entries }
     requires history_room { length book.old.history.items + 2 ≤ book.old.history.room }
     requires records_room { length book.old.records.items ≤ book.old.records.room }
     ensures handled { Handled book.old book.new index (Flow packet.now) result }
     ensures holds { Holds book.new }
     ensures places { PlacesBelow (length book.new.records.items) book.new.records.items }
 {
+    records_are_apart();
+    destroys_free();
+    events_stay();
+    states_stay();
     let first = book.history.len() as u64;
-    let subject = *book.records.at(hit.index);
-    book.kill(index, hit.index, &subject, packet.moment);
-    let class = make(book, index, packet, subject.place);
+    let subject = *book.records.at(found.index);
+    book.kill(index, found.index, &subject, packet.moment);
+    let class = confirm_entry(book, index, packet, subject.place);
     Verdict {
         class,
         first,
@@ -156,48 +175,51 @@ fn replace(book: &mut Book, index: u32, packet: &FlowPacket, hit: Hit) -> Verdic
     }
 }
 
-/// Handles a packet of a flow: the entry of its flow accepts it, or, where there is none or it is expired, a
-/// flow begins.
+/// Handles a packet of a flow: the entry of its flow accepts it, or, where there is none or it is
+/// expired, a flow begins.
 fn handle_flow(book: &mut Book, index: u32, packet: &FlowPacket) -> Verdict
     requires flow { is_flow packet.now ≡ true }
     requires holds { Holds book.old }
     requires places { PlacesBelow (length book.old.records.items) book.old.records.items }
-    requires most { length book.old.records.items ≤ pool }
+    requires most { length book.old.records.items ≤ book.old.sizes.entries }
     requires history_room { length book.old.history.items + 2 ≤ book.old.history.room }
     requires kept { length book.old.records.items ≤ book.old.records.room }
-    requires records_room { length book.old.records.items < pool → length book.old.records.items < book.old.records.room }
+    requires records_room { length book.old.records.items < book.old.sizes.entries
+        → length book.old.records.items < book.old.records.room }
     ensures handled { Handled book.old book.new index (Flow packet.now) result }
     ensures holds { Holds book.new }
     ensures places { PlacesBelow (length book.new.records.items) book.new.records.items }
 {
     match find(book.records.as_slice(), &packet.tuple) {
-        None => begin(book, index, packet),
-        Some(hit) => {
-            let part = book.records.at(hit.index).part;
-            match step(&part, hit.direction, packet.segment, packet.moment) {
-                Outcome::Accept(after) => pass(book, index, packet, hit, after),
-                Outcome::Expired => replace(book, index, packet, hit),
+        None => begin_flow(book, index, packet),
+        Some(found) => {
+            let part = book.records.at(found.index).part;
+            match step(&part, found.direction, packet.segment, packet.moment) {
+                Outcome::Accept(after) => refresh_entry(book, index, packet, found, after),
+                Outcome::Expired => replace_expired(book, index, packet, found),
             }
         }
     }
 }
 
 /// Looks up the entry that an ICMP error is about, by the inverse of the tuple in it.
-fn look_up(book: &Book, inner: &Tuple, outer_destination: u32) -> Class
+fn error_class(book: &Book, inner: &Tuple, outer_destination: u32) -> Class
     requires holds { Holds book.now }
     requires valid { is_valid inner.now ≡ true }
-    ensures fits { FitsError (events_of book.now.history.items) (length book.now.history.items) inner.now outer_destination result }
+    ensures fits { FitsArrival book.now.sizes (events_of book.now.history.items) (length book.now.history.items)
+        (Error inner.now outer_destination) [] result }
     ensures points { AllByRecursion (λ p. p ≤ length book.now.history.items) (points_of result) }
 {
+    states_stay();
     let looked_up = invert(inner);
     let at = book.history.len() as u64;
-    let Some(hit) = find(book.records.as_slice(), &looked_up) else {
+    let Some(found) = find(book.records.as_slice(), &looked_up) else {
         return Class::ErrorLost { at };
     };
-    let id = book.records.at(hit.index).id;
+    let id = book.records.at(found.index).id;
     if looked_up.dst == outer_destination {
         Class::Error {
-            direction: hit.direction,
+            direction: found.direction,
             id,
             at,
         }
@@ -211,10 +233,11 @@ pub fn handle(book: &mut Book, index: u32, arrival: &Arrival) -> Verdict
     requires tracked { is_tracked arrival.now ≡ true }
     requires holds { Holds book.old }
     requires places { PlacesBelow (length book.old.records.items) book.old.records.items }
-    requires most { length book.old.records.items ≤ pool }
+    requires most { length book.old.records.items ≤ book.old.sizes.entries }
     requires history_room { length book.old.history.items + 2 ≤ book.old.history.room }
     requires kept { length book.old.records.items ≤ book.old.records.room }
-    requires records_room { length book.old.records.items < pool → length book.old.records.items < book.old.records.room }
+    requires records_room { length book.old.records.items < book.old.sizes.entries
+        → length book.old.records.items < book.old.records.room }
     ensures handled { Handled book.old book.new index arrival.now result }
     ensures holds { Holds book.new }
     ensures places { PlacesBelow (length book.new.records.items) book.new.records.items }
@@ -226,7 +249,7 @@ pub fn handle(book: &mut Book, index: u32, arrival: &Arrival) -> Verdict
         Arrival::Error {
             inner,
             outer_destination,
-        } => look_up(book, inner, *outer_destination),
+        } => error_class(book, inner, *outer_destination),
     };
     Verdict {
         class,

@@ -4,4 +4,4 @@ use Rattle.history_book.proofs.Sound.{sound_after}
 use Rattle.history_book.proofs.laws.records_are_apart.Goals as goal
 
 pub returns : goal.returns
-returns c = λ entries log p legal. AllPairs-from_pairs (after log p) (sound_after entries p log legal).apart
+returns c = λ sizes log p legal. AllPairs-from_pairs (after log p).records (sound_after sizes p log legal).apart

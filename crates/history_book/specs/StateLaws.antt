@@ -1,0 +1,56 @@
+-- What holds of states, whoever made them. In the states of a legal history the records are apart.
+use Rattle.std.specs.Prelude.{◌≡◌, ℕ, true, Some, None, slice_get, slice_set, AllPairs}
+use Rattle.std.specs.List.{remove}
+use Rattle.tuple_core.specs.declared.Direction.{Direction}
+use Rattle.tuple_core.specs.declared.Segment.{Segment}
+use Rattle.tuple_core.specs.declared.Tuple.{Tuple}
+use Rattle.history_book.specs.declared.event.Event.TheVariants.{Touch, Destroy}
+use Rattle.history_book.specs.declared.event.Why.{Why}
+use Rattle.history_book.specs.declared.protocol.Part.{Part}
+use Rattle.history_book.specs.declared.record.Record.{Record}
+use Rattle.history_book.specs.Legality.{same_part}
+use Rattle.history_book.specs.Laws.{AreApart}
+use Rattle.history_book.specs.Record.{same_tuple}
+use Rattle.history_book.specs.State.{Found, State, is_free, is_unused, live_under, next, record_of}
+
+-- the test of two tuples tells whether they are equal
+abbrev pub TuplesAreTold : Type 0
+TuplesAreTold = (t u : Tuple) → (same_tuple t u ≡ true → t ≡ u) × (t ≡ u → same_tuple t u ≡ true)
+
+-- each part passes the test against itself
+abbrev pub PartsAreTold : Type 0
+PartsAreTold = (p : Part) → same_part p p ≡ true
+
+-- a tuple under which nothing is live is free
+abbrev pub AbsentIsFree : Type 0
+AbsentIsFree = (t : Tuple) (s : State) → live_under t s ≡ None → is_free t s ≡ true
+
+-- where the records are apart, each is the one that is found by its id
+abbrev pub IdsNameRecords : Type 0
+IdsNameRecords =
+    (s : State) (i : ℕ) (r : Record) → AllPairs AreApart s.records → slice_get s.records i ≡ Some r
+    → record_of r.id s ≡ Some r
+
+-- a Touch gives one record its new part, and leaves each other as it is
+abbrev pub TouchesChangeOne : Type 0
+TouchesChangeOne =
+    (s : State) (i : ℕ) (r : Record) (direction : Direction) (segment : Segment) (moment : ℕ) (part : Part)
+    → AllPairs AreApart s.records → slice_get s.records i ≡ Some r
+    → (next s (Touch r.id direction segment moment part)).records ≡ slice_set s.records i (record r { part = part })
+
+-- a Destroy takes one record out, and leaves each other as it is
+abbrev pub DestroysTakeOne : Type 0
+DestroysTakeOne =
+    (s : State) (i : ℕ) (r : Record) (why : Why) → AllPairs AreApart s.records → slice_get s.records i ≡ Some r
+    → (next s (Destroy r.id why)).records ≡ remove s.records i
+
+-- a destroyed entry leaves its place unused, and the tuple that it was live under free
+pub record IsGone (t : Tuple) (place : ℕ) (s : State) : Type 0 where
+  pub free : is_free t s ≡ true
+  pub unused : is_unused place s ≡ true
+
+abbrev pub DestroysFree : Type 0
+DestroysFree =
+    (s : State) (i : ℕ) (found : Found) (t : Tuple) (why : Why) → AllPairs AreApart s.records
+    → slice_get s.records i ≡ Some found.subject → live_under t s ≡ Some found
+    → IsGone t found.subject.place (next s (Destroy found.subject.id why))

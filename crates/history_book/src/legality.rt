@@ -1,0 +1,138 @@
+//! Which events may happen: the plain programs of the definitions.
+
+ghost use Rattle.std.specs.Prelude.{◌≡◌, ◌≤◌, ◌^◌, Some};
+ghost use Rattle.std.specs.List.{list_any};
+ghost use Rattle.history_book.specs.Legality.{is_of_one_protocol, is_reason, may_confirm, may_happen};
+ghost use Rattle.history_book.specs.Legality.{may_touch, same_part, step_moment_of};
+ghost use Rattle.history_book.specs.Protocol.{is_of_protocol};
+ghost use Rattle.history_book.specs.Record.{has_place, has_tuple};
+ghost use Rattle.history_book.specs.State.{state_of};
+
+use crate::event::{Event, Why};
+use crate::find::find_id;
+use crate::protocol::{Outcome, Part, PartKind, step};
+use crate::record::Record;
+use crate::sizes::Sizes;
+use tuple_core::{Direction, Proto, Segment, Tuple, is_valid};
+
+/// Whether the segment is of the protocol.
+pub fn is_of_protocol(segment: Segment, kind: PartKind) -> bool
+    ensures { result ≡ is_of_protocol segment kind }
+{
+    match (segment, kind) {
+        (Segment::Udp, PartKind::Udp) => true,
+        (Segment::Tcp(_), PartKind::Udp) => false,
+        (Segment::Icmp(_), PartKind::Udp) => false,
+    }
+}
+
+/// Whether the record has the tuple in either direction.
+fn has_tuple(r: &Record, t: &Tuple) -> bool
+    ensures { result ≡ has_tuple t.now r.now }
+{
+    r.original == *t || r.reply == *t
+}
+
+/// Whether a live record has the tuple in either direction.
+pub fn is_taken(records: &[Record], t: &Tuple) -> bool
+    ensures { result ≡ list_any (has_tuple t.now) records.now }
+{
+    records.iter().any(|r| has_tuple(r, t))
+}
+
+/// Whether a live record has the place.
+pub fn is_place_used(records: &[Record], place: u32) -> bool
+    ensures { result ≡ list_any (has_place place) records.now }
+{
+    records.iter().any(|r| r.place == place)
+}
+
+/// Whether both tuples of a record are valid and of the protocol of its part.
+fn is_of_one_protocol(r: &Record) -> bool
+    ensures { result ≡ is_of_one_protocol r.now }
+{
+    let proto = match r.part.kind {
+        PartKind::Udp => Proto::Udp,
+    };
+    is_valid(&r.original)
+        && is_valid(&r.reply)
+        && r.original.proto == proto
+        && r.reply.proto == proto
+}
+
+/// Whether this record may be confirmed as event `number`, beside these records, in a tracker of these
+/// sizes.
+fn is_confirmable(sizes: &Sizes, records: &[Record], number: u64, subject: &Record) -> bool
+    ensures { result ≡ may_confirm sizes.now (state_of records.now) number subject.now }
+{
+    subject.id == number
+        && is_of_one_protocol(subject)
+        && subject.place < sizes.entries
+        && !is_place_used(records, subject.place)
+        && !is_taken(records, &subject.original)
+        && !is_taken(records, &subject.reply)
+}
+
+/// Whether two parts are equal.
+fn is_same_part(p: &Part, q: &Part) -> bool
+    ensures { result ≡ same_part p.now q.now }
+{
+    let is_same_kind = match (p.kind, q.kind) {
+        (PartKind::Udp, PartKind::Udp) => true,
+    };
+    is_same_kind && p.replied == q.replied && p.assured == q.assured && p.deadline == q.deadline
+}
+
+/// Whether the record may be touched by such a packet, and goes on with the part `after`.
+fn is_touchable(
+    r: &Record,
+    direction: Direction,
+    segment: Segment,
+    moment: u64,
+    after: &Part,
+) -> bool
+    requires { moment ≤ 10 ^ 16 }
+    ensures { result ≡ may_touch (Some r.now) direction segment moment after.now }
+{
+    if !is_of_protocol(segment, r.part.kind) {
+        return false;
+    }
+    match step(&r.part, direction, segment, moment) {
+        Outcome::Accept(next) => is_same_part(&next, after),
+        Outcome::Expired => false,
+    }
+}
+
+/// Whether the reason holds of the record.
+fn is_reason_for(why: &Why, r: &Record) -> bool
+    ensures { result ≡ is_reason why.now r.now }
+{
+    match why {
+        Why::Expired { moment } => r.part.deadline <= *moment,
+    }
+}
+
+/// Whether `event` may happen as event `number`, beside these records, in a tracker of these
+/// sizes.
+pub fn is_lawful(sizes: &Sizes, records: &[Record], number: u64, event: &Event) -> bool
+    requires { step_moment_of event.now ≤ 10 ^ 16 }
+    ensures { result ≡ may_happen sizes.now (state_of records.now) number event.now }
+{
+    match event {
+        Event::Confirm { subject } => is_confirmable(sizes, records, number, subject),
+        Event::Touch {
+            id,
+            direction,
+            segment,
+            moment,
+            after,
+        } => match find_id(records, *id) {
+            Some(index) => is_touchable(&records[index], *direction, *segment, *moment, after),
+            None => false,
+        },
+        Event::Destroy { id, why } => match find_id(records, *id) {
+            Some(index) => is_reason_for(why, &records[index]),
+            None => false,
+        },
+    }
+}

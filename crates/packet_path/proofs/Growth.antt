@@ -1,0 +1,129 @@
+-- A verdict that fits still fits when the history goes on: one case for each class.
+use Rattle.std.proofs.Common.{ℕ, ◌+◌, List, [], ◌∷◌, Option, subst, sym}
+use Rattle.tuple_core.specs.declared.Tuple.{Tuple}
+use Rattle.history_book.specs.Laws.{EventsStay, StatesStay}
+use Rattle.history_book.specs.Notes.{Happened}
+use Rattle.history_book.specs.Point.{At, StartsWith}
+use Rattle.history_book.specs.State.{Found, State}
+use Rattle.history_book.specs.declared.event.Event.{Event}
+use Rattle.history_book.specs.declared.event.Note.{Note}
+use Rattle.history_book.specs.declared.sizes.Sizes.{Sizes}
+use Rattle.history_book.specs.declared.verdict.Class.{Class}
+use Rattle.history_book.specs.declared.verdict.Class.TheVariants as class
+use Rattle.packet_path.specs.declared.packet.Arrival.{Arrival}
+use Rattle.packet_path.specs.declared.packet.FlowPacket.{FlowPacket}
+use Rattle.packet_path.specs.Error.{AnswersError, LooksUp}
+use Rattle.packet_path.specs.Verdict.{AnswersFlow, FitsArrival, Kills, KillsAll}
+
+-- a fact at a point stays as the history goes on
+pub at_grows : StatesStay → (longer log : List Event) (p : ℕ) (F : State → Type 0) → StartsWith longer log
+    → At log p F → At longer p F
+at_grows stay longer log p F starts fact =
+    let same = stay longer log p starts fact.within in
+    record { within = same.0; fact = subst F (sym same.1) fact.fact }
+
+-- an answer to an error, of which another fact follows
+pub error_still : (given : Arrival) (own : List Note) (P Q : Tuple → ℕ → Type 0)
+    → ((inner : Tuple) (outer : ℕ) → P inner outer → Q inner outer) → AnswersError given own P → AnswersError given own Q
+error_still given own P Q then f = record {
+  inner = f.inner;
+  outer = f.outer;
+  error = f.error;
+  none = f.none;
+  fits = then f.inner f.outer f.fits;
+}
+
+module _ (events : EventsStay) (states : StatesStay) (longer log : List Event) (starts : StartsWith longer log) where
+  happened_grows : (mark : ℕ) (note : Note) → Happened log mark note → Happened longer mark note
+  happened_grows mark note h = record { event = events longer log _ _ starts h.event; later = h.later }
+
+  kills_grows : (mark : ℕ) (packet : FlowPacket) (note : Note) → Kills log mark packet note → Kills longer mark packet note
+  kills_grows mark packet note k = record {
+    happened = happened_grows mark note k.happened;
+    found = k.found;
+    live = at_grows states longer log _ _ starts k.live;
+    kill = k.kill;
+  }
+
+  kills_all_grows : (mark : ℕ) (packet : FlowPacket) (notes : List Note)
+      → KillsAll log mark packet notes → KillsAll longer mark packet notes
+  kills_all_grows mark packet [] k = tt
+  kills_all_grows mark packet (n ∷ ns) (k, ks) = (kills_grows mark packet n k, kills_all_grows (n.number + 1) packet ns ks)
+
+  flow_grows : (mark : ℕ) (given : Arrival) (own : List Note) (P Q : FlowPacket → ℕ → ℕ → List Note → Type 0)
+      → ((packet : FlowPacket) (kills k : ℕ) (rest : List Note) → P packet kills k rest → Q packet kills k rest)
+      → AnswersFlow log mark given own P → AnswersFlow longer mark given own Q
+  flow_grows mark given own P Q then f = record {
+    packet = f.packet;
+    flow = f.flow;
+    kills = f.kills;
+    rest = f.rest;
+    all = f.all;
+    few = f.few;
+    killed = kills_all_grows mark f.packet f.kills f.killed;
+    fits = then f.packet _ _ f.rest f.fits;
+  }
+
+  looked_grows : (mark : ℕ) (inner : Tuple) (at : ℕ) (found : Option Found) → LooksUp log mark inner at found
+      → LooksUp longer mark inner at found
+  looked_grows mark inner at found l = record { from = l.from; live = at_grows states longer log _ _ starts l.live }
+
+  pub arrival_grows : (sizes : Sizes) (mark : ℕ) (given : Arrival) (own : List Note) (verdict : Class)
+      → FitsArrival sizes log mark given own verdict → FitsArrival sizes longer mark given own verdict
+  arrival_grows sizes mark given own (class.Untracked why) f = f
+  arrival_grows sizes mark given own class.BadHeader f = f
+  arrival_grows sizes mark given own (class.ErrorLost at) f =
+      error_still given own _ _ (λ inner outer l. looked_grows mark inner at _ l) f
+  arrival_grows sizes mark given own (class.ErrorAddress id at) f =
+      error_still given own _ _
+      (λ inner outer l. record {
+        found = l.found;
+        looked = looked_grows mark inner at _ l.looked;
+        named = l.named;
+        address = l.address;
+      }) f
+  arrival_grows sizes mark given own (class.Error direction id at) f =
+      error_still given own _ _
+      (λ inner outer l. record {
+        found = l.found;
+        looked = looked_grows mark inner at _ l.looked;
+        named = l.named;
+        directed = l.directed;
+        address = l.address;
+      }) f
+  arrival_grows sizes mark given own (class.Made id at translated unclaimed) f =
+      flow_grows mark given own _ _
+      (λ packet kills k rest m. record {
+        subject = m.subject;
+        own = m.own;
+        happened = happened_grows k _ m.happened;
+        named = m.named;
+        started = m.started;
+        alone = m.alone;
+        point = m.point;
+      }) f
+  arrival_grows sizes mark given own (class.Passed label id at ftp) f =
+      flow_grows mark given own _ _
+      (λ packet kills k rest m. record {
+        number = m.number;
+        found = m.found;
+        part = m.part;
+        own = m.own;
+        happened = happened_grows k _ m.happened;
+        live = at_grows states longer log _ _ starts m.live;
+        named = m.named;
+        labelled = m.labelled;
+        payload = m.payload;
+        point = m.point;
+      }) f
+  arrival_grows sizes mark given own (class.Full at) f =
+      flow_grows mark given own _ _
+      (λ packet kills k rest m. record {
+        own = m.own;
+        starts = m.starts;
+        absent_at = m.absent_at;
+        from = m.from;
+        upto = m.upto;
+        absent = at_grows states longer log _ _ starts m.absent;
+        full = at_grows states longer log _ _ starts m.full;
+      }) f

@@ -1,0 +1,112 @@
+-- A verdict that fits from a mark on fits from any lower one: one case for each class.
+use Rattle.std.proofs.Common.{ℕ, ◌+◌, ◌≤◌, List, [], ◌∷◌, max, arith, Option, Some, None}
+use Rattle.tuple_core.specs.declared.Tuple.{Tuple}
+use Rattle.history_book.specs.Notes.{Happened, mark_past}
+use Rattle.history_book.specs.State.{Found}
+use Rattle.history_book.specs.declared.event.Event.{Event}
+use Rattle.history_book.specs.declared.event.Note.{Note}
+use Rattle.history_book.specs.declared.record.Record.{Record}
+use Rattle.history_book.specs.declared.sizes.Sizes.{Sizes}
+use Rattle.history_book.specs.declared.verdict.Class.{Class}
+use Rattle.history_book.specs.declared.verdict.Class.TheVariants as class
+use Rattle.packet_path.specs.declared.packet.Arrival.{Arrival}
+use Rattle.packet_path.specs.declared.packet.FlowPacket.{FlowPacket}
+use Rattle.packet_path.specs.Error.{LooksUp}
+use Rattle.packet_path.specs.Made.{IsUnclaimed}
+use Rattle.packet_path.specs.Verdict.{AnswersFlow, FitsArrival, KillsAll}
+use Rattle.packet_path.proofs.Growth.{error_still}
+
+mark_past-le : (m n : ℕ) (notes : List Note) → m ≤ n → mark_past m notes ≤ mark_past n notes
+mark_past-le m n [] le = le
+mark_past-le m n (x ∷ xs) le = mark_past-le (max m (x.number + 1)) (max n (x.number + 1)) xs (omega arith)
+
+happened_lower : (log : List Event) (m n : ℕ) (note : Note) → m ≤ n → Happened log n note → Happened log m note
+happened_lower log m n note le h = record { event = h.event; later = omega (arith, h.later) }
+
+unclaimed_lower : (m n : ℕ) (unclaimed : Option ℕ) (r : Record) → m ≤ n → IsUnclaimed n unclaimed r → IsUnclaimed m unclaimed r
+unclaimed_lower m n None r le h = h
+unclaimed_lower m n (Some p) r le h = (h.0, omega (arith, h.1), h.2)
+
+kills_lower : (log : List Event) (m n : ℕ) (packet : FlowPacket) (notes : List Note) → m ≤ n
+    → KillsAll log n packet notes → KillsAll log m packet notes
+kills_lower log m n packet [] le k = tt
+kills_lower log m n packet (x ∷ xs) le (k, ks) =
+    (record { happened = happened_lower log m n x le k.happened; found = k.found; live = k.live; kill = k.kill }, ks)
+
+module _ (log : List Event) (m n : ℕ) (le : m ≤ n) where
+  flow_lower : (given : Arrival) (own : List Note) (P Q : FlowPacket → ℕ → ℕ → List Note → Type 0)
+      → ((packet : FlowPacket) (kills j k : ℕ) (rest : List Note) → j ≤ k → P packet kills k rest → Q packet kills j rest)
+      → AnswersFlow log n given own P → AnswersFlow log m given own Q
+  flow_lower given own P Q then f = record {
+    packet = f.packet;
+    flow = f.flow;
+    kills = f.kills;
+    rest = f.rest;
+    all = f.all;
+    few = f.few;
+    killed = kills_lower log m n f.packet f.kills le f.killed;
+    fits = then f.packet _ (mark_past m f.kills) (mark_past n f.kills) f.rest (mark_past-le m n f.kills le) f.fits;
+  }
+
+  looked_lower : (inner : Tuple) (at : ℕ) (found : Option Found) → LooksUp log n inner at found → LooksUp log m inner at found
+  looked_lower inner at found l = record { from = omega (arith, l.from, le); live = l.live }
+
+  pub arrival_lower : (sizes : Sizes) (given : Arrival) (own : List Note) (verdict : Class)
+      → FitsArrival sizes log n given own verdict → FitsArrival sizes log m given own verdict
+  arrival_lower sizes given own (class.Untracked why) f = f
+  arrival_lower sizes given own class.BadHeader f = f
+  arrival_lower sizes given own (class.ErrorLost at) f =
+      error_still given own _ _ (λ inner outer l. looked_lower inner at _ l) f
+  arrival_lower sizes given own (class.ErrorAddress id at) f =
+      error_still given own _ _
+      (λ inner outer l. record {
+        found = l.found;
+        looked = looked_lower inner at _ l.looked;
+        named = l.named;
+        address = l.address;
+      }) f
+  arrival_lower sizes given own (class.Error direction id at) f =
+      error_still given own _ _
+      (λ inner outer l. record {
+        found = l.found;
+        looked = looked_lower inner at _ l.looked;
+        named = l.named;
+        directed = l.directed;
+        address = l.address;
+      }) f
+  arrival_lower sizes given own (class.Made id at translated unclaimed) f =
+      flow_lower given own _ _
+      (λ packet kills j k rest lower h. record {
+        subject = h.subject;
+        own = h.own;
+        happened = happened_lower log j k _ lower h.happened;
+        named = h.named;
+        started = h.started;
+        alone = unclaimed_lower j k unclaimed h.subject lower h.alone;
+        point = h.point;
+      }) f
+  arrival_lower sizes given own (class.Passed label id at ftp) f =
+      flow_lower given own _ _
+      (λ packet kills j k rest lower h. record {
+        number = h.number;
+        found = h.found;
+        part = h.part;
+        own = h.own;
+        happened = happened_lower log j k _ lower h.happened;
+        live = h.live;
+        named = h.named;
+        labelled = h.labelled;
+        payload = h.payload;
+        point = h.point;
+      }) f
+  arrival_lower sizes given own (class.Full at) f =
+      flow_lower given own _ _
+      (λ packet kills j k rest lower h. record {
+        own = h.own;
+        starts = h.starts;
+        absent_at = h.absent_at;
+        from = omega (arith, h.from, lower);
+        upto = h.upto;
+        absent = h.absent;
+        full = h.full;
+      }) f

@@ -1,0 +1,102 @@
+-- When a verdict fits a packet and the events that the packet made.
+use Rattle.std.specs.Prelude.{◌≡◌, ℕ, ◌+◌, ◌≤◌, Some, None, List, [], ◌∷◌, ◌++◌, length, option_to_list}
+use Rattle.history_book.specs.declared.event.Event.{Event}
+use Rattle.history_book.specs.declared.event.Event.TheVariants.{Confirm, Touch, Destroy}
+use Rattle.history_book.specs.declared.event.Note.{Note}
+use Rattle.history_book.specs.declared.event.Why.{Why}
+use Rattle.history_book.specs.declared.event.Why.TheVariants as why
+use Rattle.packet_path.specs.declared.packet.Arrival.{Arrival}
+use Rattle.packet_path.specs.declared.packet.Arrival.TheVariants as arrival
+use Rattle.packet_path.specs.declared.packet.FlowPacket.{FlowPacket}
+use Rattle.history_book.specs.declared.verdict.Class.{Class}
+use Rattle.history_book.specs.declared.verdict.Class.TheVariants as class
+use Rattle.history_book.specs.declared.verdict.Ftp.{Ftp}
+use Rattle.history_book.specs.declared.verdict.Ftp.TheVariants as ftp
+use Rattle.history_book.specs.declared.verdict.Translated.{Translated}
+use Rattle.history_book.specs.declared.verdict.Translated.TheVariants.{Chosen, Plain}
+use Rattle.packet_path.specs.Error.{AnswersError, IsMisdirected, IsRelated, LooksUp}
+use Rattle.packet_path.specs.Full.{FindsNoRoom}
+use Rattle.packet_path.specs.Made.{Makes}
+use Rattle.history_book.specs.Notes.{Happened, mark_past}
+use Rattle.packet_path.specs.Passed.{Passes}
+use Rattle.history_book.specs.Point.{At}
+use Rattle.history_book.specs.State.{Found, live_under}
+use Rattle.history_book.specs.declared.sizes.Sizes.{Sizes}
+
+-- a packet may kill an entry for this reason: it was expired at the packet's moment
+abbrev pub IsKillReason : FlowPacket → Why → Type 0
+IsKillReason packet (why.Expired moment) = moment ≡ packet.moment
+
+-- the event destroys the entry that was found, for such a reason
+abbrev pub IsKillOf : FlowPacket → Found → Event → Type 0
+IsKillOf packet found (Confirm r) = ⊥
+IsKillOf packet found (Touch id direction segment moment after) = ⊥
+IsKillOf packet found (Destroy id why) = (id ≡ found.subject.id) × IsKillReason packet why
+
+-- the packet killed the entry that was live under its tuple
+pub record Kills (log : List Event) (mark : ℕ) (packet : FlowPacket) (note : Note) : Type 0 where
+  pub happened : Happened log mark note
+  pub found : Found
+  pub live : At log note.number (λ s. live_under packet.tuple s ≡ Some found)
+  pub kill : IsKillOf packet found note.event
+
+-- the packet killed one entry after another
+abbrev pub KillsAll : List Event → ℕ → FlowPacket → List Note → Type 0
+KillsAll log mark packet [] = Unit {0}
+KillsAll log mark packet (n ∷ ns) = Kills log mark packet n × KillsAll log (n.number + 1) packet ns
+
+-- it was a packet of a flow; its own events are at most four kills, and then the rest; and this is so of
+-- the packet, the number of kills, the mark past them, and the rest
+pub record AnswersFlow (log : List Event) (mark : ℕ) (given : Arrival) (own : List Note)
+    (Fits : FlowPacket → ℕ → ℕ → List Note → Type 0) : Type 0 where
+  pub packet : FlowPacket
+  pub flow : given ≡ arrival.Flow packet
+  pub kills : List Note
+  pub rest : List Note
+  pub all : own ≡ kills ++ rest
+  pub few : length kills ≤ 4
+  pub killed : KillsAll log mark packet kills
+  pub fits : Fits packet (length kills) (mark_past mark kills) rest
+
+-- The class fits what the tracker was given of a packet and the events that the packet made. The bytes
+-- alone decide where it is not tracked or a header is wrong.
+abbrev pub FitsArrival : Sizes → List Event → ℕ → Arrival → List Note → Class → Type 0
+FitsArrival sizes log mark given own (class.Untracked why) = (given ≡ arrival.Untracked why) × (own ≡ [])
+FitsArrival sizes log mark given own class.BadHeader = (given ≡ arrival.Invalid) × (own ≡ [])
+FitsArrival sizes log mark given own (class.ErrorLost at) =
+    AnswersError given own (λ inner outer. LooksUp log mark inner at None)
+FitsArrival sizes log mark given own (class.ErrorAddress id at) =
+    AnswersError given own (λ inner outer. IsMisdirected log mark inner outer id at)
+FitsArrival sizes log mark given own (class.Error direction id at) =
+    AnswersError given own (λ inner outer. IsRelated log mark inner outer direction id at)
+FitsArrival sizes log mark given own (class.Made id at translated unclaimed) =
+    AnswersFlow log mark given own (λ packet kills k rest. Makes log k packet rest id at translated unclaimed)
+FitsArrival sizes log mark given own (class.Passed label id at ftp) =
+    AnswersFlow log mark given own (λ packet kills k rest. Passes log k packet rest label id at ftp)
+FitsArrival sizes log mark given own (class.Full at) =
+    AnswersFlow log mark given own (λ packet kills k rest. FindsNoRoom sizes log k packet rest at)
+
+-- the point that a translation names
+abbrev pub translated_points : Translated → List ℕ
+translated_points Plain = []
+translated_points (Chosen reply taken_at) = option_to_list taken_at
+
+-- the points that what came of a payload names
+abbrev pub ftp_points : Ftp → List ℕ
+ftp_points ftp.Nothing = []
+ftp_points (ftp.Expected id) = []
+ftp_points ftp.Address = []
+ftp_points (ftp.Clash id at) = at ∷ []
+ftp_points (ftp.Full at) = at ∷ []
+ftp_points (ftp.Gone at) = at ∷ []
+
+-- the points that a verdict names
+abbrev pub points_of : Class → List ℕ
+points_of (class.Untracked why) = []
+points_of class.BadHeader = []
+points_of (class.ErrorLost at) = at ∷ []
+points_of (class.ErrorAddress id at) = at ∷ []
+points_of (class.Error direction id at) = at ∷ []
+points_of (class.Made id at translated unclaimed) = at ∷ (option_to_list unclaimed ++ translated_points translated)
+points_of (class.Passed label id at payload) = at ∷ ftp_points payload
+points_of (class.Full at) = at ∷ []
