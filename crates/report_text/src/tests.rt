@@ -1,7 +1,7 @@
 //! Whole texts of reports that are built by hand.
 
 use crate::page::LONGEST_LINE;
-use crate::write::write_report;
+use crate::write::{write_each, write_report};
 use ct_io::MemSink;
 use history_book::event::{Event, Numbered, Why};
 use history_book::protocol::{Part, PartKind};
@@ -365,5 +365,28 @@ fn a_sink_that_fails(rt: HostRuntime) -> Result<(), Fail> {
         assert!(rt; written.len() <= most, "at {fails}");
         assert!(rt; written.is_empty() == (most == 0), "at {fails}");
     }
+    Ok(())
+}
+
+/// The one write of a short report fails, and nothing of it is written.
+#[test]
+fn nothing_tracked_and_a_sink_that_fails(rt: HostRuntime) -> Result<(), Fail> {
+    let report = report_of(rt.alloc(), &[], &[&[]])?;
+    let mut sink = MemSink::new(rt.alloc(), 4096, &[0])?;
+    let mut page = [0; 4096];
+    assert!(rt; write_report(&report, &mut page, &mut sink).is_err());
+    assert!(rt; sink.bytes().is_empty());
+    Ok(())
+}
+
+#[test]
+fn pieces_one_after_the_other(rt: HostRuntime) -> Result<(), Fail> {
+    let pieces: [&[u8]; 3] = [b"ctreplay: ", b"", b"write failed\n"];
+    let mut sink = MemSink::new(rt.alloc(), 4096, &[])?;
+    assert!(rt; write_each(&pieces, &mut sink).is_ok());
+    assert_eq!(rt; sink.bytes(), "ctreplay: write failed\n".as_bytes());
+    let mut sink = MemSink::new(rt.alloc(), 4096, &[1])?;
+    assert!(rt; write_each(&pieces, &mut sink).is_err());
+    assert_eq!(rt; sink.bytes(), "ctreplay: ".as_bytes());
     Ok(())
 }
