@@ -1,12 +1,12 @@
 -- What is found by name after one file changed or one more was added.
-use Rattle.std.proofs.Common.{◌≡◌, ◌≢◌, ℕ, zero, suc, ◌<◌, inl, inr, Bool, false, cond, List, [], ◌∷◌, ◌++◌, length, drop, get_or, set, Option, None, Some, refl, sym, subst, ◌∙◌, ap, arith, length-set}
+use Rattle.std.proofs.Common.{◌≡◌, ◌≢◌, ℕ, zero, suc, ◌<◌, inl, inr, Bool, true, false, ◌||◌, cond, List, [], ◌∷◌, ◌++◌, length, drop, get_or, set, Option, None, Some, refl, sym, subst, ◌∙◌, ap, arith, length-set}
 use Rattle.std.specs.List.{find, position, position_or_len, slice_get}
 use Rattle.std.specs.Str.{bytes_eq}
 use Rattle.std.specs.Option.{ForSome, IsSome, is_none, option_map, unwrap_or}
 use Rattle.ct_io.proofs.Rises.{risen_rose, risen_stays}
 use Rattle.ct_io.specs.Counts.{Rose, risen}
 use Rattle.ct_io.specs.MemFiles.{Kept, contents_in, faults_in, is_named, left_at, place_in}
-use Rattle.std.proofs.lemmas.Bool.{cases_Bool, cases_eq, false_from_ne_true}
+use Rattle.std.proofs.lemmas.Bool.{cases_Bool, cases_eq, false_from_ne_true, true≢false}
 use Rattle.std.proofs.lemmas.Bool.Decides.{nat_tests}
 use Rattle.std.proofs.lemmas.List.{get_or-set_same}
 use Rattle.std.proofs.lemmas.List.Folds.{find_at, position_or_len-set}
@@ -223,6 +223,17 @@ other_place files m n i found other same =
     empty : Kept
     empty = record { name = []; bytes = []; faults = 0 }
 
+-- names that the test tells apart differ
+pub apart_names : (name other : List ℕ) (rest : Bool) → (bytes_eq name other || rest) ≡ false → other ≢ name
+apart_names name other rest apart same =
+    let is_true : bytes_eq name other ≡ true = (bytes_eq-Decides name other).1 (sym same) in
+    true≢false (subst (λ b. (b || rest) ≡ false) is_true apart)
+
+-- a name that shares no count with one that was found is not found at its place
+pub other_apart : (files : List Kept) (name other : List ℕ) (rest : Bool) (i : ℕ) → place_in files name ≡ Some i
+    → (bytes_eq name other || rest) ≡ false → place_in files other ≢ Some i
+other_apart files name other rest i found apart = other_place files name other i found (apart_names name other rest apart)
+
 -- what the functions that change one file use, and what `open` uses
 pub ruleset counted = (counted_contents, counted_own, counted_rose, counted_others)
 
@@ -230,4 +241,4 @@ pub ruleset replaced = (replaced_contents, replaced_others, replaced_faults, rep
 
 pub ruleset pushed = (pushed_contents, pushed_others, pushed_faults, pushed_left)
 
-pub ruleset opening = (contents_at, known_at, contents_nowhere, faults_nowhere, faults_known, other_place, risen_rose, risen_stays)
+pub ruleset opening = (contents_at, known_at, contents_nowhere, faults_nowhere, faults_known, other_apart, other_place, risen_rose, risen_stays)

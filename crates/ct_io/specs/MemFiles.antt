@@ -1,5 +1,5 @@
 -- Files in memory, as contracts see them.
-use Rattle.std.specs.Prelude.{ℕ, ◌||◌, Bool, List, Option, is_none, is_some, option_and_then, position, find, unwrap_or, bytes_eq, drop, slice_get}
+use Rattle.std.specs.Prelude.{ℕ, ◌||◌, ◌&&◌, Bool, false, List, Option, is_none, is_some, option_and_then, position, find, unwrap_or, bytes_eq, drop, slice_get}
 use Rattle.std.specs.Option.{option_map}
 use Rattle.ct_io.specs.Counts.{is_listed}
 use Rattle.ct_io.specs.Source.{Source}
@@ -63,6 +63,10 @@ is_next_failing s = is_listed s.fails s.calls
 abbrev pub is_open_failing : Shelf → List ℕ → Bool
 is_open_failing s name = is_next_failing s || is_none (contents_of s name)
 
+-- each name that was added has a count of its own, and all unknown names share one
+abbrev pub shares_count : Shelf → List ℕ → List ℕ → Bool
+shares_count s name other = bytes_eq name other || is_none (contents_of s name) && is_none (contents_of s other)
+
 -- files in memory as a source: the contents are told, and so is what is left
 abbrev pub source_of : Shelf → Source
 source_of s = record {
@@ -71,4 +75,6 @@ source_of s = record {
   is_open = is_some s.open_place;
   open_faults = λ name. open_faults_of s name;
   read_faults = s.read_faults;
+  shares = shares_count s;
+  counts_reads = λ name. false;
 }

@@ -1,5 +1,5 @@
 -- What contracts see of the files of the system: nothing of their contents.
-use Rattle.std.specs.Prelude.{ℕ, List, Option, None, is_some, option_and_then}
+use Rattle.std.specs.Prelude.{ℕ, true, List, Option, None, is_some, option_and_then}
 use Rattle.ct_io.specs.Source.{Source}
 
 -- the open file, and how often a call has failed
@@ -15,6 +15,8 @@ untold_source s = record {
   is_open = is_some s.file;
   open_faults = λ name. s.faults;
   read_faults = s.faults;
+  shares = λ name other. true;
+  counts_reads = λ name. true;
 }
 
 -- what the reader under an open file has left, where that reader tells it

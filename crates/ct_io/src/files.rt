@@ -3,7 +3,7 @@
 ghost use Rattle.std.specs.Prelude.{◌≡◌, ◌<◌, ◌≤◌, true, false, None, length, IfOk, OnOk, OnErr};
 ghost use Rattle.ct_io.specs.Counts.{Rose};
 ghost use Rattle.ct_io.specs.Reading.{Took};
-ghost use Rattle.ct_io.specs.Source.{SameFaults, Source, Stays};
+ghost use Rattle.ct_io.specs.Source.{OthersStandAtOpen, OthersStandAtRead, SameFaults, Source, Stays};
 
 /// A call to the outside failed. The cause is not told; a count of the callee has risen.
 #[derive(Clone, Copy, Debug)]
@@ -25,7 +25,9 @@ pub trait Files {
         ensures closed { OnErr result ((source self.new).is_open ≡ false) }
         ensures nothing_left { OnErr result ((source self.new).left ≡ None) }
         ensures failed { OnErr result
-            (Rose ((source self.old).open_faults name.now) ((source self.new).open_faults name.now)) };
+            (Rose ((source self.old).open_faults name.now) ((source self.new).open_faults name.now)) }
+        ensures others { OnErr result
+            (OthersStandAtOpen (source self.old) (source self.new) name.now) };
 
     /// Moves the next bytes of the open file into the front of `buf`, and says how many; fewer
     /// than fit may come, and none only at the file's end. After a failure the file is open and
@@ -41,5 +43,6 @@ pub trait Files {
         ensures same_faults { OnOk result (SameFaults (source self.old) (source self.new)) }
         ensures same_left { OnErr result ((source self.new).left ≡ (source self.old).left) }
         ensures failed { OnErr result
-            (Rose (source self.old).read_faults (source self.new).read_faults) };
+            (Rose (source self.old).read_faults (source self.new).read_faults) }
+        ensures others { OnErr result (OthersStandAtRead (source self.old) (source self.new)) };
 }

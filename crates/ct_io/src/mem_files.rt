@@ -4,7 +4,7 @@ ghost use Rattle.std.specs.Prelude.{◌≡◌, ◌≢◌, ◌+◌, ◌<◌, ◌�
 ghost use Rattle.ct_io.specs.Counts.{Rose, risen};
 ghost use Rattle.ct_io.specs.MemFiles.{contents_of, is_next_failing, is_open_failing, left_in, open_faults_of, place_in, source_of};
 ghost use Rattle.ct_io.specs.Reading.{Took};
-ghost use Rattle.ct_io.specs.Source.{SameFaults, Stays};
+ghost use Rattle.ct_io.specs.Source.{OthersStandAtOpen, OthersStandAtRead, SameFaults, Stays};
 
 use crate::counts::{is_to_fail, one_more};
 use crate::mem_file::{MemFile, count_fault_at, place_of, push_file, replace_at};
@@ -129,6 +129,8 @@ impl Files for MemFiles {
         ensures nothing_left { OnErr result (left_in self.new ≡ None) }
         ensures failed { OnErr result
             (Rose (open_faults_of self.old name.now) (open_faults_of self.new name.now)) }
+        ensures others { OnErr result
+            (OthersStandAtOpen (source_of self.old) (source_of self.new) name.now) }
         ensures exactly { is_err result ≡ is_open_failing self.old name.now }
         ensures ok { OnOk result (self.new ≡ record self.old {
           open_place = place_in self.old.files name.now;
@@ -177,6 +179,7 @@ impl Files for MemFiles {
         ensures same_faults { OnOk result (SameFaults (source_of self.old) (source_of self.new)) }
         ensures same_left { OnErr result (left_in self.new ≡ left_in self.old) }
         ensures failed { OnErr result (Rose self.old.read_faults self.new.read_faults) }
+        ensures others { OnErr result (OthersStandAtRead (source_of self.old) (source_of self.new)) }
         ensures exactly { is_err result ≡ is_next_failing self.old }
         ensures most { IfOk result (λ n. IfSome (left_in self.old) (λ left. n
             ≡ min (length buf.new) (length left))) }

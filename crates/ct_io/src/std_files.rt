@@ -4,7 +4,7 @@ ghost use Rattle.std.specs.Prelude.{◌≡◌, ◌<◌, ◌≤◌, true, None, l
 ghost use Rattle.std.specs.Io.KnownBytes.{ReadConsumes};
 ghost use Rattle.ct_io.specs.Counts.{Rose};
 ghost use Rattle.ct_io.specs.Reading.{Took};
-ghost use Rattle.ct_io.specs.Source.{SameFaults, Stays};
+ghost use Rattle.ct_io.specs.Source.{OthersStandAtRead, SameFaults, Stays};
 ghost use Rattle.ct_io.specs.Untold.{left_under, untold_source};
 
 use crate::counts::one_more;
@@ -81,6 +81,8 @@ impl<'r, R: rt::Files> Files for StdFiles<'r, R> {
         ensures same_left { OnErr result
             ((untold_source self.new).left ≡ (untold_source self.old).left) }
         ensures failed { OnErr result (Rose self.old.faults self.new.faults) }
+        ensures others { OnErr result
+            (OthersStandAtRead (untold_source self.old) (untold_source self.new)) }
 
         // Where the reader under the open file tells what it has left, these are the bytes read.
         ensures passed_on { ReadConsumes (left_under R.File.remaining self.old.file)
