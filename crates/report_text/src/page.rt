@@ -43,6 +43,7 @@ impl<'b> Page<'b> {
     }
 
     /// The bytes that it holds.
+    #[inline]
     pub fn held(&self) -> &[u8]
         ensures { result.now ≡ self.now.text }
     {
@@ -50,6 +51,7 @@ impl<'b> Page<'b> {
     }
 
     /// For how many more bytes there is room.
+    #[inline]
     pub fn room(&self) -> usize
         ensures { result ≡ self.now.room }
     {
@@ -65,6 +67,7 @@ impl<'b> Page<'b> {
     }
 
     /// Writes the bytes of `piece`.
+    #[inline]
     pub fn text(&mut self, piece: &[u8])
         requires { HasRoom (length piece.now) self.old }
         ensures { Adds (length piece.now) piece.now self.old self.new }
@@ -75,6 +78,7 @@ impl<'b> Page<'b> {
     }
 
     /// Writes `word` where `holds` is true, and else nothing.
+    #[inline]
     pub fn text_if(&mut self, holds: bool, word: &[u8])
         requires { HasRoom (length word.now) self.old }
         ensures { Adds (length word.now) (word_if holds word.now) self.old self.new }
@@ -85,6 +89,7 @@ impl<'b> Page<'b> {
     }
 
     /// Writes a number in plain decimal.
+    #[inline]
     pub fn number<I: Integer>(&mut self, number: I)
         requires { HasRoom I.MAX_STR_LEN self.old }
         ensures { Adds I.MAX_STR_LEN (I.text number) self.old self.new }
