@@ -29,12 +29,24 @@ use Rattle.packet_headers.specs.PacketLayout.{error_layout, icmp_layout, tcp_lay
 use Rattle.packet_headers.proofs.SameBytes.{Same, same_part}
 use Rattle.packet_headers.proofs.SamePackets.{ip_same}
 
+-- a tuple by its fields
+abbrev tuple : Proto → (src dst a b : ℕ) → Tuple
+tuple proto src dst a b = record { proto = proto; src = src; dst = dst; a = a; b = b }
+
+-- the number that two bytes of a number give
+abbrev two : ℕ → ℕ
+two n = 256 * (n / 256 % 256) + n % 256
+
+-- and four
+abbrev four : ℕ → ℕ
+four n = 65536 * (256 * (n / 16777216 % 256) + n / 65536 % 256) + (256 * (n / 256 % 256) + n % 256)
+
 -- a number is that of its bytes
-u16_read : (n : ℕ) → n < 2 ^ 16 → 256 * (n / 256 % 256) + n % 256 ≡ n
+u16_read : (n : ℕ) → n < 2 ^ 16 → two n ≡ n
 u16_read n h = omega arith
 
 -- and so with four
-u32_read : (n : ℕ) → n < 2 ^ 32 → 65536 * (256 * (n / 16777216 % 256) + n / 65536 % 256) + (256 * (n / 256 % 256) + n % 256) ≡ n
+u32_read : (n : ℕ) → n < 2 ^ 32 → four n ≡ n
 u32_read n h = omega arith
 
 -- the second of two tests that hold
@@ -59,44 +71,55 @@ in_range t h = record {
 }
 
 -- the type of a valid tuple of ICMP asks or answers
-asks : (src dst a b : ℕ) → is_valid (record { proto = Icmp; src = src; dst = dst; a = a; b = b }) ≡ true → is_query_type (b / 256) ≡ true
-asks src dst a b h = both_hold (is_in_range (record { proto = Icmp; src = src; dst = dst; a = a; b = b })) (is_query_type (b / 256)) h
+asks : (src dst a b : ℕ) → is_valid (tuple Icmp src dst a b) ≡ true → is_query_type (b / 256) ≡ true
+asks src dst a b h = both_hold (is_in_range (tuple Icmp src dst a b)) (is_query_type (b / 256)) h
 
--- a packet of UDP with no link header
-udp_read : (link : Link) (src dst a b : ℕ) → InRange src dst a b
-    → ip_packet link (udp_layout (record { proto = Udp; src = src; dst = dst; a = a; b = b })) 0 28
-    ≡ Flow (record { proto = Udp; src = src; dst = dst; a = a; b = b }) segment.Udp empty_span
-unfolding ip_packet udp_packet
-udp_read link src dst a b range =
+-- the tuple whose ports are those of its bytes
+ports_read : (proto : Proto) (src dst a b : ℕ) → InRange src dst a b
+    → tuple proto (four src) (four dst) (two a) (two b) ≡ tuple proto src dst a b
+ports_read proto src dst a b range =
     let e = u32_read src range.source in
     let f = u32_read dst range.destination in
     let g = u16_read a range.first in
     let h = u16_read b range.second in
-    λ i. Flow (record { proto = Udp; src = e i; dst = f i; a = g i; b = h i }) segment.Udp empty_span
+    λ i. tuple proto (e i) (f i) (g i) (h i)
 
--- a segment of TCP
-tcp_read : (link : Link) (src dst a b flags : ℕ) → InRange src dst a b → is_valid_flag_set flags ≡ true
-    → ip_packet link (tcp_layout (record { proto = Tcp; src = src; dst = dst; a = a; b = b }) flags) 0 40
-    ≡ Flow (record { proto = Tcp; src = src; dst = dst; a = a; b = b }) (segment.Tcp (kind flags)) (span_of 40 40)
-unfolding ip_packet tcp_packet
-tcp_read link src dst a b flags range valid =
-    let e = u32_read src range.source in
-    let f = u32_read dst range.destination in
-    let g = u16_read a range.first in
-    let h = u16_read b range.second in
-    rw valid (λ i. Flow (record { proto = Tcp; src = e i; dst = f i; a = g i; b = h i }) (segment.Tcp (kind flags)) (span_of 40 40))
-
--- a message that asks or answers
-icmp_read : (link : Link) (src dst a b : ℕ) → InRange src dst a b → is_query_type (b / 256) ≡ true
-    → ip_packet link (icmp_layout (record { proto = Icmp; src = src; dst = dst; a = a; b = b })) 0 28
-    ≡ Flow (record { proto = Icmp; src = src; dst = dst; a = a; b = b }) (segment.Icmp (b / 256)) empty_span
-unfolding ip_packet icmp_packet
-icmp_read link src dst a b range valid =
+-- the tuple whose type, code and identifier are those of its bytes
+query_read : (src dst a b : ℕ) → InRange src dst a b
+    → tuple Icmp (four src) (four dst) (two a) (b / 256 * 256 + b % 256) ≡ tuple Icmp src dst a b
+query_read src dst a b range =
     let e = u32_read src range.source in
     let f = u32_read dst range.destination in
     let g = u16_read a range.first in
     let h : b / 256 * 256 + b % 256 ≡ b = omega arith in
-    rw valid (λ i. Flow (record { proto = Icmp; src = e i; dst = f i; a = g i; b = h i }) (segment.Icmp (b / 256)) empty_span)
+    λ i. tuple Icmp (e i) (f i) (g i) (h i)
+
+-- a packet of UDP with no link header
+udp_read : (link : Link) (src dst a b : ℕ) → InRange src dst a b
+    → ip_packet link (udp_layout (tuple Udp src dst a b)) 0 28
+    ≡ Flow (tuple Udp src dst a b) segment.Udp empty_span
+unfolding ip_packet udp_packet
+udp_read link src dst a b range =
+    let e = ports_read Udp src dst a b range in
+    λ i. Flow (e i) segment.Udp empty_span
+
+-- a segment of TCP
+tcp_read : (link : Link) (src dst a b flags : ℕ) → InRange src dst a b → is_valid_flag_set flags ≡ true
+    → ip_packet link (tcp_layout (tuple Tcp src dst a b) flags) 0 40
+    ≡ Flow (tuple Tcp src dst a b) (segment.Tcp (kind flags)) (span_of 40 40)
+unfolding ip_packet tcp_packet
+tcp_read link src dst a b flags range valid =
+    let e = ports_read Tcp src dst a b range in
+    rw valid (λ i. Flow (e i) (segment.Tcp (kind flags)) (span_of 40 40))
+
+-- a message that asks or answers
+icmp_read : (link : Link) (src dst a b : ℕ) → InRange src dst a b → is_query_type (b / 256) ≡ true
+    → ip_packet link (icmp_layout (tuple Icmp src dst a b)) 0 28
+    ≡ Flow (tuple Icmp src dst a b) (segment.Icmp (b / 256)) empty_span
+unfolding ip_packet icmp_packet
+icmp_read link src dst a b range valid =
+    let e = query_read src dst a b range in
+    rw valid (λ i. Flow (e i) (segment.Icmp (b / 256)) empty_span)
 
 -- behind the header of its link stands the packet that a frame carries
 behind_front : (bytes : List ℕ) (frame : Frame) (packet : List ℕ) (carries : Carries bytes frame packet)
@@ -161,16 +184,16 @@ module _ (bytes : List ℕ) (frame : Frame) (packet : List ℕ) (carries : Carri
   unfolding packet_of
   carried = carried_by frame.link carries.header
 
--- a tuple by its fields
-of_fields : (t : Tuple) (proto : Proto) → t.proto ≡ proto → record { proto = proto; src = t.src; dst = t.dst; a = t.a; b = t.b } ≡ t
-of_fields t proto is = λ i. record { proto = sym is i; src = t.src; dst = t.dst; a = t.a; b = t.b }
+-- a tuple is made of its fields
+of_fields : (t : Tuple) (proto : Proto) → t.proto ≡ proto → tuple proto t.src t.dst t.a t.b ≡ t
+of_fields t proto is = λ i. tuple (sym is i) t.src t.dst t.a t.b
 
 -- a frame that carries a packet of UDP
 pub udp_laid_out : UdpLayoutsAreFlows
 udp_laid_out bytes frame t is valid carries =
     subst (λ (u : Tuple). is_valid u ≡ true → (c : Carries bytes frame (udp_layout u)) → packet_of bytes frame ≡ Flow u segment.Udp empty_span)
     (of_fields t Udp is)
-    (λ v c. carried bytes frame (udp_layout (record { proto = Udp; src = t.src; dst = t.dst; a = t.a; b = t.b })) c
+    (λ v c. carried bytes frame (udp_layout (tuple Udp t.src t.dst t.a t.b)) c
     ∙ ap (λ (p : Packet). moved (frame.start + length c.front) p) (udp_read frame.link t.src t.dst t.a t.b (in_range t valid)))
     valid carries
 
@@ -182,9 +205,9 @@ tcp_laid_out bytes frame t flags is valid set carries =
     (of_fields t Tcp is)
     (λ v c.
     let end : 40 + (frame.start + length c.front) ≡ frame.start + frame.captured = omega (arith, c.whole) in
-    carried bytes frame (tcp_layout (record { proto = Tcp; src = t.src; dst = t.dst; a = t.a; b = t.b }) flags) c
+    carried bytes frame (tcp_layout (tuple Tcp t.src t.dst t.a t.b) flags) c
     ∙ ap (λ (p : Packet). moved (frame.start + length c.front) p) (tcp_read frame.link t.src t.dst t.a t.b flags (in_range t valid) set)
-    ∙ (λ i. Flow (record { proto = Tcp; src = t.src; dst = t.dst; a = t.a; b = t.b }) (segment.Tcp (kind flags)) (span_of (end i) (end i))))
+    ∙ (λ i. Flow (tuple Tcp t.src t.dst t.a t.b) (segment.Tcp (kind flags)) (span_of (end i) (end i))))
     valid carries
 
 -- a frame that carries a message that asks or answers
@@ -192,7 +215,7 @@ pub icmp_laid_out : IcmpLayoutsAreFlows
 icmp_laid_out bytes frame t is valid carries =
     subst (λ (u : Tuple). is_valid u ≡ true → (c : Carries bytes frame (icmp_layout u)) → packet_of bytes frame ≡ Flow u (segment.Icmp (u.b / 256)) empty_span)
     (of_fields t Icmp is)
-    (λ v c. carried bytes frame (icmp_layout (record { proto = Icmp; src = t.src; dst = t.dst; a = t.a; b = t.b })) c
+    (λ v c. carried bytes frame (icmp_layout (tuple Icmp t.src t.dst t.a t.b)) c
     ∙ ap (λ (p : Packet). moved (frame.start + length c.front) p)
     (icmp_read frame.link t.src t.dst t.a t.b (in_range t valid) (asks t.src t.dst t.a t.b v)))
     valid carries
@@ -204,63 +227,54 @@ no_query type h = grind (arith, nat_tests)
 -- an error about a packet of UDP
 of_udp : (link : Link) (source destination type code src dst a b : ℕ)
     → destination < 2 ^ 32 → is_error_type type ≡ true → InRange src dst a b
-    → ip_packet link (error_layout source destination type code (record { proto = Udp; src = src; dst = dst; a = a; b = b })) 0 56
-    ≡ Error (record { proto = Udp; src = src; dst = dst; a = a; b = b }) destination
+    → ip_packet link (error_layout source destination type code (tuple Udp src dst a b)) 0 56
+    ≡ Error (tuple Udp src dst a b) destination
 unfolding ip_packet icmp_packet inner_tuple
 of_udp link source destination type code src dst a b below wrong range =
     let d = u32_read destination below in
-    let e = u32_read src range.source in
-    let f = u32_read dst range.destination in
-    let g = u16_read a range.first in
-    let h = u16_read b range.second in
-    rw (no_query type wrong, wrong) (λ i. Error (record { proto = Udp; src = e i; dst = f i; a = g i; b = h i }) (d i))
+    let e = ports_read Udp src dst a b range in
+    rw (no_query type wrong, wrong) (λ i. Error (e i) (d i))
 
 -- an error about a segment of TCP
 of_tcp : (link : Link) (source destination type code src dst a b : ℕ)
     → destination < 2 ^ 32 → is_error_type type ≡ true → InRange src dst a b
-    → ip_packet link (error_layout source destination type code (record { proto = Tcp; src = src; dst = dst; a = a; b = b })) 0 56
-    ≡ Error (record { proto = Tcp; src = src; dst = dst; a = a; b = b }) destination
+    → ip_packet link (error_layout source destination type code (tuple Tcp src dst a b)) 0 56
+    ≡ Error (tuple Tcp src dst a b) destination
 unfolding ip_packet icmp_packet inner_tuple
 of_tcp link source destination type code src dst a b below wrong range =
     let d = u32_read destination below in
-    let e = u32_read src range.source in
-    let f = u32_read dst range.destination in
-    let g = u16_read a range.first in
-    let h = u16_read b range.second in
-    rw (no_query type wrong, wrong) (λ i. Error (record { proto = Tcp; src = e i; dst = f i; a = g i; b = h i }) (d i))
+    let e = ports_read Tcp src dst a b range in
+    rw (no_query type wrong, wrong) (λ i. Error (e i) (d i))
 
 -- an error about a message that asks or answers
 of_icmp : (link : Link) (source destination type code src dst a b : ℕ)
     → destination < 2 ^ 32 → is_error_type type ≡ true → InRange src dst a b → is_query_type (b / 256) ≡ true
-    → ip_packet link (error_layout source destination type code (record { proto = Icmp; src = src; dst = dst; a = a; b = b })) 0 56
-    ≡ Error (record { proto = Icmp; src = src; dst = dst; a = a; b = b }) destination
+    → ip_packet link (error_layout source destination type code (tuple Icmp src dst a b)) 0 56
+    ≡ Error (tuple Icmp src dst a b) destination
 unfolding ip_packet icmp_packet inner_tuple
 of_icmp link source destination type code src dst a b below wrong range asked =
     let d = u32_read destination below in
-    let e = u32_read src range.source in
-    let f = u32_read dst range.destination in
-    let g = u16_read a range.first in
-    let h : b / 256 * 256 + b % 256 ≡ b = omega arith in
-    rw (no_query type wrong, wrong, asked) (λ i. Error (record { proto = Icmp; src = e i; dst = f i; a = g i; b = h i }) (d i))
+    let e = query_read src dst a b range in
+    rw (no_query type wrong, wrong, asked) (λ i. Error (e i) (d i))
 
 -- an error about a packet of any protocol
 error_read : (link : Link) (source destination type code src dst a b : ℕ) (proto : Proto)
-    → destination < 2 ^ 32 → is_error_type type ≡ true → is_valid (record { proto = proto; src = src; dst = dst; a = a; b = b }) ≡ true
-    → ip_packet link (error_layout source destination type code (record { proto = proto; src = src; dst = dst; a = a; b = b })) 0 56
-    ≡ Error (record { proto = proto; src = src; dst = dst; a = a; b = b }) destination
+    → destination < 2 ^ 32 → is_error_type type ≡ true → is_valid (tuple proto src dst a b) ≡ true
+    → ip_packet link (error_layout source destination type code (tuple proto src dst a b)) 0 56
+    ≡ Error (tuple proto src dst a b) destination
 error_read link source destination type code src dst a b Icmp below wrong valid =
     of_icmp link source destination type code src dst a b below wrong
-    (in_range (record { proto = Icmp; src = src; dst = dst; a = a; b = b }) valid) (asks src dst a b valid)
+    (in_range (tuple Icmp src dst a b) valid) (asks src dst a b valid)
 error_read link source destination type code src dst a b Tcp below wrong valid =
     of_tcp link source destination type code src dst a b below wrong
-    (in_range (record { proto = Tcp; src = src; dst = dst; a = a; b = b }) valid)
+    (in_range (tuple Tcp src dst a b) valid)
 error_read link source destination type code src dst a b Udp below wrong valid =
     of_udp link source destination type code src dst a b below wrong
-    (in_range (record { proto = Udp; src = src; dst = dst; a = a; b = b }) valid)
+    (in_range (tuple Udp src dst a b) valid)
 
 -- an error has 56 bytes, whatever it repeats
 error_length : (source destination type code src dst a b : ℕ) (proto : Proto)
-    → length (error_layout source destination type code (record { proto = proto; src = src; dst = dst; a = a; b = b })) ≡ 56
+    → length (error_layout source destination type code (tuple proto src dst a b)) ≡ 56
 error_length source destination type code src dst a b Icmp = refl
 error_length source destination type code src dst a b Tcp = refl
 error_length source destination type code src dst a b Udp = refl
