@@ -1,8 +1,9 @@
 -- Packets that are laid out from a tuple, read by their headers.
-use Rattle.std.proofs.Common.{◌≡◌, ℕ, ◌+◌, ◌-◌, ◌*◌, ◌/◌, ◌%◌, ◌^◌, ◌<◌, ◌≤◌, Bool, true, false, cond, not, ◌&&◌, List, [], ◌∷◌, ◌++◌, length, refl, sym, ap, ◌∙◌, subst, arith, append_assoc, length-append}
+use Rattle.std.proofs.Common.{◌≡◌, ℕ, ◌+◌, ◌-◌, ◌*◌, ◌/◌, ◌%◌, ◌^◌, ◌<◌, ◌≤◌, Bool, true, false, min, cond, not, ◌&&◌, List, [], ◌∷◌, ◌++◌, length, refl, sym, ap, ◌∙◌, subst, arith, append_assoc, length-append}
 use Rattle.std.proofs.lemmas.Bool.Decides.{nat_tests}
 use Rattle.std.proofs.lemmas.List.{get_or-append-add}
-use Rattle.std.specs.Prelude.{◌==◌, nat_lt, slice_index}
+use Rattle.std.proofs.Math.ListN.{get_or-append}
+use Rattle.std.specs.Prelude.{◌==◌, nat_le, nat_lt, slice_index}
 use Rattle.tuple_core.specs.declared.Proto.{Proto}
 use Rattle.tuple_core.specs.declared.Proto.TheVariants.{Icmp, Tcp, Udp}
 use Rattle.tuple_core.specs.declared.Segment.TheVariants as segment
@@ -15,7 +16,8 @@ use Rattle.packet_headers.specs.declared.packet.Packet.{Packet}
 use Rattle.packet_headers.specs.declared.packet.Packet.TheVariants.{Error, Flow, Invalid, Untracked}
 use Rattle.packet_headers.specs.declared.packet.Untracked.TheVariants as untracked
 use Rattle.packet_headers.specs.ByteOrder.{big_u16_at}
-use Rattle.packet_headers.specs.Classify.{ethernet_frame, ip_packet, packet_behind, packet_of}
+use Rattle.packet_headers.specs.Classify.{ethernet_frame, ip_packet, packet_behind, packet_of, packet_of_protocol, packet_of_version}
+use Rattle.packet_headers.specs.Ipv4Header.{addresses_of, header_length, is_fragment, protocol, total_length, tracked_protocol, version}
 use Rattle.packet_headers.specs.ClassifyLaws.{captured_bytes, moved}
 use Rattle.packet_headers.specs.LayoutLaws.{Carries, IsLinkHeader, ErrorLayoutsAreErrors, IcmpLayoutsAreFlows, TcpLayoutsAreFlows, UdpLayoutsAreFlows}
 use Rattle.packet_headers.specs.Span.{empty_span, span_of}
@@ -26,7 +28,7 @@ use Rattle.packet_headers.specs.IcmpPacket.{icmp_packet}
 use Rattle.packet_headers.specs.IcmpHeader.{is_error_type}
 use Rattle.packet_headers.specs.IcmpError.{inner_tuple}
 use Rattle.packet_headers.specs.PacketLayout.{error_layout, icmp_layout, tcp_layout, udp_layout}
-use Rattle.packet_headers.proofs.SameBytes.{Same, same_part}
+use Rattle.packet_headers.proofs.SameBytes.{Same, same_part, u16_same}
 use Rattle.packet_headers.proofs.SamePackets.{ip_same}
 
 -- a tuple by its fields
@@ -130,7 +132,8 @@ behind_front bytes frame packet carries = record {
       let whole = subst (λ (xs : List ℕ). Same bytes xs frame.start 0 frame.captured) carries.content (same_part bytes frame.start frame.captured) in
       let found = whole.each i (length carries.front + k) (length carries.front + k) (omega (arith, from)) (omega arith)
       (omega (arith, below, carries.whole)) in
-      found ∙ get_or-append-add carries.front packet k 0 ∙ (λ n. slice_index packet (sym there n));
+      found ∙ get_or-append-add carries.front (packet ++ carries.padding) k 0 ∙ get_or-append packet carries.padding 0 k below
+      ∙ (λ n. slice_index packet (sym there n));
 }
 
 -- the type of an Ethernet frame that carries a packet
@@ -154,13 +157,45 @@ ethernet_read bytes at captured fits typed =
     let room : nat_lt captured 14 ≡ false = grind (arith, nat_tests) in
     λ i. cond (room i) Invalid (cond (not (typed i == 0x0800)) (Untracked untracked.Link) (ip_packet Ethernet bytes (at + 14) (captured - 14)))
 
-module _ (bytes : List ℕ) (frame : Frame) (packet : List ℕ) (carries : Carries bytes frame packet) where
+-- bytes behind an IPv4 packet are not looked at
+trimmed : (link : Link) (bytes : List ℕ) (at captured count : ℕ) → total_length bytes at ≡ count → 20 ≤ count → count ≤ captured
+    → ip_packet link bytes at captured ≡ ip_packet link bytes at count
+unfolding ip_packet
+trimmed link bytes at captured count total few more =
+    let z : (captured == 0) ≡ false = grind (arith, nat_tests) in
+    let y : (count == 0) ≡ false = grind (arith, nat_tests) in
+    let t : nat_le 20 captured ≡ true = grind (arith, nat_tests) in
+    let u : nat_le 20 count ≡ true = grind (arith, nat_tests) in
+    let m : min (total_length bytes at - header_length bytes at) (captured - header_length bytes at)
+    ≡ min (total_length bytes at - header_length bytes at) (count - header_length bytes at) = omega (arith, total) in
+    let zero = z ∙ sym y in
+    let room = t ∙ sym u in
+    λ i. cond (zero i) Invalid
+    (cond (not (version bytes at == 4)) (packet_of_version link (version bytes at))
+    (cond (not (room i && nat_le 20 (header_length bytes at) && nat_le (header_length bytes at) (total_length bytes at))) Invalid
+    (cond (is_fragment bytes at) (Untracked untracked.Fragment)
+    (packet_of_protocol (tracked_protocol (protocol bytes at)) bytes (record {
+      addresses = addresses_of bytes at;
+      start = at + header_length bytes at;
+      length = total_length bytes at - header_length bytes at;
+      captured = m i;
+    })))))
+
+module _ (bytes : List ℕ) (frame : Frame) (packet : List ℕ) (few : 20 ≤ length packet) (total : total_length packet 0 ≡ length packet)
+    (carries : Carries bytes frame packet) where
   abbrev place : ℕ
   place = frame.start + length carries.front
 
+  abbrev rest : ℕ
+  rest = length packet + length carries.padding
+
   -- the packet stands behind the front as it does alone
-  there : (link : Link) → ip_packet link bytes place (length packet) ≡ moved place (ip_packet link packet 0 (length packet))
-  there link = ip_same bytes packet place 0 (length packet) place (behind_front bytes frame packet carries) (omega arith) link
+  there : (link : Link) → ip_packet link bytes place rest ≡ moved place (ip_packet link packet 0 (length packet))
+  there link =
+      let same = behind_front bytes frame packet carries in
+      trimmed link bytes place rest (length packet)
+      (u16_same bytes packet place 0 (length packet) same 2 (omega (arith, few)) ∙ total) few (omega arith)
+      ∙ ip_same bytes packet place 0 (length packet) place same (omega arith) link
 
   -- for each link
   carried_by : (link : Link) → IsLinkHeader link carries.front
@@ -168,15 +203,15 @@ module _ (bytes : List ℕ) (frame : Frame) (packet : List ℕ) (carries : Carri
   carried_by Raw none =
       let short : length carries.front ≡ 0 = ap length none in
       let p : frame.start ≡ place = omega (arith, short) in
-      let q : frame.captured ≡ length packet = omega (arith, short, carries.whole) in
+      let q : frame.captured ≡ rest = omega (arith, short, carries.whole) in
       (λ i. ip_packet Raw bytes (p i) (q i)) ∙ there Raw
   carried_by Ethernet (addresses, twelve, typed) =
       let long : length carries.front ≡ 14 = ap length typed ∙ length-append addresses (0x08 ∷ 0x00 ∷ []) ∙ omega (arith, twelve) in
-      let content = carries.content ∙ (λ i. typed i ++ packet) ∙ append_assoc addresses (0x08 ∷ 0x00 ∷ []) packet in
+      let content = carries.content ∙ (λ i. typed i ++ (packet ++ carries.padding)) ∙ append_assoc addresses (0x08 ∷ 0x00 ∷ []) (packet ++ carries.padding) in
       let fits : 14 ≤ frame.captured = omega (arith, long, carries.whole) in
       let p : frame.start + 14 ≡ place = omega (arith, long) in
-      let q : frame.captured - 14 ≡ length packet = omega (arith, long, carries.whole) in
-      ethernet_read bytes frame.start frame.captured fits (type_read bytes frame packet addresses twelve content fits)
+      let q : frame.captured - 14 ≡ rest = omega (arith, long, carries.whole) in
+      ethernet_read bytes frame.start frame.captured fits (type_read bytes frame (packet ++ carries.padding) addresses twelve content fits)
       ∙ (λ i. ip_packet Ethernet bytes (p i) (q i)) ∙ there Ethernet
 
   -- a frame is classified as the packet that it carries
@@ -193,7 +228,7 @@ pub udp_laid_out : UdpLayoutsAreFlows
 udp_laid_out bytes frame t is valid carries =
     subst (λ (u : Tuple). is_valid u ≡ true → (c : Carries bytes frame (udp_layout u)) → packet_of bytes frame ≡ Flow u segment.Udp empty_span)
     (of_fields t Udp is)
-    (λ v c. carried bytes frame (udp_layout (tuple Udp t.src t.dst t.a t.b)) c
+    (λ v c. carried bytes frame (udp_layout (tuple Udp t.src t.dst t.a t.b)) (omega arith) refl c
     ∙ ap (λ (p : Packet). moved (frame.start + length c.front) p) (udp_read frame.link t.src t.dst t.a t.b (in_range t valid)))
     valid carries
 
@@ -201,11 +236,11 @@ udp_laid_out bytes frame t is valid carries =
 pub tcp_laid_out : TcpLayoutsAreFlows
 tcp_laid_out bytes frame t flags is valid set carries =
     subst (λ (u : Tuple). is_valid u ≡ true → (c : Carries bytes frame (tcp_layout u flags)) → packet_of bytes frame
-    ≡ Flow u (segment.Tcp (kind flags)) (span_of (frame.start + frame.captured) (frame.start + frame.captured)))
+    ≡ Flow u (segment.Tcp (kind flags)) (span_of (frame.start + length c.front + 40) (frame.start + length c.front + 40)))
     (of_fields t Tcp is)
     (λ v c.
-    let end : 40 + (frame.start + length c.front) ≡ frame.start + frame.captured = omega (arith, c.whole) in
-    carried bytes frame (tcp_layout (tuple Tcp t.src t.dst t.a t.b) flags) c
+    let end : 40 + (frame.start + length c.front) ≡ frame.start + length c.front + 40 = omega arith in
+    carried bytes frame (tcp_layout (tuple Tcp t.src t.dst t.a t.b) flags) (omega arith) refl c
     ∙ ap (λ (p : Packet). moved (frame.start + length c.front) p) (tcp_read frame.link t.src t.dst t.a t.b flags (in_range t valid) set)
     ∙ (λ i. Flow (tuple Tcp t.src t.dst t.a t.b) (segment.Tcp (kind flags)) (span_of (end i) (end i))))
     valid carries
@@ -215,7 +250,7 @@ pub icmp_laid_out : IcmpLayoutsAreFlows
 icmp_laid_out bytes frame t is valid carries =
     subst (λ (u : Tuple). is_valid u ≡ true → (c : Carries bytes frame (icmp_layout u)) → packet_of bytes frame ≡ Flow u (segment.Icmp (u.b / 256)) empty_span)
     (of_fields t Icmp is)
-    (λ v c. carried bytes frame (icmp_layout (tuple Icmp t.src t.dst t.a t.b)) c
+    (λ v c. carried bytes frame (icmp_layout (tuple Icmp t.src t.dst t.a t.b)) (omega arith) refl c
     ∙ ap (λ (p : Packet). moved (frame.start + length c.front) p)
     (icmp_read frame.link t.src t.dst t.a t.b (in_range t valid) (asks t.src t.dst t.a t.b v)))
     valid carries
@@ -283,7 +318,7 @@ error_length source destination type code src dst a b Udp = refl
 pub error_laid_out : ErrorLayoutsAreErrors
 error_laid_out bytes frame source destination type code t below wrong valid carries =
     let long = error_length source destination type code t.src t.dst t.a t.b t.proto in
-    carried bytes frame (error_layout source destination type code t) carries
+    carried bytes frame (error_layout source destination type code t) (omega (arith, long)) (sym long) carries
     ∙ (λ i. moved (frame.start + length carries.front) (ip_packet frame.link (error_layout source destination type code t) 0 (long i)))
     ∙ ap (λ (p : Packet). moved (frame.start + length carries.front) p)
     (error_read frame.link source destination type code t.src t.dst t.a t.b t.proto below wrong valid)
