@@ -1,8 +1,9 @@
 -- Packets that are laid out from a tuple, read by their headers.
-use Rattle.std.proofs.Common.{◌≡◌, ℕ, ◌+◌, ◌-◌, ◌*◌, ◌/◌, ◌%◌, ◌^◌, ◌<◌, ◌≤◌, Bool, true, false, cond, not, ◌&&◌, List, [], ◌∷◌, ◌++◌, length, refl, sym, ap, ◌∙◌, subst, arith, append_assoc, length-append}
+use Rattle.std.proofs.Common.{◌≡◌, ℕ, ◌+◌, ◌-◌, ◌*◌, ◌/◌, ◌%◌, ◌^◌, ◌<◌, ◌≤◌, Bool, true, false, min, cond, not, ◌&&◌, List, [], ◌∷◌, ◌++◌, length, refl, sym, ap, ◌∙◌, subst, arith, append_assoc, length-append}
 use Rattle.std.proofs.lemmas.Bool.Decides.{nat_tests}
 use Rattle.std.proofs.lemmas.List.{get_or-append-add}
-use Rattle.std.specs.Prelude.{◌==◌, nat_lt, slice_index}
+use Rattle.std.proofs.Math.ListN.{get_or-append}
+use Rattle.std.specs.Prelude.{◌==◌, nat_le, nat_lt, slice_index}
 use Rattle.tuple_core.specs.declared.Proto.{Proto}
 use Rattle.tuple_core.specs.declared.Proto.TheVariants.{Icmp, Tcp, Udp}
 use Rattle.tuple_core.specs.declared.Segment.TheVariants as segment
@@ -15,7 +16,8 @@ use Rattle.packet_headers.specs.declared.packet.Packet.{Packet}
 use Rattle.packet_headers.specs.declared.packet.Packet.TheVariants.{Error, Flow, Invalid, Untracked}
 use Rattle.packet_headers.specs.declared.packet.Untracked.TheVariants as untracked
 use Rattle.packet_headers.specs.ByteOrder.{big_u16_at}
-use Rattle.packet_headers.specs.Classify.{ethernet_frame, ip_packet, packet_behind, packet_of}
+use Rattle.packet_headers.specs.Classify.{ethernet_frame, ip_packet, packet_behind, packet_of, packet_of_protocol, packet_of_version}
+use Rattle.packet_headers.specs.Ipv4Header.{addresses_of, header_length, is_fragment, protocol, total_length, tracked_protocol, version}
 use Rattle.packet_headers.specs.ClassifyLaws.{captured_bytes, moved}
 use Rattle.packet_headers.specs.LayoutLaws.{Carries, IsLinkHeader, ErrorLayoutsAreErrors, IcmpLayoutsAreFlows, TcpLayoutsAreFlows, UdpLayoutsAreFlows}
 use Rattle.packet_headers.specs.Span.{empty_span, span_of}
@@ -26,15 +28,27 @@ use Rattle.packet_headers.specs.IcmpPacket.{icmp_packet}
 use Rattle.packet_headers.specs.IcmpHeader.{is_error_type}
 use Rattle.packet_headers.specs.IcmpError.{inner_tuple}
 use Rattle.packet_headers.specs.PacketLayout.{error_layout, icmp_layout, tcp_layout, udp_layout}
-use Rattle.packet_headers.proofs.SameBytes.{Same, same_part}
+use Rattle.packet_headers.proofs.SameBytes.{Same, same_part, u16_same}
 use Rattle.packet_headers.proofs.SamePackets.{ip_same}
 
+-- a tuple by its fields
+abbrev tuple : Proto → (src dst a b : ℕ) → Tuple
+tuple proto src dst a b = record { proto = proto; src = src; dst = dst; a = a; b = b }
+
+-- the number that two bytes of a number give
+abbrev two : ℕ → ℕ
+two n = 256 * (n / 256 % 256) + n % 256
+
+-- and four
+abbrev four : ℕ → ℕ
+four n = 65536 * (256 * (n / 16777216 % 256) + n / 65536 % 256) + (256 * (n / 256 % 256) + n % 256)
+
 -- a number is that of its bytes
-u16_read : (n : ℕ) → n < 2 ^ 16 → 256 * (n / 256 % 256) + n % 256 ≡ n
+u16_read : (n : ℕ) → n < 2 ^ 16 → two n ≡ n
 u16_read n h = omega arith
 
 -- and so with four
-u32_read : (n : ℕ) → n < 2 ^ 32 → 65536 * (256 * (n / 16777216 % 256) + n / 65536 % 256) + (256 * (n / 256 % 256) + n % 256) ≡ n
+u32_read : (n : ℕ) → n < 2 ^ 32 → four n ≡ n
 u32_read n h = omega arith
 
 -- the second of two tests that hold
@@ -59,44 +73,55 @@ in_range t h = record {
 }
 
 -- the type of a valid tuple of ICMP asks or answers
-asks : (src dst a b : ℕ) → is_valid (record { proto = Icmp; src = src; dst = dst; a = a; b = b }) ≡ true → is_query_type (b / 256) ≡ true
-asks src dst a b h = both_hold (is_in_range (record { proto = Icmp; src = src; dst = dst; a = a; b = b })) (is_query_type (b / 256)) h
+asks : (src dst a b : ℕ) → is_valid (tuple Icmp src dst a b) ≡ true → is_query_type (b / 256) ≡ true
+asks src dst a b h = both_hold (is_in_range (tuple Icmp src dst a b)) (is_query_type (b / 256)) h
 
--- a packet of UDP with no link header
-udp_read : (link : Link) (src dst a b : ℕ) → InRange src dst a b
-    → ip_packet link (udp_layout (record { proto = Udp; src = src; dst = dst; a = a; b = b })) 0 28
-    ≡ Flow (record { proto = Udp; src = src; dst = dst; a = a; b = b }) segment.Udp empty_span
-unfolding ip_packet udp_packet
-udp_read link src dst a b range =
+-- the tuple whose ports are those of its bytes
+ports_read : (proto : Proto) (src dst a b : ℕ) → InRange src dst a b
+    → tuple proto (four src) (four dst) (two a) (two b) ≡ tuple proto src dst a b
+ports_read proto src dst a b range =
     let e = u32_read src range.source in
     let f = u32_read dst range.destination in
     let g = u16_read a range.first in
     let h = u16_read b range.second in
-    λ i. Flow (record { proto = Udp; src = e i; dst = f i; a = g i; b = h i }) segment.Udp empty_span
+    λ i. tuple proto (e i) (f i) (g i) (h i)
 
--- a segment of TCP
-tcp_read : (link : Link) (src dst a b flags : ℕ) → InRange src dst a b → is_valid_flag_set flags ≡ true
-    → ip_packet link (tcp_layout (record { proto = Tcp; src = src; dst = dst; a = a; b = b }) flags) 0 40
-    ≡ Flow (record { proto = Tcp; src = src; dst = dst; a = a; b = b }) (segment.Tcp (kind flags)) (span_of 40 40)
-unfolding ip_packet tcp_packet
-tcp_read link src dst a b flags range valid =
-    let e = u32_read src range.source in
-    let f = u32_read dst range.destination in
-    let g = u16_read a range.first in
-    let h = u16_read b range.second in
-    rw valid (λ i. Flow (record { proto = Tcp; src = e i; dst = f i; a = g i; b = h i }) (segment.Tcp (kind flags)) (span_of 40 40))
-
--- a message that asks or answers
-icmp_read : (link : Link) (src dst a b : ℕ) → InRange src dst a b → is_query_type (b / 256) ≡ true
-    → ip_packet link (icmp_layout (record { proto = Icmp; src = src; dst = dst; a = a; b = b })) 0 28
-    ≡ Flow (record { proto = Icmp; src = src; dst = dst; a = a; b = b }) (segment.Icmp (b / 256)) empty_span
-unfolding ip_packet icmp_packet
-icmp_read link src dst a b range valid =
+-- the tuple whose type, code and identifier are those of its bytes
+query_read : (src dst a b : ℕ) → InRange src dst a b
+    → tuple Icmp (four src) (four dst) (two a) (b / 256 * 256 + b % 256) ≡ tuple Icmp src dst a b
+query_read src dst a b range =
     let e = u32_read src range.source in
     let f = u32_read dst range.destination in
     let g = u16_read a range.first in
     let h : b / 256 * 256 + b % 256 ≡ b = omega arith in
-    rw valid (λ i. Flow (record { proto = Icmp; src = e i; dst = f i; a = g i; b = h i }) (segment.Icmp (b / 256)) empty_span)
+    λ i. tuple Icmp (e i) (f i) (g i) (h i)
+
+-- a packet of UDP with no link header
+udp_read : (link : Link) (src dst a b : ℕ) → InRange src dst a b
+    → ip_packet link (udp_layout (tuple Udp src dst a b)) 0 28
+    ≡ Flow (tuple Udp src dst a b) segment.Udp empty_span
+unfolding ip_packet udp_packet
+udp_read link src dst a b range =
+    let e = ports_read Udp src dst a b range in
+    λ i. Flow (e i) segment.Udp empty_span
+
+-- a segment of TCP
+tcp_read : (link : Link) (src dst a b flags : ℕ) → InRange src dst a b → is_valid_flag_set flags ≡ true
+    → ip_packet link (tcp_layout (tuple Tcp src dst a b) flags) 0 40
+    ≡ Flow (tuple Tcp src dst a b) (segment.Tcp (kind flags)) (span_of 40 40)
+unfolding ip_packet tcp_packet
+tcp_read link src dst a b flags range valid =
+    let e = ports_read Tcp src dst a b range in
+    rw valid (λ i. Flow (e i) (segment.Tcp (kind flags)) (span_of 40 40))
+
+-- a message that asks or answers
+icmp_read : (link : Link) (src dst a b : ℕ) → InRange src dst a b → is_query_type (b / 256) ≡ true
+    → ip_packet link (icmp_layout (tuple Icmp src dst a b)) 0 28
+    ≡ Flow (tuple Icmp src dst a b) (segment.Icmp (b / 256)) empty_span
+unfolding ip_packet icmp_packet
+icmp_read link src dst a b range valid =
+    let e = query_read src dst a b range in
+    rw valid (λ i. Flow (e i) (segment.Icmp (b / 256)) empty_span)
 
 -- behind the header of its link stands the packet that a frame carries
 behind_front : (bytes : List ℕ) (frame : Frame) (packet : List ℕ) (carries : Carries bytes frame packet)
@@ -107,7 +132,8 @@ behind_front bytes frame packet carries = record {
       let whole = subst (λ (xs : List ℕ). Same bytes xs frame.start 0 frame.captured) carries.content (same_part bytes frame.start frame.captured) in
       let found = whole.each i (length carries.front + k) (length carries.front + k) (omega (arith, from)) (omega arith)
       (omega (arith, below, carries.whole)) in
-      found ∙ get_or-append-add carries.front packet k 0 ∙ (λ n. slice_index packet (sym there n));
+      found ∙ get_or-append-add carries.front (packet ++ carries.padding) k 0 ∙ get_or-append packet carries.padding 0 k below
+      ∙ (λ n. slice_index packet (sym there n));
 }
 
 -- the type of an Ethernet frame that carries a packet
@@ -131,13 +157,45 @@ ethernet_read bytes at captured fits typed =
     let room : nat_lt captured 14 ≡ false = grind (arith, nat_tests) in
     λ i. cond (room i) Invalid (cond (not (typed i == 0x0800)) (Untracked untracked.Link) (ip_packet Ethernet bytes (at + 14) (captured - 14)))
 
-module _ (bytes : List ℕ) (frame : Frame) (packet : List ℕ) (carries : Carries bytes frame packet) where
+-- bytes behind an IPv4 packet are not looked at
+trimmed : (link : Link) (bytes : List ℕ) (at captured count : ℕ) → total_length bytes at ≡ count → 20 ≤ count → count ≤ captured
+    → ip_packet link bytes at captured ≡ ip_packet link bytes at count
+unfolding ip_packet
+trimmed link bytes at captured count total few more =
+    let z : (captured == 0) ≡ false = grind (arith, nat_tests) in
+    let y : (count == 0) ≡ false = grind (arith, nat_tests) in
+    let t : nat_le 20 captured ≡ true = grind (arith, nat_tests) in
+    let u : nat_le 20 count ≡ true = grind (arith, nat_tests) in
+    let m : min (total_length bytes at - header_length bytes at) (captured - header_length bytes at)
+    ≡ min (total_length bytes at - header_length bytes at) (count - header_length bytes at) = omega (arith, total) in
+    let zero = z ∙ sym y in
+    let room = t ∙ sym u in
+    λ i. cond (zero i) Invalid
+    (cond (not (version bytes at == 4)) (packet_of_version link (version bytes at))
+    (cond (not (room i && nat_le 20 (header_length bytes at) && nat_le (header_length bytes at) (total_length bytes at))) Invalid
+    (cond (is_fragment bytes at) (Untracked untracked.Fragment)
+    (packet_of_protocol (tracked_protocol (protocol bytes at)) bytes (record {
+      addresses = addresses_of bytes at;
+      start = at + header_length bytes at;
+      length = total_length bytes at - header_length bytes at;
+      captured = m i;
+    })))))
+
+module _ (bytes : List ℕ) (frame : Frame) (packet : List ℕ) (few : 20 ≤ length packet) (total : total_length packet 0 ≡ length packet)
+    (carries : Carries bytes frame packet) where
   abbrev place : ℕ
   place = frame.start + length carries.front
 
+  abbrev rest : ℕ
+  rest = length packet + length carries.padding
+
   -- the packet stands behind the front as it does alone
-  there : (link : Link) → ip_packet link bytes place (length packet) ≡ moved place (ip_packet link packet 0 (length packet))
-  there link = ip_same bytes packet place 0 (length packet) place (behind_front bytes frame packet carries) (omega arith) link
+  there : (link : Link) → ip_packet link bytes place rest ≡ moved place (ip_packet link packet 0 (length packet))
+  there link =
+      let same = behind_front bytes frame packet carries in
+      trimmed link bytes place rest (length packet)
+      (u16_same bytes packet place 0 (length packet) same 2 (omega (arith, few)) ∙ total) few (omega arith)
+      ∙ ip_same bytes packet place 0 (length packet) place same (omega arith) link
 
   -- for each link
   carried_by : (link : Link) → IsLinkHeader link carries.front
@@ -145,15 +203,15 @@ module _ (bytes : List ℕ) (frame : Frame) (packet : List ℕ) (carries : Carri
   carried_by Raw none =
       let short : length carries.front ≡ 0 = ap length none in
       let p : frame.start ≡ place = omega (arith, short) in
-      let q : frame.captured ≡ length packet = omega (arith, short, carries.whole) in
+      let q : frame.captured ≡ rest = omega (arith, short, carries.whole) in
       (λ i. ip_packet Raw bytes (p i) (q i)) ∙ there Raw
   carried_by Ethernet (addresses, twelve, typed) =
       let long : length carries.front ≡ 14 = ap length typed ∙ length-append addresses (0x08 ∷ 0x00 ∷ []) ∙ omega (arith, twelve) in
-      let content = carries.content ∙ (λ i. typed i ++ packet) ∙ append_assoc addresses (0x08 ∷ 0x00 ∷ []) packet in
+      let content = carries.content ∙ (λ i. typed i ++ (packet ++ carries.padding)) ∙ append_assoc addresses (0x08 ∷ 0x00 ∷ []) (packet ++ carries.padding) in
       let fits : 14 ≤ frame.captured = omega (arith, long, carries.whole) in
       let p : frame.start + 14 ≡ place = omega (arith, long) in
-      let q : frame.captured - 14 ≡ length packet = omega (arith, long, carries.whole) in
-      ethernet_read bytes frame.start frame.captured fits (type_read bytes frame packet addresses twelve content fits)
+      let q : frame.captured - 14 ≡ rest = omega (arith, long, carries.whole) in
+      ethernet_read bytes frame.start frame.captured fits (type_read bytes frame (packet ++ carries.padding) addresses twelve content fits)
       ∙ (λ i. ip_packet Ethernet bytes (p i) (q i)) ∙ there Ethernet
 
   -- a frame is classified as the packet that it carries
@@ -161,16 +219,16 @@ module _ (bytes : List ℕ) (frame : Frame) (packet : List ℕ) (carries : Carri
   unfolding packet_of
   carried = carried_by frame.link carries.header
 
--- a tuple by its fields
-of_fields : (t : Tuple) (proto : Proto) → t.proto ≡ proto → record { proto = proto; src = t.src; dst = t.dst; a = t.a; b = t.b } ≡ t
-of_fields t proto is = λ i. record { proto = sym is i; src = t.src; dst = t.dst; a = t.a; b = t.b }
+-- a tuple is made of its fields
+of_fields : (t : Tuple) (proto : Proto) → t.proto ≡ proto → tuple proto t.src t.dst t.a t.b ≡ t
+of_fields t proto is = λ i. tuple (sym is i) t.src t.dst t.a t.b
 
 -- a frame that carries a packet of UDP
 pub udp_laid_out : UdpLayoutsAreFlows
 udp_laid_out bytes frame t is valid carries =
     subst (λ (u : Tuple). is_valid u ≡ true → (c : Carries bytes frame (udp_layout u)) → packet_of bytes frame ≡ Flow u segment.Udp empty_span)
     (of_fields t Udp is)
-    (λ v c. carried bytes frame (udp_layout (record { proto = Udp; src = t.src; dst = t.dst; a = t.a; b = t.b })) c
+    (λ v c. carried bytes frame (udp_layout (tuple Udp t.src t.dst t.a t.b)) (omega arith) refl c
     ∙ ap (λ (p : Packet). moved (frame.start + length c.front) p) (udp_read frame.link t.src t.dst t.a t.b (in_range t valid)))
     valid carries
 
@@ -178,13 +236,13 @@ udp_laid_out bytes frame t is valid carries =
 pub tcp_laid_out : TcpLayoutsAreFlows
 tcp_laid_out bytes frame t flags is valid set carries =
     subst (λ (u : Tuple). is_valid u ≡ true → (c : Carries bytes frame (tcp_layout u flags)) → packet_of bytes frame
-    ≡ Flow u (segment.Tcp (kind flags)) (span_of (frame.start + frame.captured) (frame.start + frame.captured)))
+    ≡ Flow u (segment.Tcp (kind flags)) (span_of (frame.start + length c.front + 40) (frame.start + length c.front + 40)))
     (of_fields t Tcp is)
     (λ v c.
-    let end : 40 + (frame.start + length c.front) ≡ frame.start + frame.captured = omega (arith, c.whole) in
-    carried bytes frame (tcp_layout (record { proto = Tcp; src = t.src; dst = t.dst; a = t.a; b = t.b }) flags) c
+    let end : 40 + (frame.start + length c.front) ≡ frame.start + length c.front + 40 = omega arith in
+    carried bytes frame (tcp_layout (tuple Tcp t.src t.dst t.a t.b) flags) (omega arith) refl c
     ∙ ap (λ (p : Packet). moved (frame.start + length c.front) p) (tcp_read frame.link t.src t.dst t.a t.b flags (in_range t valid) set)
-    ∙ (λ i. Flow (record { proto = Tcp; src = t.src; dst = t.dst; a = t.a; b = t.b }) (segment.Tcp (kind flags)) (span_of (end i) (end i))))
+    ∙ (λ i. Flow (tuple Tcp t.src t.dst t.a t.b) (segment.Tcp (kind flags)) (span_of (end i) (end i))))
     valid carries
 
 -- a frame that carries a message that asks or answers
@@ -192,7 +250,7 @@ pub icmp_laid_out : IcmpLayoutsAreFlows
 icmp_laid_out bytes frame t is valid carries =
     subst (λ (u : Tuple). is_valid u ≡ true → (c : Carries bytes frame (icmp_layout u)) → packet_of bytes frame ≡ Flow u (segment.Icmp (u.b / 256)) empty_span)
     (of_fields t Icmp is)
-    (λ v c. carried bytes frame (icmp_layout (record { proto = Icmp; src = t.src; dst = t.dst; a = t.a; b = t.b })) c
+    (λ v c. carried bytes frame (icmp_layout (tuple Icmp t.src t.dst t.a t.b)) (omega arith) refl c
     ∙ ap (λ (p : Packet). moved (frame.start + length c.front) p)
     (icmp_read frame.link t.src t.dst t.a t.b (in_range t valid) (asks t.src t.dst t.a t.b v)))
     valid carries
@@ -204,63 +262,54 @@ no_query type h = grind (arith, nat_tests)
 -- an error about a packet of UDP
 of_udp : (link : Link) (source destination type code src dst a b : ℕ)
     → destination < 2 ^ 32 → is_error_type type ≡ true → InRange src dst a b
-    → ip_packet link (error_layout source destination type code (record { proto = Udp; src = src; dst = dst; a = a; b = b })) 0 56
-    ≡ Error (record { proto = Udp; src = src; dst = dst; a = a; b = b }) destination
+    → ip_packet link (error_layout source destination type code (tuple Udp src dst a b)) 0 56
+    ≡ Error (tuple Udp src dst a b) destination
 unfolding ip_packet icmp_packet inner_tuple
 of_udp link source destination type code src dst a b below wrong range =
     let d = u32_read destination below in
-    let e = u32_read src range.source in
-    let f = u32_read dst range.destination in
-    let g = u16_read a range.first in
-    let h = u16_read b range.second in
-    rw (no_query type wrong, wrong) (λ i. Error (record { proto = Udp; src = e i; dst = f i; a = g i; b = h i }) (d i))
+    let e = ports_read Udp src dst a b range in
+    rw (no_query type wrong, wrong) (λ i. Error (e i) (d i))
 
 -- an error about a segment of TCP
 of_tcp : (link : Link) (source destination type code src dst a b : ℕ)
     → destination < 2 ^ 32 → is_error_type type ≡ true → InRange src dst a b
-    → ip_packet link (error_layout source destination type code (record { proto = Tcp; src = src; dst = dst; a = a; b = b })) 0 56
-    ≡ Error (record { proto = Tcp; src = src; dst = dst; a = a; b = b }) destination
+    → ip_packet link (error_layout source destination type code (tuple Tcp src dst a b)) 0 56
+    ≡ Error (tuple Tcp src dst a b) destination
 unfolding ip_packet icmp_packet inner_tuple
 of_tcp link source destination type code src dst a b below wrong range =
     let d = u32_read destination below in
-    let e = u32_read src range.source in
-    let f = u32_read dst range.destination in
-    let g = u16_read a range.first in
-    let h = u16_read b range.second in
-    rw (no_query type wrong, wrong) (λ i. Error (record { proto = Tcp; src = e i; dst = f i; a = g i; b = h i }) (d i))
+    let e = ports_read Tcp src dst a b range in
+    rw (no_query type wrong, wrong) (λ i. Error (e i) (d i))
 
 -- an error about a message that asks or answers
 of_icmp : (link : Link) (source destination type code src dst a b : ℕ)
     → destination < 2 ^ 32 → is_error_type type ≡ true → InRange src dst a b → is_query_type (b / 256) ≡ true
-    → ip_packet link (error_layout source destination type code (record { proto = Icmp; src = src; dst = dst; a = a; b = b })) 0 56
-    ≡ Error (record { proto = Icmp; src = src; dst = dst; a = a; b = b }) destination
+    → ip_packet link (error_layout source destination type code (tuple Icmp src dst a b)) 0 56
+    ≡ Error (tuple Icmp src dst a b) destination
 unfolding ip_packet icmp_packet inner_tuple
 of_icmp link source destination type code src dst a b below wrong range asked =
     let d = u32_read destination below in
-    let e = u32_read src range.source in
-    let f = u32_read dst range.destination in
-    let g = u16_read a range.first in
-    let h : b / 256 * 256 + b % 256 ≡ b = omega arith in
-    rw (no_query type wrong, wrong, asked) (λ i. Error (record { proto = Icmp; src = e i; dst = f i; a = g i; b = h i }) (d i))
+    let e = query_read src dst a b range in
+    rw (no_query type wrong, wrong, asked) (λ i. Error (e i) (d i))
 
 -- an error about a packet of any protocol
 error_read : (link : Link) (source destination type code src dst a b : ℕ) (proto : Proto)
-    → destination < 2 ^ 32 → is_error_type type ≡ true → is_valid (record { proto = proto; src = src; dst = dst; a = a; b = b }) ≡ true
-    → ip_packet link (error_layout source destination type code (record { proto = proto; src = src; dst = dst; a = a; b = b })) 0 56
-    ≡ Error (record { proto = proto; src = src; dst = dst; a = a; b = b }) destination
+    → destination < 2 ^ 32 → is_error_type type ≡ true → is_valid (tuple proto src dst a b) ≡ true
+    → ip_packet link (error_layout source destination type code (tuple proto src dst a b)) 0 56
+    ≡ Error (tuple proto src dst a b) destination
 error_read link source destination type code src dst a b Icmp below wrong valid =
     of_icmp link source destination type code src dst a b below wrong
-    (in_range (record { proto = Icmp; src = src; dst = dst; a = a; b = b }) valid) (asks src dst a b valid)
+    (in_range (tuple Icmp src dst a b) valid) (asks src dst a b valid)
 error_read link source destination type code src dst a b Tcp below wrong valid =
     of_tcp link source destination type code src dst a b below wrong
-    (in_range (record { proto = Tcp; src = src; dst = dst; a = a; b = b }) valid)
+    (in_range (tuple Tcp src dst a b) valid)
 error_read link source destination type code src dst a b Udp below wrong valid =
     of_udp link source destination type code src dst a b below wrong
-    (in_range (record { proto = Udp; src = src; dst = dst; a = a; b = b }) valid)
+    (in_range (tuple Udp src dst a b) valid)
 
 -- an error has 56 bytes, whatever it repeats
 error_length : (source destination type code src dst a b : ℕ) (proto : Proto)
-    → length (error_layout source destination type code (record { proto = proto; src = src; dst = dst; a = a; b = b })) ≡ 56
+    → length (error_layout source destination type code (tuple proto src dst a b)) ≡ 56
 error_length source destination type code src dst a b Icmp = refl
 error_length source destination type code src dst a b Tcp = refl
 error_length source destination type code src dst a b Udp = refl
@@ -269,7 +318,7 @@ error_length source destination type code src dst a b Udp = refl
 pub error_laid_out : ErrorLayoutsAreErrors
 error_laid_out bytes frame source destination type code t below wrong valid carries =
     let long = error_length source destination type code t.src t.dst t.a t.b t.proto in
-    carried bytes frame (error_layout source destination type code t) carries
+    carried bytes frame (error_layout source destination type code t) (omega (arith, long)) (sym long) carries
     ∙ (λ i. moved (frame.start + length carries.front) (ip_packet frame.link (error_layout source destination type code t) 0 (long i)))
     ∙ ap (λ (p : Packet). moved (frame.start + length carries.front) p)
     (error_read frame.link source destination type code t.src t.dst t.a t.b t.proto below wrong valid)

@@ -17,6 +17,10 @@ use Rattle.packet_headers.specs.Ipv4Header.{has_ipv4_header, header_length, ipv4
 use Rattle.packet_headers.proofs.SameBytes.{Same, same_behind, same_part, u16_same, chosen, guarded, first_holds}
 use Rattle.packet_headers.proofs.SamePayload.{Twins, addresses_same, header_same, icmp_same, tcp_same, udp_same}
 
+-- the tests of an IPv4 header, behind that for room
+abbrev header_tests : List ℕ → ℕ → Bool → Bool
+header_tests bytes at room = room && nat_le 20 (header_length bytes at) && nat_le (header_length bytes at) (total_length bytes at)
+
 -- an IP packet, from its later tests to its earlier ones
 abbrev tracked : List ℕ → ℕ → ℕ → Packet
 tracked bytes at captured = packet_of_protocol (tracked_protocol (protocol bytes at)) bytes (ipv4_payload bytes at captured)
@@ -68,8 +72,8 @@ module _ (bytes other : List ℕ) (at place captured shift : ℕ) (same : Same b
   -- the header is right on both sides
   has_header_same : has_ipv4_header bytes at captured ≡ has_ipv4_header other place captured
   has_header_same =
-      guarded (λ g. g && nat_le 20 (header_length bytes at) && nat_le (header_length bytes at) (total_length bytes at))
-      (λ g. g && nat_le 20 (header_length other place) && nat_le (header_length other place) (total_length other place))
+      guarded (header_tests bytes at)
+      (header_tests other place)
       (nat_le 20 captured) (nat_le 20 captured) refl refl
       (λ h. let e = length_same (omega (arith, enough h)) in let f = total_same (omega (arith, enough h)) in
       λ i. nat_le 20 (e i) && nat_le (e i) (f i))
@@ -77,7 +81,7 @@ module _ (bytes other : List ℕ) (at place captured shift : ℕ) (same : Same b
   -- the fixed part of a right one was captured
   has_room : has_ipv4_header bytes at captured ≡ true → 20 ≤ captured
   has_room h =
-      enough (first_holds (λ g. g && nat_le 20 (header_length bytes at) && nat_le (header_length bytes at) (total_length bytes at))
+      enough (first_holds (header_tests bytes at)
       (nat_le 20 captured) refl h)
 
   -- and it has that length at least

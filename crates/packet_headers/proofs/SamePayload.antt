@@ -56,6 +56,22 @@ query_same addresses bytes other at place count same fits =
     λ i. cond (is_query_type (type i))
     (Some (icmp_tuple addresses.source addresses.destination (type i) (code i) (identifier i))) None
 
+-- the tests of a header of UDP, behind that for room
+abbrev udp_tests : List ℕ → Ipv4Payload → Bool → Bool
+udp_tests bytes payload room = room && nat_le 8 (udp_length bytes payload.start) && nat_le (udp_length bytes payload.start) payload.length
+
+-- those of a header of TCP
+abbrev tcp_tests : List ℕ → Ipv4Payload → Bool → Bool
+tcp_tests bytes payload room =
+    room && nat_le 20 (data_offset bytes payload.start) && nat_le (data_offset bytes payload.start) payload.length
+    && is_valid_flag_set (flags_at bytes payload.start)
+
+-- those of the header that an error repeats
+abbrev inner_tests : List ℕ → Ipv4Payload → Bool → Bool
+inner_tests bytes payload room =
+    room && version bytes (inner_start payload) == 4 && nat_le 20 (header_length bytes (inner_start payload))
+    && nat_le (16 + header_length bytes (inner_start payload)) payload.length && fragment_offset bytes (inner_start payload) == 0
+
 -- two payloads that differ in nothing but their place
 pub record Twins (bytes other : List ℕ) (shift : ℕ) (p q : Ipv4Payload) : Type 0 where
   pub addresses : p.addresses ≡ q.addresses
@@ -99,15 +115,15 @@ module _ (bytes other : List ℕ) (shift : ℕ) (p q : Ipv4Payload) (twins : Twi
   -- a header of UDP is right on both sides
   has_udp_same : has_udp_header bytes p ≡ has_udp_header other q
   has_udp_same =
-      guarded (λ g. g && nat_le 8 (udp_length bytes p.start) && nat_le (udp_length bytes p.start) p.length)
-      (λ g. g && nat_le 8 (udp_length other q.start) && nat_le (udp_length other q.start) q.length)
+      guarded (udp_tests bytes p)
+      (udp_tests other q)
       (room 8 6 p) (room 8 6 q) (room_same 8 6) refl
       (λ h. let e = udp_length_same (enough 8 6 h) in λ i. nat_le 8 (e i) && nat_le (e i) (twins.length i))
 
   -- a right one was captured up to its length
   has_udp_room : has_udp_header bytes p ≡ true → 6 ≤ p.captured
   has_udp_room h =
-      enough 8 6 (first_holds (λ g. g && nat_le 8 (udp_length bytes p.start) && nat_le (udp_length bytes p.start) p.length)
+      enough 8 6 (first_holds (udp_tests bytes p)
       (room 8 6 p) refl h)
 
   -- a datagram
@@ -132,10 +148,8 @@ module _ (bytes other : List ℕ) (shift : ℕ) (p q : Ipv4Payload) (twins : Twi
   -- a header of TCP is right on both sides
   has_tcp_same : has_tcp_header bytes p ≡ has_tcp_header other q
   has_tcp_same =
-      guarded (λ g. g && nat_le 20 (data_offset bytes p.start) && nat_le (data_offset bytes p.start) p.length
-      && is_valid_flag_set (flags_at bytes p.start))
-      (λ g. g && nat_le 20 (data_offset other q.start) && nat_le (data_offset other q.start) q.length
-      && is_valid_flag_set (flags_at other q.start))
+      guarded (tcp_tests bytes p)
+      (tcp_tests other q)
       (room 20 14 p) (room 20 14 q) (room_same 20 14) refl
       (λ h. let e = data_offset_same (enough 20 14 h) in let f = flags_same (enough 20 14 h) in
       λ i. nat_le 20 (e i) && nat_le (e i) (twins.length i) && is_valid_flag_set (f i))
@@ -143,8 +157,7 @@ module _ (bytes other : List ℕ) (shift : ℕ) (p q : Ipv4Payload) (twins : Twi
   -- a right one was captured up to its control bits
   has_tcp_room : has_tcp_header bytes p ≡ true → 14 ≤ p.captured
   has_tcp_room h =
-      enough 20 14 (first_holds (λ g. g && nat_le 20 (data_offset bytes p.start) && nat_le (data_offset bytes p.start) p.length
-      && is_valid_flag_set (flags_at bytes p.start)) (room 20 14 p) refl h)
+      enough 20 14 (first_holds (tcp_tests bytes p) (room 20 14 p) refl h)
 
   -- a span that ends behind the first byte moves
   told : (start end : ℕ) → 0 < end → moved_span shift (span_of start end) ≡ span_of (start + shift) (end + shift)
@@ -190,10 +203,8 @@ module _ (bytes other : List ℕ) (shift : ℕ) (p q : Ipv4Payload) (twins : Twi
   -- the repeated header is right on both sides
   has_inner_same : has_inner_header bytes p ≡ has_inner_header other q
   has_inner_same =
-      guarded (λ g. g && version bytes (inner_start p) == 4 && nat_le 20 (header_length bytes (inner_start p))
-      && nat_le (16 + header_length bytes (inner_start p)) p.length && fragment_offset bytes (inner_start p) == 0)
-      (λ g. g && version other (inner_start q) == 4 && nat_le 20 (header_length other (inner_start q))
-      && nat_le (16 + header_length other (inner_start q)) q.length && fragment_offset other (inner_start q) == 0)
+      guarded (inner_tests bytes p)
+      (inner_tests other q)
       (room 28 28 p) (room 28 28 q) (room_same 28 28) refl
       (λ h. let fits = enough 28 28 h in
       let first = byte_same 8 (omega (arith, fits)) in
@@ -204,8 +215,7 @@ module _ (bytes other : List ℕ) (shift : ℕ) (p q : Ipv4Payload) (twins : Twi
   -- the fixed part of a right one was captured
   has_inner_room : has_inner_header bytes p ≡ true → 28 ≤ p.captured
   has_inner_room h =
-      enough 28 28 (first_holds (λ g. g && version bytes (inner_start p) == 4 && nat_le 20 (header_length bytes (inner_start p))
-      && nat_le (16 + header_length bytes (inner_start p)) p.length && fragment_offset bytes (inner_start p) == 0)
+      enough 28 28 (first_holds (inner_tests bytes p)
       (room 28 28 p) refl h)
 
   -- so many bytes behind that header

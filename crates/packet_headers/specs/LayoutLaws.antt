@@ -22,23 +22,26 @@ abbrev pub IsLinkHeader : Link → List ℕ → Type 0
 IsLinkHeader Ethernet front = (addresses : List ℕ) × (length addresses ≡ 12) × (front ≡ addresses ++ (0x08 ∷ 0x00 ∷ []))
 IsLinkHeader Raw front = front ≡ []
 
--- all of the frame was captured, wherever it stands in the file: the header of its link, and this packet
+-- the frame was captured, wherever it stands in the file: the header of its link, this packet, and any
+-- bytes behind it, as those that fill up an Ethernet frame
 pub record Carries (bytes : List ℕ) (frame : Frame) (packet : List ℕ) : Type 0 where
   pub front : List ℕ
+  pub padding : List ℕ
   pub header : IsLinkHeader frame.link front
-  pub content : captured_bytes bytes frame ≡ front ++ packet
-  pub whole : frame.captured ≡ length front + length packet
+  pub content : captured_bytes bytes frame ≡ front ++ (packet ++ padding)
+  pub whole : frame.captured ≡ length front + length packet + length padding
 
 abbrev pub UdpLayoutsAreFlows : Type 0
 UdpLayoutsAreFlows = (bytes : List ℕ) (frame : Frame) (t : Tuple)
     → t.proto ≡ proto.Udp → is_valid t ≡ true → Carries bytes frame (udp_layout t)
     → packet_of bytes frame ≡ Flow t segment.Udp empty_span
 
--- the payload is empty, at the frame's end
+-- the payload is empty, at the end of the packet's 40 bytes
 abbrev pub TcpLayoutsAreFlows : Type 0
 TcpLayoutsAreFlows = (bytes : List ℕ) (frame : Frame) (t : Tuple) (flags : ℕ)
-    → t.proto ≡ proto.Tcp → is_valid t ≡ true → is_valid_flag_set flags ≡ true → Carries bytes frame (tcp_layout t flags)
-    → packet_of bytes frame ≡ Flow t (segment.Tcp (kind flags)) (span_of (frame.start + frame.captured) (frame.start + frame.captured))
+    → t.proto ≡ proto.Tcp → is_valid t ≡ true → is_valid_flag_set flags ≡ true → (carries : Carries bytes frame (tcp_layout t flags))
+    → packet_of bytes frame ≡ Flow t (segment.Tcp (kind flags))
+    (span_of (frame.start + length carries.front + 40) (frame.start + length carries.front + 40))
 
 -- the tuple is of a query or an answer
 abbrev pub IcmpLayoutsAreFlows : Type 0

@@ -1,5 +1,6 @@
 -- A packet of a tuple, laid out byte by byte: the headers of IPv4 (RFC 791), UDP (RFC 768), TCP (RFC
--- 9293) and ICMP (RFC 792), with no options, no data, and 0 in each field that is not looked at.
+-- 9293) and ICMP (RFC 792), with no options and no data. A field that no flow is told by is 0, but for
+-- the time to live.
 use Rattle.std.specs.Prelude.{ℕ, ◌/◌, ◌%◌, List, [], ◌∷◌, ◌++◌, take}
 use Rattle.std.specs.Int.{to_be_bytes, w16, w32}
 use Rattle.tuple_core.specs.declared.Proto.{Proto}
@@ -27,6 +28,7 @@ tcp_header t flags =
 abbrev pub icmp_header : Tuple → List ℕ
 icmp_header t = (t.b / 256 ∷ t.b % 256 ∷ 0 ∷ 0 ∷ []) ++ to_be_bytes w16 t.a ++ (0 ∷ 0 ∷ [])
 
+-- a datagram
 abbrev pub udp_layout : Tuple → List ℕ
 udp_layout t = ipv4_header 28 17 t.src t.dst ++ udp_header t
 
@@ -34,6 +36,7 @@ udp_layout t = ipv4_header 28 17 t.src t.dst ++ udp_header t
 abbrev pub tcp_layout : Tuple → ℕ → List ℕ
 tcp_layout t flags = ipv4_header 40 6 t.src t.dst ++ tcp_header t flags
 
+-- a message that asks or answers
 abbrev pub icmp_layout : Tuple → List ℕ
 icmp_layout t = ipv4_header 28 1 t.src t.dst ++ icmp_header t
 
