@@ -1,5 +1,5 @@
 -- Why a run is refused, and which status the inputs call for.
-use Rattle.std.specs.Prelude.{◌≡◌, ℕ, ◌<◌, ◌⊎◌, None, List, length, IfSome}
+use Rattle.std.specs.Prelude.{All, unwrap_or, false, [], ◌≡◌, ℕ, ◌<◌, ◌⊎◌, None, List, length, IfSome}
 use Rattle.ct_io.specs.Counts.{Rose}
 use Rattle.ct_io.specs.Source.{Source}
 use Rattle.ct_io.specs.Tape.{Tape}
@@ -63,3 +63,10 @@ Answers words files files' out out' status (flawed file flaw) =
     IsOrMemory status (flaw_status flaw) ⊎ (status ≡ 3) × FilesFailed words files files'
 Answers words files files' out out' status clean =
     IsOrMemory status 0 ⊎ (status ≡ 3) × FilesFailed words files files' ⊎ (status ≡ 4) × Rose out.faults out'.faults
+
+-- The count of opening a name stands, unless a file that the words name shares it, or reads are counted
+-- in it too.
+abbrev pub OthersStand : List (List ℕ) → Source → Source → Type 0
+OthersStand words files files' =
+    (other : List ℕ) → All (λ name. files.shares name other ≡ false) (unwrap_or (files_named words) [])
+    → files.counts_reads other ≡ false → files'.open_faults other ≡ files.open_faults other

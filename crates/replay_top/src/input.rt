@@ -2,7 +2,7 @@
 
 ghost use Rattle.std.specs.Prelude.{[], ◌∷◌};
 ghost use Rattle.ct_io.specs.Source.{Stays};
-ghost use Rattle.replay_top.specs.Internal.Ending.{Replays};
+ghost use Rattle.replay_top.specs.Internal.Ending.{OthersStandBeside, Replays};
 ghost use Rattle.replay_top.specs.Replay.{ReplaysAs};
 
 use crate::arrivals::read_arrivals;
@@ -45,6 +45,7 @@ pub fn replay_bytes(alloc: Global, bytes: &[u8]) -> Result<Report, ReplayError>
 /// Reads the capture of this name, the only file of the words, and replays it.
 pub fn replay_file<F: Files>(alloc: Global, files: &mut F, name: &str) -> Result<Report, Refusal>
     ensures replays { Replays (name.now ∷ []) (F.source files.old) (F.source files.new) result }
+    ensures others { OthersStandBeside name.now (F.source files.old) (F.source files.new) }
     ensures stays { Stays (F.source files.old) (F.source files.new) }
 {
     let bytes = match read_file(alloc, files, name, MOST_BYTES) {

@@ -3,7 +3,7 @@
 ghost use Rattle.std.specs.Prelude.{◌≡◌, ◌≢◌, ◌≤◌, None, IsSomeAnd, map};
 ghost use Rattle.std.specs.String.{string_bytes};
 ghost use Rattle.ct_io.specs.Source.{SameFaults, Stays};
-ghost use Rattle.replay_top.specs.Causes.{Answers, FilesFailed, IsRefused};
+ghost use Rattle.replay_top.specs.Causes.{Answers, FilesFailed, IsRefused, OthersStand};
 ghost use Rattle.replay_top.specs.ErrorLine.{Tells, write_failed};
 ghost use Rattle.replay_top.specs.Inputs.{Finding, Finds};
 ghost use Rattle.replay_top.specs.Internal.Ending.{Ends};
@@ -28,6 +28,7 @@ const BUFFER: usize = 65_536;
 fn run<F: Files, K: Sink>(alloc: Global, words: &[String], files: &mut F, out: &mut K) -> Ending
     ensures ends { Ends (map string_bytes words.now) (F.source files.old) (F.source files.new)
         (K.tape out.old) (K.tape out.new) result }
+    ensures others { OthersStand (map string_bytes words.now) (F.source files.old) (F.source files.new) }
     ensures stays { Stays (F.source files.old) (F.source files.new) }
 {
     let Some(name) = capture_name(words) else {
@@ -89,6 +90,7 @@ pub fn top<R: Threads + Wait + Sync, F: Files, K: Sink, G: Gate + Sync>(
     ensures silent { result.status ≡ 0 → K.tape err.new ≡ K.tape err.old }
     ensures not_written_line { result.status ≡ 4 → Tells write_failed (K.tape err.old) (K.tape err.new) }
     ensures same_faults { result.status ≢ 3 → SameFaults (F.source files.old) (F.source files.new) }
+    ensures others { OthersStand (map string_bytes words.now) (F.source files.old) (F.source files.new) }
     ensures same_output_faults { result.status ≢ 4 → (K.tape out.new).faults ≡ (K.tape out.old).faults }
     ensures stays { Stays (F.source files.old) (F.source files.new) }
 {

@@ -1,5 +1,5 @@
 -- What is so where a run ends in each way.
-use Rattle.std.specs.Prelude.{◌≡◌, ◌≢◌, ℕ, List, Result, Ok, Err, IfSome}
+use Rattle.std.specs.Prelude.{false, ◌≡◌, ◌≢◌, ℕ, List, Result, Ok, Err, IfSome}
 use Rattle.ct_io.specs.Source.{SameFaults, Source}
 use Rattle.ct_io.specs.Tape.{Tape}
 use Rattle.history_book.specs.declared.report.Report.{Report}
@@ -33,3 +33,9 @@ Ends words files files' out out' (NotWritten report) =
     IsCutShort words files out out' report × SameFaults files files'
 Ends words files files' out out' (Refused why) =
     HasCause words files files' why × (out' ≡ out) × (refusal_status why ≢ 3 → SameFaults files files')
+
+-- the count of opening another name than this stands, unless the name shares it, or reads are counted in it
+abbrev pub OthersStandBeside : List ℕ → Source → Source → Type 0
+OthersStandBeside name files files' =
+    (other : List ℕ) → files.shares name other ≡ false → files.counts_reads other ≡ false
+    → files'.open_faults other ≡ files.open_faults other
