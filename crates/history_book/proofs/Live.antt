@@ -1,8 +1,8 @@
 -- What is live under a tuple, and what is free once it is destroyed.
-use Rattle.std.proofs.Common.{◌≡◌, ℕ, Bool, true, false, not, List, [], ◌∷◌, refl, sym, ap, subst, ◌∙◌, ⊎_elim, inl, inr, Option, Some, None}
+use Rattle.std.proofs.Common.{◌≡◌, ℕ, Bool, true, false, not, cond, List, [], ◌∷◌, refl, sym, ap, subst, ◌∙◌, ⊎_elim, inl, inr, Option, Some, None}
 use Rattle.std.specs.List.{AllByRecursion, AllPairs, find, list_any, remove, slice_get}
 use Rattle.std.specs.Prelude.{◌⊎◌}
-use Rattle.std.proofs.lemmas.Bool.{and_from, eq-eqb, ne_eqb, or_cases, or_from, or_left, or_parts, or_right}
+use Rattle.std.proofs.lemmas.Bool.{and_from, eq-eqb, ne_eqb, not-true, or_cases, or_from, or_left, or_parts, or_right}
 use Rattle.tuple_core.specs.declared.Direction.TheVariants.{Original, Reply}
 use Rattle.tuple_core.specs.declared.Tuple.{Tuple}
 use Rattle.history_book.specs.declared.event.Event.TheVariants.{Destroy}
@@ -16,6 +16,7 @@ use Rattle.history_book.specs.Laws.{AreApart}
 use Rattle.history_book.specs.Record.{has_original, has_place, has_reply, has_tuple}
 use Rattle.history_book.specs.State.{Found, State, is_free, live_under, next, original_first}
 use Rattle.history_book.specs.StateLaws.{IsGone}
+use Rattle.history_book.proofs.Entries.{each_fails}
 use Rattle.history_book.proofs.Pairs.{pairs_of}
 use Rattle.history_book.proofs.Passing.{fails_by, found_passes, none_found}
 use Rattle.history_book.proofs.Records.{others_apart, remove-filter}
@@ -40,6 +41,25 @@ pub absent_free : (t : Tuple) (s : State) → live_under t s ≡ None → is_fre
 absent_free t s h =
     let both = none_both (find (has_original t) s.records) (find (has_reply t) s.records) h in
     ap not (neither t s.records (none_found (has_original t) s.records both.0) (none_found (has_reply t) s.records both.1))
+
+find_none : (p : Record → Bool) (rs : List Record) → AllByRecursion (λ r. p r ≡ false) rs → find p rs ≡ None
+find_none p [] h = refl
+find_none p (r ∷ rs) (h, hs) = ap (λ b. cond b (Some r) (find p rs)) h ∙ find_none p rs hs
+
+none_has : (t : Tuple) (rs : List Record) → AllByRecursion (λ r. has_tuple t r ≡ false) rs
+    → AllByRecursion (λ r. has_original t r ≡ false) rs × AllByRecursion (λ r. has_reply t r ≡ false) rs
+none_has t [] h = (tt, tt)
+none_has t (r ∷ rs) (h, hs) =
+    let here = or_parts (has_original t r) (has_reply t r) h in
+    let rest = none_has t rs hs in
+    ((here.0, rest.0), (here.1, rest.1))
+
+-- nothing is live under a tuple that is nobody's
+pub free_absent : (t : Tuple) (s : State) → is_free t s ≡ true → live_under t s ≡ None
+free_absent t s h =
+    let none = none_has t s.records (each_fails (has_tuple t) s.records (not-true _ h)) in
+    ap (λ o. original_first o (find (has_reply t) s.records)) (find_none (has_original t) s.records none.0)
+    ∙ ap (λ o. original_first None o) (find_none (has_reply t) s.records none.1)
 
 original_found : (o r : Option Record) (f : Found) → original_first o r ≡ Some f
     → (o ≡ Some f.subject) ⊎ (r ≡ Some f.subject)

@@ -21,9 +21,11 @@ TuplesAreTold = (t u : Tuple) → (same_tuple t u ≡ true → t ≡ u) × (t �
 abbrev pub PartsAreTold : Type 0
 PartsAreTold = (p : Part) → same_part p p ≡ true
 
--- a tuple under which nothing is live is free
-abbrev pub AbsentIsFree : Type 0
-AbsentIsFree = (t : Tuple) (s : State) → live_under t s ≡ None → is_free t s ≡ true
+-- a tuple is free exactly where nothing is live under it
+abbrev pub FreeIsAbsent : Type 0
+FreeIsAbsent =
+    (t : Tuple) (s : State)
+    → (live_under t s ≡ None → is_free t s ≡ true) × (is_free t s ≡ true → live_under t s ≡ None)
 
 -- where the records are apart, each is the one that is found by its id
 abbrev pub IdsNameRecords : Type 0

@@ -4,7 +4,7 @@
 ghost use Rattle.history_book.specs.Laws.{LegalHistoriesGoOn, StatesFollow, FirstEventsStay};
 ghost use Rattle.history_book.specs.Laws.{EventsStay, StatesStay, RecordsAreApart};
 ghost use Rattle.history_book.specs.Laws.{LiveRecordsAreConfirmed, DestroyedIdsStayDead};
-ghost use Rattle.history_book.specs.StateLaws.{TuplesAreTold, PartsAreTold, AbsentIsFree};
+ghost use Rattle.history_book.specs.StateLaws.{TuplesAreTold, PartsAreTold, FreeIsAbsent};
 ghost use Rattle.history_book.specs.StateLaws.{IdsNameRecords, TouchesChangeOne};
 ghost use Rattle.history_book.specs.StateLaws.{DestroysTakeOne, DestroysFree};
 
@@ -60,9 +60,9 @@ pub fn parts_are_told()
     ensures { PartsAreTold }
 {}
 
-/// A tuple under which nothing is live is free.
-pub fn absent_is_free()
-    ensures { AbsentIsFree }
+/// A tuple is free exactly where nothing is live under it.
+pub fn free_is_absent()
+    ensures { FreeIsAbsent }
 {}
 
 /// Where the records of a state are apart, each is the one that is found by its id.

@@ -17,7 +17,7 @@ ghost use Rattle.replay_top.specs.Internal.Track.{Begins, Handled, StepsTo};
 use crate::book::{Book, Touched};
 use history_book::find::{FoundAt, find, label};
 use history_book::laws::{
-    absent_is_free, destroys_free, events_stay, parts_are_told, records_are_apart, states_stay,
+    destroys_free, events_stay, free_is_absent, parts_are_told, records_are_apart, states_stay,
     tuples_are_told,
 };
 use history_book::protocol::{Outcome, Part, start, step};
@@ -84,7 +84,7 @@ fn begin_flow(book: &mut Book, index: u32, packet: &FlowPacket) -> Verdict
     ensures holds { Holds book.new }
     ensures places { PlacesBelow (length book.new.records.items) book.new.records.items }
 {
-    absent_is_free();
+    free_is_absent();
     states_stay();
     let first = book.history.len() as u64;
     let place = book.records.len();

@@ -11,7 +11,7 @@ returns-then-is_full-clause-handled c =
 
 pub confirm_entry-class-requires-clause-absent : goal.confirm_entry-class-requires-clause-absent
 confirm_entry-class-requires-clause-absent c =
-    c.absent_is_free.ensures c.args.packet.now.tuple (state_of c.args.book.now.records.items) c.requires.absent
+    (c.free_is_absent.ensures c.args.packet.now.tuple (state_of c.args.book.now.records.items)).0 c.requires.absent
 
 pub confirm_entry-class-requires-clause-place : goal.confirm_entry-class-requires-clause-place
 confirm_entry-class-requires-clause-place c = place_open _ _ c.args.book.now.records.items (omega arith) c.requires.places
