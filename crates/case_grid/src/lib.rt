@@ -4,6 +4,7 @@
 ghost use Rattle.std.specs.Prelude.{◌≡◌, ◌<◌};
 ghost use Rattle.case_grid.specs.Cell.{cell, cells_of};
 ghost use Rattle.case_grid.specs.FlagSets.{flag_sets};
+ghost use Rattle.case_grid.specs.TcpTables.{tcp_original, tcp_reply};
 
 #[cfg(test)]
 mod tests;
@@ -50,5 +51,38 @@ pub fn flag_sets() -> Grid<4, 8>
         1 1 1 0 1 0 0 0;
         0 0 1 0 0 0 0 0;
         1 1 0 0 0 0 0 0;
+    }
+}
+
+/// The state of a connection after a packet in the original direction. The rows are the kinds of
+/// segments: SYN, SYN and ACK, FIN, ACK, RST, none of these. The columns are the old states: none,
+/// SYN_SENT, SYN_RECV, ESTABLISHED, FIN_WAIT, CLOSE_WAIT, LAST_ACK, TIME_WAIT, CLOSE, SYN_SENT2. A cell
+/// below 10 is the number of the new state in that order; 10 is invalid, and 11 is ignored.
+#[tactic(auto, unfolding(crate::specs::TcpTables::tcp_original))]
+pub fn tcp_original() -> Grid<6, 10>
+    ensures { cells_of result ≡ tcp_original }
+{
+    rows! {
+        1 1 11 11 11 11 11 1 1 9;
+        10 10 2 10 10 10 10 10 10 2;
+        10 10 4 4 6 6 6 7 8 10;
+        3 10 3 3 5 5 7 7 8 10;
+        10 8 8 8 8 8 8 8 8 8;
+        10 10 10 10 10 10 10 10 10 10;
+    }
+}
+
+/// The state of a connection after a packet in the reply direction, in the form of `tcp_original`.
+#[tactic(auto, unfolding(crate::specs::TcpTables::tcp_reply))]
+pub fn tcp_reply() -> Grid<6, 10>
+    ensures { cells_of result ≡ tcp_reply }
+{
+    rows! {
+        10 9 10 10 10 10 10 1 10 9;
+        10 2 11 11 11 11 11 11 11 2;
+        10 10 4 4 6 6 6 7 8 10;
+        10 11 2 3 5 5 7 7 8 11;
+        10 8 8 8 8 8 8 8 8 8;
+        10 10 10 10 10 10 10 10 10 10;
     }
 }
