@@ -2,7 +2,7 @@
 use Rattle.std.proofs.Common.{◌≡◌, ℕ, Bool, true, false, cond, refl, sym, ◌∙◌, List, [], ◌∷◌}
 use Rattle.std.specs.List.{AllByRecursion, list_any, filter}
 use Rattle.std.proofs.lemmas.Bool.{or_parts}
-use Rattle.history_book.specs.declared.protocol.Part.{Part}
+use Rattle.proto_rules.specs.declared.Part.{Part}
 use Rattle.history_book.specs.declared.record.Record.{Record}
 use Rattle.history_book.specs.Laws.{AreApart, IsSameEntry}
 use Rattle.history_book.specs.Record.{has_id}

@@ -7,8 +7,8 @@ use Rattle.tuple_core.specs.declared.Tuple.{Tuple}
 use Rattle.history_book.specs.declared.event.Event.{Event}
 use Rattle.history_book.specs.declared.event.Event.TheVariants.{Confirm, Touch, Destroy}
 use Rattle.history_book.specs.declared.event.Why.TheVariants.{Expired}
-use Rattle.history_book.specs.declared.protocol.Part.{Part}
-use Rattle.history_book.specs.declared.protocol.PartKind.TheVariants as kind
+use Rattle.proto_rules.specs.declared.Part.{Part}
+use Rattle.proto_rules.specs.declared.PartKind.TheVariants as kind
 use Rattle.history_book.specs.declared.sizes.Sizes.{Sizes}
 use Rattle.history_book.specs.History.{after, is_legal}
 

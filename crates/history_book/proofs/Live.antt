@@ -7,9 +7,9 @@ use Rattle.tuple_core.specs.declared.Direction.TheVariants.{Original, Reply}
 use Rattle.tuple_core.specs.declared.Tuple.{Tuple}
 use Rattle.history_book.specs.declared.event.Event.TheVariants.{Destroy}
 use Rattle.history_book.specs.declared.event.Why.{Why}
-use Rattle.history_book.specs.declared.protocol.Part.{Part}
-use Rattle.history_book.specs.declared.protocol.PartKind.{PartKind}
-use Rattle.history_book.specs.declared.protocol.PartKind.TheVariants as kind
+use Rattle.proto_rules.specs.declared.Part.{Part}
+use Rattle.proto_rules.specs.declared.PartKind.{PartKind}
+use Rattle.proto_rules.specs.declared.PartKind.TheVariants as kind
 use Rattle.history_book.specs.declared.record.Record.{Record}
 use Rattle.history_book.specs.Legality.{same_bool, same_kind, same_part}
 use Rattle.history_book.specs.Laws.{AreApart}

@@ -3,7 +3,7 @@ use Rattle.std.proofs.Common.{◌≡◌, ℕ, zero, suc, true, false, not, cond,
 use Rattle.std.specs.List.{AllByRecursion, filter, find, slice_get, remove}
 use Rattle.std.specs.Prelude.{map, slice_set, ◌≢◌}
 use Rattle.std.proofs.lemmas.Bool.{eq-eqb, ne_eqb}
-use Rattle.history_book.specs.declared.protocol.Part.{Part}
+use Rattle.proto_rules.specs.declared.Part.{Part}
 use Rattle.history_book.specs.declared.record.Record.{Record}
 use Rattle.history_book.specs.Laws.{AreApart}
 use Rattle.history_book.specs.Record.{has_id}

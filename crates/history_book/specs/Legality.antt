@@ -2,26 +2,25 @@
 use Rattle.std.specs.Prelude.{ℕ, Bool, true, false, ◌==◌, ◌&&◌, not, nat_lt, Option, Some, None}
 use Rattle.tuple_core.specs.Tuple.{is_valid, number_of}
 use Rattle.tuple_core.specs.declared.Direction.{Direction}
+use Rattle.tuple_core.specs.declared.Direction.TheVariants.{Original}
 use Rattle.tuple_core.specs.declared.Proto.{Proto}
-use Rattle.tuple_core.specs.declared.Proto.TheVariants as proto
 use Rattle.tuple_core.specs.declared.Segment.{Segment}
 use Rattle.history_book.specs.declared.event.Event.{Event}
 use Rattle.history_book.specs.declared.event.Event.TheVariants.{Confirm, Touch, Destroy}
 use Rattle.history_book.specs.declared.event.Why.{Why}
 use Rattle.history_book.specs.declared.event.Why.TheVariants as why
-use Rattle.history_book.specs.declared.protocol.Outcome.{Outcome}
-use Rattle.history_book.specs.declared.protocol.Outcome.TheVariants as outcome
-use Rattle.history_book.specs.declared.protocol.Part.{Part}
-use Rattle.history_book.specs.declared.protocol.PartKind.{PartKind}
-use Rattle.history_book.specs.declared.protocol.PartKind.TheVariants as kind
+use Rattle.proto_rules.specs.declared.Outcome.{Outcome}
+use Rattle.proto_rules.specs.declared.Outcome.TheVariants as outcome
+use Rattle.proto_rules.specs.declared.Part.{Part}
+use Rattle.proto_rules.specs.declared.PartKind.{PartKind}
+use Rattle.proto_rules.specs.declared.PartKind.TheVariants as kind
 use Rattle.history_book.specs.declared.record.Record.{Record}
-use Rattle.history_book.specs.Protocol.{is_expired, is_of_protocol, step_of}
+use Rattle.proto_rules.specs.Part.{is_expired}
+use Rattle.proto_rules.specs.TcpTable.{same_state}
+use Rattle.proto_rules.specs.Protocol.{is_of_protocol, proto_of}
+use Rattle.proto_rules.specs.Step.{step_of}
 use Rattle.history_book.specs.declared.sizes.Sizes.{Sizes}
 use Rattle.history_book.specs.State.{State, is_free, is_unused, record_of}
-
--- the protocol that a part is of
-abbrev pub proto_of : PartKind → Proto
-proto_of kind.Udp = proto.Udp
 
 abbrev pub same_proto : Proto → Proto → Bool
 same_proto p q = number_of p == number_of q
@@ -47,7 +46,15 @@ same_bool true b = b
 same_bool false b = not b
 
 abbrev pub same_kind : PartKind → PartKind → Bool
+same_kind (kind.Tcp p) (kind.Tcp q) = same_state p q
+same_kind (kind.Tcp p) kind.Udp = false
+same_kind (kind.Tcp p) kind.Icmp = false
+same_kind kind.Udp (kind.Tcp q) = false
 same_kind kind.Udp kind.Udp = true
+same_kind kind.Udp kind.Icmp = false
+same_kind kind.Icmp (kind.Tcp q) = false
+same_kind kind.Icmp kind.Udp = false
+same_kind kind.Icmp kind.Icmp = true
 
 abbrev pub same_part : Part → Part → Bool
 same_part p q =
@@ -56,7 +63,29 @@ same_part p q =
 -- the step accepts the packet, and the entry goes on with this part
 abbrev pub accepts : Outcome → Part → Bool
 accepts (outcome.Accept p) after = same_part p after
+accepts outcome.Ignore after = false
+accepts outcome.Invalid after = false
+accepts outcome.Reopen after = false
+accepts outcome.Reset after = false
 accepts outcome.Expired after = false
+
+-- the step reopens the connection
+abbrev pub is_reopen : Outcome → Bool
+is_reopen (outcome.Accept p) = false
+is_reopen outcome.Ignore = false
+is_reopen outcome.Invalid = false
+is_reopen outcome.Reopen = true
+is_reopen outcome.Reset = false
+is_reopen outcome.Expired = false
+
+-- the step resets the connection
+abbrev pub is_reset : Outcome → Bool
+is_reset (outcome.Accept p) = false
+is_reset outcome.Ignore = false
+is_reset outcome.Invalid = false
+is_reset outcome.Reopen = false
+is_reset outcome.Reset = true
+is_reset outcome.Expired = false
 
 -- an entry may be touched where it is live, the segment is of its protocol, and the step accepts it
 abbrev pub may_touch : Option Record → Direction → Segment → ℕ → Part → Bool
@@ -64,9 +93,14 @@ may_touch None direction segment moment after = false
 may_touch (Some r) direction segment moment after =
     is_of_protocol segment r.part.kind && accepts (step_of r.part direction segment moment) after
 
--- the reason holds of the record
+-- The reason holds of the record: it was expired at the moment, or a segment of its protocol reopened or
+-- reset it then. A reset is the same in both directions.
 abbrev pub is_reason : Why → Record → Bool
 is_reason (why.Expired moment) r = is_expired r.part moment
+is_reason (why.Reopened direction segment moment) r =
+    is_of_protocol segment r.part.kind && is_reopen (step_of r.part direction segment moment)
+is_reason (why.Reset segment moment) r =
+    is_of_protocol segment r.part.kind && is_reset (step_of r.part Original segment moment)
 
 -- an entry may be destroyed where it is live and the reason holds of it
 abbrev pub may_destroy : Option Record → Why → Bool
@@ -80,8 +114,14 @@ may_happen sizes s n (Touch id direction segment moment after) =
     may_touch (record_of id s) direction segment moment after
 may_happen sizes s n (Destroy id why) = may_destroy (record_of id s) why
 
+-- the moment that a reason names, where the step reads it
+abbrev pub reason_moment_of : Why → ℕ
+reason_moment_of (why.Expired moment) = 0
+reason_moment_of (why.Reopened direction segment moment) = moment
+reason_moment_of (why.Reset segment moment) = moment
+
 -- the moment of the packet that an event was made by, where the step reads it
 abbrev pub step_moment_of : Event → ℕ
 step_moment_of (Confirm r) = 0
 step_moment_of (Touch id direction segment moment after) = moment
-step_moment_of (Destroy id why) = 0
+step_moment_of (Destroy id why) = reason_moment_of why

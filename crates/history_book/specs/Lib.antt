@@ -1,4 +1,3 @@
-pub mod Protocol
 pub mod Record
 pub mod Sizes
 pub mod State

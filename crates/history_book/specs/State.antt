@@ -6,7 +6,7 @@ use Rattle.tuple_core.specs.declared.Direction.TheVariants.{Original, Reply}
 use Rattle.tuple_core.specs.declared.Tuple.{Tuple}
 use Rattle.history_book.specs.declared.event.Event.{Event}
 use Rattle.history_book.specs.declared.event.Event.TheVariants.{Confirm, Touch, Destroy}
-use Rattle.history_book.specs.declared.protocol.Part.{Part}
+use Rattle.proto_rules.specs.declared.Part.{Part}
 use Rattle.history_book.specs.declared.record.Record.{Record}
 use Rattle.history_book.specs.Record.{has_id, has_original, has_place, has_reply, has_tuple}
 

@@ -1,6 +1,6 @@
 //! The events of the tracker: each is one change of the table.
 
-use crate::protocol::Part;
+use proto_rules::Part;
 use crate::record::Record;
 use tuple_core::{Direction, Segment};
 
@@ -9,6 +9,14 @@ use tuple_core::{Direction, Segment};
 pub enum Why {
     /// Its deadline is at most the moment, in microseconds.
     Expired { moment: u64 },
+    /// A segment in this direction began a new connection in place of the closed one.
+    Reopened {
+        direction: Direction,
+        segment: Segment,
+        moment: u64,
+    },
+    /// A segment, in either direction, reset the connection before a reply was seen.
+    Reset { segment: Segment, moment: u64 },
 }
 
 /// One change of the table.

@@ -1,16 +1,19 @@
 //! Which events may happen: the plain programs of the definitions.
 
-ghost use Rattle.std.specs.Prelude.{◌≡◌, ◌≤◌, ◌^◌, Some};
+ghost use Rattle.std.specs.Prelude.{◌≡◌, ◌≤◌, ◌^◌, Some, true};
 ghost use Rattle.std.specs.List.{list_any};
-ghost use Rattle.history_book.specs.Legality.{is_of_one_protocol, is_reason, may_confirm, may_happen};
-ghost use Rattle.history_book.specs.Legality.{may_touch, same_part, step_moment_of};
-ghost use Rattle.history_book.specs.Protocol.{is_of_protocol};
+ghost use Rattle.history_book.specs.Legality.{is_of_one_protocol, is_reason, is_reopen, is_reset};
+ghost use Rattle.history_book.specs.Legality.{may_confirm, may_happen, may_touch, reason_moment_of};
+ghost use Rattle.history_book.specs.Legality.{same_kind, same_part, step_moment_of};
+ghost use Rattle.proto_rules.specs.Protocol.{is_of_protocol, proto_of};
+ghost use Rattle.proto_rules.specs.Step.{step_of};
+ghost use Rattle.proto_rules.specs.TcpTable.{column_of};
 ghost use Rattle.history_book.specs.Record.{has_place, has_tuple};
 ghost use Rattle.history_book.specs.State.{state_of};
 
 use crate::event::{Event, Why};
 use crate::find::find_id;
-use crate::protocol::{Outcome, Part, PartKind, step};
+use proto_rules::{Outcome, Part, PartKind, TcpState, step};
 use crate::record::Record;
 use crate::sizes::Sizes;
 use tuple_core::{Direction, Proto, Segment, Tuple, is_valid};
@@ -20,9 +23,12 @@ pub fn is_of_protocol(segment: Segment, kind: PartKind) -> bool
     ensures { result ≡ is_of_protocol segment kind }
 {
     match (segment, kind) {
+        (Segment::Tcp(_), PartKind::Tcp(_)) => true,
         (Segment::Udp, PartKind::Udp) => true,
-        (Segment::Tcp(_), PartKind::Udp) => false,
-        (Segment::Icmp(_), PartKind::Udp) => false,
+        (Segment::Icmp(_), PartKind::Icmp) => true,
+        (Segment::Tcp(_), PartKind::Udp | PartKind::Icmp) => false,
+        (Segment::Udp, PartKind::Tcp(_) | PartKind::Icmp) => false,
+        (Segment::Icmp(_), PartKind::Tcp(_) | PartKind::Udp) => false,
     }
 }
 
@@ -47,13 +53,22 @@ pub fn is_place_used(records: &[Record], place: u32) -> bool
     records.iter().any(|r| r.place == place)
 }
 
+/// The protocol that a part is of.
+fn proto_of(kind: PartKind) -> Proto
+    ensures { result ≡ proto_of kind }
+{
+    match kind {
+        PartKind::Tcp(_) => Proto::Tcp,
+        PartKind::Udp => Proto::Udp,
+        PartKind::Icmp => Proto::Icmp,
+    }
+}
+
 /// Whether both tuples of a record are valid and of the protocol of its part.
 fn is_of_one_protocol(r: &Record) -> bool
     ensures { result ≡ is_of_one_protocol r.now }
 {
-    let proto = match r.part.kind {
-        PartKind::Udp => Proto::Udp,
-    };
+    let proto = proto_of(r.part.kind);
     is_valid(&r.original)
         && is_valid(&r.reply)
         && r.original.proto == proto
@@ -73,14 +88,32 @@ fn is_confirmable(sizes: &Sizes, records: &[Record], number: u64, subject: &Reco
         && !is_taken(records, &subject.reply)
 }
 
+/// A state's number.
+fn column(state: TcpState) -> usize
+    ensures { result ≡ column_of state }
+{
+    state as usize
+}
+
+/// Whether two parts are of one protocol, and in one state.
+fn is_same_kind(p: PartKind, q: PartKind) -> bool
+    ensures { result ≡ same_kind p q }
+{
+    match (p, q) {
+        (PartKind::Tcp(old), PartKind::Tcp(new)) => column(old) == column(new),
+        (PartKind::Udp, PartKind::Udp) => true,
+        (PartKind::Icmp, PartKind::Icmp) => true,
+        (PartKind::Tcp(_), PartKind::Udp | PartKind::Icmp) => false,
+        (PartKind::Udp, PartKind::Tcp(_) | PartKind::Icmp) => false,
+        (PartKind::Icmp, PartKind::Tcp(_) | PartKind::Udp) => false,
+    }
+}
+
 /// Whether two parts are equal.
 fn is_same_part(p: &Part, q: &Part) -> bool
     ensures { result ≡ same_part p.now q.now }
 {
-    let is_same_kind = match (p.kind, q.kind) {
-        (PartKind::Udp, PartKind::Udp) => true,
-    };
-    is_same_kind && p.replied == q.replied && p.assured == q.assured && p.deadline == q.deadline
+    is_same_kind(p.kind, q.kind) && p.replied == q.replied && p.assured == q.assured && p.deadline == q.deadline
 }
 
 /// Whether the record may be touched by such a packet, and goes on with the part `after`.
@@ -99,16 +132,64 @@ fn is_touchable(
     }
     match step(&r.part, direction, segment, moment) {
         Outcome::Accept(next) => is_same_part(&next, after),
-        Outcome::Expired => false,
+        Outcome::Ignore
+        | Outcome::Invalid
+        | Outcome::Reopen
+        | Outcome::Reset
+        | Outcome::Expired => false,
+    }
+}
+
+/// Whether such a packet reopens the connection.
+fn is_reopening(part: &Part, direction: Direction, segment: Segment, moment: u64) -> bool
+    requires fits { moment ≤ 10 ^ 16 }
+    requires same { is_of_protocol segment part.now.kind ≡ true }
+    ensures { result ≡ is_reopen (step_of part.now direction segment moment) }
+{
+    match step(part, direction, segment, moment) {
+        Outcome::Reopen => true,
+        Outcome::Accept(_)
+        | Outcome::Ignore
+        | Outcome::Invalid
+        | Outcome::Reset
+        | Outcome::Expired => false,
+    }
+}
+
+/// Whether such a packet resets the connection.
+fn is_resetting(part: &Part, segment: Segment, moment: u64) -> bool
+    requires fits { moment ≤ 10 ^ 16 }
+    requires same { is_of_protocol segment part.now.kind ≡ true }
+    ensures { result ≡ is_reset (step_of part.now Direction.Original segment moment) }
+{
+    match step(part, Direction::Original, segment, moment) {
+        Outcome::Reset => true,
+        Outcome::Accept(_)
+        | Outcome::Ignore
+        | Outcome::Invalid
+        | Outcome::Reopen
+        | Outcome::Expired => false,
     }
 }
 
 /// Whether the reason holds of the record.
 fn is_reason_for(why: &Why, r: &Record) -> bool
+    requires { reason_moment_of why.now ≤ 10 ^ 16 }
     ensures { result ≡ is_reason why.now r.now }
 {
-    match why {
-        Why::Expired { moment } => r.part.deadline <= *moment,
+    match *why {
+        Why::Expired { moment } => r.part.deadline <= moment,
+        Why::Reopened {
+            direction,
+            segment,
+            moment,
+        } => {
+            is_of_protocol(segment, r.part.kind)
+                && is_reopening(&r.part, direction, segment, moment)
+        }
+        Why::Reset { segment, moment } => {
+            is_of_protocol(segment, r.part.kind) && is_resetting(&r.part, segment, moment)
+        }
     }
 }
 

@@ -5,7 +5,6 @@ pub mod event;
 pub mod find;
 pub mod laws;
 pub mod legality;
-pub mod protocol;
 pub mod record;
 pub mod report;
 pub mod sizes;

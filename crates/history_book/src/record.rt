@@ -1,6 +1,6 @@
 //! What the tracker keeps of one entry.
 
-use crate::protocol::Part;
+use proto_rules::Part;
 use tuple_core::Tuple;
 
 /// One live entry. All but its part stays as it was confirmed.

@@ -3,7 +3,7 @@
 use crate::event::{Event, Why};
 use crate::find::{FoundAt, find, find_id, label};
 use crate::legality::is_lawful;
-use crate::protocol::{Outcome, Part, PartKind, start, step};
+use proto_rules::{Outcome, Part, PartKind, start, step};
 use crate::record::Record;
 use crate::sizes::Sizes;
 use crate::verdict::Label;

@@ -54,6 +54,15 @@ pub enum Class {
     Untracked(UntrackedWhy),
     /// A header of it is cut, or wrong.
     BadHeader,
+    /// It is of no entry, and no entry begins with such a packet.
+    NoEntry {
+        at: u64,
+    },
+    /// It is of this entry, and no packet that the entry can have in its state.
+    BadState {
+        id: u64,
+        at: u64,
+    },
     /// It is an ICMP error about a packet of no entry.
     ErrorLost {
         at: u64,
@@ -82,6 +91,11 @@ pub enum Class {
         id: u64,
         at: u64,
         ftp: Ftp,
+    },
+    /// It is of this entry, which let it pass and stayed as it was.
+    Ignored {
+        id: u64,
+        at: u64,
     },
     /// It would begin a flow, and the table has no room.
     Full {

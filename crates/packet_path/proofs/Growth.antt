@@ -10,10 +10,11 @@ use Rattle.history_book.specs.declared.event.Note.{Note}
 use Rattle.history_book.specs.declared.sizes.Sizes.{Sizes}
 use Rattle.history_book.specs.declared.verdict.Class.{Class}
 use Rattle.history_book.specs.declared.verdict.Class.TheVariants as class
-use Rattle.packet_path.specs.declared.packet.Arrival.{Arrival}
-use Rattle.packet_path.specs.declared.packet.FlowPacket.{FlowPacket}
+use Rattle.proto_rules.specs.declared.Outcome.{Outcome}
+use Rattle.packet_path.specs.Packet.{FlowPacket, Given}
+use Rattle.packet_path.specs.Unchanged.{BeginsNothing, LeavesEntry}
 use Rattle.packet_path.specs.Error.{AnswersError, LooksUp}
-use Rattle.packet_path.specs.Verdict.{AnswersFlow, FitsArrival, Kills, KillsAll}
+use Rattle.packet_path.specs.Verdict.{AnswersFlow, FitsFrame, Kills, KillsAll}
 
 -- a fact at a point stays as the history goes on
 pub at_grows : StatesStay → (longer log : List Event) (p : ℕ) (F : State → Type 0) → StartsWith longer log
@@ -23,7 +24,7 @@ at_grows stay longer log p F starts fact =
     record { within = same.0; fact = subst F (sym same.1) fact.fact }
 
 -- an answer to an error, of which another fact follows
-pub error_still : (given : Arrival) (own : List Note) (P Q : Tuple → ℕ → Type 0)
+pub error_still : (given : Given) (own : List Note) (P Q : Tuple → ℕ → Type 0)
     → ((inner : Tuple) (outer : ℕ) → P inner outer → Q inner outer) → AnswersError given own P → AnswersError given own Q
 error_still given own P Q then f = record {
   inner = f.inner;
@@ -50,7 +51,7 @@ module _ (events : EventsStay) (states : StatesStay) (longer log : List Event) (
   kills_all_grows mark packet [] k = tt
   kills_all_grows mark packet (n ∷ ns) (k, ks) = (kills_grows mark packet n k, kills_all_grows (n.number + 1) packet ns ks)
 
-  flow_grows : (mark : ℕ) (given : Arrival) (own : List Note) (P Q : FlowPacket → ℕ → ℕ → List Note → Type 0)
+  flow_grows : (mark : ℕ) (given : Given) (own : List Note) (P Q : FlowPacket → ℕ → ℕ → List Note → Type 0)
       → ((packet : FlowPacket) (kills k : ℕ) (rest : List Note) → P packet kills k rest → Q packet kills k rest)
       → AnswersFlow log mark given own P → AnswersFlow longer mark given own Q
   flow_grows mark given own P Q then f = record {
@@ -68,13 +69,34 @@ module _ (events : EventsStay) (states : StatesStay) (longer log : List Event) (
       → LooksUp longer mark inner at found
   looked_grows mark inner at found l = record { from = l.from; live = at_grows states longer log _ _ starts l.live }
 
-  pub arrival_grows : (sizes : Sizes) (mark : ℕ) (given : Arrival) (own : List Note) (verdict : Class)
-      → FitsArrival sizes log mark given own verdict → FitsArrival sizes longer mark given own verdict
-  arrival_grows sizes mark given own (class.Untracked why) f = f
-  arrival_grows sizes mark given own class.BadHeader f = f
-  arrival_grows sizes mark given own (class.ErrorLost at) f =
+  leaves_grows : (k : ℕ) (packet : FlowPacket) (rest : List Note) (id at : ℕ) (outcome : Outcome)
+      → LeavesEntry log k packet rest id at outcome → LeavesEntry longer k packet rest id at outcome
+  leaves_grows k packet rest id at outcome l = record {
+    own = l.own;
+    from = l.from;
+    found = l.found;
+    live = at_grows states longer log _ _ starts l.live;
+    named = l.named;
+    step = l.step;
+  }
+
+  pub frame_grows : (sizes : Sizes) (mark : ℕ) (given : Given) (own : List Note) (verdict : Class)
+      → FitsFrame sizes log mark given own verdict → FitsFrame sizes longer mark given own verdict
+  frame_grows sizes mark given own (class.Untracked why) f = f
+  frame_grows sizes mark given own class.BadHeader f = f
+  frame_grows sizes mark given own (class.NoEntry at) f =
+      flow_grows mark given own _ _
+      (λ packet kills k rest b. record {
+        own = b.own;
+        from = b.from;
+        absent = at_grows states longer log _ _ starts b.absent;
+        starts = b.starts;
+      }) f
+  frame_grows sizes mark given own (class.BadState id at) f =
+      flow_grows mark given own _ _ (λ packet kills k rest l. leaves_grows k packet rest id at _ l) f
+  frame_grows sizes mark given own (class.ErrorLost at) f =
       error_still given own _ _ (λ inner outer l. looked_grows mark inner at _ l) f
-  arrival_grows sizes mark given own (class.ErrorAddress id at) f =
+  frame_grows sizes mark given own (class.ErrorAddress id at) f =
       error_still given own _ _
       (λ inner outer l. record {
         found = l.found;
@@ -82,7 +104,7 @@ module _ (events : EventsStay) (states : StatesStay) (longer log : List Event) (
         named = l.named;
         address = l.address;
       }) f
-  arrival_grows sizes mark given own (class.Error direction id at) f =
+  frame_grows sizes mark given own (class.Error direction id at) f =
       error_still given own _ _
       (λ inner outer l. record {
         found = l.found;
@@ -91,7 +113,7 @@ module _ (events : EventsStay) (states : StatesStay) (longer log : List Event) (
         directed = l.directed;
         address = l.address;
       }) f
-  arrival_grows sizes mark given own (class.Made id at translated unclaimed) f =
+  frame_grows sizes mark given own (class.Made id at translated unclaimed) f =
       flow_grows mark given own _ _
       (λ packet kills k rest m. record {
         subject = m.subject;
@@ -102,21 +124,23 @@ module _ (events : EventsStay) (states : StatesStay) (longer log : List Event) (
         alone = m.alone;
         point = m.point;
       }) f
-  arrival_grows sizes mark given own (class.Passed label id at ftp) f =
+  frame_grows sizes mark given own (class.Passed label id at ftp) f =
       flow_grows mark given own _ _
       (λ packet kills k rest m. record {
-        number = m.number;
+        note = m.note;
         found = m.found;
-        part = m.part;
         own = m.own;
-        happened = happened_grows k _ m.happened;
+        happened = happened_grows k m.note m.happened;
+        passing = m.passing;
         live = at_grows states longer log _ _ starts m.live;
         named = m.named;
         labelled = m.labelled;
         payload = m.payload;
         point = m.point;
       }) f
-  arrival_grows sizes mark given own (class.Full at) f =
+  frame_grows sizes mark given own (class.Ignored id at) f =
+      flow_grows mark given own _ _ (λ packet kills k rest l. leaves_grows k packet rest id at _ l) f
+  frame_grows sizes mark given own (class.Full at) f =
       flow_grows mark given own _ _
       (λ packet kills k rest m. record {
         own = m.own;

@@ -9,11 +9,12 @@ use Rattle.history_book.specs.declared.record.Record.{Record}
 use Rattle.history_book.specs.declared.sizes.Sizes.{Sizes}
 use Rattle.history_book.specs.declared.verdict.Class.{Class}
 use Rattle.history_book.specs.declared.verdict.Class.TheVariants as class
-use Rattle.packet_path.specs.declared.packet.Arrival.{Arrival}
-use Rattle.packet_path.specs.declared.packet.FlowPacket.{FlowPacket}
+use Rattle.proto_rules.specs.declared.Outcome.{Outcome}
+use Rattle.packet_path.specs.Packet.{FlowPacket, Given}
+use Rattle.packet_path.specs.Unchanged.{BeginsNothing, LeavesEntry}
 use Rattle.packet_path.specs.Error.{LooksUp}
 use Rattle.packet_path.specs.Made.{IsUnclaimed}
-use Rattle.packet_path.specs.Verdict.{AnswersFlow, FitsArrival, KillsAll}
+use Rattle.packet_path.specs.Verdict.{AnswersFlow, FitsFrame, KillsAll}
 use Rattle.packet_path.proofs.Growth.{error_still}
 
 mark_past-le : (m n : ℕ) (notes : List Note) → m ≤ n → mark_past m notes ≤ mark_past n notes
@@ -34,7 +35,7 @@ kills_lower log m n packet (x ∷ xs) le (k, ks) =
     (record { happened = happened_lower log m n x le k.happened; found = k.found; live = k.live; kill = k.kill }, ks)
 
 module _ (log : List Event) (m n : ℕ) (le : m ≤ n) where
-  flow_lower : (given : Arrival) (own : List Note) (P Q : FlowPacket → ℕ → ℕ → List Note → Type 0)
+  flow_lower : (given : Given) (own : List Note) (P Q : FlowPacket → ℕ → ℕ → List Note → Type 0)
       → ((packet : FlowPacket) (kills j k : ℕ) (rest : List Note) → j ≤ k → P packet kills k rest → Q packet kills j rest)
       → AnswersFlow log n given own P → AnswersFlow log m given own Q
   flow_lower given own P Q then f = record {
@@ -51,13 +52,34 @@ module _ (log : List Event) (m n : ℕ) (le : m ≤ n) where
   looked_lower : (inner : Tuple) (at : ℕ) (found : Option Found) → LooksUp log n inner at found → LooksUp log m inner at found
   looked_lower inner at found l = record { from = omega (arith, l.from, le); live = l.live }
 
-  pub arrival_lower : (sizes : Sizes) (given : Arrival) (own : List Note) (verdict : Class)
-      → FitsArrival sizes log n given own verdict → FitsArrival sizes log m given own verdict
-  arrival_lower sizes given own (class.Untracked why) f = f
-  arrival_lower sizes given own class.BadHeader f = f
-  arrival_lower sizes given own (class.ErrorLost at) f =
+  leaves_lower : (j k : ℕ) (packet : FlowPacket) (rest : List Note) (id at : ℕ) (outcome : Outcome) → j ≤ k
+      → LeavesEntry log k packet rest id at outcome → LeavesEntry log j packet rest id at outcome
+  leaves_lower j k packet rest id at outcome lower l = record {
+    own = l.own;
+    from = omega (arith, l.from, lower);
+    found = l.found;
+    live = l.live;
+    named = l.named;
+    step = l.step;
+  }
+
+  pub frame_lower : (sizes : Sizes) (given : Given) (own : List Note) (verdict : Class)
+      → FitsFrame sizes log n given own verdict → FitsFrame sizes log m given own verdict
+  frame_lower sizes given own (class.Untracked why) f = f
+  frame_lower sizes given own class.BadHeader f = f
+  frame_lower sizes given own (class.NoEntry at) f =
+      flow_lower given own _ _
+      (λ packet kills j k rest lower b. record {
+        own = b.own;
+        from = omega (arith, b.from, lower);
+        absent = b.absent;
+        starts = b.starts;
+      }) f
+  frame_lower sizes given own (class.BadState id at) f =
+      flow_lower given own _ _ (λ packet kills j k rest lower l. leaves_lower j k packet rest id at _ lower l) f
+  frame_lower sizes given own (class.ErrorLost at) f =
       error_still given own _ _ (λ inner outer l. looked_lower inner at _ l) f
-  arrival_lower sizes given own (class.ErrorAddress id at) f =
+  frame_lower sizes given own (class.ErrorAddress id at) f =
       error_still given own _ _
       (λ inner outer l. record {
         found = l.found;
@@ -65,7 +87,7 @@ module _ (log : List Event) (m n : ℕ) (le : m ≤ n) where
         named = l.named;
         address = l.address;
       }) f
-  arrival_lower sizes given own (class.Error direction id at) f =
+  frame_lower sizes given own (class.Error direction id at) f =
       error_still given own _ _
       (λ inner outer l. record {
         found = l.found;
@@ -74,7 +96,7 @@ module _ (log : List Event) (m n : ℕ) (le : m ≤ n) where
         directed = l.directed;
         address = l.address;
       }) f
-  arrival_lower sizes given own (class.Made id at translated unclaimed) f =
+  frame_lower sizes given own (class.Made id at translated unclaimed) f =
       flow_lower given own _ _
       (λ packet kills j k rest lower h. record {
         subject = h.subject;
@@ -85,21 +107,23 @@ module _ (log : List Event) (m n : ℕ) (le : m ≤ n) where
         alone = unclaimed_lower j k unclaimed h.subject lower h.alone;
         point = h.point;
       }) f
-  arrival_lower sizes given own (class.Passed label id at ftp) f =
+  frame_lower sizes given own (class.Passed label id at ftp) f =
       flow_lower given own _ _
       (λ packet kills j k rest lower h. record {
-        number = h.number;
+        note = h.note;
         found = h.found;
-        part = h.part;
         own = h.own;
-        happened = happened_lower log j k _ lower h.happened;
+        happened = happened_lower log j k h.note lower h.happened;
+        passing = h.passing;
         live = h.live;
         named = h.named;
         labelled = h.labelled;
         payload = h.payload;
         point = h.point;
       }) f
-  arrival_lower sizes given own (class.Full at) f =
+  frame_lower sizes given own (class.Ignored id at) f =
+      flow_lower given own _ _ (λ packet kills j k rest lower l. leaves_lower j k packet rest id at _ lower l) f
+  frame_lower sizes given own (class.Full at) f =
       flow_lower given own _ _
       (λ packet kills j k rest lower h. record {
         own = h.own;

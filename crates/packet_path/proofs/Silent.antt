@@ -1,5 +1,5 @@
--- What the verdicts are that fit a packet which makes no event.
-use Rattle.std.proofs.Common.{◌≡◌, ℕ, List, [], ap, refl, sym}
+-- What the verdicts are that fit a frame which makes no event.
+use Rattle.std.proofs.Common.{◌≡◌, ℕ, List, [], ap, refl, sym, ◌∙◌}
 use Rattle.tuple_core.specs.declared.Tuple.{Tuple}
 use Rattle.history_book.specs.declared.event.Event.{Event}
 use Rattle.history_book.specs.declared.event.Note.{Note}
@@ -7,42 +7,61 @@ use Rattle.history_book.specs.declared.sizes.Sizes.{Sizes}
 use Rattle.history_book.specs.declared.verdict.Class.{Class}
 use Rattle.history_book.specs.declared.verdict.Class.TheVariants as class
 use Rattle.history_book.specs.declared.verdict.UntrackedWhy.{UntrackedWhy}
-use Rattle.packet_path.specs.declared.packet.Arrival.TheVariants as arrival
-use Rattle.packet_path.specs.Verdict.{FitsArrival}
+use Rattle.history_book.specs.declared.verdict.UntrackedWhy.TheVariants as why
+use Rattle.packet_headers.specs.declared.packet.Packet.TheVariants as packet
+use Rattle.packet_path.specs.Packet.{Given, cause_of}
+use Rattle.packet_path.specs.Verdict.{FitsFrame}
 
-same_why : (v w : UntrackedWhy) → arrival.Untracked v ≡ arrival.Untracked w → v ≡ w
-same_why v w e = cc
+same_why : (v w : UntrackedWhy) → packet.Untracked (cause_of v) ≡ packet.Untracked (cause_of w) → v ≡ w
+same_why why.Link why.Link e = refl
+same_why why.Link why.Fragment e = cc
+same_why why.Link why.Protocol e = cc
+same_why why.Fragment why.Link e = cc
+same_why why.Fragment why.Fragment e = refl
+same_why why.Fragment why.Protocol e = cc
+same_why why.Protocol why.Link e = cc
+same_why why.Protocol why.Fragment e = cc
+same_why why.Protocol why.Protocol e = refl
 
-module _ (sizes : Sizes) (log : List Event) (mark : ℕ) where
-  pub untracked_only : (own : List Note) (answer : Class) (why : UntrackedWhy)
-      → FitsArrival sizes log mark (arrival.Untracked why) own answer → (own ≡ []) × (answer ≡ class.Untracked why)
-  untracked_only own (class.Untracked w) why f = (f.1, ap class.Untracked (sym (same_why why w f.0)))
-  untracked_only own class.BadHeader why f = let e = f.0 in cc
-  untracked_only own (class.ErrorLost at) why f = let e = f.error in cc
-  untracked_only own (class.ErrorAddress id at) why f = let e = f.error in cc
-  untracked_only own (class.Error direction id at) why f = let e = f.error in cc
-  untracked_only own (class.Made id at translated unclaimed) why f = let e = f.flow in cc
-  untracked_only own (class.Passed label id at ftp) why f = let e = f.flow in cc
-  untracked_only own (class.Full at) why f = let e = f.flow in cc
+module _ (sizes : Sizes) (log : List Event) (mark : ℕ) (given : Given) where
+  pub untracked_only : (own : List Note) (answer : Class) (why : UntrackedWhy) → given.packet ≡ packet.Untracked (cause_of why)
+      → FitsFrame sizes log mark given own answer → (own ≡ []) × (answer ≡ class.Untracked why)
+  untracked_only own (class.Untracked w) why is f = (f.1, ap class.Untracked (same_why w why (sym f.0 ∙ is)))
+  untracked_only own class.BadHeader why is f = let e = f.0 in cc
+  untracked_only own (class.ErrorLost at) why is f = let e = f.error in cc
+  untracked_only own (class.ErrorAddress id at) why is f = let e = f.error in cc
+  untracked_only own (class.Error direction id at) why is f = let e = f.error in cc
+  untracked_only own (class.NoEntry at) why is f = let e = f.flow.headers in cc
+  untracked_only own (class.BadState id at) why is f = let e = f.flow.headers in cc
+  untracked_only own (class.Made id at translated unclaimed) why is f = let e = f.flow.headers in cc
+  untracked_only own (class.Passed label id at ftp) why is f = let e = f.flow.headers in cc
+  untracked_only own (class.Ignored id at) why is f = let e = f.flow.headers in cc
+  untracked_only own (class.Full at) why is f = let e = f.flow.headers in cc
 
-  pub invalid_only : (own : List Note) (answer : Class)
-      → FitsArrival sizes log mark arrival.Invalid own answer → (own ≡ []) × (answer ≡ class.BadHeader)
-  invalid_only own (class.Untracked w) f = let e = f.0 in cc
-  invalid_only own class.BadHeader f = (f.1, refl)
-  invalid_only own (class.ErrorLost at) f = let e = f.error in cc
-  invalid_only own (class.ErrorAddress id at) f = let e = f.error in cc
-  invalid_only own (class.Error direction id at) f = let e = f.error in cc
-  invalid_only own (class.Made id at translated unclaimed) f = let e = f.flow in cc
-  invalid_only own (class.Passed label id at ftp) f = let e = f.flow in cc
-  invalid_only own (class.Full at) f = let e = f.flow in cc
+  pub invalid_only : (own : List Note) (answer : Class) → given.packet ≡ packet.Invalid
+      → FitsFrame sizes log mark given own answer → (own ≡ []) × (answer ≡ class.BadHeader)
+  invalid_only own (class.Untracked w) is f = let e = f.0 in cc
+  invalid_only own class.BadHeader is f = (f.1, refl)
+  invalid_only own (class.ErrorLost at) is f = let e = f.error in cc
+  invalid_only own (class.ErrorAddress id at) is f = let e = f.error in cc
+  invalid_only own (class.Error direction id at) is f = let e = f.error in cc
+  invalid_only own (class.NoEntry at) is f = let e = f.flow.headers in cc
+  invalid_only own (class.BadState id at) is f = let e = f.flow.headers in cc
+  invalid_only own (class.Made id at translated unclaimed) is f = let e = f.flow.headers in cc
+  invalid_only own (class.Passed label id at ftp) is f = let e = f.flow.headers in cc
+  invalid_only own (class.Ignored id at) is f = let e = f.flow.headers in cc
+  invalid_only own (class.Full at) is f = let e = f.flow.headers in cc
 
-  pub error_silent : (own : List Note) (inner : Tuple) (outer : ℕ) (answer : Class)
-      → FitsArrival sizes log mark (arrival.Error inner outer) own answer → own ≡ []
-  error_silent own inner outer (class.Untracked w) f = let e = f.0 in cc
-  error_silent own inner outer class.BadHeader f = let e = f.0 in cc
-  error_silent own inner outer (class.ErrorLost at) f = f.none
-  error_silent own inner outer (class.ErrorAddress id at) f = f.none
-  error_silent own inner outer (class.Error direction id at) f = f.none
-  error_silent own inner outer (class.Made id at translated unclaimed) f = let e = f.flow in cc
-  error_silent own inner outer (class.Passed label id at ftp) f = let e = f.flow in cc
-  error_silent own inner outer (class.Full at) f = let e = f.flow in cc
+  pub error_silent : (inner : Tuple) (outer : ℕ) (own : List Note) (answer : Class) → given.packet ≡ packet.Error inner outer
+      → FitsFrame sizes log mark given own answer → own ≡ []
+  error_silent inner outer own (class.Untracked w) is f = let e = f.0 in cc
+  error_silent inner outer own class.BadHeader is f = let e = f.0 in cc
+  error_silent inner outer own (class.ErrorLost at) is f = f.none
+  error_silent inner outer own (class.ErrorAddress id at) is f = f.none
+  error_silent inner outer own (class.Error direction id at) is f = f.none
+  error_silent inner outer own (class.NoEntry at) is f = let e = f.flow.headers in cc
+  error_silent inner outer own (class.BadState id at) is f = let e = f.flow.headers in cc
+  error_silent inner outer own (class.Made id at translated unclaimed) is f = let e = f.flow.headers in cc
+  error_silent inner outer own (class.Passed label id at ftp) is f = let e = f.flow.headers in cc
+  error_silent inner outer own (class.Ignored id at) is f = let e = f.flow.headers in cc
+  error_silent inner outer own (class.Full at) is f = let e = f.flow.headers in cc

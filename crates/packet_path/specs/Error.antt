@@ -8,8 +8,8 @@ use Rattle.history_book.specs.declared.event.Event.{Event}
 use Rattle.history_book.specs.declared.event.Note.{Note}
 use Rattle.history_book.specs.Point.{At}
 use Rattle.history_book.specs.State.{Found, live_under}
-use Rattle.packet_path.specs.declared.packet.Arrival.{Arrival}
-use Rattle.packet_path.specs.declared.packet.Arrival.TheVariants as arrival
+use Rattle.packet_headers.specs.declared.packet.Packet.TheVariants as packet
+use Rattle.packet_path.specs.Packet.{Given}
 
 -- at this point from the mark on, this is live under the inverse of the tuple in the error
 pub record LooksUp (log : List Event) (mark : ℕ) (inner : Tuple) (at : ℕ) (found : Option Found) : Type 0 where
@@ -32,9 +32,9 @@ pub record IsRelated (log : List Event) (mark : ℕ) (inner : Tuple) (outer : �
   pub address : (inverse inner).dst ≡ outer
 
 -- it was an error, this is so of the tuple in it and the address that it was sent to, and no event was made
-pub record AnswersError (given : Arrival) (own : List Note) (Fits : Tuple → ℕ → Type 0) : Type 0 where
+pub record AnswersError (given : Given) (own : List Note) (Fits : Tuple → ℕ → Type 0) : Type 0 where
   pub inner : Tuple
   pub outer : ℕ
-  pub error : given ≡ arrival.Error inner outer
+  pub error : given.packet ≡ packet.Error inner outer
   pub none : own ≡ []
   pub fits : Fits inner outer

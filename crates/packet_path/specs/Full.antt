@@ -2,9 +2,9 @@
 use Rattle.std.specs.Prelude.{◌≡◌, ℕ, ◌≤◌, None, List, [], length, IsSome}
 use Rattle.history_book.specs.declared.event.Event.{Event}
 use Rattle.history_book.specs.declared.event.Note.{Note}
-use Rattle.packet_path.specs.declared.packet.FlowPacket.{FlowPacket}
+use Rattle.packet_path.specs.Packet.{FlowPacket}
 use Rattle.history_book.specs.Point.{At}
-use Rattle.history_book.specs.Protocol.{start_of}
+use Rattle.proto_rules.specs.Start.{start_of}
 use Rattle.history_book.specs.Sizes.{fewest_of_full}
 use Rattle.history_book.specs.State.{live_under}
 use Rattle.history_book.specs.declared.sizes.Sizes.{Sizes}

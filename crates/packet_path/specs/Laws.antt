@@ -8,32 +8,32 @@ use Rattle.history_book.specs.declared.verdict.Class.TheVariants as class
 use Rattle.history_book.specs.declared.verdict.UntrackedWhy.{UntrackedWhy}
 use Rattle.tuple_core.specs.declared.Tuple.{Tuple}
 use Rattle.history_book.specs.Point.{StartsWith}
-use Rattle.packet_path.specs.declared.packet.Arrival.{Arrival}
-use Rattle.packet_path.specs.declared.packet.Arrival.TheVariants as arrival
-use Rattle.packet_path.specs.Verdict.{FitsArrival}
+use Rattle.packet_headers.specs.declared.packet.Packet.TheVariants as packet
+use Rattle.packet_path.specs.Packet.{Given, cause_of}
+use Rattle.packet_path.specs.Verdict.{FitsFrame}
 
 -- a verdict that fits still fits when the history goes on
 abbrev pub VerdictsStillFit : Type 0
 VerdictsStillFit =
-    (sizes : Sizes) (log longer : List Event) (mark : ℕ) (arrival : Arrival) (own : List Note) (class : Class)
-    → StartsWith longer log → FitsArrival sizes log mark arrival own class → FitsArrival sizes longer mark arrival own class
+    (sizes : Sizes) (log longer : List Event) (mark : ℕ) (given : Given) (own : List Note) (class : Class)
+    → StartsWith longer log → FitsFrame sizes log mark given own class → FitsFrame sizes longer mark given own class
 
 -- a verdict that fits from a mark on fits from any lower mark on
 abbrev pub LowerMarksFit : Type 0
 LowerMarksFit =
-    (sizes : Sizes) (log : List Event) (lower mark : ℕ) (arrival : Arrival) (own : List Note) (class : Class)
-    → lower ≤ mark → FitsArrival sizes log mark arrival own class → FitsArrival sizes log lower arrival own class
+    (sizes : Sizes) (log : List Event) (lower mark : ℕ) (given : Given) (own : List Note) (class : Class)
+    → lower ≤ mark → FitsFrame sizes log mark given own class → FitsFrame sizes log lower given own class
 
--- a packet that is not tracked, or has a wrong header, makes no event, and its verdict says just that
+-- a frame that is not tracked, or has a wrong header, makes no event, and its verdict says just that
 abbrev pub BytesDecide : Type 0
 BytesDecide =
-    (sizes : Sizes) (log : List Event) (mark : ℕ) (own : List Note) (answer : Class)
-    → ((why : UntrackedWhy) → FitsArrival sizes log mark (arrival.Untracked why) own answer
-    → (own ≡ []) × (answer ≡ class.Untracked why))
-    × (FitsArrival sizes log mark arrival.Invalid own answer → (own ≡ []) × (answer ≡ class.BadHeader))
+    (sizes : Sizes) (log : List Event) (mark : ℕ) (given : Given) (own : List Note) (answer : Class)
+    → FitsFrame sizes log mark given own answer
+    → ((why : UntrackedWhy) → given.packet ≡ packet.Untracked (cause_of why) → (own ≡ []) × (answer ≡ class.Untracked why))
+    × (given.packet ≡ packet.Invalid → (own ≡ []) × (answer ≡ class.BadHeader))
 
 -- an error makes no event, whatever its verdict
 abbrev pub ErrorsMakeNoEvent : Type 0
 ErrorsMakeNoEvent =
-    (sizes : Sizes) (log : List Event) (mark : ℕ) (inner : Tuple) (outer : ℕ) (own : List Note) (answer : Class)
-    → FitsArrival sizes log mark (arrival.Error inner outer) own answer → own ≡ []
+    (sizes : Sizes) (log : List Event) (mark : ℕ) (given : Given) (inner : Tuple) (outer : ℕ) (own : List Note) (answer : Class)
+    → given.packet ≡ packet.Error inner outer → FitsFrame sizes log mark given own answer → own ≡ []

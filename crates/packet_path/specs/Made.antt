@@ -5,12 +5,12 @@ use Rattle.tuple_core.specs.declared.Tuple.{Tuple}
 use Rattle.history_book.specs.declared.event.Event.{Event}
 use Rattle.history_book.specs.declared.event.Event.TheVariants.{Confirm}
 use Rattle.history_book.specs.declared.event.Note.{Note}
-use Rattle.packet_path.specs.declared.packet.FlowPacket.{FlowPacket}
+use Rattle.packet_path.specs.Packet.{FlowPacket}
 use Rattle.history_book.specs.declared.record.Record.{Record}
 use Rattle.history_book.specs.declared.verdict.Translated.{Translated}
 use Rattle.history_book.specs.declared.verdict.Translated.TheVariants.{Plain, Chosen}
 use Rattle.history_book.specs.Notes.{Happened}
-use Rattle.history_book.specs.Protocol.{start_of}
+use Rattle.proto_rules.specs.Start.{start_of}
 
 -- the reply tuple was found lawfully: without rules it is the inverse of the original one
 abbrev pub IsLawfulReply : Tuple → Translated → Tuple → Type 0

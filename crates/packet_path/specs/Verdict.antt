@@ -1,13 +1,14 @@
--- When a verdict fits a packet and the events that the packet made.
-use Rattle.std.specs.Prelude.{◌≡◌, ℕ, ◌+◌, ◌≤◌, Some, None, List, [], ◌∷◌, ◌++◌, length, option_to_list}
+-- When a verdict fits a frame and the events that the frame made.
+use Rattle.std.specs.Prelude.{◌≡◌, ℕ, ◌+◌, ◌≤◌, ◌⊎◌, Some, None, List, [], ◌∷◌, ◌++◌, length, option_to_list}
 use Rattle.history_book.specs.declared.event.Event.{Event}
 use Rattle.history_book.specs.declared.event.Event.TheVariants.{Confirm, Touch, Destroy}
 use Rattle.history_book.specs.declared.event.Note.{Note}
 use Rattle.history_book.specs.declared.event.Why.{Why}
 use Rattle.history_book.specs.declared.event.Why.TheVariants as why
-use Rattle.packet_path.specs.declared.packet.Arrival.{Arrival}
-use Rattle.packet_path.specs.declared.packet.Arrival.TheVariants as arrival
-use Rattle.packet_path.specs.declared.packet.FlowPacket.{FlowPacket}
+use Rattle.packet_headers.specs.declared.packet.Packet.TheVariants as packet
+use Rattle.proto_rules.specs.declared.Outcome.TheVariants as outcome
+use Rattle.packet_path.specs.Packet.{FlowPacket, Given, IsFlow, cause_of}
+use Rattle.packet_path.specs.Unchanged.{BeginsNothing, LeavesEntry}
 use Rattle.history_book.specs.declared.verdict.Class.{Class}
 use Rattle.history_book.specs.declared.verdict.Class.TheVariants as class
 use Rattle.history_book.specs.declared.verdict.Ftp.{Ftp}
@@ -23,15 +24,12 @@ use Rattle.history_book.specs.Point.{At}
 use Rattle.history_book.specs.State.{Found, live_under}
 use Rattle.history_book.specs.declared.sizes.Sizes.{Sizes}
 
--- a packet may kill an entry for this reason: it was expired at the packet's moment
-abbrev pub IsKillReason : FlowPacket → Why → Type 0
-IsKillReason packet (why.Expired moment) = moment ≡ packet.moment
-
--- the event destroys the entry that was found, for such a reason
+-- the event destroys the entry that was found: it was expired at the packet's moment, or the packet
+-- reopened it
 abbrev pub IsKillOf : FlowPacket → Found → Event → Type 0
-IsKillOf packet found (Confirm r) = ⊥
-IsKillOf packet found (Touch id direction segment moment after) = ⊥
-IsKillOf packet found (Destroy id why) = (id ≡ found.subject.id) × IsKillReason packet why
+IsKillOf packet found event =
+    (event ≡ Destroy found.subject.id (why.Expired packet.moment))
+    ⊎ event ≡ Destroy found.subject.id (why.Reopened found.direction packet.segment packet.moment)
 
 -- the packet killed the entry that was live under its tuple
 pub record Kills (log : List Event) (mark : ℕ) (packet : FlowPacket) (note : Note) : Type 0 where
@@ -47,10 +45,10 @@ KillsAll log mark packet (n ∷ ns) = Kills log mark packet n × KillsAll log (n
 
 -- it was a packet of a flow; its own events are at most four kills, and then the rest; and this is so of
 -- the packet, the number of kills, the mark past them, and the rest
-pub record AnswersFlow (log : List Event) (mark : ℕ) (given : Arrival) (own : List Note)
+pub record AnswersFlow (log : List Event) (mark : ℕ) (given : Given) (own : List Note)
     (Fits : FlowPacket → ℕ → ℕ → List Note → Type 0) : Type 0 where
   pub packet : FlowPacket
-  pub flow : given ≡ arrival.Flow packet
+  pub flow : IsFlow given packet
   pub kills : List Note
   pub rest : List Note
   pub all : own ≡ kills ++ rest
@@ -58,23 +56,30 @@ pub record AnswersFlow (log : List Event) (mark : ℕ) (given : Arrival) (own : 
   pub killed : KillsAll log mark packet kills
   pub fits : Fits packet (length kills) (mark_past mark kills) rest
 
--- The class fits what the tracker was given of a packet and the events that the packet made. The bytes
+-- The class fits what the tracker was given of a frame and the events that the frame made. The headers
 -- alone decide where it is not tracked or a header is wrong.
-abbrev pub FitsArrival : Sizes → List Event → ℕ → Arrival → List Note → Class → Type 0
-FitsArrival sizes log mark given own (class.Untracked why) = (given ≡ arrival.Untracked why) × (own ≡ [])
-FitsArrival sizes log mark given own class.BadHeader = (given ≡ arrival.Invalid) × (own ≡ [])
-FitsArrival sizes log mark given own (class.ErrorLost at) =
+abbrev pub FitsFrame : Sizes → List Event → ℕ → Given → List Note → Class → Type 0
+FitsFrame sizes log mark given own (class.Untracked why) =
+    (given.packet ≡ packet.Untracked (cause_of why)) × (own ≡ [])
+FitsFrame sizes log mark given own class.BadHeader = (given.packet ≡ packet.Invalid) × (own ≡ [])
+FitsFrame sizes log mark given own (class.NoEntry at) =
+    AnswersFlow log mark given own (λ p kills k rest. BeginsNothing log k p rest at)
+FitsFrame sizes log mark given own (class.BadState id at) =
+    AnswersFlow log mark given own (λ p kills k rest. LeavesEntry log k p rest id at outcome.Invalid)
+FitsFrame sizes log mark given own (class.ErrorLost at) =
     AnswersError given own (λ inner outer. LooksUp log mark inner at None)
-FitsArrival sizes log mark given own (class.ErrorAddress id at) =
+FitsFrame sizes log mark given own (class.ErrorAddress id at) =
     AnswersError given own (λ inner outer. IsMisdirected log mark inner outer id at)
-FitsArrival sizes log mark given own (class.Error direction id at) =
+FitsFrame sizes log mark given own (class.Error direction id at) =
     AnswersError given own (λ inner outer. IsRelated log mark inner outer direction id at)
-FitsArrival sizes log mark given own (class.Made id at translated unclaimed) =
-    AnswersFlow log mark given own (λ packet kills k rest. Makes log k packet rest id at translated unclaimed)
-FitsArrival sizes log mark given own (class.Passed label id at ftp) =
-    AnswersFlow log mark given own (λ packet kills k rest. Passes log k packet rest label id at ftp)
-FitsArrival sizes log mark given own (class.Full at) =
-    AnswersFlow log mark given own (λ packet kills k rest. FindsNoRoom sizes log k packet rest at)
+FitsFrame sizes log mark given own (class.Made id at translated unclaimed) =
+    AnswersFlow log mark given own (λ p kills k rest. Makes log k p rest id at translated unclaimed)
+FitsFrame sizes log mark given own (class.Passed label id at ftp) =
+    AnswersFlow log mark given own (λ p kills k rest. Passes log k p rest label id at ftp)
+FitsFrame sizes log mark given own (class.Ignored id at) =
+    AnswersFlow log mark given own (λ p kills k rest. LeavesEntry log k p rest id at outcome.Ignore)
+FitsFrame sizes log mark given own (class.Full at) =
+    AnswersFlow log mark given own (λ p kills k rest. FindsNoRoom sizes log k p rest at)
 
 -- the point that a translation names
 abbrev pub translated_points : Translated → List ℕ
@@ -94,9 +99,12 @@ ftp_points (ftp.Gone at) = at ∷ []
 abbrev pub points_of : Class → List ℕ
 points_of (class.Untracked why) = []
 points_of class.BadHeader = []
+points_of (class.NoEntry at) = at ∷ []
+points_of (class.BadState id at) = at ∷ []
 points_of (class.ErrorLost at) = at ∷ []
 points_of (class.ErrorAddress id at) = at ∷ []
 points_of (class.Error direction id at) = at ∷ []
 points_of (class.Made id at translated unclaimed) = at ∷ (option_to_list unclaimed ++ translated_points translated)
 points_of (class.Passed label id at payload) = at ∷ ftp_points payload
+points_of (class.Ignored id at) = at ∷ []
 points_of (class.Full at) = at ∷ []

@@ -1,5 +1,4 @@
-//! A packet as the tracker is given it, and when a verdict on it fits a history.
+//! When a verdict on a frame fits a history.
 #![tactic(auto)]
 
 pub mod laws;
-pub mod packet;

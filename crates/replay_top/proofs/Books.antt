@@ -7,14 +7,14 @@ use Rattle.history_book.specs.declared.event.Event.{Event}
 use Rattle.history_book.specs.declared.event.Event.TheVariants.{Destroy}
 use Rattle.history_book.specs.declared.event.Numbered.{Numbered}
 use Rattle.history_book.specs.declared.event.Why.TheVariants.{Expired}
-use Rattle.history_book.specs.declared.protocol.Part.{Part}
+use Rattle.proto_rules.specs.declared.Part.{Part}
 use Rattle.history_book.specs.declared.record.Record.{Record}
 use Rattle.history_book.specs.declared.sizes.Sizes.{Sizes}
 use Rattle.history_book.specs.Legality.{may_destroy, may_happen, may_touch}
 use Rattle.history_book.specs.History.{after, is_legal}
 use Rattle.history_book.specs.Laws.{AreApart, LegalHistoriesGoOn, RecordsAreApart, StatesFollow}
 use Rattle.history_book.specs.Numbered.{events_of, IsNumberedFrom}
-use Rattle.history_book.specs.Protocol.{is_expired}
+use Rattle.proto_rules.specs.Part.{is_expired}
 use Rattle.history_book.specs.State.{State, next, state_of}
 use Rattle.history_book.specs.StateLaws.{DestroysTakeOne, IdsNameRecords, TouchesChangeOne}
 use Rattle.replay_top.specs.declared.book.Book.{Book}

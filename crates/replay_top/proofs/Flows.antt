@@ -7,9 +7,10 @@ use Rattle.tuple_core.specs.declared.Proto.TheVariants as proto
 use Rattle.tuple_core.specs.declared.Segment.{Segment}
 use Rattle.tuple_core.specs.declared.Segment.TheVariants.{Tcp, Udp, Icmp}
 use Rattle.packet_path.specs.declared.packet.FlowPacket.{FlowPacket}
-use Rattle.history_book.specs.declared.protocol.PartKind.{PartKind}
-use Rattle.history_book.specs.declared.protocol.PartKind.TheVariants as kind
-use Rattle.history_book.specs.Protocol.{is_of_protocol, start_of}
+use Rattle.proto_rules.specs.declared.PartKind.{PartKind}
+use Rattle.proto_rules.specs.declared.PartKind.TheVariants as kind
+use Rattle.proto_rules.specs.Protocol.{is_of_protocol}
+use Rattle.proto_rules.specs.Start.{start_of}
 use Rattle.replay_top.specs.Internal.Flow.{is_udp, is_flow}
 
 pub record IsFlow (p : FlowPacket) : Type 0 where

@@ -14,9 +14,9 @@ use Rattle.history_book.specs.declared.event.Note.{Note}
 use Rattle.history_book.specs.declared.event.Numbered.{Numbered}
 use Rattle.history_book.specs.declared.event.Why.TheVariants as why
 use Rattle.history_book.specs.declared.find.FoundAt.{FoundAt}
-use Rattle.history_book.specs.declared.protocol.Outcome.{Outcome}
-use Rattle.history_book.specs.declared.protocol.Outcome.TheVariants.{Accept}
-use Rattle.history_book.specs.declared.protocol.Part.{Part}
+use Rattle.proto_rules.specs.declared.Outcome.{Outcome}
+use Rattle.proto_rules.specs.declared.Outcome.TheVariants.{Accept}
+use Rattle.proto_rules.specs.declared.Part.{Part}
 use Rattle.history_book.specs.declared.record.Record.{Record}
 use Rattle.history_book.specs.declared.verdict.Class.{Class}
 use Rattle.history_book.specs.declared.verdict.Class.TheVariants as class
@@ -31,7 +31,7 @@ use Rattle.history_book.specs.Laws.{EventsStay, RecordsAreApart, StatesStay}
 use Rattle.history_book.specs.Notes.{mark_past}
 use Rattle.history_book.specs.Numbered.{events_of}
 use Rattle.history_book.specs.Point.{At, StartsWith}
-use Rattle.history_book.specs.Protocol.{step_of}
+use Rattle.proto_rules.specs.Step.{step_of}
 use Rattle.history_book.specs.Record.{has_place}
 use Rattle.history_book.specs.Sizes.{fewest_of_full}
 use Rattle.history_book.specs.State.{Found, State, is_unused, live_under, state_of}

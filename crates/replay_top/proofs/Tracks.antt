@@ -9,15 +9,15 @@ use Rattle.tuple_core.specs.declared.Tuple.{Tuple}
 use Rattle.history_book.specs.declared.event.Event.{Event}
 use Rattle.history_book.specs.declared.event.Event.TheVariants.{Confirm}
 use Rattle.history_book.specs.declared.event.Numbered.{Numbered}
-use Rattle.history_book.specs.declared.protocol.PartKind.{PartKind}
-use Rattle.history_book.specs.declared.protocol.PartKind.TheVariants as kind
+use Rattle.proto_rules.specs.declared.PartKind.{PartKind}
+use Rattle.proto_rules.specs.declared.PartKind.TheVariants as kind
 use Rattle.history_book.specs.declared.record.Record.{Record}
 use Rattle.history_book.specs.declared.sizes.Sizes.{Sizes}
 use Rattle.history_book.specs.declared.verdict.Class.TheVariants as class
 use Rattle.history_book.specs.declared.verdict.Translated.TheVariants.{Plain}
 use Rattle.history_book.specs.Legality.{is_of_one_protocol, may_confirm, proto_of}
 use Rattle.history_book.specs.Numbered.{events_of}
-use Rattle.history_book.specs.Protocol.{start_of}
+use Rattle.proto_rules.specs.Start.{start_of}
 use Rattle.history_book.specs.Record.{has_original, has_reply, has_tuple}
 use Rattle.history_book.specs.State.{State, is_free, is_unused}
 use Rattle.history_book.specs.StateLaws.{TuplesAreTold}

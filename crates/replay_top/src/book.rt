@@ -5,7 +5,7 @@ ghost use Rattle.std.specs.List.{remove};
 ghost use Rattle.history_book.specs.declared.event.Event.TheVariants.{Confirm, Destroy};
 ghost use Rattle.history_book.specs.declared.event.Why.TheVariants.{Expired};
 ghost use Rattle.history_book.specs.Legality.{may_confirm, may_touch};
-ghost use Rattle.history_book.specs.Protocol.{is_expired};
+ghost use Rattle.proto_rules.specs.Part.{is_expired};
 ghost use Rattle.history_book.specs.State.{state_of};
 ghost use Rattle.replay_top.specs.Internal.Book.{Adds, Holds, IsPlain, touch_of};
 
@@ -14,7 +14,7 @@ use history_book::laws::{
     destroys_take_one, ids_name_records, legal_histories_go_on, records_are_apart, states_follow,
     touches_change_one,
 };
-use history_book::protocol::Part;
+use proto_rules::Part;
 use history_book::record::Record;
 use history_book::report::History;
 use history_book::sizes::Sizes;

@@ -4,10 +4,10 @@ ghost use Rattle.std.specs.Prelude.{◌≡◌, ◌+◌, ◌<◌, ◌≤◌, true
 ghost use Rattle.std.specs.List.{AllByRecursion};
 ghost use Rattle.tuple_core.specs.Tuple.{is_valid};
 ghost use Rattle.packet_path.specs.declared.packet.Arrival.TheVariants.{Error, Flow};
-ghost use Rattle.history_book.specs.declared.protocol.Outcome.TheVariants.{Accept, Expired};
+ghost use Rattle.proto_rules.specs.declared.Outcome.TheVariants.{Accept, Expired};
 ghost use Rattle.history_book.specs.Find.{IsFoundAt};
 ghost use Rattle.history_book.specs.Numbered.{events_of};
-ghost use Rattle.history_book.specs.Protocol.{start_of};
+ghost use Rattle.proto_rules.specs.Start.{start_of};
 ghost use Rattle.history_book.specs.State.{is_free, is_unused, live_under, state_of};
 ghost use Rattle.packet_path.specs.Verdict.{FitsArrival, points_of};
 ghost use Rattle.replay_top.specs.Internal.Book.{Holds, PlacesBelow};
@@ -20,7 +20,7 @@ use history_book::laws::{
     destroys_free, events_stay, free_is_absent, parts_are_told, records_are_apart, states_stay,
     tuples_are_told,
 };
-use history_book::protocol::{Outcome, Part, start, step};
+use proto_rules::{Outcome, Part, start, step};
 use history_book::record::Record;
 use history_book::verdict::{Class, Ftp, Translated, Verdict};
 use packet_path::packet::{Arrival, FlowPacket};

@@ -4,7 +4,7 @@ use crate::page::LONGEST_LINE;
 use crate::write::{write_each, write_report};
 use ct_io::MemSink;
 use history_book::event::{Event, Numbered, Why};
-use history_book::protocol::{Part, PartKind};
+use proto_rules::{Part, PartKind};
 use history_book::record::Record;
 use history_book::report::Report;
 use history_book::verdict::{Class, Ftp, Label, Translated, UntrackedWhy, Verdict};

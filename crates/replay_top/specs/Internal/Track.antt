@@ -4,14 +4,14 @@ use Rattle.std.specs.List.{AllByRecursion}
 use Rattle.history_book.specs.declared.event.Event.TheVariants.{Confirm}
 use Rattle.history_book.specs.declared.event.Numbered.{Numbered}
 use Rattle.history_book.specs.declared.find.FoundAt.{FoundAt}
-use Rattle.history_book.specs.declared.protocol.Outcome.{Outcome}
+use Rattle.proto_rules.specs.declared.Outcome.{Outcome}
 use Rattle.history_book.specs.declared.record.Record.{Record}
 use Rattle.history_book.specs.declared.verdict.Class.{Class}
 use Rattle.history_book.specs.declared.verdict.Class.TheVariants as class
 use Rattle.history_book.specs.declared.verdict.Translated.TheVariants.{Plain}
 use Rattle.history_book.specs.declared.verdict.Verdict.{Verdict}
 use Rattle.history_book.specs.Numbered.{events_of, notes_of}
-use Rattle.history_book.specs.Protocol.{step_of}
+use Rattle.proto_rules.specs.Step.{step_of}
 use Rattle.packet_path.specs.declared.packet.Arrival.{Arrival}
 use Rattle.packet_path.specs.declared.packet.FlowPacket.{FlowPacket}
 use Rattle.packet_path.specs.Made.{Makes}
