@@ -1,6 +1,9 @@
 -- How the tables of TCP stand in a grid of numbers: a row for each kind of segment, a column for each
 -- old state, and a number for each cell. A new state has the number of its column.
-use Rattle.std.specs.Prelude.{ℕ}
+use Rattle.std.specs.Prelude.{ℕ, List}
+use Rattle.case_grid.specs.TcpTables.{tcp_original, tcp_reply}
+use Rattle.tuple_core.specs.declared.Direction.{Direction}
+use Rattle.tuple_core.specs.declared.Direction.TheVariants.{Original, Reply}
 use Rattle.tuple_core.specs.declared.Kind.{Kind}
 use Rattle.tuple_core.specs.declared.Kind.TheVariants.{Syn, SynAck, Fin, Ack, Rst, Bare}
 use Rattle.proto_rules.specs.declared.tcp_table.Cell.{Cell}
@@ -19,3 +22,7 @@ abbrev pub number_of : Cell → ℕ
 number_of (To state) = column_of state
 number_of Invalid = 10
 number_of Ignored = 11
+
+abbrev pub grid_of : Direction → List (List ℕ)
+grid_of Original = tcp_original
+grid_of Reply = tcp_reply

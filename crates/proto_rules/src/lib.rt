@@ -2,9 +2,21 @@
 //! it then lives.
 #![tactic(auto)]
 
-mod tcp_table;
+ghost use Rattle.std.specs.Prelude.{◌≡◌, ◌≤◌, ◌^◌, true};
+ghost use Rattle.proto_rules.specs.Protocol.{is_of_protocol};
+ghost use Rattle.proto_rules.specs.Start.{start_of};
+ghost use Rattle.proto_rules.specs.Step.{step_of};
 
-pub use tcp_table::Cell;
+mod accepted;
+mod tcp;
+mod tcp_table;
+mod timeout;
+
+use accepted::{begin, icmp_part, udp_part};
+use tcp::{tcp_start, tcp_step};
+pub use tcp_table::{Cell, tcp_cell};
+use timeout::{ICMP_TIMEOUT, udp_timeout};
+use tuple_core::{Direction, Segment};
 
 /// The state of a connection as the tracker sees it, by the segments that have passed.
 #[derive(Clone, Copy)]
@@ -66,4 +78,41 @@ pub enum Outcome {
     Reset,
     /// The entry's deadline is at most the packet's moment.
     Expired,
+}
+
+/// The part of the entry that begins with this segment at `moment`, in microseconds. `None` exactly
+/// where no entry begins with it. A capture counts its seconds in 32 bits, so that its moments are
+/// below the bound.
+pub fn start(segment: Segment, moment: u64) -> Option<Part>
+    requires { moment ≤ 10 ^ 16 }
+    ensures { result ≡ start_of segment moment }
+{
+    match segment {
+        Segment::Tcp(flags) => tcp_start(flags, moment),
+        Segment::Udp => Some(begin(PartKind::Udp, udp_timeout(false), moment)),
+        Segment::Icmp(8 | 13 | 15 | 17) => Some(begin(PartKind::Icmp, ICMP_TIMEOUT, moment)),
+        Segment::Icmp(_) => None,
+    }
+}
+
+/// What a packet in this direction, with this segment and at `moment`, in microseconds, does to an
+/// entry of the same protocol.
+pub fn step(part: &Part, direction: Direction, segment: Segment, moment: u64) -> Outcome
+    requires fits { moment ≤ 10 ^ 16 }
+    requires same { is_of_protocol segment part.now.kind ≡ true }
+    ensures { result ≡ step_of part.now direction segment moment }
+{
+    if part.deadline <= moment {
+        return Outcome::Expired;
+    }
+    match (part.kind, segment) {
+        (PartKind::Tcp(state), Segment::Tcp(flags)) => {
+            tcp_step(part, state, direction, flags, moment)
+        }
+        (PartKind::Udp, Segment::Udp) => Outcome::Accept(udp_part(part, direction, moment)),
+        (PartKind::Icmp, Segment::Icmp(_)) => Outcome::Accept(icmp_part(part, direction, moment)),
+        (PartKind::Tcp(_), Segment::Udp | Segment::Icmp(_))
+        | (PartKind::Udp, Segment::Tcp(_) | Segment::Icmp(_))
+        | (PartKind::Icmp, Segment::Tcp(_) | Segment::Udp) => unreachable!(),
+    }
 }

@@ -1,6 +1,13 @@
 //! The tables of TCP, read from grids of numbers.
 
+ghost use Rattle.std.specs.Prelude.{◌≡◌, ◌<◌};
+ghost use Rattle.case_grid.specs.Cell.{cells_of};
+ghost use Rattle.proto_rules.specs.TcpGrid.{grid_of, number_of, row_of};
+ghost use Rattle.proto_rules.specs.TcpTable.{column_of, tcp_cell};
+
 use crate::TcpState;
+use case_grid::{Grid, tcp_original, tcp_reply};
+use tuple_core::{Direction, Kind};
 
 /// What a segment does to a connection in some state.
 #[derive(Clone, Copy)]
@@ -11,4 +18,59 @@ pub enum Cell {
     Ignored,
     /// The segment is not of this connection.
     Invalid,
+}
+
+/// The row of the grids for a kind of segment.
+fn row(flags: Kind) -> usize
+    ensures exact { result ≡ row_of flags }
+    ensures within { result < 6 }
+{
+    flags as usize
+}
+
+/// The column of the grids for an old state.
+fn column(state: TcpState) -> usize
+    ensures exact { result ≡ column_of state }
+    ensures within { result < 10 }
+{
+    state as usize
+}
+
+/// The grid for the segments in a direction.
+fn grid(direction: Direction) -> Grid<6, 10>
+    ensures { cells_of result ≡ grid_of direction }
+{
+    match direction {
+        Direction::Original => tcp_original(),
+        Direction::Reply => tcp_reply(),
+    }
+}
+
+/// The cell that a number of the grids stands for.
+fn read_cell(number: u8) -> Cell
+    requires { number < 12 }
+    ensures { number_of result ≡ number }
+{
+    match number {
+        0 => Cell::To(TcpState::Unset),
+        1 => Cell::To(TcpState::SynSent),
+        2 => Cell::To(TcpState::SynRecv),
+        3 => Cell::To(TcpState::Established),
+        4 => Cell::To(TcpState::FinWait),
+        5 => Cell::To(TcpState::CloseWait),
+        6 => Cell::To(TcpState::LastAck),
+        7 => Cell::To(TcpState::TimeWait),
+        8 => Cell::To(TcpState::Close),
+        9 => Cell::To(TcpState::SynSent2),
+        10 => Cell::Invalid,
+        11 => Cell::Ignored,
+        _ => unreachable!(),
+    }
+}
+
+/// What a segment of this kind and direction does to a connection in a state.
+pub fn tcp_cell(direction: Direction, flags: Kind, state: TcpState) -> Cell
+    ensures { result ≡ tcp_cell direction flags state }
+{
+    read_cell(grid(direction).at(row(flags), column(state)))
 }
