@@ -11,6 +11,7 @@ use Rattle.proto_rules.specs.declared.Part.{Part}
 use Rattle.proto_rules.specs.declared.PartKind.{PartKind}
 use Rattle.proto_rules.specs.declared.PartKind.TheVariants as kind
 use Rattle.history_book.specs.declared.record.Record.{Record}
+use Rattle.proto_rules.specs.TcpTable.{column_of}
 use Rattle.history_book.specs.Legality.{same_bool, same_kind, same_part}
 use Rattle.history_book.specs.Laws.{AreApart}
 use Rattle.history_book.specs.Record.{has_original, has_place, has_reply, has_tuple}
@@ -122,7 +123,9 @@ same_bool-refl true = refl
 same_bool-refl false = refl
 
 same_kind-refl : (k : PartKind) → same_kind k k ≡ true
+same_kind-refl (kind.Tcp state) = eq-eqb (column_of state) (column_of state) refl
 same_kind-refl kind.Udp = refl
+same_kind-refl kind.Icmp = refl
 
 pub same_part-refl : (p : Part) → same_part p p ≡ true
 same_part-refl p =

@@ -5,7 +5,7 @@ use Rattle.tuple_core.specs.declared.Tuple.{Tuple}
 use Rattle.packet_headers.specs.declared.frame.Frame.{Frame}
 use Rattle.packet_headers.specs.declared.packet.Packet.{Packet}
 use Rattle.packet_headers.specs.declared.packet.Packet.TheVariants as packet
-use Rattle.packet_headers.specs.declared.packet.Span.{Span}
+use Rattle.packet_headers.specs.declared.frame.Span.{Span}
 use Rattle.packet_headers.specs.declared.packet.Untracked.{Untracked}
 use Rattle.packet_headers.specs.declared.packet.Untracked.TheVariants as untracked
 use Rattle.packet_headers.specs.Classify.{packet_of}
