@@ -1,56 +1,30 @@
 -- The grids of numbers are the tables of TCP.
-use Rattle.std.specs.Prelude.{◌≡◌, ℕ, ◌<◌, [], ◌∷◌, slice_index_or, refl}
+use Rattle.std.specs.Prelude.{◌≡◌, ℕ, ◌<◌, ◌==◌, Bool, [], ◌∷◌, slice_index_or, refl}
 use Rattle.std.proofs.Common.{◌∙◌, ap, lit<, sym}
+use Rattle.std.proofs.lemmas.Bool.{eqb-true}
 use Rattle.case_grid.specs.Cell.{cell}
 use Rattle.case_grid.specs.TcpTables.{tcp_original, tcp_reply}
 use Rattle.tuple_core.specs.declared.Direction.{Direction}
-use Rattle.tuple_core.specs.declared.Direction.TheVariants.{Original, Reply}
 use Rattle.tuple_core.specs.declared.Kind.{Kind}
-use Rattle.tuple_core.specs.declared.Kind.TheVariants.{Syn, SynAck, Fin, Ack, Rst, Bare}
 use Rattle.proto_rules.specs.declared.TcpState.{TcpState}
 use Rattle.proto_rules.specs.declared.TcpState.TheVariants.{Unset, SynSent, SynRecv, Established, FinWait}
 use Rattle.proto_rules.specs.declared.TcpState.TheVariants.{CloseWait, LastAck, TimeWait, Close, SynSent2}
 use Rattle.proto_rules.specs.declared.tcp_table.Cell.{Cell}
 use Rattle.proto_rules.specs.declared.tcp_table.Cell.TheVariants.{To, Ignored, Invalid}
+use Rattle.proto_rules.proofs.Cells.{all_states, each_cell_tells}
 use Rattle.proto_rules.specs.TcpGrid.{grid_of, number_of, row_of}
 use Rattle.proto_rules.specs.TcpTable.{column_of, original_cell, reply_cell, tcp_cell}
 
--- what holds of each of the ten states
-pub all_states : (P : TcpState → Type 0)
-    → P Unset → P SynSent → P SynRecv → P Established → P FinWait
-    → P CloseWait → P LastAck → P TimeWait → P Close → P SynSent2
-    → (s : TcpState) → P s
-all_states P un ss sr es fw cw la tw cl s2 Unset = un
-all_states P un ss sr es fw cw la tw cl s2 SynSent = ss
-all_states P un ss sr es fw cw la tw cl s2 SynRecv = sr
-all_states P un ss sr es fw cw la tw cl s2 Established = es
-all_states P un ss sr es fw cw la tw cl s2 FinWait = fw
-all_states P un ss sr es fw cw la tw cl s2 CloseWait = cw
-all_states P un ss sr es fw cw la tw cl s2 LastAck = la
-all_states P un ss sr es fw cw la tw cl s2 TimeWait = tw
-all_states P un ss sr es fw cw la tw cl s2 Close = cl
-all_states P un ss sr es fw cw la tw cl s2 SynSent2 = s2
-
--- the cell of the grid is the number of the table's cell
-abbrev Tells : Direction → Kind → TcpState → Type 0
-Tells d k s = cell (grid_of d) (row_of k) (column_of s) ≡ number_of (tcp_cell d k s)
+-- the number in the grid is that of the table's cell
+abbrev tells : Direction → Kind → TcpState → Bool
+tells d k s = cell (grid_of d) (row_of k) (column_of s) == number_of (tcp_cell d k s)
 
 -- it is so of each cell
 pub grids_tell : (d : Direction) (k : Kind) (s : TcpState)
     → cell (grid_of d) (row_of k) (column_of s) ≡ number_of (tcp_cell d k s)
 unfolding tcp_original tcp_reply original_cell reply_cell
-grids_tell Original Syn s = all_states (Tells Original Syn) refl refl refl refl refl refl refl refl refl refl s
-grids_tell Original SynAck s = all_states (Tells Original SynAck) refl refl refl refl refl refl refl refl refl refl s
-grids_tell Original Fin s = all_states (Tells Original Fin) refl refl refl refl refl refl refl refl refl refl s
-grids_tell Original Ack s = all_states (Tells Original Ack) refl refl refl refl refl refl refl refl refl refl s
-grids_tell Original Rst s = all_states (Tells Original Rst) refl refl refl refl refl refl refl refl refl refl s
-grids_tell Original Bare s = all_states (Tells Original Bare) refl refl refl refl refl refl refl refl refl refl s
-grids_tell Reply Syn s = all_states (Tells Reply Syn) refl refl refl refl refl refl refl refl refl refl s
-grids_tell Reply SynAck s = all_states (Tells Reply SynAck) refl refl refl refl refl refl refl refl refl refl s
-grids_tell Reply Fin s = all_states (Tells Reply Fin) refl refl refl refl refl refl refl refl refl refl s
-grids_tell Reply Ack s = all_states (Tells Reply Ack) refl refl refl refl refl refl refl refl refl refl s
-grids_tell Reply Rst s = all_states (Tells Reply Rst) refl refl refl refl refl refl refl refl refl refl s
-grids_tell Reply Bare s = all_states (Tells Reply Bare) refl refl refl refl refl refl refl refl refl refl s
+grids_tell d k s =
+    eqb-true (cell (grid_of d) (row_of k) (column_of s)) (number_of (tcp_cell d k s)) (each_cell_tells tells refl d k s)
 
 -- the numbers of cells are below 12
 pub number_small : (c : Cell) → number_of c < 12

@@ -1,1 +1,4 @@
+pub mod Cells
 pub mod Grids
+pub mod Steps
+pub mod Reopens

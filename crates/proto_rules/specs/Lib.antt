@@ -5,3 +5,5 @@ pub mod Timeout
 pub mod Part
 pub mod Start
 pub mod Step
+pub mod Same
+pub mod Laws

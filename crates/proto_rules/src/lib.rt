@@ -8,11 +8,18 @@ ghost use Rattle.proto_rules.specs.Start.{start_of};
 ghost use Rattle.proto_rules.specs.Step.{step_of};
 
 mod accepted;
+pub mod laws;
+mod protocol;
+mod same;
 mod tcp;
 mod tcp_table;
+#[cfg(test)]
+mod tests;
 mod timeout;
 
 use accepted::{begin, icmp_part, udp_part};
+pub use protocol::{is_of_protocol, proto_of};
+pub use same::is_same_part;
 use tcp::{tcp_start, tcp_step};
 pub use tcp_table::{Cell, tcp_cell};
 use timeout::{ICMP_TIMEOUT, udp_timeout};
