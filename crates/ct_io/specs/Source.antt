@@ -27,12 +27,13 @@ pub record SameFaults (old new : Source) : Type 0 where
   pub open_faults : (name : List ℕ) → new.open_faults name ≡ old.open_faults name
   pub read_faults : new.read_faults ≡ old.read_faults
 
--- opening this name failed, and no name that has a count of its own was counted
-abbrev pub OthersStandAtOpen : Source → Source → List ℕ → Type 0
-OthersStandAtOpen old new name =
-    (other : List ℕ) → old.shares name other ≡ false → new.open_faults other ≡ old.open_faults other
+-- what a failed opening of this name leaves: the count of each name that shares none with it, and that
+-- of reads where it is not the same one
+pub record OthersStandAtOpen (old new : Source) (name : List ℕ) : Type 0 where
+  pub opens : (other : List ℕ) → old.shares name other ≡ false → new.open_faults other ≡ old.open_faults other
+  pub reads : old.counts_reads name ≡ false → new.read_faults ≡ old.read_faults
 
--- a read failed, and no name that has a count of its own was counted
+-- what a failed read leaves: the count of each name in which reads are not counted
 abbrev pub OthersStandAtRead : Source → Source → Type 0
 OthersStandAtRead old new =
     (other : List ℕ) → old.counts_reads other ≡ false → new.open_faults other ≡ old.open_faults other

@@ -1,4 +1,5 @@
--- What holds of states, whoever made them. In the states of a legal history the records are apart.
+-- What holds of tests, and of states, whoever made them. In the states of a legal history the records
+-- are apart.
 use Rattle.std.specs.Prelude.{◌≡◌, ℕ, true, Some, None, slice_get, slice_set, AllPairs}
 use Rattle.std.specs.List.{remove}
 use Rattle.tuple_core.specs.declared.Direction.{Direction}
@@ -13,13 +14,13 @@ use Rattle.history_book.specs.Laws.{AreApart}
 use Rattle.history_book.specs.Record.{same_tuple}
 use Rattle.history_book.specs.State.{Found, State, is_free, is_unused, live_under, next, record_of}
 
--- the test of two tuples tells whether they are equal
-abbrev pub TuplesAreTold : Type 0
-TuplesAreTold = (t u : Tuple) → (same_tuple t u ≡ true → t ≡ u) × (t ≡ u → same_tuple t u ≡ true)
+-- the test of two tuples says exactly whether they are equal
+abbrev pub SameTupleIsEquality : Type 0
+SameTupleIsEquality = (t u : Tuple) → (same_tuple t u ≡ true → t ≡ u) × (t ≡ u → same_tuple t u ≡ true)
 
--- each part passes the test against itself
-abbrev pub PartsAreTold : Type 0
-PartsAreTold = (p : Part) → same_part p p ≡ true
+-- the test of two parts says exactly whether they are equal
+abbrev pub SamePartIsEquality : Type 0
+SamePartIsEquality = (p q : Part) → (same_part p q ≡ true → p ≡ q) × (p ≡ q → same_part p q ≡ true)
 
 -- a tuple is free exactly where nothing is live under it
 abbrev pub FreeIsAbsent : Type 0

@@ -74,7 +74,7 @@ each_read files [] [] gave k within = absurd (omega (arith, within))
 each_read files [] (a ∷ more) gave k within = absurd gave
 each_read files (name ∷ names) [] gave k within = absurd gave
 each_read files (name ∷ names) (arrivals ∷ more) (first, others) zero within =
-    told_of (files.contents name) first.bytes IsRead first.handed_over (arrivals, first.capture)
+    told_of (files.contents name) first.bytes IsRead first.told (arrivals, first.capture)
 each_read files (name ∷ names) (arrivals ∷ more) (first, others) (suc k) within =
     each_read files names more others k (omega arith)
 

@@ -35,7 +35,7 @@ use Rattle.proto_rules.specs.Step.{step_of}
 use Rattle.history_book.specs.Record.{has_place}
 use Rattle.history_book.specs.Sizes.{fewest_of_full}
 use Rattle.history_book.specs.State.{Found, State, is_unused, live_under, state_of}
-use Rattle.history_book.specs.StateLaws.{DestroysFree, IsGone, PartsAreTold}
+use Rattle.history_book.specs.StateLaws.{DestroysFree, IsGone, SamePartIsEquality}
 use Rattle.packet_path.specs.declared.packet.Arrival.TheVariants as arrival
 use Rattle.packet_path.specs.declared.packet.FlowPacket.{FlowPacket}
 use Rattle.packet_path.specs.Error.{LooksUp}
@@ -122,12 +122,12 @@ step_here found packet rs o s h item =
     let same : h.subject ≡ s = cc (h.item, item) in
     ap (λ (x : Record). step_of x.part found.direction packet.segment packet.moment) (sym same) ∙ h.step
 
-pub may_touch_here : PartsAreTold → (found : FoundAt) (packet : FlowPacket) (rs : List Record) (part : Part) (s : Record)
+pub may_touch_here : SamePartIsEquality → (found : FoundAt) (packet : FlowPacket) (rs : List Record) (part : Part) (s : Record)
     → is_flow packet ≡ true → StepsTo found packet rs (Accept part) → slice_get rs found.index ≡ Some s
     → may_touch (Some s) found.direction packet.segment packet.moment part ≡ true
-may_touch_here told found packet rs part s flow steps item =
+may_touch_here same_part found packet rs part s flow steps item =
     and_from _ _ (udp_of_protocol packet s.part.kind flow)
-    (ap (λ o. accepts o part) (step_here found packet rs (Accept part) s steps item) ∙ told part)
+    (ap (λ o. accepts o part) (step_here found packet rs (Accept part) s steps item) ∙ (same_part part part).1 refl)
 
 -- the new history begins with the old one
 starts_own : (old new : Book) (own : List Numbered) → new.history.items ≡ old.history.items ++ own

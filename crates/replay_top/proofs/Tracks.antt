@@ -20,7 +20,7 @@ use Rattle.history_book.specs.Numbered.{events_of}
 use Rattle.proto_rules.specs.Start.{start_of}
 use Rattle.history_book.specs.Record.{has_original, has_reply, has_tuple}
 use Rattle.history_book.specs.State.{State, is_free, is_unused}
-use Rattle.history_book.specs.StateLaws.{TuplesAreTold}
+use Rattle.history_book.specs.StateLaws.{SameTupleIsEquality}
 use Rattle.packet_path.specs.declared.packet.FlowPacket.{FlowPacket}
 use Rattle.replay_top.specs.declared.book.Book.{Book}
 use Rattle.replay_top.specs.Internal.Book.{Adds, IsPlain}
@@ -39,28 +39,28 @@ fails_by true h = absurd (h refl)
 fails_by false h = refl
 
 -- a plain record that has not the tuple has not its inverse either
-no_inverse : TuplesAreTold → (t : Tuple) (r : Record) → is_valid t ≡ true → IsPlain r → has_tuple t r ≡ false
+no_inverse : SameTupleIsEquality → (t : Tuple) (r : Record) → is_valid t ≡ true → IsPlain r → has_tuple t r ≡ false
     → has_tuple (inverse t) r ≡ false
-no_inverse told t r valid plain no_tuple =
+no_inverse same_tuple t r valid plain no_tuple =
     let none = or_parts (has_original t r) (has_reply t r) no_tuple in
     or_from (has_original (inverse t) r) (has_reply (inverse t) r)
     (fails_by (has_original (inverse t) r) (λ h.
-    let original : r.original ≡ inverse t = (told r.original (inverse t)).0 h in
+    let original : r.original ≡ inverse t = (same_tuple r.original (inverse t)).0 h in
     let reply : r.reply ≡ t = plain.inverse ∙ ap inverse original ∙ inverse_twice t valid in
-    true≢false (sym ((told r.reply t).1 reply) ∙ none.1)))
+    true≢false (sym ((same_tuple r.reply t).1 reply) ∙ none.1)))
     (fails_by (has_reply (inverse t) r) (λ h.
-    let reply : r.reply ≡ inverse t = (told r.reply (inverse t)).0 h in
+    let reply : r.reply ≡ inverse t = (same_tuple r.reply (inverse t)).0 h in
     let original : r.original ≡ t =
     sym (inverse_twice r.original plain.valid) ∙ ap inverse (sym plain.inverse ∙ reply) ∙ inverse_twice t valid in
-    true≢false (sym ((told r.original t).1 original) ∙ none.0)))
+    true≢false (sym ((same_tuple r.original t).1 original) ∙ none.0)))
 
-no_inverses : TuplesAreTold → (t : Tuple) (rs : List Record) → is_valid t ≡ true → AllByRecursion IsPlain rs
+no_inverses : SameTupleIsEquality → (t : Tuple) (rs : List Record) → is_valid t ≡ true → AllByRecursion IsPlain rs
     → list_any (has_tuple t) rs ≡ false → list_any (has_tuple (inverse t)) rs ≡ false
-no_inverses told t [] valid plain absent = refl
-no_inverses told t (r ∷ rs) valid (p, ps) absent =
+no_inverses same_tuple t [] valid plain absent = refl
+no_inverses same_tuple t (r ∷ rs) valid (p, ps) absent =
     let none = or_parts (has_tuple t r) (list_any (has_tuple t) rs) absent in
     or_from (has_tuple (inverse t) r) (list_any (has_tuple (inverse t)) rs)
-    (no_inverse told t r valid p none.0) (no_inverses told t rs valid ps none.1)
+    (no_inverse same_tuple t r valid p none.0) (no_inverses same_tuple t rs valid ps none.1)
 
 -- what the test of a Confirm asks, for a record of a flow beside plain records
 pub record CanConfirm (sizes : Sizes) (n : ℕ) (s : State) (r : Record) : Type 0 where
@@ -82,16 +82,16 @@ one_protocol r plain proto =
     and_from _ _ (and_from _ _ (and_from _ _ plain.valid reply_valid)
     (eq-eqb _ _ (proto ∙ sym (kind_number r.part.kind)))) (eq-eqb _ _ (reply_proto ∙ sym (kind_number r.part.kind)))
 
-pub may_confirm_from : TuplesAreTold → (sizes : Sizes) (n : ℕ) (s : State) (r : Record) → AllByRecursion IsPlain s.records
+pub may_confirm_from : SameTupleIsEquality → (sizes : Sizes) (n : ℕ) (s : State) (r : Record) → AllByRecursion IsPlain s.records
     → CanConfirm sizes n s r → may_confirm sizes s n r ≡ true
-may_confirm_from told sizes n s r plain can =
+may_confirm_from same_tuple sizes n s r plain can =
     and_from _ _ (and_from _ _ (and_from _ _ (and_from _ _
     (eq-eqb r.id n can.named)
     (one_protocol r can.plain can.proto))
     (and_from _ _ (lt-ltb r.place sizes.entries can.below) can.open_place))
     can.absent)
     (ap not (ap (λ t. list_any (has_tuple t) s.records) can.plain.inverse
-    ∙ no_inverses told r.original s.records can.plain.valid plain (not-true _ can.absent)))
+    ∙ no_inverses same_tuple r.original s.records can.plain.valid plain (not-true _ can.absent)))
 
 get_last : {X : Type 0} (xs : List X) (x : X) → slice_get (xs ++ x ∷ []) (length xs) ≡ Some x
 get_last [] x = refl

@@ -51,14 +51,14 @@ abbrev pub most_bytes : ℕ
 most_bytes = 268435456
 
 -- a capture of which each frame is read: it gives the tracker these
-pub record IsReadCapture (bytes : List ℕ) (arrivals : List Arrival) : Type 0 where
+pub record GivesArrivals (bytes : List ℕ) (arrivals : List Arrival) : Type 0 where
   pub fits : length bytes ≤ most_bytes
   pub frames : List Frame
   pub capture : IsCapture bytes frames
   pub arrive : Arrive bytes frames arrivals
 
 -- a capture in which a frame is of a flow that is not tracked yet
-pub record IsUnreadCapture (bytes : List ℕ) : Type 0 where
+pub record HasUntrackedFlow (bytes : List ℕ) : Type 0 where
   pub frames : List Frame
   pub capture : IsCapture bytes frames
   pub other : has_other_flow bytes frames ≡ true

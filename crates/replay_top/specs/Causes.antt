@@ -36,8 +36,7 @@ refusal_status (NotOpened file) = 3
 refusal_status (NotRead file) = 3
 refusal_status NoMemory = 6
 
--- the run was refused for a reason that has its cause; this is the reason's status, and its line is on
--- the error output
+-- the run was refused for a reason that has its cause; this is the reason's status, and its line was told
 pub record IsRefused (words : List (List ℕ)) (files files' : Source) (err err' : Tape) (status : ℕ) : Type 0 where
   pub why : Refusal
   pub cause : HasCause words files files' why

@@ -44,8 +44,8 @@ line_of words refusal.NoMemory = error_line [] (codes "out of memory\n")
 abbrev pub write_failed : List ℕ
 write_failed = error_line [] (codes "write failed\n")
 
--- all of the line was written; or the count of faults rose, and only some first bytes were
+-- all of the line was written, and the count of faults stands; or it rose, and only some first bytes were
 abbrev pub Tells : List ℕ → Tape → Tape → Type 0
 Tells line before after =
-    (after.written ≡ followed_by before.written line)
+    (after.written ≡ followed_by before.written line) × (after.faults ≡ before.faults)
     ⊎ Rose before.faults after.faults × WroteFront line before.written after.written

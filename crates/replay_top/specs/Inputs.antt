@@ -2,7 +2,7 @@
 use Rattle.std.specs.Prelude.{◌≡◌, ℕ, ◌<◌, Option, None, List, length}
 use Rattle.ct_io.specs.Source.{Source}
 use Rattle.replay_top.specs.declared.flaw.Flaw.{Flaw}
-use Rattle.replay_top.specs.Flaw.{flaw_status, HasFlaw, IsRead}
+use Rattle.replay_top.specs.Flaw.{HasFlaw, IsRead}
 use Rattle.replay_top.specs.Words.{files_named, name_at, Named}
 
 -- How contents that may not be told have a fact: where they are told (`IfSome`), or they are told and
@@ -35,9 +35,3 @@ abbrev pub Finds : Telling → List (List ℕ) → Source → Finding → Type 0
 Finds of words files misused = files_named words ≡ None
 Finds of words files (flawed file flaw) = Named words (λ names. FirstFlaw of files names file flaw)
 Finds of words files clean = Named words (λ names. AreAllRead of files names)
-
--- the status that the inputs call for
-abbrev pub status_found : Finding → ℕ
-status_found misused = 1
-status_found (flawed file flaw) = flaw_status flaw
-status_found clean = 0

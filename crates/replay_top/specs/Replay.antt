@@ -7,7 +7,7 @@ use Rattle.packet_path.specs.declared.packet.Arrival.{Arrival}
 use Rattle.history_book.specs.declared.report.Report.{Report}
 use Rattle.replay_top.specs.declared.flaw.ReplayError.{ReplayError}
 use Rattle.replay_top.specs.declared.flaw.ReplayError.TheVariants.{Flawed, NoMemory}
-use Rattle.replay_top.specs.Arrivals.{IsReadCapture}
+use Rattle.replay_top.specs.Arrivals.{GivesArrivals}
 use Rattle.replay_top.specs.Flaw.{HasFlaw}
 use Rattle.replay_top.specs.Report.{IsWellFormed}
 use Rattle.replay_top.specs.Sizes.{program_sizes}
@@ -18,7 +18,7 @@ use Rattle.report_text.specs.Wrote.{followed_by, WroteFront}
 -- the report is well formed for the packets of the capture that the bytes are
 pub record IsReportOf (bytes : List ℕ) (report : Report) : Type 0 where
   pub arrivals : List Arrival
-  pub capture : IsReadCapture bytes arrivals
+  pub capture : GivesArrivals bytes arrivals
   pub well_formed : IsWellFormed program_sizes (arrivals ∷ []) report
 
 -- what replaying these bytes gives: their report, or the flaw that they have; memory may be wanting
@@ -28,11 +28,11 @@ ReplaysAs bytes (Err (Flawed flaw)) = HasFlaw bytes flaw
 ReplaysAs bytes (Err NoMemory) = Unit {0}
 
 -- A file of this name gave the packets of a capture. Where its contents are told, the capture's bytes
--- are these; else they are the bytes that were handed over.
+-- are these; else no more is said of them.
 pub record Gave (files : Source) (name : List ℕ) (arrivals : List Arrival) : Type 0 where
   pub bytes : List ℕ
-  pub handed_over : IfSome (files.contents name) (λ contents. bytes ≡ contents)
-  pub capture : IsReadCapture bytes arrivals
+  pub told : IfSome (files.contents name) (λ contents. bytes ≡ contents)
+  pub capture : GivesArrivals bytes arrivals
 
 -- each file gave the packets of one capture
 abbrev pub GaveEach : Source → List (List ℕ) → List (List Arrival) → Type 0

@@ -17,8 +17,8 @@ ghost use Rattle.replay_top.specs.Internal.Track.{Begins, Handled, StepsTo};
 use crate::book::{Book, Touched};
 use history_book::find::{FoundAt, find, label};
 use history_book::laws::{
-    destroys_free, events_stay, free_is_absent, parts_are_told, records_are_apart, states_stay,
-    tuples_are_told,
+    destroys_free, events_stay, free_is_absent, records_are_apart, same_part_is_equality,
+    same_tuple_is_equality, states_stay,
 };
 use proto_rules::{Outcome, Part, start, step};
 use history_book::record::Record;
@@ -50,7 +50,7 @@ fn confirm_entry(book: &mut Book, index: u32, packet: &FlowPacket, place: u32) -
     ensures begins { Begins book.old book.new index packet.now place result }
     ensures holds { Holds book.new }
 {
-    tuples_are_told();
+    same_tuple_is_equality();
     let id = book.history.len() as u64;
     let subject = Record {
         id,
@@ -122,7 +122,7 @@ fn refresh_entry(
     ensures holds { Holds book.new }
     ensures places { PlacesBelow (length book.new.records.items) book.new.records.items }
 {
-    parts_are_told();
+    same_part_is_equality();
     states_stay();
     let first = book.history.len() as u64;
     let subject = *book.records.at(found.index);

@@ -7,7 +7,7 @@ use Rattle.replay_top.proofs.track.confirm_entry.Goals as goal
 pub confirm-requires-clause-may : goal.confirm-requires-clause-may
 confirm-requires-clause-may c =
     let flow : IsFlow c.args.packet.now = flow_of c.args.packet.now c.requires.flow in
-    may_confirm_from c.tuples_are_told.ensures c.args.book.now.sizes _ (state_of c.args.book.now.records.items)
+    may_confirm_from c.same_tuple_is_equality.ensures c.args.book.now.sizes _ (state_of c.args.book.now.records.items)
     (record {
       id = c.len-id.result;
       place = c.args.place;

@@ -3,7 +3,7 @@ use Rattle.replay_top.proofs.track.refresh_entry.Goals as goal
 
 pub touch-requires-clause-may : goal.touch-requires-clause-may
 touch-requires-clause-may c =
-    may_touch_here c.parts_are_told.ensures c.args.found c.args.packet.now c.args.book.now.records.items c.args.after
+    may_touch_here c.same_part_is_equality.ensures c.args.found c.args.packet.now c.args.book.now.records.items c.args.after
     c.at.result.now c.requires.flow c.requires.accepted c.at.ensures
 
 pub returns-clause-handled : goal.returns-clause-handled
