@@ -1,18 +1,13 @@
 -- What is live under a tuple, and what is free once it is destroyed.
 use Rattle.std.proofs.Common.{◌≡◌, ℕ, Bool, true, false, not, cond, List, [], ◌∷◌, refl, sym, ap, subst, ◌∙◌, ⊎_elim, inl, inr, Option, Some, None}
 use Rattle.std.specs.List.{AllByRecursion, AllPairs, find, list_any, remove, slice_get}
-use Rattle.std.specs.Prelude.{◌⊎◌, ◌==◌}
-use Rattle.std.proofs.lemmas.Bool.{and_from, and_parts, eq-eqb, eqb-true, ne_eqb, not-true, or_cases, or_from, or_left, or_parts, or_right}
+use Rattle.std.specs.Prelude.{◌⊎◌}
+use Rattle.std.proofs.lemmas.Bool.{ne_eqb, not-true, or_cases, or_from, or_left, or_parts, or_right}
 use Rattle.tuple_core.specs.declared.Direction.TheVariants.{Original, Reply}
 use Rattle.tuple_core.specs.declared.Tuple.{Tuple}
 use Rattle.history_book.specs.declared.event.Event.TheVariants.{Destroy}
 use Rattle.history_book.specs.declared.event.Why.{Why}
-use Rattle.proto_rules.specs.declared.Part.{Part}
-use Rattle.proto_rules.specs.declared.PartKind.{PartKind}
-use Rattle.proto_rules.specs.declared.PartKind.TheVariants as kind
 use Rattle.history_book.specs.declared.record.Record.{Record}
-use Rattle.proto_rules.specs.TcpTable.{column_of}
-use Rattle.history_book.specs.Legality.{same_bool, same_kind, same_part}
 use Rattle.history_book.specs.Laws.{AreApart}
 use Rattle.history_book.specs.Record.{has_original, has_place, has_reply, has_tuple}
 use Rattle.history_book.specs.State.{Found, State, is_free, live_under, next, original_first}
@@ -117,40 +112,3 @@ destroyed_gone s i found t why apart item live =
       unused = ap not (subst (λ (rs : List Record). list_any (has_place found.subject.place) rs ≡ false) left
           (all_elsewhere found.subject (remove s.records i) others));
     }
-
-same_bool-refl : (b : Bool) → same_bool b b ≡ true
-same_bool-refl true = refl
-same_bool-refl false = refl
-
-same_kind-refl : (k : PartKind) → same_kind k k ≡ true
-same_kind-refl (kind.Tcp state) = eq-eqb (column_of state) (column_of state) refl
-same_kind-refl kind.Udp = refl
-same_kind-refl kind.Icmp = refl
-
-pub same_part-refl : (p : Part) → same_part p p ≡ true
-same_part-refl p =
-    and_from _ _ (and_from _ _ (and_from _ _ (same_kind-refl p.kind) (same_bool-refl p.replied)) (same_bool-refl p.assured))
-    (eq-eqb p.deadline p.deadline refl)
-
-same_bool-true : (a b : Bool) → same_bool a b ≡ true → a ≡ b
-same_bool-true true b same = sym same
-same_bool-true false true same = same
-same_bool-true false false same = refl
-
-same_kind-true : (j k : PartKind) → same_kind j k ≡ true → j ≡ k
-same_kind-true kind.Udp kind.Udp same = refl
-
-same_fields : (p q : Part) → p.kind ≡ q.kind → p.replied ≡ q.replied → p.assured ≡ q.assured → p.deadline ≡ q.deadline → p ≡ q
-same_fields p q k r a d = λ i. record { kind = k i; replied = r i; assured = a i; deadline = d i }
-
--- parts that pass the test are equal
-pub same_part-true : (p q : Part) → same_part p q ≡ true → p ≡ q
-same_part-true p q same =
-    let deadline = and_parts _ (p.deadline == q.deadline) same in
-    let assured = and_parts _ (same_bool p.assured q.assured) deadline.0 in
-    let kinds = and_parts (same_kind p.kind q.kind) (same_bool p.replied q.replied) assured.0 in
-    same_fields p q (same_kind-true p.kind q.kind kinds.0) (same_bool-true p.replied q.replied kinds.1)
-    (same_bool-true p.assured q.assured assured.1) (eqb-true p.deadline q.deadline deadline.1)
-
-pub same_part-equal : (p q : Part) → p ≡ q → same_part p q ≡ true
-same_part-equal p q same = subst (λ (r : Part). same_part p r ≡ true) same (same_part-refl p)

@@ -1,5 +1,5 @@
 -- Which events may happen in a state of the table, in a tracker of some sizes.
-use Rattle.std.specs.Prelude.{ℕ, Bool, true, false, ◌==◌, ◌&&◌, not, nat_lt, Option, Some, None}
+use Rattle.std.specs.Prelude.{ℕ, Bool, true, false, ◌==◌, ◌&&◌, nat_lt, Option, Some, None}
 use Rattle.tuple_core.specs.Tuple.{is_valid, number_of}
 use Rattle.tuple_core.specs.declared.Direction.{Direction}
 use Rattle.tuple_core.specs.declared.Direction.TheVariants.{Original}
@@ -12,11 +12,9 @@ use Rattle.history_book.specs.declared.event.Why.TheVariants as why
 use Rattle.proto_rules.specs.declared.Outcome.{Outcome}
 use Rattle.proto_rules.specs.declared.Outcome.TheVariants as outcome
 use Rattle.proto_rules.specs.declared.Part.{Part}
-use Rattle.proto_rules.specs.declared.PartKind.{PartKind}
-use Rattle.proto_rules.specs.declared.PartKind.TheVariants as kind
 use Rattle.history_book.specs.declared.record.Record.{Record}
 use Rattle.proto_rules.specs.Part.{is_expired}
-use Rattle.proto_rules.specs.TcpTable.{same_state}
+use Rattle.proto_rules.specs.Same.{same_part}
 use Rattle.proto_rules.specs.Protocol.{is_of_protocol, proto_of}
 use Rattle.proto_rules.specs.Step.{step_of}
 use Rattle.history_book.specs.declared.sizes.Sizes.{Sizes}
@@ -40,25 +38,6 @@ is_open_place sizes place s = nat_lt place sizes.entries && is_unused place s
 abbrev pub may_confirm : Sizes → State → ℕ → Record → Bool
 may_confirm sizes s n r =
     r.id == n && is_of_one_protocol r && is_open_place sizes r.place s && is_free r.original s && is_free r.reply s
-
-abbrev pub same_bool : Bool → Bool → Bool
-same_bool true b = b
-same_bool false b = not b
-
-abbrev pub same_kind : PartKind → PartKind → Bool
-same_kind (kind.Tcp p) (kind.Tcp q) = same_state p q
-same_kind (kind.Tcp p) kind.Udp = false
-same_kind (kind.Tcp p) kind.Icmp = false
-same_kind kind.Udp (kind.Tcp q) = false
-same_kind kind.Udp kind.Udp = true
-same_kind kind.Udp kind.Icmp = false
-same_kind kind.Icmp (kind.Tcp q) = false
-same_kind kind.Icmp kind.Udp = false
-same_kind kind.Icmp kind.Icmp = true
-
-abbrev pub same_part : Part → Part → Bool
-same_part p q =
-    same_kind p.kind q.kind && same_bool p.replied q.replied && same_bool p.assured q.assured && p.deadline == q.deadline
 
 -- the step accepts the packet, and the entry goes on with this part
 abbrev pub accepts : Outcome → Part → Bool

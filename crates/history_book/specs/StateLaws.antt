@@ -9,7 +9,6 @@ use Rattle.history_book.specs.declared.event.Event.TheVariants.{Touch, Destroy}
 use Rattle.history_book.specs.declared.event.Why.{Why}
 use Rattle.proto_rules.specs.declared.Part.{Part}
 use Rattle.history_book.specs.declared.record.Record.{Record}
-use Rattle.history_book.specs.Legality.{same_part}
 use Rattle.history_book.specs.Laws.{AreApart}
 use Rattle.history_book.specs.Record.{same_tuple}
 use Rattle.history_book.specs.State.{Found, State, is_free, is_unused, live_under, next, record_of}
@@ -17,10 +16,6 @@ use Rattle.history_book.specs.State.{Found, State, is_free, is_unused, live_unde
 -- the test of two tuples says exactly whether they are equal
 abbrev pub SameTupleIsEquality : Type 0
 SameTupleIsEquality = (t u : Tuple) → (same_tuple t u ≡ true → t ≡ u) × (t ≡ u → same_tuple t u ≡ true)
-
--- the test of two parts says exactly whether they are equal
-abbrev pub SamePartIsEquality : Type 0
-SamePartIsEquality = (p q : Part) → (same_part p q ≡ true → p ≡ q) × (p ≡ q → same_part p q ≡ true)
 
 -- a tuple is free exactly where nothing is live under it
 abbrev pub FreeIsAbsent : Type 0

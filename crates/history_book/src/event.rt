@@ -1,14 +1,16 @@
 //! The events of the tracker: each is one change of the table.
 
-use proto_rules::Part;
 use crate::record::Record;
+use proto_rules::Part;
 use tuple_core::{Direction, Segment};
 
 /// Why an entry was destroyed.
 #[derive(Clone, Copy)]
 pub enum Why {
     /// Its deadline is at most the moment, in microseconds.
-    Expired { moment: u64 },
+    Expired {
+        moment: u64,
+    },
     /// A segment in this direction began a new connection in place of the closed one.
     Reopened {
         direction: Direction,
@@ -16,7 +18,10 @@ pub enum Why {
         moment: u64,
     },
     /// A segment, in either direction, reset the connection before a reply was seen.
-    Reset { segment: Segment, moment: u64 },
+    Reset {
+        segment: Segment,
+        moment: u64,
+    },
 }
 
 /// One change of the table.

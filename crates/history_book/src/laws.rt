@@ -4,7 +4,7 @@
 ghost use Rattle.history_book.specs.Laws.{LegalHistoriesGoOn, StatesFollow, FirstEventsStay};
 ghost use Rattle.history_book.specs.Laws.{EventsStay, StatesStay, RecordsAreApart};
 ghost use Rattle.history_book.specs.Laws.{LiveRecordsAreConfirmed, DestroyedIdsStayDead};
-ghost use Rattle.history_book.specs.StateLaws.{SameTupleIsEquality, SamePartIsEquality};
+ghost use Rattle.history_book.specs.StateLaws.{SameTupleIsEquality};
 ghost use Rattle.history_book.specs.StateLaws.{FreeIsAbsent};
 ghost use Rattle.history_book.specs.StateLaws.{IdsNameRecords, TouchesChangeOne};
 ghost use Rattle.history_book.specs.StateLaws.{DestroysTakeOne, DestroysFree};
@@ -54,11 +54,6 @@ pub fn destroyed_ids_stay_dead()
 /// The test of two tuples says exactly whether they are equal.
 pub fn same_tuple_is_equality()
     ensures { SameTupleIsEquality }
-{}
-
-/// The test of two parts says exactly whether they are equal.
-pub fn same_part_is_equality()
-    ensures { SamePartIsEquality }
 {}
 
 /// A tuple is free exactly where nothing is live under it.

@@ -4,33 +4,18 @@ ghost use Rattle.std.specs.Prelude.{◌≡◌, ◌≤◌, ◌^◌, Some, true};
 ghost use Rattle.std.specs.List.{list_any};
 ghost use Rattle.history_book.specs.Legality.{is_of_one_protocol, is_reason, is_reopen, is_reset};
 ghost use Rattle.history_book.specs.Legality.{may_confirm, may_happen, may_touch, reason_moment_of};
-ghost use Rattle.history_book.specs.Legality.{same_kind, same_part, step_moment_of};
-ghost use Rattle.proto_rules.specs.Protocol.{is_of_protocol, proto_of};
+ghost use Rattle.history_book.specs.Legality.{step_moment_of};
+ghost use Rattle.proto_rules.specs.Protocol.{is_of_protocol};
 ghost use Rattle.proto_rules.specs.Step.{step_of};
-ghost use Rattle.proto_rules.specs.TcpTable.{column_of};
 ghost use Rattle.history_book.specs.Record.{has_place, has_tuple};
 ghost use Rattle.history_book.specs.State.{state_of};
 
 use crate::event::{Event, Why};
 use crate::find::find_id;
-use proto_rules::{Outcome, Part, PartKind, TcpState, step};
 use crate::record::Record;
 use crate::sizes::Sizes;
-use tuple_core::{Direction, Proto, Segment, Tuple, is_valid};
-
-/// Whether the segment is of the protocol.
-pub fn is_of_protocol(segment: Segment, kind: PartKind) -> bool
-    ensures { result ≡ is_of_protocol segment kind }
-{
-    match (segment, kind) {
-        (Segment::Tcp(_), PartKind::Tcp(_)) => true,
-        (Segment::Udp, PartKind::Udp) => true,
-        (Segment::Icmp(_), PartKind::Icmp) => true,
-        (Segment::Tcp(_), PartKind::Udp | PartKind::Icmp) => false,
-        (Segment::Udp, PartKind::Tcp(_) | PartKind::Icmp) => false,
-        (Segment::Icmp(_), PartKind::Tcp(_) | PartKind::Udp) => false,
-    }
-}
+use proto_rules::{Outcome, Part, is_of_protocol, is_same_part, proto_of, step};
+use tuple_core::{Direction, Segment, Tuple, is_valid};
 
 /// Whether the record has the tuple in either direction.
 fn has_tuple(r: &Record, t: &Tuple) -> bool
@@ -51,17 +36,6 @@ pub fn is_place_used(records: &[Record], place: u32) -> bool
     ensures { result ≡ list_any (has_place place) records.now }
 {
     records.iter().any(|r| r.place == place)
-}
-
-/// The protocol that a part is of.
-fn proto_of(kind: PartKind) -> Proto
-    ensures { result ≡ proto_of kind }
-{
-    match kind {
-        PartKind::Tcp(_) => Proto::Tcp,
-        PartKind::Udp => Proto::Udp,
-        PartKind::Icmp => Proto::Icmp,
-    }
 }
 
 /// Whether both tuples of a record are valid and of the protocol of its part.
@@ -88,34 +62,6 @@ fn is_confirmable(sizes: &Sizes, records: &[Record], number: u64, subject: &Reco
         && !is_taken(records, &subject.reply)
 }
 
-/// A state's number.
-fn column(state: TcpState) -> usize
-    ensures { result ≡ column_of state }
-{
-    state as usize
-}
-
-/// Whether two parts are of one protocol, and in one state.
-fn is_same_kind(p: PartKind, q: PartKind) -> bool
-    ensures { result ≡ same_kind p q }
-{
-    match (p, q) {
-        (PartKind::Tcp(old), PartKind::Tcp(new)) => column(old) == column(new),
-        (PartKind::Udp, PartKind::Udp) => true,
-        (PartKind::Icmp, PartKind::Icmp) => true,
-        (PartKind::Tcp(_), PartKind::Udp | PartKind::Icmp) => false,
-        (PartKind::Udp, PartKind::Tcp(_) | PartKind::Icmp) => false,
-        (PartKind::Icmp, PartKind::Tcp(_) | PartKind::Udp) => false,
-    }
-}
-
-/// Whether two parts are equal.
-fn is_same_part(p: &Part, q: &Part) -> bool
-    ensures { result ≡ same_part p.now q.now }
-{
-    is_same_kind(p.kind, q.kind) && p.replied == q.replied && p.assured == q.assured && p.deadline == q.deadline
-}
-
 /// Whether the record may be touched by such a packet, and goes on with the part `after`.
 fn is_touchable(
     r: &Record,
@@ -132,11 +78,8 @@ fn is_touchable(
     }
     match step(&r.part, direction, segment, moment) {
         Outcome::Accept(next) => is_same_part(&next, after),
-        Outcome::Ignore
-        | Outcome::Invalid
-        | Outcome::Reopen
-        | Outcome::Reset
-        | Outcome::Expired => false,
+        Outcome::Ignore | Outcome::Invalid | Outcome::Reopen | Outcome::Reset | Outcome::Expired =>
+            false,
     }
 }
 

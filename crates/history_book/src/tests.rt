@@ -3,10 +3,10 @@
 use crate::event::{Event, Why};
 use crate::find::{FoundAt, find, find_id, label};
 use crate::legality::is_lawful;
-use proto_rules::{Outcome, Part, PartKind, start, step};
 use crate::record::Record;
 use crate::sizes::Sizes;
 use crate::verdict::Label;
+use proto_rules::{Outcome, Part, PartKind, start, step};
 use tuple_core::{Direction, Kind, Proto, Segment, Tuple};
 
 /// From 10.0.0.1:5000 to 10.0.0.2:53.

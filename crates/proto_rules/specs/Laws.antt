@@ -72,6 +72,6 @@ ExpiredAreTold =
     (part : Part) (direction : Direction) (segment : Segment) (moment : ℕ)
     → IsToldExpired part direction segment moment
 
--- the test of two parts tells whether they are equal
-abbrev pub PartsAreTold : Type 0
-PartsAreTold = (p q : Part) → (same_part p q ≡ true → p ≡ q) × (p ≡ q → same_part p q ≡ true)
+-- the test of two parts says exactly whether they are equal
+abbrev pub SamePartIsEquality : Type 0
+SamePartIsEquality = (p q : Part) → (same_part p q ≡ true → p ≡ q) × (p ≡ q → same_part p q ≡ true)

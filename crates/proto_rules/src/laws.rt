@@ -2,7 +2,7 @@
 //! that does nothing.
 
 ghost use Rattle.proto_rules.specs.Laws.{AcceptedGoOn, EntriesBeginFresh, ExpiredAreTold};
-ghost use Rattle.proto_rules.specs.Laws.{PartsAreTold, ReopensBeginAnew, ResetsAreUnanswered};
+ghost use Rattle.proto_rules.specs.Laws.{SamePartIsEquality, ReopensBeginAnew, ResetsAreUnanswered};
 
 /// An entry that begins is of the segment's protocol, with no reply and not assured, and lives on.
 pub fn entries_begin_fresh()
@@ -30,7 +30,7 @@ pub fn expired_are_told()
     ensures { ExpiredAreTold }
 {}
 
-/// The test of two parts tells whether they are equal.
-pub fn parts_are_told()
-    ensures { PartsAreTold }
+/// The test of two parts says exactly whether they are equal.
+pub fn same_part_is_equality()
+    ensures { SamePartIsEquality }
 {}
