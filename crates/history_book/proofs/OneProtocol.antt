@@ -1,12 +1,13 @@
 -- In every state of a legal history each record is of one protocol.
-use Rattle.std.proofs.Common.{◌≡◌, ℕ, ◌+◌, zero, suc, Bool, true, false, not, cond, List, [], ◌∷◌, ◌++◌, take, refl, sym, ap, subst, ◌∙◌, Some}
+use Rattle.std.proofs.Common.{◌≡◌, ℕ, ◌+◌, zero, suc, Bool, true, false, not, cond, List, [], ◌∷◌, ◌++◌, take, refl, sym, ap, subst, ◌∙◌, ⊎_elim, Some}
 use Rattle.std.specs.List.{AllByRecursion, find}
 use Rattle.std.specs.Prelude.{map, ◌==◌, ◌≢◌, ◌&&◌}
-use Rattle.std.proofs.lemmas.Bool.{and_parts, eqb-true}
+use Rattle.std.proofs.lemmas.Bool.{and_parts, eqb-true, or_cases}
 use Rattle.tuple_core.specs.Tuple.{is_valid}
 use Rattle.tuple_core.specs.declared.Direction.{Direction}
 use Rattle.tuple_core.specs.declared.Proto.{Proto}
 use Rattle.tuple_core.specs.declared.Segment.{Segment}
+use Rattle.tuple_core.specs.declared.Tuple.{Tuple}
 use Rattle.proto_rules.specs.declared.Outcome.{Outcome}
 use Rattle.proto_rules.specs.declared.Outcome.TheVariants as outcome
 use Rattle.proto_rules.specs.declared.Part.{Part}
@@ -20,12 +21,15 @@ use Rattle.history_book.specs.declared.sizes.Sizes.{Sizes}
 use Rattle.history_book.specs.History.{after, is_legal, is_legal_from, run}
 use Rattle.history_book.specs.Laws.{AreApart}
 use Rattle.history_book.specs.Legality.{accepts, is_of_one_protocol, is_open_place, may_happen, may_touch, same_proto}
-use Rattle.history_book.specs.Record.{has_id}
-use Rattle.history_book.specs.State.{State, empty_state, is_free, next, with_part}
+use Rattle.history_book.specs.Record.{has_id, has_original, has_reply, has_tuple}
+use Rattle.history_book.specs.State.{Found, State, empty_state, is_free, live_under, next, with_part}
 use Rattle.history_book.proofs.Entries.{each_filter}
+use Rattle.history_book.proofs.Live.{live_has, original_found}
 use Rattle.history_book.proofs.Pairs.{Pairs}
+use Rattle.history_book.proofs.Passing.{found_holds}
 use Rattle.history_book.proofs.Records.{later_ids, with_part-others}
 use Rattle.history_book.proofs.Sound.{Sound, sound_next}
+use Rattle.history_book.proofs.Tuples.{same_number, same_tuple-true}
 
 abbrev OneProtocol : Record → Type 0
 OneProtocol r = is_of_one_protocol r ≡ true
@@ -111,3 +115,28 @@ module _ (go_on : AcceptedGoOn) (equal : SamePartIsEquality) where
       → AllOneProtocol (after log p).records
   unfolding is_legal after
   protocol_after sizes p log legal = protocol_run sizes 0 p empty_state log legal (record { apart = tt; older = tt }) tt
+
+-- what is live under a tuple is a record of the state
+live_holds : (P : Record → Type 0) (t : Tuple) (s : State) (f : Found) → AllByRecursion P s.records
+    → live_under t s ≡ Some f → P f.subject
+live_holds P t s f h live =
+    ⊎_elim
+    (found_holds P (has_original t) s.records f.subject h)
+    (found_holds P (has_reply t) s.records f.subject h)
+    (original_found (find (has_original t) s.records) (find (has_reply t) s.records) f live)
+
+-- a record of one protocol is of that of each of its tuples
+own_protocol : (t : Tuple) (r : Record) → OneProtocol r → has_tuple t r ≡ true → proto_of r.part.kind ≡ t.proto
+own_protocol t r h has =
+    let reply = and_parts _ (same_proto r.reply.proto (proto_of r.part.kind)) h in
+    let original = and_parts _ (same_proto r.original.proto (proto_of r.part.kind)) reply.0 in
+    ⊎_elim
+    (λ e. sym (same_number r.original.proto (proto_of r.part.kind) (eqb-true _ _ original.1))
+    ∙ ap (λ (u : Tuple). u.proto) (same_tuple-true r.original t e))
+    (λ e. sym (same_number r.reply.proto (proto_of r.part.kind) (eqb-true _ _ reply.1))
+    ∙ ap (λ (u : Tuple). u.proto) (same_tuple-true r.reply t e))
+    (or_cases (has_original t r) (has_reply t r) has)
+
+pub live_protocol : (t : Tuple) (s : State) (f : Found) → AllOneProtocol s.records → live_under t s ≡ Some f
+    → proto_of f.subject.part.kind ≡ t.proto
+live_protocol t s f h live = own_protocol t f.subject (live_holds OneProtocol t s f h live) (live_has t s f live)

@@ -9,6 +9,7 @@ ghost use Rattle.history_book.specs.StateLaws.{SameTupleIsEquality};
 ghost use Rattle.history_book.specs.StateLaws.{FreeIsAbsent};
 ghost use Rattle.history_book.specs.StateLaws.{IdsNameRecords, TouchesChangeOne};
 ghost use Rattle.history_book.specs.StateLaws.{DestroysTakeOne, DestroysFree};
+ghost use Rattle.history_book.specs.StateLaws.{LiveRecordsHaveTheProtocol};
 
 use proto_rules::laws::{accepted_go_on, same_part_is_equality};
 
@@ -91,4 +92,9 @@ pub fn destroys_take_one()
 /// A destroyed entry leaves its place unused, and the tuple that it was live under free.
 pub fn destroys_free()
     ensures { DestroysFree }
+{}
+
+/// Where each record is of one protocol, what is live under a tuple is of that tuple's.
+pub fn live_records_have_the_protocol()
+    ensures { LiveRecordsHaveTheProtocol }
 {}
