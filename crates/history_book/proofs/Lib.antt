@@ -8,4 +8,5 @@ pub mod Sound
 pub mod Passing
 pub mod Records
 pub mod Live
+pub mod OneProtocol
 pub mod Examples

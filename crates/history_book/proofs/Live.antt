@@ -57,7 +57,7 @@ free_absent t s h =
     ap (λ o. original_first o (find (has_reply t) s.records)) (find_none (has_original t) s.records none.0)
     ∙ ap (λ o. original_first None o) (find_none (has_reply t) s.records none.1)
 
-original_found : (o r : Option Record) (f : Found) → original_first o r ≡ Some f
+pub original_found : (o r : Option Record) (f : Found) → original_first o r ≡ Some f
     → (o ≡ Some f.subject) ⊎ (r ≡ Some f.subject)
 original_found (Some a) r f h =
     let same : record { subject = a; direction = Original } ≡ f = cc in inl (ap (λ (x : Found). Some x.subject) same)
@@ -66,7 +66,7 @@ original_found None (Some b) f h =
 original_found None None f h = cc
 
 -- the record that is live under a tuple has it
-live_has : (t : Tuple) (s : State) (f : Found) → live_under t s ≡ Some f → has_tuple t f.subject ≡ true
+pub live_has : (t : Tuple) (s : State) (f : Found) → live_under t s ≡ Some f → has_tuple t f.subject ≡ true
 live_has t s f h =
     ⊎_elim
     (λ e. or_left (has_original t f.subject) (has_reply t f.subject) (found_passes (has_original t) s.records f.subject e))

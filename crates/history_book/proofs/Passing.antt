@@ -1,6 +1,6 @@
 -- Tests of the items of a list that no item passes.
-use Rattle.std.proofs.Common.{◌≡◌, Bool, true, false, cond, List, [], ◌∷◌, refl, Some, None}
-use Rattle.std.specs.List.{find, list_any}
+use Rattle.std.proofs.Common.{◌≡◌, Bool, true, false, cond, List, [], ◌∷◌, refl, subst, Some, None}
+use Rattle.std.specs.List.{AllByRecursion, find, list_any}
 use Rattle.std.specs.Prelude.{◌||◌}
 use Rattle.std.proofs.lemmas.Bool.{or_from}
 
@@ -28,3 +28,14 @@ found_first p x y xs false e h rest = rest h
 pub found_passes : {X : Type 0} (p : X → Bool) (xs : List X) (y : X) → find p xs ≡ Some y → p y ≡ true
 found_passes p [] y h = cc
 found_passes p (x ∷ xs) y h = found_first p x y xs (p x) refl h (found_passes p xs y)
+
+held_first : {X : Type 0} (P : X → Type 0) (p : X → Bool) (x y : X) (xs : List X) (b : Bool)
+    → cond b (Some x) (find p xs) ≡ Some y → P x → (find p xs ≡ Some y → P y) → P y
+held_first P p x y xs true h one rest = let same : x ≡ y = cc in subst P same one
+held_first P p x y xs false h one rest = rest h
+
+-- what holds of each item holds of the one that is found
+pub found_holds : {X : Type 0} (P : X → Type 0) (p : X → Bool) (xs : List X) (y : X) → AllByRecursion P xs
+    → find p xs ≡ Some y → P y
+found_holds P p [] y h at = cc
+found_holds P p (x ∷ xs) y (h, hs) at = held_first P p x y xs (p x) at h (found_holds P p xs y hs)

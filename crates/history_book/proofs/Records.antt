@@ -49,11 +49,11 @@ others_apart (q ∷ rs) (suc i) r (h, hs) at =
 with_part-other : (id : ℕ) (part : Part) (r : Record) → r.id ≢ id → with_part id part r ≡ r
 with_part-other id part r other = ap (λ b. cond b (record r { part = part }) r) (ne_eqb r.id id other)
 
-with_part-others : (id : ℕ) (part : Part) (rs : List Record) → AllByRecursion (λ r. r.id ≢ id) rs → map (with_part id part) rs ≡ rs
+pub with_part-others : (id : ℕ) (part : Part) (rs : List Record) → AllByRecursion (λ r. r.id ≢ id) rs → map (with_part id part) rs ≡ rs
 with_part-others id part [] h = refl
 with_part-others id part (r ∷ rs) (h, hs) = cc (with_part-other id part r h, with_part-others id part rs hs)
 
-later_ids : (q : Record) (rs : List Record) → AllByRecursion (AreApart q) rs → AllByRecursion (λ r. r.id ≢ q.id) rs
+pub later_ids : (q : Record) (rs : List Record) → AllByRecursion (AreApart q) rs → AllByRecursion (λ r. r.id ≢ q.id) rs
 later_ids q [] h = tt
 later_ids q (r ∷ rs) (h, hs) = (λ e. h.ids (sym e), later_ids q rs hs)
 

@@ -19,7 +19,8 @@ same_tuple-equal t u e = subst (λ (v : Tuple). same_tuple t v ≡ true) e (same
 pub same_tuple-false : (t u : Tuple) → same_tuple t u ≡ false → t ≢ u
 same_tuple-false t u differs e = true≢false (sym (same_tuple-equal t u e) ∙ differs)
 
-same_number : (p q : Proto) → number_of p ≡ number_of q → p ≡ q
+-- protocols of one number are equal
+pub same_number : (p q : Proto) → number_of p ≡ number_of q → p ≡ q
 same_number Icmp Icmp e = refl
 same_number Icmp Tcp e = absurd (omega (arith, e))
 same_number Icmp Udp e = absurd (omega (arith, e))

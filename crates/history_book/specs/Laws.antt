@@ -5,7 +5,7 @@ use Rattle.history_book.specs.declared.event.Event.TheVariants.{Confirm, Destroy
 use Rattle.history_book.specs.declared.event.Why.{Why}
 use Rattle.history_book.specs.declared.record.Record.{Record}
 use Rattle.history_book.specs.declared.sizes.Sizes.{Sizes}
-use Rattle.history_book.specs.Legality.{may_happen}
+use Rattle.history_book.specs.Legality.{is_of_one_protocol, may_happen}
 use Rattle.history_book.specs.History.{after, is_legal}
 use Rattle.history_book.specs.Point.{StartsWith}
 use Rattle.history_book.specs.State.{next}
@@ -80,3 +80,9 @@ DestroyedIdsStayDead =
     (sizes : Sizes) (log : List Event) (n p id : ℕ) (why : Why) → is_legal sizes log ≡ true
     → slice_get log n ≡ Some (Destroy id why) → n < p → p ≤ length log
     → All (λ r. r.id ≢ id) (after log p).records
+
+-- in every state of a legal history both tuples of each record are valid and of the protocol of its part
+abbrev pub RecordsAreOfOneProtocol : Type 0
+RecordsAreOfOneProtocol =
+    (sizes : Sizes) (log : List Event) (p : ℕ) → is_legal sizes log ≡ true
+    → All (λ r. is_of_one_protocol r ≡ true) (after log p).records

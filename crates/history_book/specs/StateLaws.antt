@@ -1,6 +1,6 @@
 -- What holds of tests, and of states, whoever made them. In the states of a legal history the records
 -- are apart.
-use Rattle.std.specs.Prelude.{◌≡◌, ℕ, true, Some, None, slice_get, slice_set, AllPairs}
+use Rattle.std.specs.Prelude.{◌≡◌, ℕ, true, Some, None, slice_get, slice_set, All, AllPairs}
 use Rattle.std.specs.List.{remove}
 use Rattle.tuple_core.specs.declared.Direction.{Direction}
 use Rattle.tuple_core.specs.declared.Segment.{Segment}
@@ -8,8 +8,10 @@ use Rattle.tuple_core.specs.declared.Tuple.{Tuple}
 use Rattle.history_book.specs.declared.event.Event.TheVariants.{Touch, Destroy}
 use Rattle.history_book.specs.declared.event.Why.{Why}
 use Rattle.proto_rules.specs.declared.Part.{Part}
+use Rattle.proto_rules.specs.Protocol.{proto_of}
 use Rattle.history_book.specs.declared.record.Record.{Record}
 use Rattle.history_book.specs.Laws.{AreApart}
+use Rattle.history_book.specs.Legality.{is_of_one_protocol}
 use Rattle.history_book.specs.Record.{same_tuple}
 use Rattle.history_book.specs.State.{Found, State, is_free, is_unused, live_under, next, record_of}
 
@@ -52,3 +54,9 @@ DestroysFree =
     (s : State) (i : ℕ) (found : Found) (t : Tuple) (why : Why) → AllPairs AreApart s.records
     → slice_get s.records i ≡ Some found.subject → live_under t s ≡ Some found
     → IsGone t found.subject.place (next s (Destroy found.subject.id why))
+
+-- where each record is of one protocol, what is live under a tuple is of that tuple's
+abbrev pub LiveRecordsHaveTheProtocol : Type 0
+LiveRecordsHaveTheProtocol =
+    (t : Tuple) (s : State) (found : Found) → All (λ r. is_of_one_protocol r ≡ true) s.records
+    → live_under t s ≡ Some found → proto_of found.subject.part.kind ≡ t.proto

@@ -1,13 +1,17 @@
 //! What holds of every legal history, and of states: each law is the contract of a function that does
-//! nothing.
+//! nothing but cite the laws of protocols that it follows from.
 
 ghost use Rattle.history_book.specs.Laws.{LegalHistoriesGoOn, StatesFollow, FirstEventsStay};
 ghost use Rattle.history_book.specs.Laws.{EventsStay, StatesStay, RecordsAreApart};
 ghost use Rattle.history_book.specs.Laws.{LiveRecordsAreConfirmed, DestroyedIdsStayDead};
+ghost use Rattle.history_book.specs.Laws.{RecordsAreOfOneProtocol};
 ghost use Rattle.history_book.specs.StateLaws.{SameTupleIsEquality};
 ghost use Rattle.history_book.specs.StateLaws.{FreeIsAbsent};
 ghost use Rattle.history_book.specs.StateLaws.{IdsNameRecords, TouchesChangeOne};
 ghost use Rattle.history_book.specs.StateLaws.{DestroysTakeOne, DestroysFree};
+ghost use Rattle.history_book.specs.StateLaws.{LiveRecordsHaveTheProtocol};
+
+use proto_rules::laws::{accepted_go_on, same_part_is_equality};
 
 /// A legal history goes on with any event that may happen in the state that it leaves.
 pub fn legal_histories_go_on()
@@ -51,6 +55,15 @@ pub fn destroyed_ids_stay_dead()
     ensures { DestroyedIdsStayDead }
 {}
 
+/// In every state of a legal history both tuples of each record are valid and of the protocol of its
+/// part.
+pub fn records_are_of_one_protocol()
+    ensures { RecordsAreOfOneProtocol }
+{
+    accepted_go_on();
+    same_part_is_equality();
+}
+
 /// The test of two tuples says exactly whether they are equal.
 pub fn same_tuple_is_equality()
     ensures { SameTupleIsEquality }
@@ -79,4 +92,9 @@ pub fn destroys_take_one()
 /// A destroyed entry leaves its place unused, and the tuple that it was live under free.
 pub fn destroys_free()
     ensures { DestroysFree }
+{}
+
+/// Where each record is of one protocol, what is live under a tuple is of that tuple's.
+pub fn live_records_have_the_protocol()
+    ensures { LiveRecordsHaveTheProtocol }
 {}

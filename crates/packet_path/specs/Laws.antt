@@ -1,14 +1,18 @@
 -- What holds of every verdict that fits.
-use Rattle.std.specs.Prelude.{◌≡◌, ℕ, ◌≤◌, List, []}
+use Rattle.std.specs.Prelude.{◌≡◌, ℕ, ◌≤◌, true, List, []}
 use Rattle.history_book.specs.declared.event.Event.{Event}
 use Rattle.history_book.specs.declared.event.Note.{Note}
 use Rattle.history_book.specs.declared.sizes.Sizes.{Sizes}
 use Rattle.history_book.specs.declared.verdict.Class.{Class}
 use Rattle.history_book.specs.declared.verdict.Class.TheVariants as class
 use Rattle.history_book.specs.declared.verdict.UntrackedWhy.{UntrackedWhy}
+use Rattle.tuple_core.specs.declared.Segment.{Segment}
 use Rattle.tuple_core.specs.declared.Tuple.{Tuple}
+use Rattle.proto_rules.specs.declared.PartKind.{PartKind}
+use Rattle.proto_rules.specs.Protocol.{is_of_protocol, proto_of}
 use Rattle.history_book.specs.Point.{StartsWith}
 use Rattle.packet_headers.specs.declared.packet.Packet.TheVariants as packet
+use Rattle.packet_headers.specs.ClassifySound.{protocol_of}
 use Rattle.packet_path.specs.Packet.{Given, cause_of}
 use Rattle.packet_path.specs.Verdict.{FitsFrame}
 
@@ -37,3 +41,10 @@ abbrev pub ErrorsMakeNoEvent : Type 0
 ErrorsMakeNoEvent =
     (sizes : Sizes) (log : List Event) (mark : ℕ) (given : Given) (inner : Tuple) (outer : ℕ) (own : List Note) (answer : Class)
     → given.packet ≡ packet.Error inner outer → FitsFrame sizes log mark given own answer → own ≡ []
+
+-- the test of a segment and an entry says exactly whether the segment's protocol is the entry's
+abbrev pub SameProtocolIsEquality : Type 0
+SameProtocolIsEquality =
+    (segment : Segment) (kind : PartKind)
+    → (is_of_protocol segment kind ≡ true → proto_of kind ≡ protocol_of segment)
+    × (proto_of kind ≡ protocol_of segment → is_of_protocol segment kind ≡ true)

@@ -2,7 +2,7 @@
 //! but cite the laws of histories that it follows from.
 
 ghost use Rattle.packet_path.specs.Laws.{BytesDecide, ErrorsMakeNoEvent};
-ghost use Rattle.packet_path.specs.Laws.{LowerMarksFit, VerdictsStillFit};
+ghost use Rattle.packet_path.specs.Laws.{LowerMarksFit, SameProtocolIsEquality, VerdictsStillFit};
 
 use history_book::laws::{events_stay, states_stay};
 
@@ -28,4 +28,9 @@ pub fn bytes_decide()
 /// An ICMP error makes no event.
 pub fn errors_make_no_event()
     ensures { ErrorsMakeNoEvent }
+{}
+
+/// The test of a segment and an entry says exactly whether the segment's protocol is the entry's.
+pub fn same_protocol_is_equality()
+    ensures { SameProtocolIsEquality }
 {}
