@@ -1,6 +1,6 @@
 //! The tables at cells that are typed from their rules.
 
-use crate::flag_sets;
+use crate::{flag_sets, tcp_original, tcp_reply};
 
 #[test]
 fn flag_sets_of_segments(rt: HostRuntime) {
@@ -25,5 +25,33 @@ fn flag_sets_of_segments(rt: HostRuntime) {
         ("all", 3, 7, 0),
     ] {
         assert_eq!(rt; sets.at(row, column), valid, "{name}");
+    }
+}
+
+#[test]
+fn states_of_a_connection(rt: HostRuntime) {
+    let original = tcp_original();
+    for (name, row, column, cell) in [
+        ("SYN begins", 0, 0, 1),
+        ("SYN reopens after TIME_WAIT", 0, 7, 1),
+        ("SYN from SYN_SENT2", 0, 9, 9),
+        ("SYN and ACK from SYN_SENT", 1, 1, 10),
+        ("FIN from ESTABLISHED", 2, 3, 4),
+        ("ACK begins", 3, 0, 3),
+        ("RST from SYN_SENT", 4, 1, 8),
+        ("none from CLOSE", 5, 8, 10),
+    ] {
+        assert_eq!(rt; original.at(row, column), cell, "{name}");
+    }
+    let reply = tcp_reply();
+    for (name, row, column, cell) in [
+        ("SYN from SYN_SENT", 0, 1, 9),
+        ("SYN and ACK from SYN_SENT", 1, 1, 2),
+        ("SYN and ACK from TIME_WAIT", 1, 7, 11),
+        ("FIN from FIN_WAIT", 2, 4, 6),
+        ("ACK from SYN_SENT2", 3, 9, 11),
+        ("RST of no connection", 4, 0, 10),
+    ] {
+        assert_eq!(rt; reply.at(row, column), cell, "{name}");
     }
 }

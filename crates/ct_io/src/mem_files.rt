@@ -179,7 +179,8 @@ impl Files for MemFiles {
         ensures same_faults { OnOk result (SameFaults (source_of self.old) (source_of self.new)) }
         ensures same_left { OnErr result (left_in self.new ≡ left_in self.old) }
         ensures failed { OnErr result (Rose self.old.read_faults self.new.read_faults) }
-        ensures others { OnErr result (OthersStandAtRead (source_of self.old) (source_of self.new)) }
+        ensures others { OnErr result
+            (OthersStandAtRead (source_of self.old) (source_of self.new)) }
         ensures exactly { is_err result ≡ is_next_failing self.old }
         ensures most { IfOk result (λ n. IfSome (left_in self.old) (λ left. n
             ≡ min (length buf.new) (length left))) }

@@ -1,14 +1,21 @@
--- The definitions read against worked histories of one flow of UDP: 10.0.0.1:5000 asks 10.0.0.2:53.
-use Rattle.std.proofs.Common.{◌≡◌, ℕ, Bool, true, false, None, List, [], ◌∷◌, length, refl}
-use Rattle.tuple_core.specs.declared.Direction.TheVariants.{Reply}
+-- The definitions read against worked histories: of one flow of UDP, in which 10.0.0.1:5000 asks
+-- 10.0.0.2:53, and of one connection, from 10.0.0.1:5000 to 10.0.0.2:80.
+use Rattle.std.proofs.Common.{◌≡◌, ℕ, ◌+◌, ◌*◌, Bool, true, false, None, List, [], ◌∷◌, ◌++◌, length, refl}
+use Rattle.tuple_core.specs.declared.Direction.{Direction}
+use Rattle.tuple_core.specs.declared.Direction.TheVariants.{Original, Reply}
+use Rattle.tuple_core.specs.declared.Kind.{Kind}
+use Rattle.tuple_core.specs.declared.Kind.TheVariants.{Syn, SynAck, Fin, Ack, Rst}
 use Rattle.tuple_core.specs.declared.Proto.TheVariants as proto
 use Rattle.tuple_core.specs.declared.Segment.TheVariants as segment
 use Rattle.tuple_core.specs.declared.Tuple.{Tuple}
 use Rattle.history_book.specs.declared.event.Event.{Event}
 use Rattle.history_book.specs.declared.event.Event.TheVariants.{Confirm, Touch, Destroy}
-use Rattle.history_book.specs.declared.event.Why.TheVariants.{Expired}
+use Rattle.history_book.specs.declared.event.Why.TheVariants.{Expired, Reopened, Reset}
 use Rattle.proto_rules.specs.declared.Part.{Part}
 use Rattle.proto_rules.specs.declared.PartKind.TheVariants as kind
+use Rattle.proto_rules.specs.declared.TcpState.{TcpState}
+use Rattle.proto_rules.specs.declared.TcpState.TheVariants.{SynSent, SynRecv, Established, FinWait, LastAck, TimeWait, Close}
+use Rattle.proto_rules.specs.TcpTable.{original_cell, reply_cell}
 use Rattle.history_book.specs.declared.sizes.Sizes.{Sizes}
 use Rattle.history_book.specs.History.{after, is_legal}
 
@@ -100,3 +107,88 @@ none_is_live_once_it_expired = refl
 one_is_live_anew : length (after (begun_anew 31000000) 3).records ≡ 1
 unfolding after
 one_is_live_anew = refl
+
+-- the part of the connection in this state, which lives until this second
+abbrev stands : TcpState → Bool → Bool → ℕ → Part
+stands state replied assured second =
+    record { kind = kind.Tcp state; replied = replied; assured = assured; deadline = second * 1000000 }
+
+-- the connection begins at this second by a SYN, with this id
+abbrev opens : ℕ → ℕ → Event
+opens id second = Confirm (record {
+  id = id;
+  place = 0;
+  original = record { proto = proto.Tcp; src = 167772161; dst = 167772162; a = 5000; b = 80 };
+  reply = record { proto = proto.Tcp; src = 167772162; dst = 167772161; a = 80; b = 5000 };
+  part = stands SynSent false false (second + 120);
+  helper = false;
+  master = None;
+})
+
+-- a segment of the connection at this second leaves this part
+abbrev passes : Direction → Kind → ℕ → Part → Event
+passes direction flags second after = Touch 0 direction (segment.Tcp flags) (second * 1000000) after
+
+-- a segment at this second resets the connection, or reopens it
+abbrev resets : Kind → ℕ → Event
+resets flags second = Destroy 0 (Reset (segment.Tcp flags) (second * 1000000))
+
+abbrev reopens : Direction → Kind → ℕ → Event
+reopens direction flags second = Destroy 0 (Reopened direction (segment.Tcp flags) (second * 1000000))
+
+-- it begins at 1 s and is answered at 2 s
+abbrev opened : List Event
+opened = opens 0 1 ∷ passes Reply SynAck 2 (stands SynRecv true false 62) ∷ []
+
+-- it is established at 3 s, and both ends close it, the last at 6 s
+abbrev closed : List Event
+closed =
+    opened
+    ++ passes Original Ack 3 (stands Established true true 432003)
+    ∷ passes Original Fin 4 (stands FinWait true true 124)
+    ∷ passes Reply Fin 5 (stands LastAck true true 35)
+    ∷ passes Original Ack 6 (stands TimeWait true true 126)
+    ∷ []
+
+a_connection_is_reset_before_a_reply : is_legal sizes (opens 0 1 ∷ resets Rst 2 ∷ opens 2 3 ∷ []) ≡ true
+unfolding is_legal original_cell reply_cell
+a_connection_is_reset_before_a_reply = refl
+
+an_rst_before_a_reply_passes :
+    is_legal sizes (opens 0 1 ∷ passes Reply Rst 2 (stands Close true false 12) ∷ []) ≡ false
+unfolding is_legal original_cell reply_cell
+an_rst_before_a_reply_passes = refl
+
+an_answered_connection_is_reset : is_legal sizes (opened ++ resets Rst 3 ∷ []) ≡ false
+unfolding is_legal original_cell reply_cell
+an_answered_connection_is_reset = refl
+
+an_answered_connection_is_closed_by_an_rst :
+    is_legal sizes (opened ++ passes Reply Rst 3 (stands Close true false 13) ∷ []) ≡ true
+unfolding is_legal original_cell reply_cell
+an_answered_connection_is_closed_by_an_rst = refl
+
+none_is_live_once_it_was_reset : length (after (opens 0 1 ∷ resets Rst 2 ∷ []) 2).records ≡ 0
+unfolding after
+none_is_live_once_it_was_reset = refl
+
+a_closed_connection_is_reopened : is_legal sizes (closed ++ reopens Original Syn 7 ∷ opens 7 7 ∷ []) ≡ true
+unfolding is_legal original_cell reply_cell
+a_closed_connection_is_reopened = refl
+
+a_closed_connection_is_reopened_from_the_other_end : is_legal sizes (closed ++ reopens Reply Syn 7 ∷ []) ≡ true
+unfolding is_legal original_cell reply_cell
+a_closed_connection_is_reopened_from_the_other_end = refl
+
+a_syn_touches_a_closed_connection :
+    is_legal sizes (closed ++ passes Original Syn 7 (stands SynSent true true 127) ∷ []) ≡ false
+unfolding is_legal original_cell reply_cell
+a_syn_touches_a_closed_connection = refl
+
+an_open_connection_is_reopened : is_legal sizes (opened ++ reopens Original Syn 3 ∷ []) ≡ false
+unfolding is_legal original_cell reply_cell
+an_open_connection_is_reopened = refl
+
+an_expired_connection_is_reopened : is_legal sizes (closed ++ reopens Original Syn 126 ∷ []) ≡ false
+unfolding is_legal original_cell reply_cell
+an_expired_connection_is_reopened = refl

@@ -1,4 +1,4 @@
-//! Worked flows of UDP: a query with its answer, and a flow that falls silent.
+//! Worked flows: a query of UDP with its answer, and connections that are reset and reopened.
 
 use crate::event::{Event, Why};
 use crate::find::{FoundAt, find, find_id, label};
@@ -6,7 +6,7 @@ use crate::legality::is_lawful;
 use crate::record::Record;
 use crate::sizes::Sizes;
 use crate::verdict::Label;
-use proto_rules::{Outcome, Part, PartKind, start, step};
+use proto_rules::{Part, PartKind, TcpState};
 use tuple_core::{Direction, Kind, Proto, Segment, Tuple};
 
 /// From 10.0.0.1:5000 to 10.0.0.2:53.
@@ -42,6 +42,23 @@ const ANSWERED: Part = Part {
     deadline: 1_120_500_000,
 };
 
+/// From 10.0.0.1:5000 to 10.0.0.2:80.
+const REQUEST: Tuple = Tuple {
+    proto: Proto::Tcp,
+    src: 0x0a00_0001,
+    dst: 0x0a00_0002,
+    a: 5000,
+    b: 80,
+};
+
+const RESPONSE: Tuple = Tuple {
+    proto: Proto::Tcp,
+    src: 0x0a00_0002,
+    dst: 0x0a00_0001,
+    a: 80,
+    b: 5000,
+};
+
 /// The entry of the query's flow.
 const ENTRY: Record = Record {
     id: 0,
@@ -53,38 +70,22 @@ const ENTRY: Record = Record {
     master: None,
 };
 
-/// Whether the part has this reply, assurance and deadline.
-fn is_part(p: &Part, replied: bool, assured: bool, deadline: u64) -> bool {
-    p.replied == replied && p.assured == assured && p.deadline == deadline
-}
-
-#[test]
-fn udp_query_and_answer(rt: HostRuntime) {
-    let begun = start(Segment::Udp, 1_000_000_000);
-    assert!(rt; matches!(begun, Some(p) if is_part(&p, false, false, 1_030_000_000)));
-    assert!(rt; start(Segment::Tcp(Kind::Syn), 0).is_none());
-    assert!(rt; start(Segment::Icmp(8), 0).is_none());
-
-    let answered = step(&ASKED, Direction::Reply, Segment::Udp, 1_000_500_000);
-    assert!(rt; matches!(answered, Outcome::Accept(p) if is_part(&p, true, false, 1_120_500_000)));
-    let again = step(&ANSWERED, Direction::Original, Segment::Udp, 1_001_000_000);
-    assert!(rt; matches!(again, Outcome::Accept(p) if is_part(&p, true, true, 1_121_000_000)));
-}
-
-#[test]
-fn expired_flow_begins_anew(rt: HostRuntime) {
-    let begun = start(Segment::Udp, 1_000_000);
-    assert!(rt; matches!(begun, Some(p) if is_part(&p, false, false, 31_000_000)));
-    let part = Part {
-        kind: PartKind::Udp,
-        replied: false,
-        assured: false,
-        deadline: 31_000_000,
-    };
-    let last = step(&part, Direction::Original, Segment::Udp, 30_999_999);
-    assert!(rt; matches!(last, Outcome::Accept(p) if is_part(&p, false, false, 60_999_999)));
-    let late = step(&part, Direction::Original, Segment::Udp, 31_000_000);
-    assert!(rt; matches!(late, Outcome::Expired));
+/// The entry of a connection in this state, which lives until 100 s.
+fn connection(state: TcpState, replied: bool) -> Record {
+    Record {
+        id: 0,
+        place: 0,
+        original: REQUEST,
+        reply: RESPONSE,
+        part: Part {
+            kind: PartKind::Tcp(state),
+            replied,
+            assured: false,
+            deadline: 100_000_000,
+        },
+        helper: false,
+        master: None,
+    }
 }
 
 #[test]
@@ -129,6 +130,21 @@ fn labels(rt: HostRuntime) {
     assert!(rt; matches!(label(&ENTRY, Direction::Reply), Label::EstablishedReply));
     assert!(rt; matches!(label(&answered, Direction::Original), Label::Established));
     assert!(rt; matches!(label(&claimed, Direction::Original), Label::Related));
+    assert!(rt; matches!(label(&claimed, Direction::Reply), Label::EstablishedReply));
+    let claimed_answered = Record {
+        part: ANSWERED,
+        ..claimed
+    };
+    assert!(rt;
+        matches!(
+            label(&claimed_answered, Direction::Original),
+            Label::Established
+        )
+    );
+    let sent = connection(TcpState::SynSent, false);
+    assert!(rt; matches!(label(&sent, Direction::Original), Label::New));
+    let closed = connection(TcpState::TimeWait, true);
+    assert!(rt; matches!(label(&closed, Direction::Original), Label::Established));
 }
 
 /// The sizes of a tracker with so many places.
@@ -142,11 +158,101 @@ fn sizes(entries: u32) -> Sizes {
     }
 }
 
+/// Whether the record may be confirmed as event `number`, beside these, in a tracker with so many places.
+fn is_confirmed(entries: u32, records: &[Record], number: u64, subject: Record) -> bool {
+    is_lawful(
+        &sizes(entries),
+        records,
+        number,
+        &Event::Confirm { subject },
+    )
+}
+
+/// Whether such a packet in the reply direction may leave the entry with this part.
+fn is_answered(entry: &Record, segment: Segment, moment: u32, after: Part) -> bool {
+    let touch = Event::Touch {
+        id: 0,
+        direction: Direction::Reply,
+        segment,
+        moment: moment as u64,
+        after,
+    };
+    is_lawful(&sizes(1), &[*entry], 1, &touch)
+}
+
+/// Whether the entry may be destroyed as expired.
+fn is_expired(entry: &Record, moment: u32) -> bool {
+    let why = Why::Expired {
+        moment: moment as u64,
+    };
+    is_lawful(&sizes(1), &[*entry], 1, &Event::Destroy { id: 0, why })
+}
+
+/// Whether the entry may be destroyed as reopened by such a packet.
+fn is_reopened(entry: &Record, direction: Direction, segment: Segment, moment: u32) -> bool {
+    let why = Why::Reopened {
+        direction,
+        segment,
+        moment: moment as u64,
+    };
+    is_lawful(&sizes(1), &[*entry], 1, &Event::Destroy { id: 0, why })
+}
+
+/// Whether the entry may be destroyed as reset by such a packet.
+fn is_reset(entry: &Record, segment: Segment, moment: u32) -> bool {
+    let why = Why::Reset {
+        segment,
+        moment: moment as u64,
+    };
+    is_lawful(&sizes(1), &[*entry], 1, &Event::Destroy { id: 0, why })
+}
+
 #[test]
-fn lawful_events(rt: HostRuntime) {
-    let confirm = Event::Confirm { subject: ENTRY };
-    assert!(rt; is_lawful(&sizes(1), &[], 0, &confirm));
-    assert!(rt; !is_lawful(&sizes(0), &[], 0, &confirm));
+fn lawful_confirms(rt: HostRuntime) {
+    assert!(rt; is_confirmed(1, &[], 0, ENTRY));
+    assert!(rt; !is_confirmed(0, &[], 0, ENTRY));
+    assert!(rt; !is_confirmed(1, &[], 1, ENTRY));
+    let sent = connection(TcpState::SynSent, false);
+    assert!(rt; is_confirmed(1, &[], 0, sent));
+    let mixed = Record {
+        reply: ANSWER,
+        ..sent
+    };
+    assert!(rt; !is_confirmed(1, &[], 0, mixed));
+    let other = Record {
+        part: ASKED,
+        ..sent
+    };
+    assert!(rt; !is_confirmed(1, &[], 0, other));
+    let second = Record {
+        id: 1,
+        place: 1,
+        ..sent
+    };
+    assert!(rt; is_confirmed(2, &[ENTRY], 1, second));
+    assert!(rt; !is_confirmed(2, &[sent], 1, second));
+}
+
+#[test]
+fn lawful_touches(rt: HostRuntime) {
+    assert!(rt; is_answered(&ENTRY, Segment::Udp, 1_000_500_000, ANSWERED));
+    let kept = Part {
+        deadline: ASKED.deadline,
+        ..ANSWERED
+    };
+    assert!(rt; !is_answered(&ENTRY, Segment::Udp, 1_000_500_000, kept));
+    let ack = Segment::Tcp(Kind::Ack);
+    assert!(rt; !is_answered(&ENTRY, ack, 1_000_500_000, ANSWERED));
+    let last = Part {
+        deadline: 1_149_999_999,
+        ..ANSWERED
+    };
+    assert!(rt; is_answered(&ENTRY, Segment::Udp, 1_029_999_999, last));
+    let late = Part {
+        deadline: 1_150_000_000,
+        ..ANSWERED
+    };
+    assert!(rt; !is_answered(&ENTRY, Segment::Udp, 1_030_000_000, late));
     let touch = Event::Touch {
         id: 0,
         direction: Direction::Reply,
@@ -154,20 +260,58 @@ fn lawful_events(rt: HostRuntime) {
         moment: 1_000_500_000,
         after: ANSWERED,
     };
-    assert!(rt; is_lawful(&sizes(1), &[ENTRY], 1, &touch));
     assert!(rt; !is_lawful(&sizes(1), &[], 1, &touch));
-    let early = Event::Destroy {
-        id: 0,
-        why: Why::Expired {
-            moment: 1_029_999_999,
-        },
+}
+
+#[test]
+fn ignored_packet_touches_nothing(rt: HostRuntime) {
+    let established = connection(TcpState::Established, true);
+    let late = Segment::Tcp(Kind::SynAck);
+    assert!(rt; !is_answered(&established, late, 50_000_000, established.part));
+}
+
+#[test]
+fn destroyed_as_expired(rt: HostRuntime) {
+    assert!(rt; !is_expired(&ENTRY, 1_029_999_999));
+    assert!(rt; is_expired(&ENTRY, 1_030_000_000));
+}
+
+#[test]
+fn destroyed_as_reopened(rt: HostRuntime) {
+    let closed = connection(TcpState::TimeWait, true);
+    let syn = Segment::Tcp(Kind::Syn);
+    let ack = Segment::Tcp(Kind::Ack);
+    for direction in [Direction::Original, Direction::Reply] {
+        assert!(rt; is_reopened(&closed, direction, syn, 99_999_999));
+        assert!(rt; !is_reopened(&closed, direction, syn, 100_000_000));
+        assert!(rt; !is_reopened(&closed, direction, ack, 50_000_000));
+        assert!(rt; !is_reopened(&closed, direction, Segment::Udp, 50_000_000));
+    }
+    let begun = Part {
+        kind: PartKind::Tcp(TcpState::SynSent),
+        replied: true,
+        assured: false,
+        deadline: 170_000_000,
     };
-    let due = Event::Destroy {
-        id: 0,
-        why: Why::Expired {
-            moment: 1_030_000_000,
-        },
-    };
-    assert!(rt; !is_lawful(&sizes(1), &[ENTRY], 1, &early));
-    assert!(rt; is_lawful(&sizes(1), &[ENTRY], 1, &due));
+    assert!(rt; !is_answered(&closed, syn, 50_000_000, begun));
+    let dropped = connection(TcpState::Close, true);
+    assert!(rt; is_reopened(&dropped, Direction::Original, syn, 50_000_000));
+    assert!(rt; !is_reopened(&dropped, Direction::Reply, syn, 50_000_000));
+    let sent = connection(TcpState::SynSent, false);
+    assert!(rt; !is_reopened(&sent, Direction::Original, syn, 50_000_000));
+}
+
+#[test]
+fn destroyed_as_reset(rt: HostRuntime) {
+    let sent = connection(TcpState::SynSent, false);
+    let rst = Segment::Tcp(Kind::Rst);
+    let syn = Segment::Tcp(Kind::Syn);
+    assert!(rt; is_reset(&sent, rst, 99_999_999));
+    assert!(rt; !is_reset(&sent, rst, 100_000_000));
+    assert!(rt; !is_reset(&sent, syn, 50_000_000));
+    assert!(rt; !is_reset(&sent, Segment::Udp, 50_000_000));
+    let received = connection(TcpState::SynRecv, true);
+    assert!(rt; !is_reset(&received, rst, 50_000_000));
+    let closed = connection(TcpState::TimeWait, true);
+    assert!(rt; !is_reset(&closed, syn, 50_000_000));
 }

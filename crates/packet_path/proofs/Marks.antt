@@ -11,7 +11,7 @@ use Rattle.history_book.specs.declared.verdict.Class.{Class}
 use Rattle.history_book.specs.declared.verdict.Class.TheVariants as class
 use Rattle.proto_rules.specs.declared.Outcome.{Outcome}
 use Rattle.packet_path.specs.Packet.{FlowPacket, Given}
-use Rattle.packet_path.specs.Unchanged.{BeginsNothing, LeavesEntry}
+use Rattle.packet_path.specs.Unchanged.{LeavesEntry}
 use Rattle.packet_path.specs.Error.{LooksUp}
 use Rattle.packet_path.specs.Made.{IsUnclaimed}
 use Rattle.packet_path.specs.Verdict.{AnswersFlow, FitsFrame, KillsAll}

@@ -1,9 +1,8 @@
 -- When a verdict fits a frame and the events that the frame made.
 use Rattle.std.specs.Prelude.{◌≡◌, ℕ, ◌+◌, ◌≤◌, ◌⊎◌, Some, None, List, [], ◌∷◌, ◌++◌, length, option_to_list}
 use Rattle.history_book.specs.declared.event.Event.{Event}
-use Rattle.history_book.specs.declared.event.Event.TheVariants.{Confirm, Touch, Destroy}
+use Rattle.history_book.specs.declared.event.Event.TheVariants.{Destroy}
 use Rattle.history_book.specs.declared.event.Note.{Note}
-use Rattle.history_book.specs.declared.event.Why.{Why}
 use Rattle.history_book.specs.declared.event.Why.TheVariants as why
 use Rattle.packet_headers.specs.declared.packet.Packet.TheVariants as packet
 use Rattle.proto_rules.specs.declared.Outcome.TheVariants as outcome

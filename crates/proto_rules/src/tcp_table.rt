@@ -1,12 +1,12 @@
 //! The tables of TCP, read from grids of numbers.
 
 ghost use Rattle.std.specs.Prelude.{◌≡◌, ◌<◌};
-ghost use Rattle.case_grid.specs.Cell.{cells_of};
+ghost use Rattle.case_grid.specs.Cell.{cell};
 ghost use Rattle.proto_rules.specs.TcpGrid.{grid_of, number_of, row_of};
 ghost use Rattle.proto_rules.specs.TcpTable.{column_of, tcp_cell};
 
 use crate::TcpState;
-use case_grid::{Grid, tcp_original, tcp_reply};
+use case_grid::{tcp_original, tcp_reply};
 use tuple_core::{Direction, Kind};
 
 /// What a segment does to a connection in some state.
@@ -36,13 +36,15 @@ fn column(state: TcpState) -> usize
     state as usize
 }
 
-/// The grid for the segments in a direction.
-fn grid(direction: Direction) -> Grid<6, 10>
-    ensures { cells_of result ≡ grid_of direction }
+/// The number in a row and a column of the grid for the segments in a direction.
+fn number_at(direction: Direction, row: usize, column: usize) -> u8
+    requires row { row < 6 }
+    requires column { column < 10 }
+    ensures { result ≡ cell (grid_of direction) row column }
 {
     match direction {
-        Direction::Original => tcp_original(),
-        Direction::Reply => tcp_reply(),
+        Direction::Original => tcp_original().at(row, column),
+        Direction::Reply => tcp_reply().at(row, column),
     }
 }
 
@@ -72,5 +74,5 @@ fn read_cell(number: u8) -> Cell
 pub fn tcp_cell(direction: Direction, flags: Kind, state: TcpState) -> Cell
     ensures { result ≡ tcp_cell direction flags state }
 {
-    read_cell(grid(direction).at(row(flags), column(state)))
+    read_cell(number_at(direction, row(flags), column(state)))
 }

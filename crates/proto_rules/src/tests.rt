@@ -1,5 +1,8 @@
 //! The tables typed row by row, and worked flows.
 
+use crate::TcpState::{
+    Close, CloseWait, Established, FinWait, LastAck, SynRecv, SynSent, SynSent2, TimeWait, Unset,
+};
 use crate::{
     Cell, Outcome, Part, PartKind, TcpState, is_of_protocol, is_same_part, proto_of, start, step,
     tcp_cell,
@@ -7,34 +10,36 @@ use crate::{
 use std::alloc::{AllocError, Global};
 use std::process::Abort;
 use std::test::Fail;
+use tuple_core::Direction::{Original, Reply};
+use tuple_core::Kind::{Ack, Bare, Fin, Rst, Syn, SynAck};
 use tuple_core::{Direction, Kind, Proto, Segment};
 
 const STATES: [TcpState; 10] = [
-    TcpState::Unset,
-    TcpState::SynSent,
-    TcpState::SynRecv,
-    TcpState::Established,
-    TcpState::FinWait,
-    TcpState::CloseWait,
-    TcpState::LastAck,
-    TcpState::TimeWait,
-    TcpState::Close,
-    TcpState::SynSent2,
+    Unset,
+    SynSent,
+    SynRecv,
+    Established,
+    FinWait,
+    CloseWait,
+    LastAck,
+    TimeWait,
+    Close,
+    SynSent2,
 ];
 
 /// The cell as the tables write it.
 fn word_of(cell: Cell) -> &'static str {
     match cell {
-        Cell::To(TcpState::Unset) => "NO",
-        Cell::To(TcpState::SynSent) => "SS",
-        Cell::To(TcpState::SynRecv) => "SR",
-        Cell::To(TcpState::Established) => "ES",
-        Cell::To(TcpState::FinWait) => "FW",
-        Cell::To(TcpState::CloseWait) => "CW",
-        Cell::To(TcpState::LastAck) => "LA",
-        Cell::To(TcpState::TimeWait) => "TW",
-        Cell::To(TcpState::Close) => "CL",
-        Cell::To(TcpState::SynSent2) => "S2",
+        Cell::To(Unset) => "NO",
+        Cell::To(SynSent) => "SS",
+        Cell::To(SynRecv) => "SR",
+        Cell::To(Established) => "ES",
+        Cell::To(FinWait) => "FW",
+        Cell::To(CloseWait) => "CW",
+        Cell::To(LastAck) => "LA",
+        Cell::To(TimeWait) => "TW",
+        Cell::To(Close) => "CL",
+        Cell::To(SynSent2) => "S2",
         Cell::Invalid => "IV",
         Cell::Ignored => "IG",
     }
@@ -53,17 +58,14 @@ fn row_of(alloc: Global, direction: Direction, flags: Kind) -> Result<String, Al
 #[test]
 fn cells_of_the_original_direction(rt: HostRuntime) -> Result<(), Fail> {
     for (flags, row) in [
-        (Kind::Syn, "SS SS IG IG IG IG IG SS SS S2 "),
-        (Kind::SynAck, "IV IV SR IV IV IV IV IV IV SR "),
-        (Kind::Fin, "IV IV FW FW LA LA LA TW CL IV "),
-        (Kind::Ack, "ES IV ES ES CW CW TW TW CL IV "),
-        (Kind::Rst, "IV CL CL CL CL CL CL CL CL CL "),
-        (Kind::Bare, "IV IV IV IV IV IV IV IV IV IV "),
+        (Syn, "SS SS IG IG IG IG IG SS SS S2 "),
+        (SynAck, "IV IV SR IV IV IV IV IV IV SR "),
+        (Fin, "IV IV FW FW LA LA LA TW CL IV "),
+        (Ack, "ES IV ES ES CW CW TW TW CL IV "),
+        (Rst, "IV CL CL CL CL CL CL CL CL CL "),
+        (Bare, "IV IV IV IV IV IV IV IV IV IV "),
     ] {
-        assert_eq!(rt;
-            row_of(rt.alloc(), Direction::Original, flags)?.as_str(),
-            row
-        );
+        assert_eq!(rt; row_of(rt.alloc(), Original, flags)?.as_str(), row);
     }
     Ok(())
 }
@@ -71,24 +73,37 @@ fn cells_of_the_original_direction(rt: HostRuntime) -> Result<(), Fail> {
 #[test]
 fn cells_of_the_reply_direction(rt: HostRuntime) -> Result<(), Fail> {
     for (flags, row) in [
-        (Kind::Syn, "IV S2 IV IV IV IV IV SS IV S2 "),
-        (Kind::SynAck, "IV SR IG IG IG IG IG IG IG SR "),
-        (Kind::Fin, "IV IV FW FW LA LA LA TW CL IV "),
-        (Kind::Ack, "IV IG SR ES CW CW TW TW CL IG "),
-        (Kind::Rst, "IV CL CL CL CL CL CL CL CL CL "),
-        (Kind::Bare, "IV IV IV IV IV IV IV IV IV IV "),
+        (Syn, "IV S2 IV IV IV IV IV SS IV S2 "),
+        (SynAck, "IV SR IG IG IG IG IG IG IG SR "),
+        (Fin, "IV IV FW FW LA LA LA TW CL IV "),
+        (Ack, "IV IG SR ES CW CW TW TW CL IG "),
+        (Rst, "IV CL CL CL CL CL CL CL CL CL "),
+        (Bare, "IV IV IV IV IV IV IV IV IV IV "),
     ] {
-        assert_eq!(rt; row_of(rt.alloc(), Direction::Reply, flags)?.as_str(), row);
+        assert_eq!(rt; row_of(rt.alloc(), Reply, flags)?.as_str(), row);
     }
     Ok(())
 }
 
-fn tcp(state: TcpState, replied: bool, assured: bool, deadline: u64) -> Part {
+/// A part whose deadline is at this second.
+fn part(kind: PartKind, replied: bool, assured: bool, second: u32) -> Part {
     Part {
-        kind: PartKind::Tcp(state),
+        kind,
         replied,
         assured,
-        deadline,
+        deadline: second as u64 * 1_000_000,
+    }
+}
+
+fn tcp(state: TcpState, replied: bool, assured: bool, second: u32) -> Part {
+    part(PartKind::Tcp(state), replied, assured, second)
+}
+
+/// Whether an entry begins with this segment at second 1, as this part.
+fn begins_as(segment: Segment, part: &Part) -> bool {
+    match start(segment, 1_000_000) {
+        Some(begun) => is_same_part(&begun, part),
+        None => false,
     }
 }
 
@@ -97,248 +112,128 @@ fn step_at<R: Abort>(
     rt: &R,
     part: &Part,
     second: u16,
-    direction: Direction,
+    way: Direction,
     segment: Segment,
 ) -> Outcome {
     assert!(rt; is_of_protocol(segment, part.kind));
-    step(part, direction, segment, second as u64 * 1_000_000)
+    step(part, way, segment, second as u64 * 1_000_000)
 }
 
 /// The part that a packet at this second leaves, where it is accepted.
-fn accept<R: Abort>(
-    rt: &R,
-    part: &Part,
-    second: u16,
-    direction: Direction,
-    segment: Segment,
-) -> Part {
-    match step_at(rt, part, second, direction, segment) {
+fn accept<R: Abort>(rt: &R, part: &Part, second: u16, way: Direction, segment: Segment) -> Part {
+    match step_at(rt, part, second, way, segment) {
         Outcome::Accept(after) => after,
         Outcome::Ignore | Outcome::Invalid | Outcome::Reopen | Outcome::Reset | Outcome::Expired =>
-            panic!(rt; "the packet at {second} s is not accepted"),
+            { panic!(rt; "the packet at {second} s is not accepted") }
     }
 }
 
 #[test]
 fn connection_from_its_first_segment_to_a_new_one(rt: HostRuntime) {
-    let begun = start(Segment::Tcp(Kind::Syn), 1_000_000);
-    let mut part = tcp(TcpState::SynSent, false, false, 121_000_000);
-    assert!(rt; matches!(begun, Some(p) if is_same_part(&p, &part)));
-    for (second, direction, flags, state, assured, deadline) in [
-        (
-            2,
-            Direction::Reply,
-            Kind::SynAck,
-            TcpState::SynRecv,
-            false,
-            62_000_000,
-        ),
-        (
-            3,
-            Direction::Original,
-            Kind::Ack,
-            TcpState::Established,
-            true,
-            432_003_000_000,
-        ),
-        (
-            4,
-            Direction::Original,
-            Kind::Ack,
-            TcpState::Established,
-            true,
-            432_004_000_000,
-        ),
-        (
-            5,
-            Direction::Original,
-            Kind::Fin,
-            TcpState::FinWait,
-            true,
-            125_000_000,
-        ),
-        (
-            6,
-            Direction::Reply,
-            Kind::Fin,
-            TcpState::LastAck,
-            true,
-            36_000_000,
-        ),
-        (
-            7,
-            Direction::Original,
-            Kind::Ack,
-            TcpState::TimeWait,
-            true,
-            127_000_000,
-        ),
+    let mut part = tcp(SynSent, false, false, 121);
+    assert!(rt; begins_as(Segment::Tcp(Syn), &part));
+    for (second, way, flags, state, assured, deadline) in [
+        (2, Reply, SynAck, SynRecv, false, 62),
+        (3, Original, Ack, Established, true, 432_003),
+        (4, Original, Ack, Established, true, 432_004),
+        (5, Original, Fin, FinWait, true, 125),
+        (6, Reply, Fin, LastAck, true, 36),
+        (7, Original, Ack, TimeWait, true, 127),
     ] {
-        part = accept(&rt, &part, second, direction, Segment::Tcp(flags));
+        part = accept(&rt, &part, second, way, Segment::Tcp(flags));
         assert!(rt;
             is_same_part(&part, &tcp(state, true, assured, deadline)),
             "at {second} s"
         );
     }
-    let syn = Segment::Tcp(Kind::Syn);
-    assert!(rt;
-        matches!(
-            step_at(&rt, &part, 8, Direction::Original, syn),
-            Outcome::Reopen
-        )
-    );
-    assert!(rt;
-        matches!(
-            step_at(&rt, &part, 8, Direction::Reply, syn),
-            Outcome::Reopen
-        )
-    );
-    assert!(rt;
-        matches!(
-            step_at(&rt, &part, 127, Direction::Original, syn),
-            Outcome::Expired
-        )
-    );
+    let syn = Segment::Tcp(Syn);
+    for (second, way, expired) in [
+        (8, Original, false),
+        (126, Reply, false),
+        (127, Original, true),
+    ] {
+        match step_at(&rt, &part, second, way, syn) {
+            Outcome::Reopen => assert!(rt; !expired, "at {second} s"),
+            Outcome::Expired => assert!(rt; expired, "at {second} s"),
+            Outcome::Accept(_) | Outcome::Ignore | Outcome::Invalid | Outcome::Reset => {
+                panic!(rt; "at {second} s")
+            }
+        }
+    }
 }
 
 #[test]
 fn reset_connections(rt: HostRuntime) {
-    let rst = Segment::Tcp(Kind::Rst);
-    let syn = Segment::Tcp(Kind::Syn);
-    let sent = tcp(TcpState::SynSent, false, false, 121_000_000);
-    assert!(rt;
-        matches!(
-            step_at(&rt, &sent, 2, Direction::Reply, rst),
-            Outcome::Reset
-        )
-    );
-    assert!(rt;
-        matches!(
-            step_at(&rt, &sent, 2, Direction::Original, rst),
-            Outcome::Reset
-        )
-    );
-
-    let received = tcp(TcpState::SynRecv, true, false, 62_000_000);
-    let closed = accept(&rt, &received, 3, Direction::Reply, rst);
-    assert!(rt; is_same_part(&closed, &tcp(TcpState::Close, true, false, 13_000_000)));
-    assert!(rt;
-        matches!(
-            step_at(&rt, &closed, 4, Direction::Original, syn),
-            Outcome::Reopen
-        )
-    );
-    assert!(rt;
-        matches!(
-            step_at(&rt, &closed, 4, Direction::Reply, syn),
-            Outcome::Invalid
-        )
-    );
+    let rst = Segment::Tcp(Rst);
+    let syn = Segment::Tcp(Syn);
+    let sent = tcp(SynSent, false, false, 121);
+    for way in [Original, Reply] {
+        let outcome = step_at(&rt, &sent, 2, way, rst);
+        assert!(rt; matches!(outcome, Outcome::Reset));
+    }
+    let received = tcp(SynRecv, true, false, 62);
+    let closed = accept(&rt, &received, 3, Reply, rst);
+    assert!(rt; is_same_part(&closed, &tcp(Close, true, false, 13)));
+    let original = step_at(&rt, &closed, 4, Original, syn);
+    assert!(rt; matches!(original, Outcome::Reopen));
+    let reply = step_at(&rt, &closed, 4, Reply, syn);
+    assert!(rt; matches!(reply, Outcome::Invalid));
 }
 
 #[test]
 fn connection_seen_from_its_middle(rt: HostRuntime) {
-    let ack = Segment::Tcp(Kind::Ack);
-    let begun = start(ack, 1_000_000);
-    let first = tcp(TcpState::Established, false, false, 301_000_000);
-    assert!(rt; matches!(begun, Some(p) if is_same_part(&p, &first)));
-    let second = accept(&rt, &first, 2, Direction::Original, ack);
-    assert!(rt;
-        is_same_part(
-            &second,
-            &tcp(TcpState::Established, false, false, 302_000_000)
-        )
-    );
-    let answered = accept(&rt, &second, 3, Direction::Reply, ack);
-    assert!(rt;
-        is_same_part(
-            &answered,
-            &tcp(TcpState::Established, true, false, 303_000_000)
-        )
-    );
-    let late = Segment::Tcp(Kind::SynAck);
-    assert!(rt;
-        matches!(
-            step_at(&rt, &answered, 4, Direction::Reply, late),
-            Outcome::Ignore
-        )
-    );
-    let again = accept(&rt, &answered, 5, Direction::Reply, ack);
-    assert!(rt;
-        is_same_part(
-            &again,
-            &tcp(TcpState::Established, true, true, 432_005_000_000)
-        )
-    );
-    for flags in [Kind::SynAck, Kind::Fin, Kind::Rst, Kind::Bare] {
+    let ack = Segment::Tcp(Ack);
+    let mut part = tcp(Established, false, false, 301);
+    assert!(rt; begins_as(ack, &part));
+    for (second, way, replied, assured, deadline) in [
+        (2, Original, false, false, 302),
+        (3, Reply, true, false, 303),
+        (5, Reply, true, true, 432_005),
+    ] {
+        part = accept(&rt, &part, second, way, ack);
+        assert!(rt; is_same_part(&part, &tcp(Established, replied, assured, deadline)));
+    }
+    let late = step_at(&rt, &part, 6, Reply, Segment::Tcp(SynAck));
+    assert!(rt; matches!(late, Outcome::Ignore));
+    for flags in [SynAck, Fin, Rst, Bare] {
         assert!(rt; start(Segment::Tcp(flags), 0).is_none());
     }
 }
 
 #[test]
 fn udp_query_and_answer(rt: HostRuntime) {
-    let part = |replied: bool, assured: bool, deadline: u64| -> Part {
-        Part {
-            kind: PartKind::Udp,
-            replied,
-            assured,
-            deadline,
-        }
-    };
-    let begun = start(Segment::Udp, 1_000_000);
-    let asked = part(false, false, 31_000_000);
-    assert!(rt; matches!(begun, Some(p) if is_same_part(&p, &asked)));
-    let silent = accept(&rt, &asked, 30, Direction::Original, Segment::Udp);
-    assert!(rt; is_same_part(&silent, &part(false, false, 60_000_000)));
-    assert!(rt;
-        matches!(
-            step_at(&rt, &asked, 31, Direction::Original, Segment::Udp),
-            Outcome::Expired
-        )
-    );
-    let answered = accept(&rt, &asked, 2, Direction::Reply, Segment::Udp);
-    assert!(rt; is_same_part(&answered, &part(true, false, 122_000_000)));
-    let again = accept(&rt, &answered, 3, Direction::Original, Segment::Udp);
-    assert!(rt; is_same_part(&again, &part(true, true, 123_000_000)));
+    let udp = Segment::Udp;
+    let asked = part(PartKind::Udp, false, false, 31);
+    assert!(rt; begins_as(udp, &asked));
+    let silent = accept(&rt, &asked, 30, Original, udp);
+    assert!(rt; is_same_part(&silent, &part(PartKind::Udp, false, false, 60)));
+    let late = step_at(&rt, &asked, 31, Original, udp);
+    assert!(rt; matches!(late, Outcome::Expired));
+    let answered = accept(&rt, &asked, 2, Reply, udp);
+    assert!(rt; is_same_part(&answered, &part(PartKind::Udp, true, false, 122)));
+    let again = accept(&rt, &answered, 3, Original, udp);
+    assert!(rt; is_same_part(&again, &part(PartKind::Udp, true, true, 123)));
 }
 
 #[test]
 fn icmp_request_and_reply(rt: HostRuntime) {
-    let part = |replied: bool, deadline: u64| -> Part {
-        Part {
-            kind: PartKind::Icmp,
-            replied,
-            assured: false,
-            deadline,
-        }
-    };
-    let begun = start(Segment::Icmp(8), 1_000_000);
-    let asked = part(false, 31_000_000);
-    assert!(rt; matches!(begun, Some(p) if is_same_part(&p, &asked)));
-    let answered = accept(&rt, &asked, 2, Direction::Reply, Segment::Icmp(0));
-    assert!(rt; is_same_part(&answered, &part(true, 32_000_000)));
-    let again = accept(&rt, &answered, 3, Direction::Original, Segment::Icmp(8));
-    assert!(rt; is_same_part(&again, &part(true, 33_000_000)));
-    for (kind, begins) in [
-        (0, false),
-        (13, true),
-        (14, false),
-        (15, true),
-        (16, false),
-        (17, true),
-        (18, false),
-        (3, false),
-    ] {
-        assert!(rt;
-            start(Segment::Icmp(kind), 0).is_some() == begins,
-            "type {kind}"
-        );
+    let asked = part(PartKind::Icmp, false, false, 31);
+    assert!(rt; begins_as(Segment::Icmp(8), &asked));
+    let answered = accept(&rt, &asked, 2, Reply, Segment::Icmp(0));
+    assert!(rt; is_same_part(&answered, &part(PartKind::Icmp, true, false, 32)));
+    let again = accept(&rt, &answered, 3, Original, Segment::Icmp(8));
+    assert!(rt; is_same_part(&again, &part(PartKind::Icmp, true, false, 33)));
+    for kind in [13, 15, 17] {
+        assert!(rt; start(Segment::Icmp(kind), 0).is_some(), "type {kind}");
+    }
+    for kind in [0, 3, 14, 16, 18] {
+        assert!(rt; start(Segment::Icmp(kind), 0).is_none(), "type {kind}");
     }
 }
 
 #[test]
 fn protocols_of_parts(rt: HostRuntime) {
-    assert!(rt; proto_of(PartKind::Tcp(TcpState::Close)) == Proto::Tcp);
+    assert!(rt; proto_of(PartKind::Tcp(Close)) == Proto::Tcp);
     assert!(rt; proto_of(PartKind::Udp) == Proto::Udp);
     assert!(rt; proto_of(PartKind::Icmp) == Proto::Icmp);
     assert!(rt; !is_of_protocol(Segment::Udp, PartKind::Icmp));

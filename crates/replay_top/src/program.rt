@@ -28,7 +28,8 @@ const BUFFER: usize = 65_536;
 fn run<F: Files, K: Sink>(alloc: Global, words: &[String], files: &mut F, out: &mut K) -> Ending
     ensures ends { Ends (map string_bytes words.now) (F.source files.old) (F.source files.new)
         (K.tape out.old) (K.tape out.new) result }
-    ensures others { OthersStand (map string_bytes words.now) (F.source files.old) (F.source files.new) }
+    ensures others { OthersStand (map string_bytes words.now)
+        (F.source files.old) (F.source files.new) }
     ensures stays { Stays (F.source files.old) (F.source files.new) }
 {
     let Some(name) = capture_name(words) else {
@@ -67,9 +68,11 @@ pub fn top<R: Threads + Wait + Sync, F: Files, K: Sink, G: Gate + Sync>(
 ) -> Run
     // What is printed is the text of one legal history with its verdicts.
     ensures headline { result.status ≡ 0 → IsSomeAnd result.report
-        (IsPrinted (map string_bytes words.now) (F.source files.old) (K.tape out.old) (K.tape out.new)) }
+        (IsPrinted (map string_bytes words.now) (F.source files.old)
+        (K.tape out.old) (K.tape out.new)) }
     ensures cut_short { result.status ≡ 4 → IsSomeAnd result.report
-        (IsCutShort (map string_bytes words.now) (F.source files.old) (K.tape out.old) (K.tape out.new)) }
+        (IsCutShort (map string_bytes words.now) (F.source files.old)
+        (K.tape out.old) (K.tape out.new)) }
 
     // Every other status has its cause, the first in the order of the words and the files.
     ensures refused { result.status ≢ 0 → result.status ≢ 4 →
@@ -79,19 +82,25 @@ pub fn top<R: Threads + Wait + Sync, F: Files, K: Sink, G: Gate + Sync>(
         FilesFailed (map string_bytes words.now) (F.source files.old) (F.source files.new) }
 
     // What the inputs are decides the status, unless a call to the outside fails or memory is wanting.
-    ensures exact { (found : Finding) → Finds IsSomeAnd (map string_bytes words.now) (F.source files.old) found →
+    ensures exact { (found : Finding) →
+        Finds IsSomeAnd (map string_bytes words.now) (F.source files.old) found →
         Answers (map string_bytes words.now) (F.source files.old) (F.source files.new)
         (K.tape out.old) (K.tape out.new) result.status found }
     ensures statuses { result.status ≤ 6 }
 
     // What a run leaves. A failure is never hidden.
-    ensures nothing_written { result.status ≢ 0 → result.status ≢ 4 → K.tape out.new ≡ K.tape out.old }
+    ensures nothing_written { result.status ≢ 0 → result.status ≢ 4 →
+        K.tape out.new ≡ K.tape out.old }
     ensures no_report { result.status ≢ 0 → result.status ≢ 4 → result.report ≡ None }
     ensures silent { result.status ≡ 0 → K.tape err.new ≡ K.tape err.old }
-    ensures not_written_line { result.status ≡ 4 → Tells write_failed (K.tape err.old) (K.tape err.new) }
-    ensures same_faults { result.status ≢ 3 → SameFaults (F.source files.old) (F.source files.new) }
-    ensures others { OthersStand (map string_bytes words.now) (F.source files.old) (F.source files.new) }
-    ensures same_output_faults { result.status ≢ 4 → (K.tape out.new).faults ≡ (K.tape out.old).faults }
+    ensures not_written_line { result.status ≡ 4 →
+        Tells write_failed (K.tape err.old) (K.tape err.new) }
+    ensures same_faults { result.status ≢ 3 →
+        SameFaults (F.source files.old) (F.source files.new) }
+    ensures others { OthersStand (map string_bytes words.now)
+        (F.source files.old) (F.source files.new) }
+    ensures same_output_faults { result.status ≢ 4 →
+        (K.tape out.new).faults ≡ (K.tape out.old).faults }
     ensures stays { Stays (F.source files.old) (F.source files.new) }
 {
     read_files_have_no_flaw();

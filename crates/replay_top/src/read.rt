@@ -57,7 +57,8 @@ pub fn read_file<F: Files>(
     ensures too_long { result ≡ Err ReadError.TooLong →
         IfSome ((F.source files.old).contents name.now) (λ contents. most < length contents) }
     ensures open { result ≡ Err ReadError.Open →
-        Rose ((F.source files.old).open_faults name.now) ((F.source files.new).open_faults name.now) }
+        Rose ((F.source files.old).open_faults name.now)
+        ((F.source files.new).open_faults name.now) }
     ensures read { result ≡ Err ReadError.Read →
         Rose (F.source files.old).read_faults (F.source files.new).read_faults }
     ensures same_faults { result ≢ Err ReadError.Open → result ≢ Err ReadError.Read →

@@ -8,7 +8,7 @@ use Rattle.tuple_core.specs.declared.Tuple.{Tuple}
 use Rattle.history_book.specs.declared.event.Event.{Event}
 use Rattle.history_book.specs.declared.event.Event.TheVariants.{Confirm, Touch, Destroy}
 use Rattle.history_book.specs.declared.event.Why.{Why}
-use Rattle.history_book.specs.declared.event.Why.TheVariants.{Expired}
+use Rattle.history_book.specs.declared.event.Why.TheVariants.{Expired, Reopened, Reset}
 use Rattle.history_book.specs.declared.record.Record.{Record}
 use Rattle.history_book.specs.declared.verdict.Class.{Class}
 use Rattle.history_book.specs.declared.verdict.Class.TheVariants as class
@@ -18,6 +18,10 @@ use Rattle.history_book.specs.declared.verdict.UntrackedWhy.{UntrackedWhy}
 use Rattle.history_book.specs.declared.verdict.UntrackedWhy.TheVariants as untracked
 use Rattle.history_book.specs.declared.verdict.Label.{Label}
 use Rattle.history_book.specs.declared.verdict.Label.TheVariants as label
+use Rattle.proto_rules.specs.declared.PartKind.{PartKind}
+use Rattle.proto_rules.specs.declared.PartKind.TheVariants as kind
+use Rattle.proto_rules.specs.declared.TcpState.{TcpState}
+use Rattle.proto_rules.specs.declared.TcpState.TheVariants.{Unset, SynSent, SynRecv, Established, FinWait, CloseWait, LastAck, TimeWait, Close, SynSent2}
 
 -- an IPv4 address (RFC 791): its four bytes with dots between them, the highest first
 unfoldable pub address_text : ℕ → List ℕ
@@ -61,6 +65,26 @@ abbrev pub master_text : Option ℕ → List ℕ
 master_text None = []
 master_text (Some id) = codes " master=" ++ decimal id
 
+-- the states of a connection of TCP, by the names of RFC 9293 where it has them; SYN_SENT2 is a SYN from
+-- both sides, and no entry prints NONE
+abbrev pub state_word : TcpState → List ℕ
+state_word Unset = codes "NONE"
+state_word SynSent = codes "SYN_SENT"
+state_word SynRecv = codes "SYN_RECV"
+state_word Established = codes "ESTABLISHED"
+state_word FinWait = codes "FIN_WAIT"
+state_word CloseWait = codes "CLOSE_WAIT"
+state_word LastAck = codes "LAST_ACK"
+state_word TimeWait = codes "TIME_WAIT"
+state_word Close = codes "CLOSE"
+state_word SynSent2 = codes "SYN_SENT2"
+
+-- UDP and ICMP have no state
+abbrev pub state_text : PartKind → List ℕ
+state_text (kind.Tcp state) = codes " state=" ++ state_word state
+state_text kind.Udp = []
+state_text kind.Icmp = []
+
 -- the flow of an entry: its protocol and both its tuples, the original one first
 unfoldable pub flow_text : Record → List ℕ
 flow_text r =
@@ -70,18 +94,20 @@ flow_text r =
 -- a new entry
 unfoldable pub record_text : Record → List ℕ
 record_text r =
-    flow_text r ++ codes " until=" ++ decimal r.part.deadline ++ master_text r.master ++
-    word_if r.helper (codes " helper")
+    flow_text r ++ codes " until=" ++ decimal r.part.deadline ++ state_text r.part.kind ++
+    master_text r.master ++ word_if r.helper (codes " helper")
 
 abbrev pub why_text : Why → List ℕ
 why_text (Expired moment) = codes " expired"
+why_text (Reopened direction segment moment) = codes " reopened"
+why_text (Reset segment moment) = codes " reset"
 
 -- an event, made by `who`
 abbrev pub event_text : List ℕ → Event → List ℕ
 event_text who (Confirm subject) = codes " confirm " ++ who ++ codes " " ++ record_text subject
 event_text who (Touch id direction segment moment after) =
     codes " touch " ++ who ++ codes " id=" ++ decimal id ++ codes " " ++ direction_word direction ++
-    codes " until=" ++ decimal after.deadline ++
+    codes " until=" ++ decimal after.deadline ++ state_text after.kind ++
     word_if after.replied (codes " replied") ++ word_if after.assured (codes " assured")
 event_text who (Destroy id why) =
     codes " destroy " ++ who ++ codes " id=" ++ decimal id ++ why_text why
@@ -127,9 +153,12 @@ error_word Reply = codes "RELATED_REPLY error"
 abbrev pub class_text : Class → List ℕ
 class_text (class.Untracked why) = codes "UNTRACKED " ++ untracked_word why
 class_text class.BadHeader = codes "INVALID header"
+class_text (class.NoEntry at) = codes "INVALID new" ++ point_text at
+class_text (class.BadState id at) = codes "INVALID state" ++ entry_text id at
 class_text (class.ErrorLost at) = codes "INVALID error" ++ point_text at
 class_text (class.ErrorAddress id at) = codes "INVALID address" ++ entry_text id at
 class_text (class.Error direction id at) = error_word direction ++ entry_text id at
 class_text (class.Made id at translated unclaimed) = made_word unclaimed ++ entry_text id at
 class_text (class.Passed label id at ftp) = label_word label ++ entry_text id at ++ ftp_text ftp
+class_text (class.Ignored id at) = codes "IGNORED" ++ entry_text id at
 class_text (class.Full at) = codes "FULL" ++ point_text at

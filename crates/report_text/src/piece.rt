@@ -1,12 +1,13 @@
 //! The pieces of a line, each written on a page that has room for it.
 
 ghost use Rattle.report_text.specs.Page.{Adds, HasRoom};
-ghost use Rattle.report_text.specs.Piece.{address_text, class_text, direction_word, ends_text, entry_text, error_word, event_text, flow_text, ftp_text, label_word, made_word, master_text, point_text, proto_word, record_text, tuple_text, untracked_word, who_text, why_text};
+ghost use Rattle.report_text.specs.Piece.{address_text, class_text, direction_word, ends_text, entry_text, error_word, event_text, flow_text, ftp_text, label_word, made_word, master_text, point_text, proto_word, record_text, state_text, state_word, tuple_text, untracked_word, who_text, why_text};
 
 use crate::page::Page;
 use history_book::event::{Event, Numbered, Why};
 use history_book::record::Record;
 use history_book::verdict::{Class, Ftp, Label, UntrackedWhy};
+use proto_rules::{PartKind, TcpState};
 use tuple_core::{Direction, Proto, Tuple};
 
 impl<'b> Page<'b> {
@@ -121,33 +122,69 @@ impl<'b> Page<'b> {
         self.tuple(&subject.reply);
     }
 
+    /// Writes the word of a state of a connection.
+    fn state_word(&mut self, state: TcpState)
+        requires { HasRoom 11 self.old }
+        ensures { Adds 11 (state_word state) self.old self.new }
+    {
+        match state {
+            TcpState::Unset => self.text(b"NONE"),
+            TcpState::SynSent => self.text(b"SYN_SENT"),
+            TcpState::SynRecv => self.text(b"SYN_RECV"),
+            TcpState::Established => self.text(b"ESTABLISHED"),
+            TcpState::FinWait => self.text(b"FIN_WAIT"),
+            TcpState::CloseWait => self.text(b"CLOSE_WAIT"),
+            TcpState::LastAck => self.text(b"LAST_ACK"),
+            TcpState::TimeWait => self.text(b"TIME_WAIT"),
+            TcpState::Close => self.text(b"CLOSE"),
+            TcpState::SynSent2 => self.text(b"SYN_SENT2"),
+        }
+    }
+
+    /// Writes the state of an entry, if its protocol has one.
+    fn state(&mut self, kind: PartKind)
+        requires { HasRoom 18 self.old }
+        ensures { Adds 18 (state_text kind) self.old self.new }
+    {
+        match kind {
+            PartKind::Tcp(state) => {
+                self.text(b" state=");
+                self.state_word(state);
+            }
+            PartKind::Udp | PartKind::Icmp => {}
+        }
+    }
+
     /// Writes a new entry.
     #[tactic(auto, unfolding(crate::specs::Piece::record_text))]
     fn record(&mut self, subject: &Record)
-        requires { HasRoom 200 self.old }
-        ensures { Adds 200 (record_text subject.now) self.old self.new }
+        requires { HasRoom 218 self.old }
+        ensures { Adds 218 (record_text subject.now) self.old self.new }
     {
         self.flow(subject);
         self.text(b" until=");
         self.number(subject.part.deadline);
+        self.state(subject.part.kind);
         self.master(subject.master);
         self.text_if(subject.helper, b" helper");
     }
 
     /// Writes why an entry was destroyed.
     fn why(&mut self, why: Why)
-        requires { HasRoom 8 self.old }
-        ensures { Adds 8 (why_text why) self.old self.new }
+        requires { HasRoom 9 self.old }
+        ensures { Adds 9 (why_text why) self.old self.new }
     {
         match why {
             Why::Expired { moment: _ } => self.text(b" expired"),
+            Why::Reopened { .. } => self.text(b" reopened"),
+            Why::Reset { .. } => self.text(b" reset"),
         }
     }
 
     /// Writes an event, and who made it.
     pub(crate) fn event(&mut self, e: &Numbered)
-        requires { HasRoom 231 self.old }
-        ensures { Adds 231 (event_text (who_text e.now.thread e.now.index) e.now.event)
+        requires { HasRoom 249 self.old }
+        ensures { Adds 249 (event_text (who_text e.now.thread e.now.index) e.now.event)
             self.old self.new }
     {
         match e.event {
@@ -171,6 +208,7 @@ impl<'b> Page<'b> {
                 self.direction(direction);
                 self.text(b" until=");
                 self.number(after.deadline);
+                self.state(after.kind);
                 self.text_if(after.replied, b" replied");
                 self.text_if(after.assured, b" assured");
             }
@@ -290,6 +328,14 @@ impl<'b> Page<'b> {
                 self.untracked(why);
             }
             Class::BadHeader => self.text(b"INVALID header"),
+            Class::NoEntry { at } => {
+                self.text(b"INVALID new");
+                self.point(at);
+            }
+            Class::BadState { id, at } => {
+                self.text(b"INVALID state");
+                self.entry(id, at);
+            }
             Class::ErrorLost { at } => {
                 self.text(b"INVALID error");
                 self.point(at);
@@ -315,6 +361,10 @@ impl<'b> Page<'b> {
                 self.label(label);
                 self.entry(id, at);
                 self.ftp(ftp);
+            }
+            Class::Ignored { id, at } => {
+                self.text(b"IGNORED");
+                self.entry(id, at);
             }
             Class::Full { at } => {
                 self.text(b"FULL");

@@ -4,15 +4,15 @@ use crate::page::LONGEST_LINE;
 use crate::write::{write_each, write_report};
 use ct_io::MemSink;
 use history_book::event::{Event, Numbered, Why};
-use proto_rules::{Part, PartKind};
 use history_book::record::Record;
 use history_book::report::Report;
 use history_book::verdict::{Class, Ftp, Label, Translated, UntrackedWhy, Verdict};
+use proto_rules::{Part, PartKind, TcpState};
 use room_list::RoomList;
 use std::alloc::Global;
 use std::process::Abort;
 use std::test::Fail;
-use tuple_core::{Direction, NoMemory, Proto, Segment, Tuple};
+use tuple_core::{Direction, Kind, NoMemory, Proto, Segment, Tuple};
 
 /// The flow of UDP from 10.0.0.1:5000 to 10.0.0.2:53.
 const QUERY: Tuple = Tuple {
@@ -30,6 +30,9 @@ const ANSWER: Tuple = Tuple {
     a: 53,
     b: 5000,
 };
+
+/// A segment that begins a connection. No line prints it.
+const SYN: Segment = Segment::Tcp(Kind::Syn);
 
 fn part(replied: bool, assured: bool, deadline: u64) -> Part {
     Part {
@@ -216,6 +219,95 @@ script 0
     Ok(())
 }
 
+/// Event `number`: packet `index` of thread 0 put the connection of event 0 into this state.
+fn connection(number: u64, index: u32, direction: Direction, state: TcpState) -> Numbered {
+    Numbered {
+        number,
+        thread: 0,
+        index,
+        event: Event::Touch {
+            id: 0,
+            direction,
+            segment: SYN,
+            moment: 0,
+            after: Part {
+                kind: PartKind::Tcp(state),
+                replied: true,
+                assured: false,
+                deadline: 60,
+            },
+        },
+    }
+}
+
+/// Event `number`: packet `index` of thread 0 ended the entry of this name.
+fn ended(number: u64, index: u32, id: u64, why: Why) -> Numbered {
+    Numbered {
+        number,
+        thread: 0,
+        index,
+        event: Event::Destroy { id, why },
+    }
+}
+
+const STATES: &str = "\
+events 12
+0 touch 0.0 id=0 original until=60 state=NONE replied
+1 touch 0.1 id=0 original until=60 state=SYN_SENT replied
+2 touch 0.2 id=0 reply until=60 state=SYN_RECV replied
+3 touch 0.3 id=0 original until=60 state=ESTABLISHED replied
+4 touch 0.4 id=0 original until=60 state=FIN_WAIT replied
+5 touch 0.5 id=0 reply until=60 state=CLOSE_WAIT replied
+6 touch 0.6 id=0 reply until=60 state=LAST_ACK replied
+7 touch 0.7 id=0 original until=60 state=TIME_WAIT replied
+8 touch 0.8 id=0 original until=60 state=CLOSE replied
+9 touch 0.9 id=0 reply until=60 state=SYN_SENT2 replied
+10 destroy 0.10 id=0 reopened
+11 destroy 0.11 id=11 reset
+thread 0 packets 0
+script 0
+";
+
+/// Each state of a connection, and how a connection can end before its deadline.
+#[test]
+fn states_and_ends_of_tcp(rt: HostRuntime) -> Result<(), Fail> {
+    let moment = 0;
+    let events = [
+        connection(0, 0, Direction::Original, TcpState::Unset),
+        connection(1, 1, Direction::Original, TcpState::SynSent),
+        connection(2, 2, Direction::Reply, TcpState::SynRecv),
+        connection(3, 3, Direction::Original, TcpState::Established),
+        connection(4, 4, Direction::Original, TcpState::FinWait),
+        connection(5, 5, Direction::Reply, TcpState::CloseWait),
+        connection(6, 6, Direction::Reply, TcpState::LastAck),
+        connection(7, 7, Direction::Original, TcpState::TimeWait),
+        connection(8, 8, Direction::Original, TcpState::Close),
+        connection(9, 9, Direction::Reply, TcpState::SynSent2),
+        ended(
+            10,
+            10,
+            0,
+            Why::Reopened {
+                direction: Direction::Original,
+                segment: SYN,
+                moment,
+            },
+        ),
+        ended(
+            11,
+            11,
+            11,
+            Why::Reset {
+                segment: SYN,
+                moment,
+            },
+        ),
+    ];
+    let report = report_of(rt.alloc(), &events, &[&[]])?;
+    check(&rt, rt.alloc(), &report, STATES)?;
+    Ok(())
+}
+
 #[test]
 fn udp_again_before_its_deadline(rt: HostRuntime) -> Result<(), Fail> {
     let events = [
@@ -242,7 +334,7 @@ script 0
 }
 
 /// A verdict of each class, with each label and each word of a payload.
-fn every_verdict() -> [Verdict; 17] {
+fn every_verdict() -> [Verdict; 20] {
     [
         made(4, 5),
         verdict(Class::Made {
@@ -266,6 +358,9 @@ fn every_verdict() -> [Verdict; 17] {
         verdict(Class::ErrorAddress { id: 14, at: 15 }),
         error(Direction::Original),
         error(Direction::Reply),
+        verdict(Class::NoEntry { at: 18 }),
+        verdict(Class::BadState { id: 19, at: 20 }),
+        verdict(Class::Ignored { id: 21, at: 22 }),
     ]
 }
 
@@ -285,7 +380,7 @@ fn every_form(alloc: Global) -> Result<Report, NoMemory> {
         a: 65535,
         b: 21,
     };
-    let confirm = |number: u64, original: Tuple, reply: Tuple, helper: bool, master: Option<
+    let confirm = |number: u64, original: Tuple, reply: Tuple, kind: PartKind, helper: bool, master: Option<
         u64,
     >| Numbered {
         number,
@@ -297,7 +392,12 @@ fn every_form(alloc: Global) -> Result<Report, NoMemory> {
                 place: 0,
                 original,
                 reply,
-                part: part(false, false, 31_000_000),
+                part: Part {
+                    kind,
+                    replied: false,
+                    assured: false,
+                    deadline: 31_000_000,
+                },
                 helper,
                 master,
             },
@@ -308,11 +408,19 @@ fn every_form(alloc: Global) -> Result<Report, NoMemory> {
             0,
             echo(0x0a00_0001, 0x0a00_0002, 8),
             echo(0x0a00_0002, 0x0a00_0001, 0),
+            PartKind::Icmp,
             false,
             Some(12),
         ),
         touch(Direction::Reply, part(true, true, 1)),
-        confirm(2, control, control, true, None),
+        confirm(
+            2,
+            control,
+            control,
+            PartKind::Tcp(TcpState::SynSent2),
+            true,
+            Some(20),
+        ),
     ];
     report_of(alloc, &events, &[&[], &every_verdict()])
 }
@@ -321,9 +429,9 @@ const EVERY_FORM: &str = "\
 events 3
 0 confirm 1.3 icmp src=10.0.0.1 dst=10.0.0.2 type=8 code=0 id=7 src=10.0.0.2 dst=10.0.0.1 type=0 code=0 id=7 until=31000000 master=12
 1 touch 0.1 id=0 reply until=1 replied assured
-2 confirm 1.3 tcp src=203.0.113.5 dst=198.51.100.21 sport=65535 dport=21 src=203.0.113.5 dst=198.51.100.21 sport=65535 dport=21 until=31000000 helper
+2 confirm 1.3 tcp src=203.0.113.5 dst=198.51.100.21 sport=65535 dport=21 src=203.0.113.5 dst=198.51.100.21 sport=65535 dport=21 until=31000000 state=SYN_SENT2 master=20 helper
 thread 0 packets 0
-thread 1 packets 17
+thread 1 packets 20
 0 NEW id=4 @5
 1 RELATED id=6 @8
 2 NEW id=0 @1
@@ -341,6 +449,9 @@ thread 1 packets 17
 14 INVALID address id=14 @15
 15 RELATED error id=16 @17
 16 RELATED_REPLY error id=16 @17
+17 INVALID new @18
+18 INVALID state id=19 @20
+19 IGNORED id=21 @22
 script 0
 ";
 
