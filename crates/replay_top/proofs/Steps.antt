@@ -139,8 +139,14 @@ placed_cleared old mid spare at s item removed sizes room vacant pushed spare_ro
 pub give_room : (old mid : Book) (at : ℕ) (s : Record) → slice_get old.records.items at ≡ Some s → mid.vacant ≡ old.vacant
     → IsPlaced old → length mid.vacant.items < mid.vacant.room
 give_room old mid at s item vacant placed =
-    omega (arith, placed.placing.count, placed.room, slice_get_within old.records.items at s item,
-    ap (λ (o : Roomed ℕ). length o.items) vacant, ap (λ (o : Roomed ℕ). o.room) vacant)
+    omega (
+      arith,
+      placed.placing.count,
+      placed.room,
+      slice_get_within old.records.items at s item,
+      ap (λ (o : Roomed ℕ). length o.items) vacant,
+      ap (λ (o : Roomed ℕ). o.room) vacant,
+    )
 
 -- an event leaves what it leaves, whatever is vacant
 pub adds_spare : (old mid : Book) (spare : Roomed ℕ) (index : ℕ) (e : Event) → Adds old mid index e
@@ -250,8 +256,12 @@ pub places_cleared : (old mid : Book) (spare : Roomed ℕ) (at : ℕ) (s : Recor
     → mid.records.items ≡ remove old.records.items at → mid.vacant ≡ old.vacant → spare.items ≡ mid.vacant.items ++ s.place ∷ []
     → places_used (record mid { vacant = spare }) ≤ places_used old + 1
 places_cleared old mid spare at s item removed vacant pushed =
-    omega (arith, one_fewer old mid at s item removed,
-    ap length pushed ∙ length-append mid.vacant.items (s.place ∷ []), ap (λ (o : Roomed ℕ). length o.items) vacant)
+    omega (
+      arith,
+      one_fewer old mid at s item removed,
+      ap length pushed ∙ length-append mid.vacant.items (s.place ∷ []),
+      ap (λ (o : Roomed ℕ). length o.items) vacant,
+    )
 
 -- a packet that makes no event
 pub handled_unchanged : (book : Book) (index : ℕ) (given : Given) (c : Class)
@@ -423,8 +433,14 @@ handled_spare old new spare index place packet answer taken begins vacant given 
       history_room = begins.adds.history_room;
       records_room = begins.adds.records_room;
       open_room = ap (λ (o : Roomed ℕ). o.room) vacant ∙ taken.open_room;
-      places = omega (arith, added, taken.few, counted, length-append old.records.items (begins.subject ∷ []),
-          ap (λ (o : Roomed ℕ). length o.items) vacant);
+      places = omega (
+        arith,
+        added,
+        taken.few,
+        counted,
+        length-append old.records.items (begins.subject ∷ []),
+        ap (λ (o : Roomed ℕ). length o.items) vacant,
+      );
     })
 
 pub handled_begun : (old mid new : Book) (index place : ℕ) (packet : FlowHeaders) (answer : Class) → IsTaken old mid place
@@ -600,7 +616,7 @@ module _ (states : StatesStay) (book : Book) (inner looked_up : Tuple) (outer : 
 pub lost : StatesStay → (book : Book) (inner looked_up : Tuple) (outer moment : ℕ) → Holds book → looked_up ≡ inverse inner
     → live_under looked_up (state_of book.records.items) ≡ None
     → FitsFrame book.sizes (events_of book.history.items) (length book.history.items)
-      (record { packet = packet.Error inner outer; moment = moment }) []
+    (record { packet = packet.Error inner outer; moment = moment }) []
     (class.ErrorLost (length book.history.items))
 lost states book inner looked_up outer moment holds inverted absent = record {
   inner = inner;

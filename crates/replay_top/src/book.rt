@@ -13,10 +13,10 @@ use history_book::laws::{
     destroys_take_one, ids_name_records, legal_histories_go_on, records_are_apart, states_follow,
     touches_change_one,
 };
-use proto_rules::Part;
 use history_book::record::Record;
 use history_book::report::History;
 use history_book::sizes::Sizes;
+use proto_rules::Part;
 use room_list::RoomList;
 use tuple_core::Direction;
 

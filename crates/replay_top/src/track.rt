@@ -11,6 +11,9 @@ ghost use Rattle.proto_rules.specs.declared.Outcome.TheVariants.{Accept, Reset};
 ghost use Rattle.proto_rules.specs.Protocol.{is_of_protocol};
 ghost use Rattle.proto_rules.specs.Start.{start_of};
 ghost use Rattle.history_book.specs.Find.{IsFoundAt};
+ghost use Rattle.history_book.specs.declared.verdict.Class.TheVariants.{Passed};
+ghost use Rattle.history_book.specs.declared.verdict.Ftp.TheVariants.{Nothing};
+ghost use Rattle.history_book.specs.Label.{label_of};
 ghost use Rattle.history_book.specs.Numbered.{events_of};
 ghost use Rattle.history_book.specs.State.{is_free, is_unused, live_under, state_of};
 ghost use Rattle.replay_top.specs.Internal.Book.{CanGrow, Holds, IsPlaced};
@@ -36,16 +39,10 @@ use proto_rules::laws::{
     resets_are_unanswered, same_part_is_equality,
 };
 use proto_rules::{Outcome, Part, start, step};
-use tuple_core::{Tuple, invert};
+use tuple_core::{Direction, Tuple, invert};
 
 /// Confirms a new entry for a packet whose tuple has none, in a place that no entry has.
-fn confirm_entry(
-    book: &mut Book,
-    index: u32,
-    packet: &FlowHeaders,
-    part: Part,
-    place: u32,
-) -> Class
+fn confirm_entry(book: &mut Book, index: u32, packet: &FlowHeaders, part: Part, place: u32) -> Class
     requires classified { IsClassified packet.now }
     requires holds { Holds book.old }
     requires absent { is_free packet.now.tuple (state_of book.old.records.items) ≡ true }
@@ -123,6 +120,19 @@ fn begin_flow(book: &mut Book, index: u32, packet: &FlowHeaders) -> Verdict
     }
 }
 
+/// The answer to a packet that passes by an entry, which was so before it and was found in this
+/// direction.
+fn passed(book: &Book, before: &Record, direction: Direction) -> Class
+    ensures { result ≡ Passed (label_of before.now direction) before.now.id (length book.now.history.items) Nothing }
+{
+    Class::Passed {
+        label: label(before, direction),
+        id: before.id,
+        at: book.history.len() as u64,
+        ftp: Ftp::Nothing,
+    }
+}
+
 /// Touches the entry that a packet found, which goes on with the part `after`.
 fn refresh_entry(
     book: &mut Book,
@@ -152,12 +162,7 @@ fn refresh_entry(
         after,
     };
     book.touch(index, found.index, &touched);
-    let class = Class::Passed {
-        label: label(&subject, found.direction),
-        id: subject.id,
-        at: book.history.len() as u64,
-        ftp: Ftp::Nothing,
-    };
+    let class = passed(book, &subject, found.direction);
     Verdict {
         class,
         first,
@@ -188,14 +193,8 @@ fn reset_entry(book: &mut Book, index: u32, packet: &FlowHeaders, found: FoundAt
     };
     book.kill(index, found.index, &subject, why);
     book.vacant.push(subject.place);
-    let class = Class::Passed {
-        label: label(&subject, found.direction),
-        id: subject.id,
-        at: book.history.len() as u64,
-        ftp: Ftp::Nothing,
-    };
     Verdict {
-        class,
+        class: passed(book, &subject, found.direction),
         first,
         made: 1,
     }
@@ -230,10 +229,9 @@ fn replace_entry(
     book.kill(index, found.index, &subject, why);
     let Some(part) = start(packet.segment, packet.moment) else {
         book.vacant.push(subject.place);
+        let at = book.history.len() as u64;
         return Verdict {
-            class: Class::NoEntry {
-                at: book.history.len() as u64,
-            },
+            class: Class::NoEntry { at },
             first,
             made: 1,
         };
@@ -264,7 +262,9 @@ fn handle_found(book: &mut Book, index: u32, packet: &FlowHeaders, found: FoundA
     reopens_begin_anew();
     states_stay();
     let FlowHeaders {
-        segment, moment, ..
+        segment,
+        moment,
+        ..
     } = *packet;
     let direction = found.direction;
     let Record { id, part, .. } = *book.records.at(found.index);

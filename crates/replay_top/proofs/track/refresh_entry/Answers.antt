@@ -1,4 +1,5 @@
 use Rattle.std.proofs.Common.{ap, inl, refl}
+use Rattle.history_book.specs.Label.{label_of}
 use Rattle.room_list.specs.Roomed.{Roomed}
 use Rattle.replay_top.specs.Internal.Book.{touch_of}
 use Rattle.replay_top.proofs.Steps.{handled_passed, may_touch_here, placed_touched, places_touched}
@@ -11,14 +12,14 @@ touch-requires-clause-may c =
 
 pub returns-clause-handled : goal.returns-clause-handled
 returns-clause-handled c =
-    rw (c.len-first.ensures.exact, c.len.ensures.exact)
+    rw (c.len-first.ensures.exact, c.passed-class.ensures)
     (handled_passed c.states_stay.ensures c.args.book.now c.touch.new.self c.args.index c.args.packet.now c.args.found
     c.at.result.now
     (touch_of (record { subject = c.at.result.now; direction = c.args.found.direction; packet = c.args.packet.now; after = c.args.after }))
-    c.label.result c.requires.holds c.requires.found c.at.ensures c.touch.ensures.adds
+    (label_of c.at.result.now c.args.found.direction) c.requires.holds c.requires.found c.at.ensures c.touch.ensures.adds
     (ap (λ (o : Roomed _). o.room) c.touch.ensures.vacant)
     (places_touched c.args.book.now c.touch.new.self c.args.found.index _ c.touch.ensures.written c.touch.ensures.vacant)
-    (inl (c.args.after, refl)) c.label.ensures)
+    (inl (c.args.after, refl)) refl)
 
 pub returns-clause-placed : goal.returns-clause-placed
 returns-clause-placed c =

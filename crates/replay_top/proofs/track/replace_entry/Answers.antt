@@ -17,7 +17,7 @@ push-requires c =
 
 pub returns-in_default-clause-handled : goal.returns-in_default-clause-handled
 returns-in_default-clause-handled c =
-    rw (c.len-first.ensures.exact, c.len.ensures.exact)
+    rw (c.len-first.ensures.exact, c.len-at.ensures.exact)
     (handled_cleared c.events_stay.ensures c.states_stay.ensures c.args.book.now c.kill.new.self c.args.index
     c.args.packet.now c.args.found c.at.result.now c.args.why c.requires.holds c.requires.found c.at.ensures
     c.kill.ensures.adds c.kill.ensures.removed c.requires.destroys c.push.new.self c.kill.ensures.holds

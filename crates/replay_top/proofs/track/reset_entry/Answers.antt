@@ -1,4 +1,5 @@
 use Rattle.std.proofs.Common.{ap, inr, refl, ◌∙◌}
+use Rattle.history_book.specs.Label.{label_of}
 use Rattle.room_list.specs.Roomed.{Roomed}
 use Rattle.history_book.specs.declared.event.Event.TheVariants.{Destroy}
 use Rattle.history_book.specs.declared.event.Why.TheVariants.{Reset}
@@ -17,16 +18,16 @@ push-requires c =
 
 pub returns-clause-handled : goal.returns-clause-handled
 returns-clause-handled c =
-    rw (c.len-first.ensures.exact, c.len.ensures.exact)
+    rw (c.len-first.ensures.exact, c.passed.ensures)
     (handled_passed c.states_stay.ensures c.args.book.now (record c.kill.new.self { vacant = c.push.new.self }) c.args.index
     c.args.packet.now c.args.found c.at.result.now
-    (Destroy c.at.result.now.id (Reset c.args.packet.now.segment c.args.packet.now.moment)) c.label.result
+    (Destroy c.at.result.now.id (Reset c.args.packet.now.segment c.args.packet.now.moment)) (label_of c.at.result.now c.args.found.direction)
     c.requires.holds c.requires.found c.at.ensures
     (adds_spare c.args.book.now c.kill.new.self c.push.new.self c.args.index _ c.kill.ensures.adds)
     (c.push.ensures.room ∙ ap (λ (o : Roomed _). o.room) c.kill.ensures.vacant)
     (places_cleared c.args.book.now c.kill.new.self c.push.new.self c.args.found.index c.at.result.now c.at.ensures
     c.kill.ensures.removed c.kill.ensures.vacant c.push.ensures.items)
-    (inr refl) c.label.ensures)
+    (inr refl) refl)
 
 pub returns-clause-placed : goal.returns-clause-placed
 returns-clause-placed c =

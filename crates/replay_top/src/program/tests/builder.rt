@@ -137,9 +137,13 @@ pub struct End {
 
 /// The control bits of TCP, by their values.
 pub const FIN: u8 = 0x01;
+
 pub const SYN: u8 = 0x02;
+
 pub const RST: u8 = 0x04;
+
 pub const PSH: u8 = 0x08;
+
 pub const ACK: u8 = 0x10;
 
 /// A segment of TCP with these control bits and no data.
