@@ -6,15 +6,14 @@ use Rattle.std.proofs.lemmas.List.{length-map}
 use Rattle.history_book.specs.declared.event.Event.{Event}
 use Rattle.history_book.specs.declared.event.Event.TheVariants.{Destroy}
 use Rattle.history_book.specs.declared.event.Numbered.{Numbered}
-use Rattle.history_book.specs.declared.event.Why.TheVariants.{Expired}
+use Rattle.history_book.specs.declared.event.Why.{Why}
 use Rattle.proto_rules.specs.declared.Part.{Part}
 use Rattle.history_book.specs.declared.record.Record.{Record}
 use Rattle.history_book.specs.declared.sizes.Sizes.{Sizes}
-use Rattle.history_book.specs.Legality.{may_destroy, may_happen, may_touch}
+use Rattle.history_book.specs.Legality.{is_reason, may_destroy, may_happen, may_touch}
 use Rattle.history_book.specs.History.{after, is_legal}
 use Rattle.history_book.specs.Laws.{AreApart, LegalHistoriesGoOn, RecordsAreApart, StatesFollow}
 use Rattle.history_book.specs.Numbered.{events_of, IsNumberedFrom}
-use Rattle.proto_rules.specs.Part.{is_expired}
 use Rattle.history_book.specs.State.{State, next, state_of}
 use Rattle.history_book.specs.StateLaws.{DestroysTakeOne, IdsNameRecords, TouchesChangeOne}
 use Rattle.replay_top.specs.declared.book.Book.{Book}
@@ -131,18 +130,18 @@ module _ (apart : RecordsAreApart) (ids : IdsNameRecords) (follow : StatesFollow
       (each_set IsPlain old.records.items at (record t.subject { part = t.after }) holds.plain
       (plain_part t.subject t.after (each_at IsPlain old.records.items at t.subject holds.plain item))))
 
-  pub holds_kill : (old new : Book) (index at : ℕ) (subject : Record) (moment : ℕ) → Holds old
-      → slice_get old.records.items at ≡ Some subject → is_expired subject.part moment ≡ true
-      → Adds old new index (Destroy subject.id (Expired moment)) → new.records.items ≡ remove old.records.items at → Holds new
-  holds_kill old new index at subject moment holds item expired adds removed =
+  pub holds_kill : (old new : Book) (index at : ℕ) (subject : Record) (why : Why) → Holds old
+      → slice_get old.records.items at ≡ Some subject → is_reason why subject ≡ true
+      → Adds old new index (Destroy subject.id why) → new.records.items ≡ remove old.records.items at → Holds new
+  holds_kill old new index at subject why holds item reason adds removed =
       let own = ids (state_of old.records.items) at subject (apart_of apart old holds) item in
-      holds_next follow goes_on old new index (Destroy subject.id (Expired moment)) holds adds
-      (ap (λ o. may_destroy o (Expired moment)) own ∙ expired)
+      holds_next follow goes_on old new index (Destroy subject.id why) holds adds
+      (ap (λ o. may_destroy o why) own ∙ reason)
       (subst (AllByRecursion IsPlain) (sym removed) (each_remove IsPlain old.records.items at holds.plain))
 
-pub adds_kill : RecordsAreApart → DestroysTakeOne → (old new : Book) (index at : ℕ) (subject : Record) (moment : ℕ) → Holds old
-    → slice_get old.records.items at ≡ Some subject → Notes old new index (Destroy subject.id (Expired moment))
-    → new.records.items ≡ remove old.records.items at → Adds old new index (Destroy subject.id (Expired moment))
-adds_kill apart takes old new index at subject moment holds item notes removed =
-    adds_noted old new index (Destroy subject.id (Expired moment)) notes
-    (removed ∙ sym (takes (state_of old.records.items) at subject (Expired moment) (apart_of apart old holds) item)) refl
+pub adds_kill : RecordsAreApart → DestroysTakeOne → (old new : Book) (index at : ℕ) (subject : Record) (why : Why) → Holds old
+    → slice_get old.records.items at ≡ Some subject → Notes old new index (Destroy subject.id why)
+    → new.records.items ≡ remove old.records.items at → Adds old new index (Destroy subject.id why)
+adds_kill apart takes old new index at subject why holds item notes removed =
+    adds_noted old new index (Destroy subject.id why) notes
+    (removed ∙ sym (takes (state_of old.records.items) at subject why (apart_of apart old holds) item)) refl

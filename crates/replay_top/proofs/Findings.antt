@@ -5,10 +5,10 @@ use Rattle.std.proofs.lemmas.Bool.{cases_order}
 use Rattle.ct_io.specs.Counts.{Rose}
 use Rattle.ct_io.specs.Source.{Source}
 use Rattle.ct_io.specs.Tape.{Tape}
-use Rattle.packet_path.specs.declared.packet.Arrival.{Arrival}
+use Rattle.packet_path.specs.Packet.{Given}
 use Rattle.history_book.specs.declared.report.Report.{Report}
 use Rattle.replay_top.specs.declared.flaw.Flaw.{Flaw}
-use Rattle.replay_top.specs.declared.flaw.Flaw.TheVariants.{Fault, NotTracked, TooLong}
+use Rattle.replay_top.specs.declared.flaw.Flaw.TheVariants.{Fault, TooLong}
 use Rattle.replay_top.specs.declared.flaw.Refusal.{Refusal}
 use Rattle.replay_top.specs.declared.flaw.Refusal.TheVariants.{Flawed, Misused, NoMemory, NotOpened, NotRead}
 use Rattle.replay_top.specs.Causes.{Answers, FilesFailed, HasCause, refusal_status}
@@ -40,7 +40,6 @@ has_cause words names files files' NoMemory named cause = tt
 not_three : (flaw : Flaw) → flaw_status flaw ≡ 3 → ⊥
 not_three TooLong three = omega (arith, three)
 not_three (Fault fault) three = omega (arith, three)
-not_three NotTracked three = omega (arith, three)
 
 -- the status 3 comes of a failure of the files
 pub failed_files : (words : List (List ℕ)) (files files' : Source) (why : Refusal) → HasCause words files files' why
@@ -67,15 +66,15 @@ same_names words names other h k = cc
 not_named : (words : List (List ℕ)) (names : List (List ℕ)) → files_named words ≡ None → files_named words ≡ Some names → ⊥
 not_named words names none some = cc
 
--- the packets of each capture are those of a file that is read
-each_read : (files : Source) (names : List (List ℕ)) (captures : List (List Arrival)) → GaveEach files names captures
+-- the frames of each capture are those of a file that is read
+each_read : (files : Source) (names : List (List ℕ)) (captures : List (List Given)) → GaveEach files names captures
     → AreAllRead IfSome files names
 each_read files [] [] gave k within = absurd (omega (arith, within))
 each_read files [] (a ∷ more) gave k within = absurd gave
 each_read files (name ∷ names) [] gave k within = absurd gave
-each_read files (name ∷ names) (arrivals ∷ more) (first, others) zero within =
-    told_of (files.contents name) first.bytes IsRead first.told (arrivals, first.capture)
-each_read files (name ∷ names) (arrivals ∷ more) (first, others) (suc k) within =
+each_read files (name ∷ names) (given ∷ more) (first, others) zero within =
+    told_of (files.contents name) first.bytes IsRead first.told (first.frames, first.capture)
+each_read files (name ∷ names) (given ∷ more) (first, others) (suc k) within =
     each_read files names more others k (omega arith)
 
 module _ (clean_files : ReadFilesHaveNoFlaw) (unique : FlawsAreUnique) (files : Source) (names : List (List ℕ)) where

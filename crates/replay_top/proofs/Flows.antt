@@ -1,45 +1,28 @@
--- What is known of a packet that is tracked.
-use Rattle.std.proofs.Common.{◌≡◌, ◌≤◌, ◌^◌, true, refl, sym, ap, subst}
-use Rattle.std.specs.Prelude.{◌==◌, IsSome, nat_le}
-use Rattle.std.proofs.lemmas.Bool.{and_parts, eqb-true, leb-true, false≢true}
-use Rattle.tuple_core.specs.Tuple.{is_valid, number_of}
-use Rattle.tuple_core.specs.declared.Proto.TheVariants as proto
-use Rattle.tuple_core.specs.declared.Segment.{Segment}
-use Rattle.tuple_core.specs.declared.Segment.TheVariants.{Tcp, Udp, Icmp}
-use Rattle.packet_path.specs.declared.packet.FlowPacket.{FlowPacket}
-use Rattle.proto_rules.specs.declared.PartKind.{PartKind}
-use Rattle.proto_rules.specs.declared.PartKind.TheVariants as kind
+-- A packet of a flow is of the protocol of the entry that it finds.
+use Rattle.std.proofs.Common.{◌≡◌, true, Some, length, sym, subst, ◌∙◌}
+use Rattle.std.specs.Prelude.{All}
+use Rattle.tuple_core.specs.declared.Direction.{Direction}
+use Rattle.packet_path.specs.Laws.{SameProtocolIsEquality}
 use Rattle.proto_rules.specs.Protocol.{is_of_protocol}
-use Rattle.proto_rules.specs.Start.{start_of}
-use Rattle.replay_top.specs.Internal.Flow.{is_udp, is_flow}
+use Rattle.history_book.specs.declared.record.Record.{Record}
+use Rattle.history_book.specs.Laws.{RecordsAreOfOneProtocol}
+use Rattle.history_book.specs.Legality.{is_of_one_protocol}
+use Rattle.history_book.specs.Numbered.{events_of}
+use Rattle.history_book.specs.State.{State, live_under, state_of}
+use Rattle.history_book.specs.StateLaws.{LiveRecordsHaveTheProtocol}
+use Rattle.replay_top.specs.declared.book.Book.{Book}
+use Rattle.replay_top.specs.declared.flow.FlowHeaders.{FlowHeaders}
+use Rattle.replay_top.specs.Internal.Book.{Holds}
+use Rattle.replay_top.specs.Internal.Flow.{IsClassified}
 
-pub record IsFlow (p : FlowPacket) : Type 0 where
-  pub valid : is_valid p.tuple ≡ true
-  pub proto : number_of p.tuple.proto ≡ 17
-  pub segment : p.segment ≡ Udp
-  pub moment : p.moment ≤ 10 ^ 16
-
-is_udp-true : (s : Segment) → is_udp s ≡ true → s ≡ Udp
-is_udp-true (Tcp kind) h = absurd (false≢true h)
-is_udp-true Udp h = refl
-is_udp-true (Icmp kind) h = absurd (false≢true h)
-
-pub flow_of : (p : FlowPacket) → is_flow p ≡ true → IsFlow p
-flow_of p h =
-    let a = and_parts _ (nat_le p.moment (10 ^ 16)) h in
-    let b = and_parts _ (is_udp p.segment) a.0 in
-    let c = and_parts (is_valid p.tuple) (number_of p.tuple.proto == number_of proto.Udp) b.0 in
-    record {
-      valid = c.0;
-      proto = eqb-true (number_of p.tuple.proto) 17 c.1;
-      segment = is_udp-true p.segment b.1;
-      moment = leb-true p.moment (10 ^ 16) a.1;
-    }
-
-pub udp_starts : (p : FlowPacket) → is_flow p ≡ true → IsSome (start_of p.segment p.moment) × (p.moment ≤ 10 ^ 16)
-udp_starts p h =
-    let flow : IsFlow p = flow_of p h in
-    (subst (λ (s : Segment). IsSome (start_of s p.moment)) (sym flow.segment) refl, flow.moment)
-
-pub udp_of_protocol : (p : FlowPacket) (k : PartKind) → is_flow p ≡ true → is_of_protocol p.segment k ≡ true
-udp_of_protocol p kind.Udp h = ap (λ s. is_of_protocol s kind.Udp) (flow_of p h).segment
+-- a packet is of the protocol of the record that is live under its tuple
+pub step_protocol : RecordsAreOfOneProtocol → LiveRecordsHaveTheProtocol → SameProtocolIsEquality → (book : Book) (packet : FlowHeaders)
+    (r : Record) (d : Direction) → Holds book → IsClassified packet
+    → live_under packet.tuple (state_of book.records.items) ≡ Some (record { subject = r; direction = d })
+    → is_of_protocol packet.segment r.part.kind ≡ true
+step_protocol each live same book packet r d holds classified found =
+    let all : All (λ (x : Record). is_of_one_protocol x ≡ true) book.records.items =
+    subst (λ (s : State). All (λ (x : Record). is_of_one_protocol x ≡ true) s.records) (sym holds.state)
+    (each book.sizes (events_of book.history.items) (length (events_of book.history.items)) holds.legal) in
+    (same packet.segment r.part.kind).1
+    (live packet.tuple (state_of book.records.items) (record { subject = r; direction = d }) all found ∙ classified.protocol)

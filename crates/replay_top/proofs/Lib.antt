@@ -1,9 +1,9 @@
-pub mod Arriving
 pub mod Books
 pub mod Collecting
 pub mod Findings
 pub mod Flaws
 pub mod Flows
+pub mod Places
 pub mod Reading
 pub mod Replays
 pub mod Steps

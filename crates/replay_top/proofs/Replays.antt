@@ -1,23 +1,24 @@
 -- What a replay has done so far.
-use Rattle.std.proofs.Common.{◌≡◌, ℕ, ◌+◌, ◌*◌, ◌<◌, ◌≤◌, zero, suc, true, cond, List, [], ◌∷◌, ◌++◌, length, take, drop, get_or, max, min, refl, sym, ap, subst, ◌∙◌, arith, length-append, length-drop, ◌-◌}
+use Rattle.std.proofs.Common.{◌≡◌, ℕ, ◌+◌, ◌*◌, ◌<◌, ◌≤◌, zero, suc, true, cond, List, [], ◌∷◌, ◌++◌, length, map, take, drop, get_or, max, min, refl, sym, ap, subst, ◌∙◌, arith, length-append, length-drop, ◌-◌}
 use Rattle.std.specs.List.{AllByRecursion}
 use Rattle.std.proofs.lemmas.Bool.{eq-eqb}
-use Rattle.std.proofs.lemmas.List.{length-take, take-append-le, take_more}
+use Rattle.std.proofs.lemmas.List.{get_or-map, length-take, take-append-le, take_more}
 use Rattle.std.proofs.Math.Seq.{take-length}
 use Rattle.room_list.specs.Roomed.{Roomed}
 use Rattle.history_book.specs.declared.event.Event.{Event}
 use Rattle.history_book.specs.declared.event.Numbered.{Numbered}
-use Rattle.packet_path.specs.declared.packet.Arrival.{Arrival}
+use Rattle.packet_headers.specs.declared.frame.Frame.{Frame}
+use Rattle.packet_path.specs.Packet.{Given, given_of}
 use Rattle.history_book.specs.declared.verdict.Verdict.{Verdict}
 use Rattle.history_book.specs.declared.record.Record.{Record}
 use Rattle.history_book.specs.declared.report.Report.{Report}
 use Rattle.history_book.specs.History.{after, is_legal}
 use Rattle.history_book.specs.Notes.{mark_at, mark_past}
 use Rattle.history_book.specs.Point.{StartsWith}
-use Rattle.packet_path.specs.Verdict.{FitsArrival, points_of}
+use Rattle.packet_path.specs.Verdict.{FitsFrame, points_of}
 use Rattle.packet_path.specs.Laws.{LowerMarksFit, VerdictsStillFit}
 use Rattle.replay_top.specs.declared.book.Book.{Book}
-use Rattle.replay_top.specs.Internal.Book.{Holds, IsPlain, PlacesBelow}
+use Rattle.replay_top.specs.Internal.Book.{Holds, IsPlaced, IsPlacing, IsPlain, places_used, rooms}
 use Rattle.history_book.specs.Numbered.{events_of, IsNumberedFrom, notes_of}
 use Rattle.history_book.specs.State.{State, state_of}
 use Rattle.history_book.specs.declared.sizes.Sizes.{Sizes}
@@ -30,12 +31,11 @@ abbrev pub marks : ℕ → List Numbered → List Verdict → ℕ
 marks mark mine [] = mark
 marks mark mine (v ∷ vs) = marks (mark_after mark (take v.made mine) v.class) (drop v.made mine) vs
 
-pub record IsReplayed (sizes : Sizes) (packets : List Arrival) (index : ℕ) (book : Book) (verdicts : Roomed Verdict) : Type 0 where
+pub record IsReplayed (sizes : Sizes) (packets : List Given) (index : ℕ) (book : Book) (verdicts : Roomed Verdict) : Type 0 where
   pub sized : book.sizes ≡ sizes
   pub holds : Holds book
-  pub places : PlacesBelow (length book.records.items) book.records.items
-  pub most : length book.records.items ≤ book.sizes.entries
-  pub few : length book.records.items ≤ index
+  pub placed : IsPlaced book
+  pub few : places_used book ≤ index
   pub alone : AllByRecursion (λ (n : Numbered). n.thread ≡ 0) book.history.items
   pub fit : VerdictsFit sizes (events_of book.history.items) book.history.items 0 0 0 (take index packets) verdicts.items
   pub mark : marks 0 book.history.items verdicts.items ≤ length book.history.items
@@ -43,7 +43,7 @@ pub record IsReplayed (sizes : Sizes) (packets : List Arrival) (index : ℕ) (bo
   pub events : length book.history.items ≤ 2 * index
   pub verdicts_room : length packets ≤ verdicts.room
   pub history_room : 2 * length packets ≤ book.history.room
-  pub records_room : min (length packets) book.sizes.entries ≤ book.records.room
+  pub records_room : min (length packets) book.sizes.entries ≤ rooms book
 
 -- the numbers of a list are below n
 abbrev NumbersBelow : ℕ → List Numbered → Type 0
@@ -75,13 +75,13 @@ drop_all [] = refl
 drop_all (x ∷ xs) = drop_all xs
 
 -- what a verdict more needs
-pub record NewVerdict (sizes : Sizes) (log : List Event) (own : List Numbered) (first index mark : ℕ) (packet : Arrival) (v : Verdict) : Type 0 where
+pub record NewVerdict (sizes : Sizes) (log : List Event) (own : List Numbered) (first index mark : ℕ) (packet : Given) (v : Verdict) : Type 0 where
   pub starts : v.first ≡ first
   pub made : v.made ≡ length own
   pub named : AllByRecursion (λ (n : Numbered). n.index ≡ index) own
-  pub fits : FitsArrival sizes log mark packet (notes_of own) v.class
+  pub fits : FitsFrame sizes log mark packet (notes_of own) v.class
 
-new_at : (sizes : Sizes) (log : List Event) (own : List Numbered) (first first' index index' mark : ℕ) (p : Arrival) (v : Verdict)
+new_at : (sizes : Sizes) (log : List Event) (own : List Numbered) (first first' index index' mark : ℕ) (p : Given) (v : Verdict)
     → first ≡ first' → index ≡ index' → NewVerdict sizes log own first index mark p v → NewVerdict sizes log own first' index' mark p v
 new_at sizes log own first first' index index' mark p v same_first same_index new = record {
   starts = new.starts ∙ same_first;
@@ -91,7 +91,7 @@ new_at sizes log own first first' index index' mark p v same_first same_index ne
 }
 
 -- the verdict that made all that is left
-last_verdict : (sizes : Sizes) (log : List Event) (own : List Numbered) (first index mark : ℕ) (p : Arrival) (v : Verdict)
+last_verdict : (sizes : Sizes) (log : List Event) (own : List Numbered) (first index mark : ℕ) (p : Given) (v : Verdict)
     → NewVerdict sizes log own first index mark p v → VerdictFits sizes log own first index mark p v × (drop v.made own ≡ [])
 last_verdict sizes log own first index mark p v new =
     let same : own ≡ take v.made own = sym (ap (λ n. take n own) new.made ∙ take_all own) in (
@@ -99,13 +99,13 @@ last_verdict sizes log own first index mark p v new =
         starts = new.starts;
         within = omega (arith, new.made);
         named = subst (λ xs. AllByRecursion (λ (n : Numbered). n.index ≡ index) xs) same new.named;
-        fits = subst (λ xs. FitsArrival sizes log mark p (notes_of xs) v.class) same new.fits;
+        fits = subst (λ xs. FitsFrame sizes log mark p (notes_of xs) v.class) same new.fits;
       },
       ap (λ n. drop n own) new.made ∙ drop_all own,
     )
 
 module _ (still : VerdictsStillFit) (sizes : Sizes) (longer log : List Event) (starts : StartsWith longer log) where
-  verdict_grows : (mine own : List Numbered) (first index mark : ℕ) (p : Arrival) (v : Verdict)
+  verdict_grows : (mine own : List Numbered) (first index mark : ℕ) (p : Given) (v : Verdict)
       → VerdictFits sizes log mine first index mark p v → VerdictFits sizes longer (mine ++ own) first index mark p v
   verdict_grows mine own first index mark p v f =
       let same : take v.made mine ≡ take v.made (mine ++ own) = sym (take_within v.made mine own f.within) in
@@ -113,12 +113,12 @@ module _ (still : VerdictsStillFit) (sizes : Sizes) (longer log : List Event) (s
         starts = f.starts;
         within = omega (arith, f.within, length-append mine own);
         named = subst (λ xs. AllByRecursion (λ (n : Numbered). n.index ≡ index) xs) same f.named;
-        fits = subst (λ xs. FitsArrival sizes longer mark p (notes_of xs) v.class) same
+        fits = subst (λ xs. FitsFrame sizes longer mark p (notes_of xs) v.class) same
             (still sizes log longer mark p (notes_of (take v.made mine)) v.class starts f.fits);
       }
 
-  pub verdicts_push : (mine own : List Numbered) (first index mark : ℕ) (ps : List Arrival) (vs : List Verdict)
-      (p : Arrival) (v : Verdict) → VerdictsFit sizes log mine first index mark ps vs
+  pub verdicts_push : (mine own : List Numbered) (first index mark : ℕ) (ps : List Given) (vs : List Verdict)
+      (p : Given) (v : Verdict) → VerdictsFit sizes log mine first index mark ps vs
       → NewVerdict sizes longer own (first + length mine) (index + length ps) (marks mark mine vs) p v
       → VerdictsFit sizes longer (mine ++ own) first index mark (ps ++ p ∷ []) (vs ++ v ∷ [])
   verdicts_push mine own first index mark [] [] p v fit new =
@@ -142,7 +142,7 @@ module _ (still : VerdictsStillFit) (sizes : Sizes) (longer log : List Event) (s
             (ps ++ p ∷ []) (vs ++ v ∷ [])) taken rest),
       )
 
-pub marks_push : (sizes : Sizes) (log : List Event) (mine own : List Numbered) (first index mark : ℕ) (ps : List Arrival) (vs : List Verdict)
+pub marks_push : (sizes : Sizes) (log : List Event) (mine own : List Numbered) (first index mark : ℕ) (ps : List Given) (vs : List Verdict)
     (v : Verdict) → VerdictsFit sizes log mine first index mark ps vs → v.made ≡ length own
     → marks mark (mine ++ own) (vs ++ v ∷ []) ≡ mark_after (marks mark mine vs) own v.class
 marks_push sizes log mine own first index mark [] [] v fit made =
@@ -186,16 +186,25 @@ empty_holds book records history = record {
   plain = subst (AllByRecursion IsPlain) (sym records) tt;
 }
 
-pub replayed_start : (sizes : Sizes) (packets : List Arrival) (book : Book) (verdicts : Roomed Verdict) → book.sizes ≡ sizes
+none_placed : (book : Book) → book.records.items ≡ [] → book.vacant.items ≡ [] → IsPlaced book
+none_placed book records vacant = record {
+  used = 0;
+  placing = subst (λ (rs : List Record). IsPlacing 0 rs book.vacant.items) (sym records)
+      (subst (λ (ps : List ℕ). IsPlacing 0 [] ps) (sym vacant)
+      (record { count = refl; below = tt; given = tt; nobody = tt; distinct = tt }));
+  most = omega arith;
+  room = omega arith;
+}
+
+pub replayed_start : (sizes : Sizes) (packets : List Given) (book : Book) (verdicts : Roomed Verdict) → book.sizes ≡ sizes
     → book.records.items ≡ [] → book.history.items ≡ []
-    → verdicts.items ≡ [] → length packets ≤ verdicts.room → 2 * length packets ≤ book.history.room
-    → min (length packets) book.sizes.entries ≤ book.records.room → IsReplayed sizes packets 0 book verdicts
-replayed_start sizes packets book verdicts sized records history none a b c = record {
+    → book.vacant.items ≡ [] → verdicts.items ≡ [] → length packets ≤ verdicts.room → 2 * length packets ≤ book.history.room
+    → min (length packets) book.sizes.entries ≤ rooms book → IsReplayed sizes packets 0 book verdicts
+replayed_start sizes packets book verdicts sized records history vacant none a b c = record {
   sized = sized;
   holds = empty_holds book records history;
-  places = subst (λ (rs : List Record). PlacesBelow (length rs) rs) (sym records) tt;
-  most = omega (arith, ap length records);
-  few = omega (arith, ap length records);
+  placed = none_placed book records vacant;
+  few = omega (arith, ap length records, ap length vacant);
   alone = subst (AllByRecursion (λ (n : Numbered). n.thread ≡ 0)) (sym history) tt;
   fit = subst (λ h. VerdictsFit sizes (events_of h) h 0 0 0 (take 0 packets) verdicts.items) (sym history)
       (subst (λ vs. VerdictsFit sizes [] [] 0 0 0 [] vs) (sym none) refl);
@@ -207,7 +216,7 @@ replayed_start sizes packets book verdicts sized records history none a b c = re
   records_room = c;
 }
 
-module _ (still : VerdictsStillFit) (lower : LowerMarksFit) (sizes : Sizes) (packets : List Arrival) (d : Arrival) (index : ℕ) (book new : Book) (verdicts more : Roomed Verdict) (v : Verdict)
+module _ (still : VerdictsStillFit) (lower : LowerMarksFit) (sizes : Sizes) (packets : List Given) (d : Given) (index : ℕ) (book new : Book) (verdicts more : Roomed Verdict) (v : Verdict)
     (so_far : IsReplayed sizes packets index book verdicts) (handled : Handled book new index (get_or packets index d) v)
     (holds : Holds new) where
   next_mark : marks 0 new.history.items (verdicts.items ++ v ∷ []) ≤ length new.history.items
@@ -232,7 +241,7 @@ module _ (still : VerdictsStillFit) (lower : LowerMarksFit) (sizes : Sizes) (pac
   next_fit below =
       let log : List Event = events_of book.history.items in
       let longer : List Event = events_of new.history.items in
-      let packet : Arrival = get_or packets index d in
+      let packet : Given = get_or packets index d in
       let grown : longer ≡ log ++ events_of handled.own =
       ap events_of handled.history ∙ events-append book.history.items handled.own in
       let so_many : length (take index packets) ≡ index = length-take index packets ∙ omega arith in
@@ -248,17 +257,16 @@ module _ (still : VerdictsStillFit) (lower : LowerMarksFit) (sizes : Sizes) (pac
             (indices_of index handled.own handled.by);
         fits = lower sizes longer (marks 0 book.history.items verdicts.items) (length book.history.items) packet
             (notes_of handled.own) v.class so_far.mark
-            (subst (λ (z : Sizes). FitsArrival z longer (length book.history.items) packet (notes_of handled.own) v.class) so_far.sized handled.fits);
+            (subst (λ (z : Sizes). FitsFrame z longer (length book.history.items) packet (notes_of handled.own) v.class) so_far.sized handled.fits);
       })))
 
-  pub replayed_next : index < length packets → PlacesBelow (length new.records.items) new.records.items
+  pub replayed_next : index < length packets → IsPlaced new
       → more.items ≡ verdicts.items ++ v ∷ [] → more.room ≡ verdicts.room → IsReplayed sizes packets (index + 1) new more
-  replayed_next below places items room = record {
+  replayed_next below placed items room = record {
     sized = handled.same_sizes ∙ so_far.sized;
     holds = holds;
-    places = places;
-    most = subst (λ (z : Sizes). length new.records.items ≤ z.entries) (sym handled.same_sizes) (handled.most so_far.most);
-    few = omega (arith, so_far.few, handled.records);
+    placed = placed;
+    few = omega (arith, so_far.few, handled.places);
     alone = subst (AllByRecursion (λ (n : Numbered). n.thread ≡ 0)) (sym handled.history)
         (each_append (λ (n : Numbered). n.thread ≡ 0) book.history.items handled.own so_far.alone (threads_of index handled.own handled.by));
     fit = subst (λ vs. VerdictsFit sizes (events_of new.history.items) new.history.items 0 0 0 (take (index + 1) packets) vs) (sym items) (next_fit below);
@@ -267,9 +275,16 @@ module _ (still : VerdictsStillFit) (lower : LowerMarksFit) (sizes : Sizes) (pac
     events = omega (arith, so_far.events, handled.few, ap length handled.history, length-append book.history.items handled.own);
     verdicts_room = omega (arith, so_far.verdicts_room, room);
     history_room = omega (arith, so_far.history_room, handled.history_room);
-    records_room = subst (λ (z : Sizes). min (length packets) z.entries ≤ new.records.room) (sym handled.same_sizes)
-        (omega (arith, so_far.records_room, handled.records_room));
+    records_room = subst (λ (z : Sizes). min (length packets) z.entries ≤ rooms new) (sym handled.same_sizes)
+        (omega (arith, so_far.records_room, handled.records_room, handled.open_room));
   }
+
+-- what is handled of a frame is handled of what was given of it
+pub handled_at : (old new : Book) (index : ℕ) (bytes : List ℕ) (frames : List Frame) (d : Frame) (e : Given) (v : Verdict)
+    → index < length frames → Handled old new index (given_of bytes (get_or frames index d)) v
+    → Handled old new index (get_or (map (given_of bytes) frames) index e) v
+handled_at old new index bytes frames d e v below handled =
+    subst (λ g. Handled old new index g v) (sym (get_or-map (given_of bytes) frames index d e below)) handled
 
 made_all : (history : List Numbered) → AllByRecursion (λ (n : Numbered). n.thread ≡ 0) history → made_by 0 history ≡ history
 made_all [] h = refl
@@ -282,7 +297,7 @@ one_thread [] h = tt
 one_thread (x ∷ xs) (h, hs) = (omega (arith, h), one_thread xs hs)
 
 -- a replay of all packets gives a well-formed report
-pub replayed_end : (sizes : Sizes) (packets : List Arrival) (index : ℕ) (book : Book) (verdicts : Roomed Verdict) (report : Report)
+pub replayed_end : (sizes : Sizes) (packets : List Given) (index : ℕ) (book : Book) (verdicts : Roomed Verdict) (report : Report)
     → IsReplayed sizes packets index book verdicts → index ≡ length packets → report.history ≡ book.history
     → report.live ≡ length book.records.items → report.threads.items ≡ verdicts ∷ [] → IsWellFormed sizes (packets ∷ []) report
 replayed_end sizes packets index book verdicts report done all history live threads =

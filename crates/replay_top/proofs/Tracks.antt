@@ -9,19 +9,18 @@ use Rattle.tuple_core.specs.declared.Tuple.{Tuple}
 use Rattle.history_book.specs.declared.event.Event.{Event}
 use Rattle.history_book.specs.declared.event.Event.TheVariants.{Confirm}
 use Rattle.history_book.specs.declared.event.Numbered.{Numbered}
-use Rattle.proto_rules.specs.declared.PartKind.{PartKind}
-use Rattle.proto_rules.specs.declared.PartKind.TheVariants as kind
 use Rattle.history_book.specs.declared.record.Record.{Record}
 use Rattle.history_book.specs.declared.sizes.Sizes.{Sizes}
 use Rattle.history_book.specs.declared.verdict.Class.TheVariants as class
 use Rattle.history_book.specs.declared.verdict.Translated.TheVariants.{Plain}
-use Rattle.history_book.specs.Legality.{is_of_one_protocol, may_confirm, proto_of}
+use Rattle.history_book.specs.Legality.{is_of_one_protocol, may_confirm}
+use Rattle.proto_rules.specs.Protocol.{proto_of}
 use Rattle.history_book.specs.Numbered.{events_of}
 use Rattle.proto_rules.specs.Start.{start_of}
 use Rattle.history_book.specs.Record.{has_original, has_reply, has_tuple}
 use Rattle.history_book.specs.State.{State, is_free, is_unused}
 use Rattle.history_book.specs.StateLaws.{SameTupleIsEquality}
-use Rattle.packet_path.specs.declared.packet.FlowPacket.{FlowPacket}
+use Rattle.replay_top.specs.declared.flow.FlowHeaders.{FlowHeaders}
 use Rattle.replay_top.specs.declared.book.Book.{Book}
 use Rattle.replay_top.specs.Internal.Book.{Adds, IsPlain}
 use Rattle.replay_top.specs.Internal.Track.{Begins}
@@ -66,21 +65,19 @@ no_inverses same_tuple t (r ∷ rs) valid (p, ps) absent =
 pub record CanConfirm (sizes : Sizes) (n : ℕ) (s : State) (r : Record) : Type 0 where
   pub named : r.id ≡ n
   pub plain : IsPlain r
-  pub proto : number_of r.original.proto ≡ 17
+  pub proto : number_of r.original.proto ≡ number_of (proto_of r.part.kind)
   pub below : r.place < sizes.entries
   pub open_place : is_unused r.place s ≡ true
   pub absent : is_free r.original s ≡ true
 
-kind_number : (k : PartKind) → number_of (proto_of k) ≡ 17
-kind_number kind.Udp = refl
-
-one_protocol : (r : Record) → IsPlain r → number_of r.original.proto ≡ 17 → is_of_one_protocol r ≡ true
+one_protocol : (r : Record) → IsPlain r → number_of r.original.proto ≡ number_of (proto_of r.part.kind)
+    → is_of_one_protocol r ≡ true
 one_protocol r plain proto =
     let reply_valid : is_valid r.reply ≡ true =
     subst (λ (t : Tuple). is_valid t ≡ true) (sym plain.inverse) (inverse_valid r.original plain.valid) in
-    let reply_proto : number_of r.reply.proto ≡ 17 = ap (λ (t : Tuple). number_of t.proto) plain.inverse ∙ proto in
-    and_from _ _ (and_from _ _ (and_from _ _ plain.valid reply_valid)
-    (eq-eqb _ _ (proto ∙ sym (kind_number r.part.kind)))) (eq-eqb _ _ (reply_proto ∙ sym (kind_number r.part.kind)))
+    let reply_proto : number_of r.reply.proto ≡ number_of (proto_of r.part.kind) =
+    ap (λ (t : Tuple). number_of t.proto) plain.inverse ∙ proto in
+    and_from _ _ (and_from _ _ (and_from _ _ plain.valid reply_valid) (eq-eqb _ _ proto)) (eq-eqb _ _ reply_proto)
 
 pub may_confirm_from : SameTupleIsEquality → (sizes : Sizes) (n : ℕ) (s : State) (r : Record) → AllByRecursion IsPlain s.records
     → CanConfirm sizes n s r → may_confirm sizes s n r ≡ true
@@ -111,7 +108,7 @@ pub length_added : (old new : Book) (index : ℕ) (e : Event) → Adds old new i
 length_added old new index e adds = ap length adds.history ∙ simp length-append
 
 -- the record is the packet's
-pub record IsOfPacket (n : ℕ) (packet : FlowPacket) (r : Record) : Type 0 where
+pub record IsOfPacket (n : ℕ) (packet : FlowHeaders) (r : Record) : Type 0 where
   pub named : r.id ≡ n
   pub original : r.original ≡ packet.tuple
   pub reply : r.reply ≡ inverse packet.tuple
@@ -119,7 +116,7 @@ pub record IsOfPacket (n : ℕ) (packet : FlowPacket) (r : Record) : Type 0 wher
   pub helper : r.helper ≡ false
   pub master : r.master ≡ None
 
-pub begins_made : (old new : Book) (index : ℕ) (packet : FlowPacket) (r : Record) → Adds old new index (Confirm r)
+pub begins_made : (old new : Book) (index : ℕ) (packet : FlowHeaders) (r : Record) → Adds old new index (Confirm r)
     → IsOfPacket (length old.history.items) packet r
     → Begins old new index packet r.place (class.Made (length old.history.items) (length new.history.items) Plain (Some (length old.history.items)))
 begins_made old new index packet r adds of_packet = record {

@@ -30,7 +30,6 @@ fault_text (fault.Fraction index) = codes ": record " ++ decimal index ++ codes 
 abbrev pub flaw_line : List ℕ → Flaw → List ℕ
 flaw_line name flaw.TooLong = error_line [] (codes "limit: capture bytes\n")
 flaw_line name (flaw.Fault fault) = error_line name (fault_text fault)
-flaw_line name flaw.NotTracked = error_line name (codes ": form not read yet\n")
 
 -- the line of a refusal of a run with these words
 abbrev pub line_of : List (List ℕ) → Refusal → List ℕ

@@ -1,4 +1,4 @@
-pub mod Arrivals
+pub mod Capture
 pub mod Causes
 pub mod ErrorLine
 pub mod Flaw

@@ -1,13 +1,14 @@
 -- What a run of the program reports and prints.
-use Rattle.std.specs.Prelude.{◌≡◌, ℕ, List, [], ◌∷◌, IfSome, Result, Ok, Err}
+use Rattle.std.specs.Prelude.{◌≡◌, ℕ, List, [], ◌∷◌, map, IfSome, Result, Ok, Err}
 use Rattle.ct_io.specs.Counts.{Rose}
 use Rattle.ct_io.specs.Source.{Source}
 use Rattle.ct_io.specs.Tape.{Tape}
-use Rattle.packet_path.specs.declared.packet.Arrival.{Arrival}
+use Rattle.packet_headers.specs.declared.frame.Frame.{Frame}
+use Rattle.packet_path.specs.Packet.{Given, given_of}
 use Rattle.history_book.specs.declared.report.Report.{Report}
 use Rattle.replay_top.specs.declared.flaw.ReplayError.{ReplayError}
 use Rattle.replay_top.specs.declared.flaw.ReplayError.TheVariants.{Flawed, NoMemory}
-use Rattle.replay_top.specs.Arrivals.{GivesArrivals}
+use Rattle.replay_top.specs.Capture.{IsReadable}
 use Rattle.replay_top.specs.Flaw.{HasFlaw}
 use Rattle.replay_top.specs.Report.{IsWellFormed}
 use Rattle.replay_top.specs.Sizes.{program_sizes}
@@ -15,11 +16,11 @@ use Rattle.report_text.specs.Report.{report_text}
 use Rattle.replay_top.specs.Words.{Named}
 use Rattle.report_text.specs.Wrote.{followed_by, WroteFront}
 
--- the report is well formed for the packets of the capture that the bytes are
+-- the report is well formed for the frames of the capture that the bytes are
 pub record IsReportOf (bytes : List ℕ) (report : Report) : Type 0 where
-  pub arrivals : List Arrival
-  pub capture : GivesArrivals bytes arrivals
-  pub well_formed : IsWellFormed program_sizes (arrivals ∷ []) report
+  pub frames : List Frame
+  pub capture : IsReadable bytes frames
+  pub well_formed : IsWellFormed program_sizes (map (given_of bytes) frames ∷ []) report
 
 -- what replaying these bytes gives: their report, or the flaw that they have; memory may be wanting
 abbrev pub ReplaysAs : List ℕ → Result Report ReplayError → Type 0
@@ -27,23 +28,25 @@ ReplaysAs bytes (Ok report) = IsReportOf bytes report
 ReplaysAs bytes (Err (Flawed flaw)) = HasFlaw bytes flaw
 ReplaysAs bytes (Err NoMemory) = Unit {0}
 
--- A file of this name gave the packets of a capture. Where its contents are told, the capture's bytes
+-- A file of this name gave the frames of a capture. Where its contents are told, the capture's bytes
 -- are these; else no more is said of them.
-pub record Gave (files : Source) (name : List ℕ) (arrivals : List Arrival) : Type 0 where
+pub record Gave (files : Source) (name : List ℕ) (given : List Given) : Type 0 where
   pub bytes : List ℕ
   pub told : IfSome (files.contents name) (λ contents. bytes ≡ contents)
-  pub capture : GivesArrivals bytes arrivals
+  pub frames : List Frame
+  pub capture : IsReadable bytes frames
+  pub each : given ≡ map (given_of bytes) frames
 
--- each file gave the packets of one capture
-abbrev pub GaveEach : Source → List (List ℕ) → List (List Arrival) → Type 0
+-- each file gave the frames of one capture
+abbrev pub GaveEach : Source → List (List ℕ) → List (List Given) → Type 0
 GaveEach files [] [] = Unit {0}
-GaveEach files [] (arrivals ∷ more) = ⊥
+GaveEach files [] (given ∷ more) = ⊥
 GaveEach files (name ∷ names) [] = ⊥
-GaveEach files (name ∷ names) (arrivals ∷ more) = Gave files name arrivals × GaveEach files names more
+GaveEach files (name ∷ names) (given ∷ more) = Gave files name given × GaveEach files names more
 
 -- the report is that of the captures of these names
 pub record IsReplayOf (files : Source) (names : List (List ℕ)) (report : Report) : Type 0 where
-  pub captures : List (List Arrival)
+  pub captures : List (List Given)
   pub gave : GaveEach files names captures
   pub well_formed : IsWellFormed program_sizes captures report
 

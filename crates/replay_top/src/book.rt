@@ -1,24 +1,22 @@
 //! The tracker's book: a list of live records, and the history that leaves them.
 
-ghost use Rattle.std.specs.Prelude.{◌≡◌, ◌+◌, ◌<◌, true, Some, [], ◌∷◌, ◌++◌, length, slice_get, slice_set};
+ghost use Rattle.std.specs.Prelude.{◌≡◌, ◌+◌, ◌<◌, ◌^◌, true, Some, [], ◌∷◌, ◌++◌, length, slice_get, slice_set};
 ghost use Rattle.std.specs.List.{remove};
 ghost use Rattle.history_book.specs.declared.event.Event.TheVariants.{Confirm, Destroy};
-ghost use Rattle.history_book.specs.declared.event.Why.TheVariants.{Expired};
-ghost use Rattle.history_book.specs.Legality.{may_confirm, may_touch};
-ghost use Rattle.proto_rules.specs.Part.{is_expired};
+ghost use Rattle.history_book.specs.Legality.{is_reason, may_confirm, may_touch};
 ghost use Rattle.history_book.specs.State.{state_of};
-ghost use Rattle.replay_top.specs.Internal.Book.{Adds, Holds, IsPlain, touch_of};
+ghost use Rattle.replay_top.specs.Internal.Book.{Adds, CanGrow, Holds, IsPlaced, IsPlain, IsTaken, touch_of};
 
+use crate::flow::FlowHeaders;
 use history_book::event::{Event, Numbered, Why};
 use history_book::laws::{
     destroys_take_one, ids_name_records, legal_histories_go_on, records_are_apart, states_follow,
     touches_change_one,
 };
-use proto_rules::Part;
 use history_book::record::Record;
 use history_book::report::History;
 use history_book::sizes::Sizes;
-use packet_path::packet::FlowPacket;
+use proto_rules::Part;
 use room_list::RoomList;
 use tuple_core::Direction;
 
@@ -27,6 +25,8 @@ use tuple_core::Direction;
 pub struct Book {
     pub sizes: Sizes,
     pub records: RoomList<Record>,
+    /// The places that were given back. The places in use and these are the first ones.
+    pub vacant: RoomList<u32>,
     pub history: History,
 }
 
@@ -35,7 +35,7 @@ pub struct Book {
 pub struct Touched {
     pub subject: Record,
     pub direction: Direction,
-    pub packet: FlowPacket,
+    pub packet: FlowHeaders,
     pub after: Part,
 }
 
@@ -47,6 +47,7 @@ impl Book {
             ++ record { number = length self.old.history.items; thread = 0; index = index; event = event } ∷ [] }
         ensures room { self.new.history.room ≡ self.old.history.room }
         ensures records { self.new.records ≡ self.old.records }
+        ensures vacant { self.new.vacant ≡ self.old.vacant }
         ensures same_sizes { self.new.sizes ≡ self.old.sizes }
     {
         let number = self.history.len() as u64;
@@ -68,11 +69,28 @@ impl Book {
         requires plain { IsPlain subject.now }
         ensures adds { Adds self.old self.new index (Confirm subject.now) }
         ensures holds { Holds self.new }
+        ensures vacant { self.new.vacant ≡ self.old.vacant }
     {
         legal_histories_go_on();
         states_follow();
         self.note(index, Event::Confirm { subject: *subject });
         self.records.push(*subject);
+    }
+
+    /// Takes a place that no record has: the last one that was given back, else the next one.
+    pub fn take_place(&mut self) -> u32
+        requires placed { IsPlaced self.old }
+        requires free { length self.old.records.items < self.old.sizes.entries }
+        requires room { CanGrow self.old }
+        requires fits { self.old.sizes.entries < 2 ^ 32 }
+        ensures same { self.new ≡ record self.old { vacant = self.new.vacant } }
+        ensures taken { IsTaken self.old self.new result }
+    {
+        let count = self.vacant.len();
+        if count == 0 {
+            return self.records.len() as u32;
+        }
+        self.vacant.remove(count - 1)
     }
 
     /// Gives the record at `at`, which is `subject`, the part that the packet leaves it with.
@@ -86,6 +104,7 @@ impl Book {
         ensures written { self.new.records.items
             ≡ slice_set self.old.records.items at (record touched.now.subject { part = touched.now.after }) }
         ensures holds { Holds self.new }
+        ensures vacant { self.new.vacant ≡ self.old.vacant }
     {
         records_are_apart();
         ids_name_records();
@@ -117,15 +136,16 @@ impl Book {
         );
     }
 
-    /// Destroys the record at `at`, which is `subject` and was expired at `moment`.
-    pub fn kill(&mut self, index: u32, at: usize, subject: &Record, moment: u64)
+    /// Destroys the record at `at`, which is `subject`, for a reason that holds of it.
+    pub fn kill(&mut self, index: u32, at: usize, subject: &Record, why: Why)
         requires history_room { length self.old.history.items < self.old.history.room }
         requires holds { Holds self.old }
         requires item { slice_get self.old.records.items at ≡ Some subject.now }
-        requires expired { is_expired subject.now.part moment ≡ true }
-        ensures adds { Adds self.old self.new index (Destroy subject.now.id (Expired moment)) }
+        requires reason { is_reason why subject.now ≡ true }
+        ensures adds { Adds self.old self.new index (Destroy subject.now.id why) }
         ensures removed { self.new.records.items ≡ remove self.old.records.items at }
         ensures holds { Holds self.new }
+        ensures vacant { self.new.vacant ≡ self.old.vacant }
     {
         records_are_apart();
         ids_name_records();
@@ -137,7 +157,7 @@ impl Book {
             index,
             Event::Destroy {
                 id: subject.id,
-                why: Why::Expired { moment },
+                why,
             },
         );
     }

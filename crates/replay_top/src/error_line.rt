@@ -77,7 +77,6 @@ fn write_flaw<K: Sink>(name: &str, flaw: Flaw, err: &mut K) -> Result<(), WriteF
     match flaw {
         Flaw::TooLong => write_line("", b"limit: capture bytes\n", err),
         Flaw::Fault(fault) => write_fault(name, fault, err),
-        Flaw::NotTracked => write_line(name, b": form not read yet\n", err),
     }
 }
 

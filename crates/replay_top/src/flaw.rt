@@ -13,8 +13,6 @@ pub enum Flaw {
     TooLong,
     /// It is no capture: its first fault.
     Fault(CaptureFault),
-    /// It is a capture in which a frame is of a flow that is not tracked yet.
-    NotTracked,
 }
 
 /// Why bytes were not replayed.
@@ -44,7 +42,7 @@ fn status_of(flaw: Flaw) -> u8
 {
     match flaw {
         Flaw::TooLong => 5,
-        Flaw::Fault(_) | Flaw::NotTracked => 2,
+        Flaw::Fault(_) => 2,
     }
 }
 

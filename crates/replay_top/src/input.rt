@@ -5,7 +5,6 @@ ghost use Rattle.ct_io.specs.Source.{Stays};
 ghost use Rattle.replay_top.specs.Internal.Ending.{OthersStandBeside, Replays};
 ghost use Rattle.replay_top.specs.Replay.{ReplaysAs};
 
-use crate::arrivals::read_arrivals;
 use crate::flaw::{Flaw, Refusal, ReplayError};
 use crate::read::{ReadError, read_file};
 use crate::replay::replay;
@@ -31,12 +30,7 @@ pub fn replay_bytes(alloc: Global, bytes: &[u8]) -> Result<Report, ReplayError>
         Err(CaptureError::Fault(fault)) => return Err(ReplayError::Flawed(Flaw::Fault(fault))),
         Err(CaptureError::NoMemory) => return Err(ReplayError::NoMemory),
     };
-    let arrivals = match read_arrivals(alloc, bytes, frames.as_slice()) {
-        Ok(Some(arrivals)) => arrivals,
-        Ok(None) => return Err(ReplayError::Flawed(Flaw::NotTracked)),
-        Err(_) => return Err(ReplayError::NoMemory),
-    };
-    match replay(alloc, &program_sizes(), arrivals.as_slice()) {
+    match replay(alloc, &program_sizes(), bytes, frames.as_slice()) {
         Ok(report) => Ok(report),
         Err(_) => Err(ReplayError::NoMemory),
     }

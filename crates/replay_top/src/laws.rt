@@ -3,7 +3,7 @@
 ghost use Rattle.replay_top.specs.Laws.{FilesAreReadOrFlawed, FlawsAreUnique, ReadFilesHaveNoFlaw};
 
 use packet_headers::capture_laws::{
-    bytes_have_frames_or_fault, captures_are_unique, captures_have_no_fault, faults_are_unique,
+    bytes_have_frames_or_fault, captures_have_no_fault, faults_are_unique,
 };
 
 /// Each file is read or has a flaw.
@@ -17,7 +17,6 @@ pub fn files_are_read_or_flawed()
 pub fn read_files_have_no_flaw()
     ensures { ReadFilesHaveNoFlaw }
 {
-    captures_are_unique();
     captures_have_no_fault();
 }
 
@@ -25,6 +24,5 @@ pub fn read_files_have_no_flaw()
 pub fn flaws_are_unique()
     ensures { FlawsAreUnique }
 {
-    captures_have_no_fault();
     faults_are_unique();
 }

@@ -1,12 +1,12 @@
 //! The whole program as one call.
 #![tactic(auto)]
 
-mod arrivals;
 mod book;
 mod command_line;
 mod ending;
 mod error_line;
 mod flaw;
+mod flow;
 mod input;
 pub mod laws;
 mod process;

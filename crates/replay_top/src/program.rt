@@ -53,9 +53,9 @@ fn run<F: Files, K: Sink>(alloc: Global, words: &[String], files: &mut F, out: &
 /// to `out`, or one line to `err`.
 ///
 /// `words` are the program's name and one capture's name, which does not begin with `-`. The statuses
-/// are 0 (all was written), 1 (the words are not of that form), 2 (the file is no capture, or a flow of
-/// it is not tracked yet), 3 (it could not be opened or read), 4 (the output could not be written), 5
-/// (the file has too many bytes) and 6 (memory was wanted). The report is there with 0 and 4. No thread
+/// are 0 (all was written), 1 (the words are not of that form), 2 (the file is no capture), 3 (it could
+/// not be opened or read), 4 (the output could not be written), 5 (the file has too many bytes) and 6
+/// (memory was wanted). The report is there with 0 and 4. No thread
 /// is started and the gate is not called.
 pub fn top<R: Threads + Wait + Sync, F: Files, K: Sink, G: Gate + Sync>(
     _rt: &R,

@@ -294,3 +294,4 @@ script 0
 
 mod builder;
 mod captures;
+mod flows;

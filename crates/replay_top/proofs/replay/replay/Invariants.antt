@@ -1,5 +1,7 @@
+use Rattle.std.specs.Prelude.{map}
+use Rattle.packet_path.specs.Packet.{given_of}
 use Rattle.replay_top.proofs.Replays.{IsReplayed}
 use Rattle.replay_top.proofs.replay.replay.Given as goal
 
-abbrev pub invariant-packets : goal.invariant-packets
-invariant-packets l = IsReplayed l.sizes l.arrivals l.index l.book l.verdicts
+abbrev pub invariant-frames : goal.invariant-frames
+invariant-frames l = IsReplayed l.sizes (map (given_of l.bytes) l.frames) l.index l.book l.verdicts

@@ -118,3 +118,61 @@ pub fn query_twice(alloc: Global, seconds: u32, micros: u32) -> Result<Capture, 
     capture.packet(seconds, micros, &QUERY)?;
     Ok(capture)
 }
+
+/// A plain capture of these packets, one a second from 1 s on.
+pub fn each_second(alloc: Global, packets: &[&[u8]]) -> Result<Capture, AllocError> {
+    let mut capture = Capture::new(alloc, PLAIN)?;
+    for (before, packet) in packets.iter().enumerate() {
+        capture.packet((before % 65536) as u32 + 1, 0, packet)?;
+    }
+    Ok(capture)
+}
+
+/// One end of a flow: a port of the host 10.0.0.`host`.
+#[derive(Clone, Copy)]
+pub struct End {
+    pub host: u8,
+    pub port: u16,
+}
+
+/// The control bits of TCP, by their values.
+pub const FIN: u8 = 0x01;
+
+pub const SYN: u8 = 0x02;
+
+pub const RST: u8 = 0x04;
+
+pub const PSH: u8 = 0x08;
+
+pub const ACK: u8 = 0x10;
+
+/// A segment of TCP with these control bits and no data.
+pub fn tcp(from: End, to: End, flags: u8) -> [u8; 40] {
+    let [from_high, from_low] = from.port.to_be_bytes();
+    let [to_high, to_low] = to.port.to_be_bytes();
+    [
+        0x45, 0, 0, 40, 0, 0, 0, 0, 0x40, 6, 0, 0, 10, 0, 0, from.host, 10, 0, 0, to.host,
+        from_high, from_low, to_high, to_low, 0, 0, 0, 0, 0, 0, 0, 0, 0x50, flags, 0, 0, 0, 0, 0,
+        0,
+    ]
+}
+
+/// The segment with four bytes of data behind it.
+pub fn with_data(segment: &[u8; 40]) -> [u8; 44] {
+    let mut packet = [0; 44];
+    for (at, byte) in segment.iter().enumerate() {
+        if at < 40 {
+            packet[at] = *byte;
+        }
+    }
+    packet[3] = 44;
+    packet
+}
+
+/// An ICMP message of this type and identifier, from one host of 10.0.0.0/24 to another.
+pub fn icmp(from: u8, to: u8, kind: u8, id: u8) -> [u8; 28] {
+    [
+        0x45, 0, 0, 28, 0, 0, 0, 0, 0x40, 1, 0, 0, 10, 0, 0, from, 10, 0, 0, to, kind, 0, 0, 0, 0,
+        id, 0, 0,
+    ]
+}

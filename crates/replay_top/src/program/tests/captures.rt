@@ -1,4 +1,4 @@
-//! Captures with damage, and with frames that are not of UDP flows.
+//! Captures with damage, and with frames that are of no flow.
 
 use super::builder::{Form, QUERY, answered, captured};
 use super::{ANSWERED, CAPTURE, NAME, NONE, run};
@@ -143,23 +143,6 @@ fn headers_that_are_wrong_or_not_tracked(rt: HostRuntime) -> Result<(), Fail> {
     let left = run(&rt, &["ctreplay", NAME], bytes.as_slice(), 1000, &NONE)?;
     assert_eq!(rt; left.status, 0);
     assert!(rt; left.out.bytes() == HEADERS.as_bytes());
-    Ok(())
-}
-
-#[test]
-fn a_flow_that_is_not_tracked_yet(rt: HostRuntime) -> Result<(), Fail> {
-    let line = "ctreplay: c.pcap: form not read yet\n";
-    let mut echo = query_with(9, 1);
-    echo[20] = 8;
-    let rows: [&[u8]; 2] = [&SYN, &echo];
-    for packet in rows {
-        let packets: [&[u8]; 2] = [&QUERY, packet];
-        let bytes = captured(rt.alloc(), &packets)?;
-        let left = run(&rt, &["ctreplay", NAME], bytes.as_slice(), 1000, &NONE)?;
-        assert_eq!(rt; left.status, 2);
-        assert!(rt; left.out.bytes().is_empty());
-        assert!(rt; left.err.bytes() == line.as_bytes());
-    }
     Ok(())
 }
 

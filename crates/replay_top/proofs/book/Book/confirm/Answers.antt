@@ -8,7 +8,7 @@ use Rattle.replay_top.proofs.book.Book.confirm.Goals as goal
 pub returns-clause-holds : goal.returns-clause-holds
 returns-clause-holds c =
     holds_next c.states_follow.ensures c.legal_histories_go_on.ensures c.args.self.now
-    (record { sizes = c.note.new.self.sizes; records = c.push.new.self; history = c.note.new.self.history }) c.args.index
+    (record { sizes = c.note.new.self.sizes; records = c.push.new.self; vacant = c.note.new.self.vacant; history = c.note.new.self.history }) c.args.index
     (Confirm c.args.subject.now) c.requires.holds (search rules) c.requires.may
     (subst (AllByRecursion IsPlain) (sym (search rules))
     (plain_push c.args.self.now.records.items c.args.subject.now c.requires.holds.plain c.requires.plain))

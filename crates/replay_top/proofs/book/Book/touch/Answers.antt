@@ -8,7 +8,7 @@ use Rattle.replay_top.proofs.Books.{adds_touch, holds_touch}
 use Rattle.replay_top.proofs.book.Book.touch.Goals as goal
 
 abbrev after : goal.After-set → Book
-after c = record { sizes = c.note.new.self.sizes; records = c.set.new.self; history = c.note.new.self.history }
+after c = record { sizes = c.note.new.self.sizes; records = c.set.new.self; vacant = c.note.new.self.vacant; history = c.note.new.self.history }
 
 written : (c : goal.After-set)
     → (after c).records.items
