@@ -85,7 +85,7 @@ pub enum Class {
         translated: Translated,
         unclaimed: Option<u64>,
     },
-    /// The entry of its flow accepted it.
+    /// The entry of its flow accepted it, or was reset by it.
     Passed {
         label: Label,
         id: u64,

@@ -1,4 +1,4 @@
--- What holds of every verdict that fits.
+-- What holds of every verdict that fits, and of the segments of flows.
 use Rattle.std.specs.Prelude.{◌≡◌, ℕ, ◌≤◌, true, List, []}
 use Rattle.history_book.specs.declared.event.Event.{Event}
 use Rattle.history_book.specs.declared.event.Note.{Note}

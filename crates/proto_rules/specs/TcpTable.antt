@@ -68,7 +68,7 @@ IG = Ignored
 -- of a segment in the original direction
 unfoldable pub original_cell : Kind → TcpState → Cell
 original_cell Syn =
-    --       NO SS SR ES FW CW LA TW CL S2
+    -- from  NO SS SR ES FW CW LA TW CL S2
     by_state SS SS IG IG IG IG IG SS SS S2
 original_cell SynAck =
     by_state IV IV SR IV IV IV IV IV IV SR
@@ -84,7 +84,7 @@ original_cell Bare =
 -- of a segment in the reply direction
 unfoldable pub reply_cell : Kind → TcpState → Cell
 reply_cell Syn =
-    --       NO SS SR ES FW CW LA TW CL S2
+    -- from  NO SS SR ES FW CW LA TW CL S2
     by_state IV S2 IV IV IV IV IV SS IV S2
 reply_cell SynAck =
     by_state IV SR IG IG IG IG IG IG IG SR

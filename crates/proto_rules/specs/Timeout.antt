@@ -8,7 +8,7 @@ use Rattle.proto_rules.specs.declared.TcpState.TheVariants.{CloseWait, LastAck, 
 abbrev pub seconds : ℕ → ℕ
 seconds n = n * 1000000
 
--- of a connection in this state; no entry is in the first one
+-- of a connection in this state; no cell of the tables leads to the first one
 abbrev pub tcp_timeout : TcpState → ℕ
 tcp_timeout Unset = 0
 tcp_timeout SynSent = 120

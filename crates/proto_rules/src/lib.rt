@@ -28,7 +28,7 @@ use tuple_core::{Direction, Segment};
 /// The state of a connection as the tracker sees it, by the segments that have passed.
 #[derive(Clone, Copy)]
 pub enum TcpState {
-    /// No connection is tracked: the state before the first segment. No entry has it.
+    /// No connection is tracked: the state before the first segment. No cell of the tables leads to it.
     Unset,
     /// A SYN was seen.
     SynSent,
@@ -77,7 +77,7 @@ pub enum Outcome {
     Accept(Part),
     /// The packet passes, and the entry stays as it is.
     Ignore,
-    /// The packet is not of this connection, and the entry stays as it is.
+    /// The entry has no place for such a packet in its state, and stays as it is.
     Invalid,
     /// The packet begins a new connection in place of the closed one.
     Reopen,

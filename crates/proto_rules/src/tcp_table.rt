@@ -16,7 +16,7 @@ pub enum Cell {
     To(TcpState),
     /// The segment passes, and the connection stays as it is.
     Ignored,
-    /// The segment is not of this connection.
+    /// The connection has no place for such a segment in this state.
     Invalid,
 }
 

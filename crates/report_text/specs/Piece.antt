@@ -65,8 +65,7 @@ abbrev pub master_text : Option ℕ → List ℕ
 master_text None = []
 master_text (Some id) = codes " master=" ++ decimal id
 
--- the states of a connection of TCP, by the names of RFC 9293 where it has them; SYN_SENT2 is a SYN from
--- both sides, and no entry prints NONE
+-- the states of a connection of TCP, by the names that conntrack(8) prints
 abbrev pub state_word : TcpState → List ℕ
 state_word Unset = codes "NONE"
 state_word SynSent = codes "SYN_SENT"
