@@ -1,5 +1,5 @@
 -- Which flaw bytes have.
-use Rattle.std.proofs.Common.{◌≡◌, ◌⊎◌, length, refl, ap, inl, inr, arith}
+use Rattle.std.proofs.Common.{length, refl, ap, inl, inr, arith}
 use Rattle.std.proofs.lemmas.Bool.{cases_lt}
 use Rattle.packet_headers.specs.CaptureLaws.{BytesHaveFramesOrFault, CapturesHaveNoFault, FaultsAreUnique}
 use Rattle.replay_top.specs.declared.flaw.Flaw.TheVariants.{Fault, TooLong}

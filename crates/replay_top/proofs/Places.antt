@@ -1,7 +1,7 @@
 -- Which places are in use, and which were given back.
-use Rattle.std.proofs.Common.{◌≡◌, ◌≢◌, ℕ, ◌+◌, ◌<◌, ◌≤◌, zero, suc, true, false, not, List, [], ◌∷◌, ◌++◌, length, refl, sym, ap, subst, ◌∙◌, arith, Some, length-append}
+use Rattle.std.proofs.Common.{◌≡◌, ◌≢◌, ℕ, ◌+◌, ◌<◌, zero, suc, true, false, not, List, [], ◌∷◌, ◌++◌, length, refl, sym, ap, subst, ◌∙◌, arith, Some, length-append}
 use Rattle.std.specs.List.{AllByRecursion, list_any, remove, slice_get}
-use Rattle.std.specs.Prelude.{slice_set, min}
+use Rattle.std.specs.Prelude.{slice_set}
 use Rattle.std.proofs.lemmas.Bool.{eq-eqb, ne_eqb, not-true, or_from, or_parts, true≢false}
 use Rattle.std.proofs.lemmas.List.{length-set}
 use Rattle.std.proofs.lemmas.List.Edits.{length-remove}

@@ -1,8 +1,8 @@
 -- What each way of handling a packet leaves.
-use Rattle.std.proofs.Common.{◌≡◌, ℕ, ◌+◌, ◌<◌, ◌≤◌, true, false, not, List, [], ◌∷◌, ◌++◌, length, refl, sym, ap, subst, ◌∙◌, inl, inr, arith, append-nil, length-append, append_assoc, Option, Some, None}
+use Rattle.std.proofs.Common.{◌≡◌, ℕ, ◌+◌, ◌<◌, ◌≤◌, true, List, [], ◌∷◌, ◌++◌, length, refl, sym, ap, subst, ◌∙◌, inl, inr, arith, append-nil, length-append, append_assoc, Option, Some, None}
 use Rattle.std.specs.List.{AllByRecursion, remove, slice_get}
 use Rattle.std.specs.Prelude.{slice_set, IsSome}
-use Rattle.std.proofs.lemmas.Bool.{and_from, ne_eqb, or_from}
+use Rattle.std.proofs.lemmas.Bool.{and_from}
 use Rattle.std.proofs.lemmas.List.{length-set}
 use Rattle.std.proofs.lemmas.List.Edits.{length-remove}
 use Rattle.std.proofs.lemmas.Option.{slice_get_within}
@@ -35,7 +35,6 @@ use Rattle.history_book.specs.Notes.{mark_past}
 use Rattle.history_book.specs.Numbered.{events_of}
 use Rattle.history_book.specs.Point.{At, StartsWith}
 use Rattle.proto_rules.specs.Step.{step_of}
-use Rattle.history_book.specs.Record.{has_place}
 use Rattle.history_book.specs.Sizes.{fewest_of_full}
 use Rattle.history_book.specs.State.{Found, State, is_unused, live_under, state_of}
 use Rattle.history_book.specs.StateLaws.{DestroysFree, IsGone}
@@ -52,11 +51,11 @@ use Rattle.packet_path.specs.Error.{LooksUp}
 use Rattle.packet_path.specs.Made.{Makes}
 use Rattle.packet_path.specs.Verdict.{AnswersFlow, FitsFrame, IsKillOf, Kills, points_of}
 use Rattle.replay_top.specs.declared.book.Book.{Book}
-use Rattle.replay_top.specs.Internal.Book.{Adds, Holds, IsPlaced, IsPlacing, IsTaken, NoneHas, places_used, touch_of}
+use Rattle.replay_top.specs.Internal.Book.{Adds, Holds, IsPlaced, IsPlacing, IsTaken, NoneHas, places_used}
 use Rattle.replay_top.specs.declared.flow.FlowHeaders.{FlowHeaders}
 use Rattle.replay_top.specs.Internal.Flow.{packet_by}
 use Rattle.replay_top.specs.Internal.Track.{Begins, Destroys, FlowHandled, Handled, StepsTo}
-use Rattle.replay_top.proofs.Books.{apart_of, each_at, each_remove, each_set, events-append, length-events}
+use Rattle.replay_top.proofs.Books.{apart_of, events-append, length-events}
 use Rattle.room_list.specs.Roomed.{Roomed}
 use Rattle.history_book.specs.declared.sizes.Sizes.{Sizes}
 use Rattle.replay_top.proofs.Places.{nobody_has, placing_give, placing_replace, placing_set}

@@ -89,7 +89,7 @@ fn unchanged(book: &Book, class: Class) -> Verdict
     }
 }
 
-/// Begins a flow for a packet whose tuple has no entry, if one begins with it and the table has room.
+/// Begins a flow for a packet whose tuple has no entry, if one begins with it and there is room.
 fn begin_flow(book: &mut Book, index: u32, packet: &FlowHeaders) -> Verdict
     requires classified { IsClassified packet.now }
     requires holds { Holds book.old }
@@ -123,7 +123,8 @@ fn begin_flow(book: &mut Book, index: u32, packet: &FlowHeaders) -> Verdict
 /// The answer to a packet that passes by an entry, which was so before it and was found in this
 /// direction.
 fn passed(book: &Book, before: &Record, direction: Direction) -> Class
-    ensures { result ≡ Passed (label_of before.now direction) before.now.id (length book.now.history.items) Nothing }
+    ensures { result ≡ Passed (label_of before.now direction) before.now.id
+        (length book.now.history.items) Nothing }
 {
     Class::Passed {
         label: label(before, direction),
@@ -305,7 +306,8 @@ fn handle_flow(book: &mut Book, index: u32, packet: &FlowHeaders) -> Verdict
 fn error_class(book: &Book, inner: &Tuple, outer_destination: u32) -> Class
     requires holds { Holds book.now }
     requires valid { is_valid inner.now ≡ true }
-    ensures fits { (moment : ℕ) → FitsFrame book.now.sizes (events_of book.now.history.items) (length book.now.history.items)
+    ensures fits { (moment : ℕ) → FitsFrame book.now.sizes (events_of book.now.history.items)
+        (length book.now.history.items)
         (record { packet = Error inner.now outer_destination; moment = moment }) [] result }
     ensures points { AllByRecursion (λ p. p ≤ length book.now.history.items) (points_of result) }
 {
@@ -347,7 +349,8 @@ fn handle_packet(book: &mut Book, index: u32, packet: &Packet, moment: u64) -> V
     requires placed { IsPlaced book.old }
     requires history_room { length book.old.history.items + 2 ≤ book.old.history.room }
     requires room { CanGrow book.old }
-    ensures handled { Handled book.old book.new index (record { packet = packet.now; moment = moment }) result }
+    ensures handled { Handled book.old book.new index
+        (record { packet = packet.now; moment = moment }) result }
     ensures holds { Holds book.new }
     ensures placed { IsPlaced book.new }
 {

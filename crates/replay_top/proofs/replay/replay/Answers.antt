@@ -1,4 +1,4 @@
-use Rattle.std.proofs.Common.{List, [], ◌∷◌, ◌++◌, ap, sym, subst, ◌∙◌, arith, refl, map, length}
+use Rattle.std.proofs.Common.{List, [], ◌∷◌, ◌++◌, ap, ◌∙◌, arith, refl, map}
 use Rattle.std.proofs.lemmas.List.{length-map}
 use Rattle.room_list.specs.Roomed.{Roomed}
 use Rattle.history_book.specs.declared.verdict.Verdict.{Verdict}

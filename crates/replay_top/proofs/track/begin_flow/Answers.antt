@@ -1,4 +1,4 @@
-use Rattle.std.proofs.Common.{sym, ◌∙◌, arith, rules}
+use Rattle.std.proofs.Common.{sym, ◌∙◌, arith}
 use Rattle.history_book.specs.State.{state_of}
 use Rattle.replay_top.proofs.Places.{place_open}
 use Rattle.replay_top.proofs.Steps.{handled_begun, handled_full, handled_no_entry, placed_begun}
