@@ -61,6 +61,7 @@ use Rattle.history_book.specs.declared.sizes.Sizes.{Sizes}
 use Rattle.replay_top.proofs.Places.{nobody_has, placing_give, placing_replace, placing_set}
 use Rattle.replay_top.proofs.Tracks.{event_added, length_added}
 
+-- a flow that begins is one record more
 records_begun : (old new : Book) (index place : ℕ) (packet : FlowHeaders) (answer : Class)
     → (begins : Begins old new index packet place answer) → new.records.items ≡ old.records.items ++ begins.subject ∷ []
 records_begun old new index place packet answer begins = ap (λ (s : State). s.records) begins.adds.records
@@ -71,6 +72,7 @@ one_more old new index place packet answer begins =
     ap length (records_begun old new index place packet answer begins)
     ∙ length-append old.records.items (begins.subject ∷ [])
 
+-- a record that is taken out is one fewer
 pub one_fewer : (old mid : Book) (at : ℕ) (s : Record) → slice_get old.records.items at ≡ Some s
     → mid.records.items ≡ remove old.records.items at → length mid.records.items + 1 ≡ length old.records.items
 one_fewer old mid at s item removed =
@@ -90,6 +92,7 @@ placed_touched old new at s part item written sizes room vacant placed = record 
   room = omega (arith, placed.room, room, ap (λ (o : Roomed ℕ). o.room) vacant);
 }
 
+-- a new record took a place
 pub placed_begun : (old mid new : Book) (index place : ℕ) (packet : FlowHeaders) (answer : Class) → IsTaken old mid place
     → mid ≡ record old { vacant = mid.vacant } → Begins mid new index packet place answer → new.vacant ≡ mid.vacant → IsPlaced new
 placed_begun old mid new index place packet answer taken same begins vacant =
@@ -105,6 +108,7 @@ placed_begun old mid new index place packet answer taken same begins vacant =
       room = omega (arith, taken.room, made.adds.records_room, taken.open_room, ap (λ (o : Roomed ℕ). o.room) vacant);
     }
 
+-- a new record has the place of the killed one
 pub placed_replaced : (old mid new : Book) (index at : ℕ) (s : Record) (packet : FlowHeaders) (answer : Class)
     → slice_get old.records.items at ≡ Some s → mid.records.items ≡ remove old.records.items at → mid.sizes ≡ old.sizes
     → mid.records.room ≡ old.records.room → mid.vacant ≡ old.vacant → Begins mid new index packet s.place answer
@@ -119,6 +123,7 @@ placed_replaced old mid new index at s packet answer item removed sizes room vac
   room = omega (arith, placed.room, room, begins.adds.records_room, ap (λ (o : Roomed ℕ). o.room) (opened ∙ vacant));
 }
 
+-- a record is destroyed, and its place is vacant
 pub placed_cleared : (old mid : Book) (spare : Roomed ℕ) (at : ℕ) (s : Record) → slice_get old.records.items at ≡ Some s
     → mid.records.items ≡ remove old.records.items at → mid.sizes ≡ old.sizes → mid.records.room ≡ old.records.room
     → mid.vacant ≡ old.vacant → spare.items ≡ mid.vacant.items ++ s.place ∷ [] → spare.room ≡ mid.vacant.room
@@ -172,6 +177,7 @@ step_here found packet rs o s h item =
     let same : h.subject ≡ s = cc (h.item, item) in
     ap (λ (x : Record). step_of x.part found.direction packet.segment packet.moment) (sym same) ∙ h.step
 
+-- an accepted packet may touch the entry
 pub may_touch_here : AcceptedGoOn → SamePartIsEquality → (found : FoundAt) (packet : FlowHeaders) (rs : List Record) (part : Part)
     (s : Record) → StepsTo found packet rs (Accept part) → slice_get rs found.index ≡ Some s
     → may_touch (Some s) found.direction packet.segment packet.moment part ≡ true
@@ -180,6 +186,7 @@ may_touch_here goes_on same_part found packet rs part s steps item =
     and_from _ _ (goes_on s.part found.direction packet.segment packet.moment part here).protocol
     (ap (λ o. accepts o part) here ∙ (same_part part part).1 refl)
 
+-- the reason of a reset holds of the entry
 pub may_reset_here : ResetsAreUnanswered → (found : FoundAt) (packet : FlowHeaders) (rs : List Record) (s : Record)
     → StepsTo found packet rs Reset → slice_get rs found.index ≡ Some s
     → is_reason (why.Reset packet.segment packet.moment) s ≡ true
@@ -209,6 +216,7 @@ reopened_destroys anew found packet rs s item step = record {
   kill = inr refl;
 }
 
+-- the reason holds of the record at the index, and its Destroy is a kill
 pub reason_here : (found : FoundAt) (packet : FlowHeaders) (rs : List Record) (why : Why) (s : Record)
     → Destroys found packet rs why → slice_get rs found.index ≡ Some s → is_reason why s ≡ true
 reason_here found packet rs why s h item =
@@ -246,6 +254,7 @@ live_now : StatesStay → (book : Book) (t : Tuple) (o : Option Found) → Holds
     → At (events_of book.history.items) (length book.history.items) (λ s. live_under t s ≡ o)
 live_now stay book t o holds live = live_at stay book book t o holds (starts_own book book [] (sym (append-nil book.history.items))) live
 
+-- a touch, and a Destroy that gives its place back, use no place more
 pub places_touched : (old new : Book) (at : ℕ) (r : Record) → new.records.items ≡ slice_set old.records.items at r
     → new.vacant ≡ old.vacant → places_used new ≤ places_used old + 1
 places_touched old new at r written vacant =
@@ -298,6 +307,7 @@ unkilled log mark given packet own Fits flow fits = record {
   fits = fits;
 }
 
+-- the table has no room
 pub handled_full : StatesStay → (book : Book) (index : ℕ) (packet : FlowHeaders) (part : Part) → Holds book
     → start_of packet.segment packet.moment ≡ Some part → live_under packet.tuple (state_of book.records.items) ≡ None
     → book.sizes.entries ≤ length book.records.items → FlowHandled book book index packet
@@ -322,6 +332,7 @@ handled_full stay book index packet part holds starts absent full given flow =
     }))
     (omega arith, tt)
 
+-- no entry begins
 pub handled_no_entry : StatesStay → (book : Book) (index : ℕ) (packet : FlowHeaders) → Holds book
     → start_of packet.segment packet.moment ≡ None → live_under packet.tuple (state_of book.records.items) ≡ None
     → FlowHandled book book index packet
@@ -366,6 +377,7 @@ module _ (stay : StatesStay) (book : Book) (index : ℕ) (packet : FlowHeaders) 
       (unkilled (events_of book.history.items) (length book.history.items) given packet [] _ flow (leaves Invalid step))
       (omega arith, tt)
 
+-- the entry accepts the packet, or is reset by it
 pub handled_passed : StatesStay → (old new : Book) (index : ℕ) (packet : FlowHeaders) (found : FoundAt) (s : Record) (e : Event)
     (label : Label) → Holds old → IsFoundAt packet.tuple (state_of old.records.items) found
     → slice_get old.records.items found.index ≡ Some s → Adds old new index e
@@ -408,6 +420,7 @@ handled_passed stay old new index packet found s e label holds is_found item add
       places = places;
     }
 
+-- a flow begins in a place that was taken
 handled_spare : (old new : Book) (spare : Roomed ℕ) (index place : ℕ) (packet : FlowHeaders) (answer : Class)
     → IsTaken old (record old { vacant = spare }) place → Begins (record old { vacant = spare }) new index packet place answer
     → new.vacant ≡ spare → FlowHandled old new index packet (record { class = answer; first = length old.history.items; made = 1 })
@@ -612,6 +625,7 @@ module _ (states : StatesStay) (book : Book) (inner looked_up : Tuple) (outer : 
     };
   }
 
+-- nothing is live there
 pub lost : StatesStay → (book : Book) (inner looked_up : Tuple) (outer moment : ℕ) → Holds book → looked_up ≡ inverse inner
     → live_under looked_up (state_of book.records.items) ≡ None
     → FitsFrame book.sizes (events_of book.history.items) (length book.history.items)

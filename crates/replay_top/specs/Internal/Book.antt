@@ -28,6 +28,7 @@ pub record Holds (book : Book) : Type 0 where
 abbrev pub NoneHas : ℕ → List Record → Type 0
 NoneHas place rs = AllByRecursion (λ r. r.place ≢ place) rs
 
+-- no two of the places are equal
 abbrev pub AreDistinct : List ℕ → Type 0
 AreDistinct [] = Unit {0}
 AreDistinct (p ∷ ps) = AllByRecursion (λ q. q ≢ p) ps × AreDistinct ps
@@ -48,6 +49,7 @@ places_used book = length book.records.items + length book.vacant.items
 abbrev pub rooms : Book → ℕ
 rooms book = min book.records.room book.vacant.room
 
+-- the book's places are so, no more than the table has, and all have room
 pub record IsPlaced (book : Book) : Type 0 where
   pub used : ℕ
   pub placing : IsPlacing used book.records.items book.vacant.items
