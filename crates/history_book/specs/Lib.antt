@@ -10,3 +10,7 @@ pub mod Notes
 pub mod Numbered
 pub mod Laws
 pub mod StateLaws
+pub mod Entry
+pub mod Held
+pub mod Sight
+pub mod Desk

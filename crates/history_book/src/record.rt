@@ -20,3 +20,17 @@ pub struct Record {
     /// The entry whose expectation it met, if it met one.
     pub master: Option<u64>,
 }
+
+/// What is to become an entry: all of a record but what its Confirm gives it.
+#[derive(Clone, Copy)]
+pub struct Flow {
+    /// The tuple of the packets in the original direction.
+    pub original: Tuple,
+    /// The tuple of the packets in the reply direction.
+    pub reply: Tuple,
+    pub part: Part,
+    /// Whether its payload is to be read for expectations.
+    pub helper: bool,
+    /// The entry whose expectation it met, if it met one.
+    pub master: Option<u64>,
+}

@@ -23,3 +23,12 @@ pub struct Report {
     pub live: u32,
     pub threads: ThreadVerdicts,
 }
+
+/// What a tracker leaves at its end: the number of its events, how many entries are live after them, and
+/// the events of the thread that ended it.
+#[derive(Drop)]
+pub struct Closed {
+    pub events: u64,
+    pub live: u32,
+    pub notes: Notes,
+}
