@@ -5,6 +5,8 @@ ghost use Rattle.history_book.specs.Laws.{LegalHistoriesGoOn, StatesFollow, Firs
 ghost use Rattle.history_book.specs.Laws.{EventsStay, StatesStay, RecordsAreApart};
 ghost use Rattle.history_book.specs.Laws.{LiveRecordsAreConfirmed, DestroyedIdsStayDead};
 ghost use Rattle.history_book.specs.Laws.{RecordsAreOfOneProtocol};
+ghost use Rattle.history_book.specs.Laws.{EntriesKeepTheirProtocol, FoundAreFoundAgain};
+ghost use Rattle.history_book.specs.Laws.{LateEntriesAreNew};
 ghost use Rattle.history_book.specs.StateLaws.{SameTupleIsEquality};
 ghost use Rattle.history_book.specs.StateLaws.{FreeIsAbsent};
 ghost use Rattle.history_book.specs.StateLaws.{IdsNameRecords, TouchesChangeOne};
@@ -59,6 +61,26 @@ pub fn destroyed_ids_stay_dead()
 /// part.
 pub fn records_are_of_one_protocol()
     ensures { RecordsAreOfOneProtocol }
+{
+    accepted_go_on();
+    same_part_is_equality();
+}
+
+/// What is live under a tuple at one point and is live at another is live under the tuple there, in the
+/// same direction.
+pub fn found_are_found_again()
+    ensures { FoundAreFoundAgain }
+{}
+
+/// What is live under a tuple at a point, where nothing was at an earlier one, was confirmed from that
+/// one on.
+pub fn late_entries_are_new()
+    ensures { LateEntriesAreNew }
+{}
+
+/// A live record is of the protocol of the Confirm that made it.
+pub fn entries_keep_their_protocol()
+    ensures { EntriesKeepTheirProtocol }
 {
     accepted_go_on();
     same_part_is_equality();
