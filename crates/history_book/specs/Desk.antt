@@ -34,7 +34,7 @@ use Rattle.history_book.specs.Point.{At, StartsWith}
 use Rattle.history_book.specs.Record.{has_original, has_reply}
 use Rattle.history_book.specs.Sight.{Sight}
 use Rattle.history_book.specs.Sizes.{fewest_of_full}
-use Rattle.history_book.specs.State.{Found, State, is_unused, live_under, record_of}
+use Rattle.history_book.specs.State.{Found, State, is_unused, live_under, record_of, winner}
 use Rattle.proto_rules.specs.declared.Outcome.{Outcome}
 use Rattle.proto_rules.specs.declared.Outcome.TheVariants as outcome
 use Rattle.proto_rules.specs.declared.Part.{Part}
@@ -120,18 +120,10 @@ abbrev pub TakeSays : Sight → Sight → TakeOutcome → Type 0
 TakeSays old new (take.Taken place) = Takes old new place
 TakeSays old new (take.Full at) = FindsFull old new at
 
--- the entry that has the flow's original tuple, else the one that has its reply tuple
-abbrev pub first_found : Option Found → Option Found → Option Found
-first_found (Some f) other = Some f
-first_found None other = other
-
-abbrev pub winner : Flow → State → Option Found
-winner flow s = first_found (live_under flow.original s) (live_under flow.reply s)
-
 -- the entry of the id has one of the flow's tuples in the direction, and both of them or not
 pub record IsWinner (flow : Flow) (id : ℕ) (direction : Direction) (both : Bool) (s : State) : Type 0 where
   pub found : Found
-  pub wins : winner flow s ≡ Some found
+  pub wins : winner flow.original flow.reply s ≡ Some found
   pub named : found.subject.id ≡ id
   pub directed : found.direction ≡ direction
   pub same : both ≡ (has_original flow.original found.subject && has_reply flow.reply found.subject)

@@ -1,6 +1,8 @@
 pub mod Packet
 pub mod Error
+pub mod Absent
 pub mod Made
+pub mod Winner
 pub mod Passed
 pub mod Unchanged
 pub mod Full
