@@ -2,7 +2,7 @@
 use Rattle.std.proofs.Common.{◌≡◌, ℕ, ◌+◌, ◌<◌, ◌≤◌, zero, suc, Bool, true, false, cond, List, [], ◌∷◌, take, refl, sym, ap, subst, ◌∙◌, ⊎_elim, Option, Some, None, arith}
 use Rattle.std.specs.List.{AllByRecursion, find, slice_get}
 use Rattle.std.specs.Prelude.{◌≢◌}
-use Rattle.std.proofs.lemmas.Bool.{and_parts, eqb-false, eqb-true, or_left, or_parts, or_right}
+use Rattle.std.proofs.lemmas.Bool.{and_parts, eqb-false, eqb-true, not-true, or_left, or_parts, or_right}
 use Rattle.tuple_core.specs.declared.Direction.{Direction}
 use Rattle.tuple_core.specs.declared.Direction.TheVariants.{Original, Reply}
 use Rattle.tuple_core.specs.declared.Proto.{Proto}
@@ -26,7 +26,7 @@ use Rattle.history_book.specs.Legality.{is_of_one_protocol, may_happen}
 use Rattle.history_book.specs.Record.{has_id, has_original, has_reply, has_tuple}
 use Rattle.history_book.specs.State.{Found, State, empty_state, live_under, next, original_first, record_of}
 use Rattle.history_book.proofs.Entries.{each_fails}
-use Rattle.history_book.proofs.Live.{apart_absent}
+use Rattle.history_book.proofs.Live.{absent_free, apart_absent}
 use Rattle.history_book.proofs.OneProtocol.{OneProtocol, confirmed_protocol, live_holds, own_protocol, protocol_after}
 use Rattle.history_book.proofs.Pairs.{Pairs}
 use Rattle.history_book.proofs.Passing.{found_holds, found_passes, none_found}
@@ -236,17 +236,37 @@ reads_proto s kind.Icmp = refl
 own_proto : (r : Record) → OneProtocol r → proto_of r.part.kind ≡ r.original.proto
 own_proto r h = own_protocol r.original r h (or_left (has_original r.original r) (has_reply r.original r) (same_tuple-refl r.original))
 
-pub kept_protocol : AcceptedGoOn → SamePartIsEquality → (sizes : Sizes) (log : List Event) (p id : ℕ) (r : Record)
-    (segment : Segment) → is_legal sizes log ≡ true → record_of id (after log p) ≡ Some r
-    → is_of_entry segment id log ≡ is_of_protocol segment r.part.kind
-kept_protocol go_on equal sizes log p id r segment legal at =
-    let confirmed = found_confirmed sizes log p id r legal at in
-    let s : Record = confirmed.0.subject in
-    let event : slice_get log id ≡ Some (Confirm s) = ap (slice_get log) (sym confirmed.1) ∙ confirmed.0.event in
-    let live : OneProtocol r =
-    found_holds OneProtocol (has_id id) (after log p).records r (protocol_after go_on equal sizes p log legal) at in
+-- a record that was confirmed and is of one protocol is of the protocol of its Confirm
+kept_by : (sizes : Sizes) (log : List Event) (r : Record) (segment : Segment) → is_legal sizes log ≡ true → IsConfirmed log r
+    → OneProtocol r → is_of_entry segment r.id log ≡ is_of_protocol segment r.part.kind
+kept_by sizes log r segment legal confirmed live =
+    let s : Record = confirmed.subject in
     let same : proto_of s.part.kind ≡ proto_of r.part.kind =
-    own_proto s (confirm_protocol_at sizes id log s legal event)
-    ∙ ap (λ (t : Tuple). t.proto) (sym confirmed.0.same.original) ∙ sym (own_proto r live) in
-    ap (λ o. is_of_record segment (confirmed_by o)) event
+    own_proto s (confirm_protocol_at sizes r.id log s legal confirmed.event)
+    ∙ ap (λ (t : Tuple). t.proto) (sym confirmed.same.original) ∙ sym (own_proto r live) in
+    ap (λ o. is_of_record segment (confirmed_by o)) confirmed.event
     ∙ reads_proto segment s.part.kind ∙ ap (by_proto segment) same ∙ sym (reads_proto segment r.part.kind)
+
+module _ (go_on : AcceptedGoOn) (equal : SamePartIsEquality) where
+  pub kept_protocol : (sizes : Sizes) (log : List Event) (p id : ℕ) (r : Record) (segment : Segment) → is_legal sizes log ≡ true
+      → record_of id (after log p) ≡ Some r → is_of_entry segment id log ≡ is_of_protocol segment r.part.kind
+  kept_protocol sizes log p id r segment legal at =
+      let confirmed = found_confirmed sizes log p id r legal at in
+      ap (λ n. is_of_entry segment n log) (sym confirmed.1)
+      ∙ kept_by sizes log r segment legal confirmed.0
+      (found_holds OneProtocol (has_id id) (after log p).records r (protocol_after go_on equal sizes p log legal) at)
+
+  pub found_protocol : (sizes : Sizes) (log : List Event) (p : ℕ) (t : Tuple) (found : Found) (segment : Segment)
+      → is_legal sizes log ≡ true → live_under t (after log p) ≡ Some found
+      → is_of_entry segment found.subject.id log ≡ is_of_protocol segment found.subject.part.kind
+  found_protocol sizes log p t found segment legal live =
+      kept_by sizes log found.subject segment legal
+      (live_holds (IsConfirmed log) t (after log p) found (confirmed_after sizes p log legal) live)
+      (live_holds OneProtocol t (after log p) found (protocol_after go_on equal sizes p log legal) live)
+
+-- where nothing is live under a tuple, no live record has it
+pub nobodys : (t u : Tuple) (s : State) (found : Found) → live_under t s ≡ None → live_under u s ≡ Some found
+    → has_tuple t found.subject ≡ false
+nobodys t u s found absent live =
+    live_holds (λ r. has_tuple t r ≡ false) u s found
+    (each_fails (has_tuple t) s.records (not-true _ (absent_free t s absent))) live

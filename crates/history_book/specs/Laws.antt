@@ -110,3 +110,10 @@ abbrev pub EntriesKeepTheirProtocol : Type 0
 EntriesKeepTheirProtocol =
     (sizes : Sizes) (log : List Event) (p : ℕ) (id : ℕ) (r : Record) (segment : Segment) → is_legal sizes log ≡ true
     → record_of id (after log p) ≡ Some r → is_of_entry segment id log ≡ is_of_protocol segment r.part.kind
+
+-- what is live under a tuple is of the protocol of the Confirm that made it
+abbrev pub FoundKeepTheirProtocol : Type 0
+FoundKeepTheirProtocol =
+    (sizes : Sizes) (log : List Event) (p : ℕ) (t : Tuple) (found : Found) (segment : Segment) → is_legal sizes log ≡ true
+    → live_under t (after log p) ≡ Some found
+    → is_of_entry segment found.subject.id log ≡ is_of_protocol segment found.subject.part.kind

@@ -6,9 +6,9 @@ ghost use Rattle.history_book.specs.Laws.{EventsStay, StatesStay, RecordsAreApar
 ghost use Rattle.history_book.specs.Laws.{LiveRecordsAreConfirmed, DestroyedIdsStayDead};
 ghost use Rattle.history_book.specs.Laws.{RecordsAreOfOneProtocol};
 ghost use Rattle.history_book.specs.Laws.{EntriesKeepTheirProtocol, FoundAreFoundAgain};
-ghost use Rattle.history_book.specs.Laws.{LateEntriesAreNew};
+ghost use Rattle.history_book.specs.Laws.{FoundKeepTheirProtocol, LateEntriesAreNew};
 ghost use Rattle.history_book.specs.StateLaws.{SameTupleIsEquality};
-ghost use Rattle.history_book.specs.StateLaws.{FreeIsAbsent};
+ghost use Rattle.history_book.specs.StateLaws.{AbsentTuplesAreNobodys, FreeIsAbsent};
 ghost use Rattle.history_book.specs.StateLaws.{IdsNameRecords, TouchesChangeOne};
 ghost use Rattle.history_book.specs.StateLaws.{DestroysTakeOne, DestroysFree};
 ghost use Rattle.history_book.specs.StateLaws.{LiveRecordsHaveTheProtocol};
@@ -86,6 +86,14 @@ pub fn entries_keep_their_protocol()
     same_part_is_equality();
 }
 
+/// What is live under a tuple is of the protocol of the Confirm that made it.
+pub fn found_keep_their_protocol()
+    ensures { FoundKeepTheirProtocol }
+{
+    accepted_go_on();
+    same_part_is_equality();
+}
+
 /// The test of two tuples says exactly whether they are equal.
 pub fn same_tuple_is_equality()
     ensures { SameTupleIsEquality }
@@ -94,6 +102,11 @@ pub fn same_tuple_is_equality()
 /// A tuple is free exactly where nothing is live under it.
 pub fn free_is_absent()
     ensures { FreeIsAbsent }
+{}
+
+/// Where nothing is live under a tuple, what is live under another has it not.
+pub fn absent_tuples_are_nobodys()
+    ensures { AbsentTuplesAreNobodys }
 {}
 
 /// Where the records of a state are apart, each is the one that is found by its id.

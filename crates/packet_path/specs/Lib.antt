@@ -7,4 +7,5 @@ pub mod Passed
 pub mod Unchanged
 pub mod Full
 pub mod Verdict
+pub mod Handled
 pub mod Laws
