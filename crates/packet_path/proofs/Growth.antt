@@ -15,7 +15,8 @@ use Rattle.history_book.specs.declared.record.Record.{Record}
 use Rattle.history_book.specs.declared.verdict.Translated.{Translated}
 use Rattle.packet_path.specs.Absent.{WasAbsent}
 use Rattle.packet_path.specs.Made.{IsUnclaimed}
-use Rattle.packet_path.specs.Packet.{FlowPacket, Given}
+use Rattle.packet_path.specs.declared.packet.FlowPacket.{FlowPacket}
+use Rattle.packet_path.specs.Packet.{Given}
 use Rattle.packet_path.specs.Winner.{MeetsWinner}
 use Rattle.packet_path.specs.Unchanged.{LeavesEntry}
 use Rattle.packet_path.specs.Error.{AnswersError, LooksUp}

@@ -14,7 +14,7 @@ use Rattle.history_book.specs.State.{Found, winner}
 use Rattle.proto_rules.specs.Start.{start_of}
 use Rattle.packet_path.specs.Absent.{WasAbsent}
 use Rattle.packet_path.specs.Made.{IsLawfulReply}
-use Rattle.packet_path.specs.Packet.{FlowPacket}
+use Rattle.packet_path.specs.declared.packet.FlowPacket.{FlowPacket}
 
 -- the flow is of UDP, and its two tuples are those of the entry, in this order: the packet is merged into it
 abbrev pub is_merged : Tuple → Tuple → Record → Bool
