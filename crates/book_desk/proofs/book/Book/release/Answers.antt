@@ -1,0 +1,18 @@
+use Rattle.std.proofs.Common.{◌≡◌, ap, sym, ◌∙◌, true, false, rules}
+use Rattle.std.specs.List.{list_any}
+use Rattle.std.specs.Prelude.{◌||◌}
+use Rattle.history_book.specs.Held.{is_held}
+use Rattle.history_book.specs.Record.{has_place}
+use Rattle.book_desk.proofs.Steps.{book_keep, book_owe, not_used, still_used}
+use Rattle.book_desk.proofs.book.Book.release.Goals as goal
+
+pub returns-then-is_in_use-clause-book : goal.returns-then-is_in_use-clause-book
+returns-then-is_in_use-clause-book c =
+    book_keep c.args.self.now c.give_up.new.holds c.args.place c.requires.book c.requires.held c.give_up.ensures.items c.give_up.ensures.room
+    (still_used c.args.place c.args.self.now.records.items c.give_up.new.holds.items (search rules))
+
+pub returns-clause-book : goal.returns-clause-book
+returns-clause-book c =
+    book_owe c.args.self.now c.give_up.new.holds c.push.new.self c.args.place c.requires.book c.requires.held c.give_up.ensures.items
+    c.give_up.ensures.room c.push.ensures.items c.push.ensures.room
+    (not_used c.args.place c.args.self.now.records.items c.give_up.new.holds.items (search rules))

@@ -1,0 +1,7 @@
+//! The tracker of one thread: a desk that keeps its records in a list.
+#![tactic(auto)]
+
+mod book;
+pub mod desk;
+mod holds;
+mod places;
