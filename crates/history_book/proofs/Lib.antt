@@ -9,4 +9,5 @@ pub mod Passing
 pub mod Records
 pub mod Live
 pub mod OneProtocol
+pub mod Again
 pub mod Examples

@@ -74,7 +74,7 @@ live_has t s f h =
     (original_found (find (has_original t) s.records) (find (has_reply t) s.records) f h)
 
 -- a record apart from one that has the tuple has it not
-apart_absent : (t : Tuple) (r q : Record) → has_tuple t r ≡ true → AreApart r q → has_tuple t q ≡ false
+pub apart_absent : (t : Tuple) (r q : Record) → has_tuple t r ≡ true → AreApart r q → has_tuple t q ≡ false
 apart_absent t r q has apart =
     ⊎_elim
     (λ h. let same : r.original ≡ t = same_tuple-true r.original t h in

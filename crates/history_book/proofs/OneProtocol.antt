@@ -31,7 +31,7 @@ use Rattle.history_book.proofs.Records.{later_ids, with_part-others}
 use Rattle.history_book.proofs.Sound.{Sound, sound_next}
 use Rattle.history_book.proofs.Tuples.{same_number, same_tuple-true}
 
-abbrev OneProtocol : Record → Type 0
+abbrev pub OneProtocol : Record → Type 0
 OneProtocol r = is_of_one_protocol r ≡ true
 
 abbrev AllOneProtocol : List Record → Type 0
@@ -54,7 +54,7 @@ accepted equal outcome.Reset part h = cc
 accepted equal outcome.Expired part h = cc
 
 -- a record that is confirmed is of one protocol
-confirmed_protocol : (sizes : Sizes) (n : ℕ) (s : State) (r : Record) → may_happen sizes s n (Confirm r) ≡ true → OneProtocol r
+pub confirmed_protocol : (sizes : Sizes) (n : ℕ) (s : State) (r : Record) → may_happen sizes s n (Confirm r) ≡ true → OneProtocol r
 confirmed_protocol sizes n s r h =
     let a = and_parts _ (is_free r.reply s) h in
     let b = and_parts _ (is_free r.original s) a.0 in
@@ -117,7 +117,7 @@ module _ (go_on : AcceptedGoOn) (equal : SamePartIsEquality) where
   protocol_after sizes p log legal = protocol_run sizes 0 p empty_state log legal (record { apart = tt; older = tt }) tt
 
 -- what is live under a tuple is a record of the state
-live_holds : (P : Record → Type 0) (t : Tuple) (s : State) (f : Found) → AllByRecursion P s.records
+pub live_holds : (P : Record → Type 0) (t : Tuple) (s : State) (f : Found) → AllByRecursion P s.records
     → live_under t s ≡ Some f → P f.subject
 live_holds P t s f h live =
     ⊎_elim
@@ -126,7 +126,7 @@ live_holds P t s f h live =
     (original_found (find (has_original t) s.records) (find (has_reply t) s.records) f live)
 
 -- a record of one protocol is of that of each of its tuples
-own_protocol : (t : Tuple) (r : Record) → OneProtocol r → has_tuple t r ≡ true → proto_of r.part.kind ≡ t.proto
+pub own_protocol : (t : Tuple) (r : Record) → OneProtocol r → has_tuple t r ≡ true → proto_of r.part.kind ≡ t.proto
 own_protocol t r h has =
     let reply = and_parts _ (same_proto r.reply.proto (proto_of r.part.kind)) h in
     let original = and_parts _ (same_proto r.original.proto (proto_of r.part.kind)) reply.0 in

@@ -26,7 +26,7 @@ own_record (q ∷ rs) (suc i) r (h, hs) at =
     let other : has_id r.id q ≡ false = ne_eqb q.id r.id (each_at (AreApart q) rs i r h at).ids in
     ap (λ b. cond b (Some q) (find (has_id r.id) rs)) other ∙ own_record rs i r hs at
 
-apart_sym : (r s : Record) → AreApart r s → AreApart s r
+pub apart_sym : (r s : Record) → AreApart r s → AreApart s r
 apart_sym r s h = record {
   ids = λ e. h.ids (sym e);
   places = λ e. h.places (sym e);

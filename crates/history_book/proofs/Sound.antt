@@ -179,7 +179,7 @@ dead_next sizes n id s (Touch other direction segment moment part) may old h = d
 dead_next sizes n id s (Destroy other why) may old h =
     each_filter (λ r. r.id ≢ id) (λ r. not (has_id other r)) s.records h
 
-dead_run : (sizes : Sizes) (n p id : ℕ) (s : State) (log : List Event) → is_legal_from sizes s n log ≡ true → id < n
+pub dead_run : (sizes : Sizes) (n p id : ℕ) (s : State) (log : List Event) → is_legal_from sizes s n log ≡ true → id < n
     → IsDead id s → IsDead id (run s (take p log))
 dead_run sizes n zero id s log legal old h = h
 dead_run sizes n (suc p) id s [] legal old h = h

@@ -34,7 +34,7 @@ use Rattle.history_book.specs.Point.{At, StartsWith}
 use Rattle.history_book.specs.Record.{has_original, has_reply}
 use Rattle.history_book.specs.Sight.{Sight}
 use Rattle.history_book.specs.Sizes.{fewest_of_full}
-use Rattle.history_book.specs.State.{Found, State, is_unused, live_under, record_of}
+use Rattle.history_book.specs.State.{Found, State, is_unused, live_under, record_of, winner}
 use Rattle.proto_rules.specs.declared.Outcome.{Outcome}
 use Rattle.proto_rules.specs.declared.Outcome.TheVariants as outcome
 use Rattle.proto_rules.specs.declared.Part.{Part}
@@ -68,9 +68,9 @@ pub record SamePlaces (old new : Sight) : Type 0 where
   pub held : new.held ≡ old.held
   pub owed : new.owed ≡ old.owed
 
--- one reference more, to this place, for an entry or for none
+-- one reference more, to this place, for an entry or for none; the newest stands first
 pub record HoldsOneMore (old new : Sight) (place : ℕ) (id : Option ℕ) : Type 0 where
-  pub held : new.held ≡ old.held ++ record { place = place; id = id } ∷ []
+  pub held : new.held ≡ record { place = place; id = id } ∷ old.held
   pub owed : new.owed ≡ old.owed
 
 -- room for so many further own events; nothing else changed
@@ -96,42 +96,36 @@ abbrev pub CountSays : Sight → Sight → LiveCount → Type 0
 CountSays old new count =
     Looked old new count.at (λ s. count.live ≡ length s.records) × SamePlaces old new
 
--- a place of the pool that this desk neither held nor owed, and now holds for no entry
+-- a place of the pool that this desk neither held nor owed, and now holds for no entry; where this pass is
+-- the only one no entry has it
 pub record Takes (old new : Sight) (place : ℕ) : Type 0 where
   pub saw : Saw old new
   pub below : place < old.sizes.entries
   pub unheld : is_held place old.held ≡ false
   pub unowed : is_owed place old.owed ≡ false
   pub holds : HoldsOneMore old new place None
+  pub alone : old.sizes.passes ≡ 1 → is_unused place (after new.front (length new.front)) ≡ true
 
 -- a live entry has the place, or this desk holds it or owes it
-abbrev pub is_used : ℕ → Sight → Bool
-is_used place s = not (is_unused place (after s.front (length s.front))) || is_held place s.held || is_owed place s.owed
+abbrev pub is_in_use : ℕ → Sight → Bool
+is_in_use place s = not (is_unused place (after s.front (length s.front))) || is_held place s.held || is_owed place s.owed
 
--- as many entries were live as there are places, but those that this desk held or owed and those that
+-- at least as many entries were live as there are places, but those that this desk held or owed and those that
 -- each other pass may keep; a pass that is the only one found each place in use
 pub record FindsFull (old new : Sight) (at : ℕ) : Type 0 where
   pub looked : Looked old new at
       (λ s. fewest_of_full old.sizes - (length old.held + length old.owed) ≤ length s.records)
   pub same : SamePlaces old new
-  pub alone : old.sizes.passes ≡ 1 → (place : ℕ) → place < old.sizes.entries → is_used place new ≡ true
+  pub alone : old.sizes.passes ≡ 1 → (place : ℕ) → place < old.sizes.entries → is_in_use place new ≡ true
 
 abbrev pub TakeSays : Sight → Sight → TakeOutcome → Type 0
 TakeSays old new (take.Taken place) = Takes old new place
 TakeSays old new (take.Full at) = FindsFull old new at
 
--- the entry that has the flow's original tuple, else the one that has its reply tuple
-abbrev pub first_found : Option Found → Option Found → Option Found
-first_found (Some f) other = Some f
-first_found None other = other
-
-abbrev pub winner : Flow → State → Option Found
-winner flow s = first_found (live_under flow.original s) (live_under flow.reply s)
-
 -- the entry of the id has one of the flow's tuples in the direction, and both of them or not
 pub record IsWinner (flow : Flow) (id : ℕ) (direction : Direction) (both : Bool) (s : State) : Type 0 where
   pub found : Found
-  pub wins : winner flow s ≡ Some found
+  pub wins : winner flow.original flow.reply s ≡ Some found
   pub named : found.subject.id ≡ id
   pub directed : found.direction ≡ direction
   pub same : both ≡ (has_original flow.original found.subject && has_reply flow.reply found.subject)
@@ -226,13 +220,13 @@ pub record KeepsPlace (place : ℕ) (old new : Sight) : Type 0 where
   pub saw : Saw old new
   pub held : new.held ≡ without place old.held
   pub owed : new.owed ≡ old.owed
-  pub alone : old.sizes.passes ≡ 1 → is_used place new ≡ true
+  pub alone : old.sizes.passes ≡ 1 → is_in_use place new ≡ true
 
 -- the last reference to the place was given up, and the place is owed
 pub record OwesPlace (place : ℕ) (old new : Sight) : Type 0 where
   pub saw : Saw old new
   pub held : new.held ≡ without place old.held
-  pub owed : new.owed ≡ old.owed ++ place ∷ []
+  pub owed : new.owed ≡ place ∷ old.owed
   pub unheld : is_held place new.held ≡ false
   pub alone : old.sizes.passes ≡ 1 → is_unused place (after new.front (length new.front)) ≡ true
 
@@ -245,4 +239,4 @@ pub record RecycleSays (place : ℕ) (old new : Sight) : Type 0 where
   pub saw : Saw old new
   pub held : new.held ≡ old.held
   pub owed : new.owed ≡ paid place old.owed
-  pub alone : old.sizes.passes ≡ 1 → is_used place new ≡ false
+  pub alone : old.sizes.passes ≡ 1 → is_in_use place new ≡ false

@@ -1,14 +1,18 @@
 -- What holds of every legal history.
-use Rattle.std.specs.Prelude.{◌≡◌, ◌≢◌, ℕ, ◌+◌, ◌<◌, ◌≤◌, true, Some, List, [], ◌∷◌, ◌++◌, length, slice_get, AllPairs, All}
+use Rattle.std.specs.Prelude.{◌≡◌, ◌≢◌, ℕ, ◌+◌, ◌<◌, ◌≤◌, true, Some, List, [], ◌∷◌, ◌++◌, length, slice_get, AllPairs, All, None}
 use Rattle.history_book.specs.declared.event.Event.{Event}
 use Rattle.history_book.specs.declared.event.Event.TheVariants.{Confirm, Destroy}
 use Rattle.history_book.specs.declared.event.Why.{Why}
 use Rattle.history_book.specs.declared.record.Record.{Record}
 use Rattle.history_book.specs.declared.sizes.Sizes.{Sizes}
+use Rattle.history_book.specs.Entry.{is_of_entry}
 use Rattle.history_book.specs.Legality.{is_of_one_protocol, may_happen}
 use Rattle.history_book.specs.History.{after, is_legal}
 use Rattle.history_book.specs.Point.{StartsWith}
-use Rattle.history_book.specs.State.{next}
+use Rattle.history_book.specs.State.{Found, live_under, next, record_of}
+use Rattle.proto_rules.specs.Protocol.{is_of_protocol}
+use Rattle.tuple_core.specs.declared.Segment.{Segment}
+use Rattle.tuple_core.specs.declared.Tuple.{Tuple}
 
 -- a legal history goes on with any event that may happen in the state it leaves
 abbrev pub LegalHistoriesGoOn : Type 0
@@ -86,3 +90,30 @@ abbrev pub RecordsAreOfOneProtocol : Type 0
 RecordsAreOfOneProtocol =
     (sizes : Sizes) (log : List Event) (p : ℕ) → is_legal sizes log ≡ true
     → All (λ r. is_of_one_protocol r ≡ true) (after log p).records
+
+-- what is live under a tuple at one point and is live at another is live under the tuple there, in the same
+-- direction
+abbrev pub FoundAreFoundAgain : Type 0
+FoundAreFoundAgain =
+    (sizes : Sizes) (log : List Event) (p q : ℕ) (t : Tuple) (found : Found) (r : Record) → is_legal sizes log ≡ true
+    → live_under t (after log p) ≡ Some found → record_of found.subject.id (after log q) ≡ Some r
+    → live_under t (after log q) ≡ Some (record { subject = r; direction = found.direction })
+
+-- what is live under a tuple at a point, where nothing was at an earlier one, was confirmed from that one on
+abbrev pub LateEntriesAreNew : Type 0
+LateEntriesAreNew =
+    (sizes : Sizes) (log : List Event) (p q : ℕ) (t : Tuple) (found : Found) → is_legal sizes log ≡ true → p ≤ q
+    → live_under t (after log p) ≡ None → live_under t (after log q) ≡ Some found → p ≤ found.subject.id
+
+-- a live record is of the protocol of the Confirm that made it
+abbrev pub EntriesKeepTheirProtocol : Type 0
+EntriesKeepTheirProtocol =
+    (sizes : Sizes) (log : List Event) (p : ℕ) (id : ℕ) (r : Record) (segment : Segment) → is_legal sizes log ≡ true
+    → record_of id (after log p) ≡ Some r → is_of_entry segment id log ≡ is_of_protocol segment r.part.kind
+
+-- what is live under a tuple is of the protocol of the Confirm that made it
+abbrev pub FoundKeepTheirProtocol : Type 0
+FoundKeepTheirProtocol =
+    (sizes : Sizes) (log : List Event) (p : ℕ) (t : Tuple) (found : Found) (segment : Segment) → is_legal sizes log ≡ true
+    → live_under t (after log p) ≡ Some found
+    → is_of_entry segment found.subject.id log ≡ is_of_protocol segment found.subject.part.kind

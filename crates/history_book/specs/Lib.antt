@@ -8,9 +8,9 @@ pub mod Find
 pub mod Label
 pub mod Notes
 pub mod Numbered
+pub mod Entry
 pub mod Laws
 pub mod StateLaws
-pub mod Entry
 pub mod Held
 pub mod Sight
 pub mod Desk

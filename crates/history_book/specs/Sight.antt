@@ -1,16 +1,17 @@
 -- What a desk knows of the tracker.
-use Rattle.std.specs.Prelude.{◌≡◌, ℕ, ◌+◌, ◌<◌, ◌≤◌, ◌^◌, true, Option, Some, None, List, [], ◌∷◌, length, slice_get, All, AllPairs, IsSome}
+use Rattle.std.specs.Prelude.{◌≡◌, ◌≢◌, ℕ, ◌+◌, ◌<◌, ◌≤◌, ◌^◌, true, false, Option, Some, None, List, [], ◌∷◌, length, slice_get, All, AllPairs, IsSome}
 use Rattle.history_book.specs.declared.desk.Hold.{Hold}
 use Rattle.history_book.specs.declared.event.Event.{Event}
 use Rattle.history_book.specs.declared.event.Event.TheVariants.{Confirm}
 use Rattle.history_book.specs.declared.event.Note.{Note}
 use Rattle.history_book.specs.declared.record.Record.{Record}
 use Rattle.history_book.specs.declared.sizes.Sizes.{Sizes}
+use Rattle.history_book.specs.Held.{is_owed}
 use Rattle.history_book.specs.History.{is_legal}
 
 -- The front is the first events of the one history, as far as the desk has seen it; then its own events
--- with their numbers, the references that it keeps, the places that it owes, and for how many further
--- own events it has room. The sizes are those of the tracker.
+-- with their numbers, the references that it keeps and the places that it owes, the newest first, and for
+-- how many further own events it has room. The sizes are those of the tracker.
 pub record Sight : Type 0 where
   pub front : List Event
   pub own : List Note
@@ -45,8 +46,9 @@ pub record IsForOne (g h : Hold) : Type 0 where
   pub entry : g.place ≡ h.place → IsSome g.id
 
 -- The front is a legal history; the own events are events of it, in the order of their numbers. Held and
--- owed places are four at most, and own events and spare 2^30 at most. A pass that is the only one has
--- made every event itself, so that each of its answers is of the present state.
+-- owed places are four at most; no place is both, and none is owed twice. Own events and spare are 2^30 at
+-- most. A pass that is the only one has made every event itself, so that each of its answers is of the
+-- present state.
 pub record IsKnown (s : Sight) : Type 0 where
   pub legal : is_legal s.sizes s.front ≡ true
   pub few : length s.front < 2 ^ 40
@@ -55,6 +57,8 @@ pub record IsKnown (s : Sight) : Type 0 where
   pub held : All (IsHoldOf s) s.held
   pub agreed : AllPairs IsForOne s.held
   pub owed : All (λ p. p < s.sizes.entries) s.owed
+  pub unowed : All (λ h. is_owed h.place s.owed ≡ false) s.held
+  pub once : AllPairs (λ p q. p ≢ q) s.owed
   pub places : length s.held + length s.owed ≤ 4
   pub spared : length s.own + s.spare ≤ 2 ^ 30
   pub alone : s.sizes.passes ≡ 1 → s.own ≡ notes_from 0 s.front

@@ -3,7 +3,8 @@ use Rattle.std.specs.Prelude.{◌≡◌, ℕ, ◌-◌, ◌*◌, ◌≤◌, true}
 use Rattle.std.specs.Int.{is_power_of_two}
 use Rattle.history_book.specs.declared.sizes.Sizes.{Sizes}
 
--- so many entries at least are live where a pass finds no open place: each other pass keeps at most four
+-- where a pass that keeps no place itself finds none free, so many entries at least are live: each other pass
+-- keeps at most four places
 abbrev pub fewest_of_full : Sizes → ℕ
 fewest_of_full sizes = sizes.entries - 4 * (sizes.passes - 1)
 

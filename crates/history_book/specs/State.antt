@@ -39,6 +39,15 @@ original_first None None = None
 abbrev pub live_under : Tuple → State → Option Found
 live_under t s = original_first (find (has_original t) s.records) (find (has_reply t) s.records)
 
+-- what is found by the first of two tuples, else what is found by the second
+abbrev pub first_found : Option Found → Option Found → Option Found
+first_found (Some f) other = Some f
+first_found None other = other
+
+-- the entry that has the first tuple, else the one that has the second: which of them a new flow meets
+abbrev pub winner : Tuple → Tuple → State → Option Found
+winner original reply s = first_found (live_under original s) (live_under reply s)
+
 -- no live record has the tuple in either direction
 abbrev pub is_free : Tuple → State → Bool
 is_free t s = not (list_any (has_tuple t) s.records)

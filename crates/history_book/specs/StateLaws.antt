@@ -1,6 +1,6 @@
 -- What holds of tests, and of states, whoever made them. In the states of a legal history the records
 -- are apart.
-use Rattle.std.specs.Prelude.{◌≡◌, ℕ, true, Some, None, slice_get, slice_set, All, AllPairs}
+use Rattle.std.specs.Prelude.{◌≡◌, ℕ, true, false, Some, None, slice_get, slice_set, All, AllPairs}
 use Rattle.std.specs.List.{remove}
 use Rattle.tuple_core.specs.declared.Direction.{Direction}
 use Rattle.tuple_core.specs.declared.Segment.{Segment}
@@ -12,7 +12,7 @@ use Rattle.proto_rules.specs.Protocol.{proto_of}
 use Rattle.history_book.specs.declared.record.Record.{Record}
 use Rattle.history_book.specs.Laws.{AreApart}
 use Rattle.history_book.specs.Legality.{is_of_one_protocol}
-use Rattle.history_book.specs.Record.{same_tuple}
+use Rattle.history_book.specs.Record.{has_tuple, same_tuple}
 use Rattle.history_book.specs.State.{Found, State, is_free, is_unused, live_under, next, record_of}
 
 -- the test of two tuples says exactly whether they are equal
@@ -24,6 +24,12 @@ abbrev pub FreeIsAbsent : Type 0
 FreeIsAbsent =
     (t : Tuple) (s : State)
     → (live_under t s ≡ None → is_free t s ≡ true) × (is_free t s ≡ true → live_under t s ≡ None)
+
+-- where nothing is live under a tuple, what is live under another has it not
+abbrev pub AbsentTuplesAreNobodys : Type 0
+AbsentTuplesAreNobodys =
+    (t u : Tuple) (s : State) (found : Found) → live_under t s ≡ None → live_under u s ≡ Some found
+    → has_tuple t found.subject ≡ false
 
 -- where the records are apart, each is the one that is found by its id
 abbrev pub IdsNameRecords : Type 0

@@ -39,11 +39,13 @@ pub trait Desk {
 
     /// The places of the pool.
     fn places(&self) -> u32
-        ensures { result ≡ (sight self.now).sizes.entries };
+        ensures exact { result ≡ (sight self.now).sizes.entries }
+        ensures knows { IsKnown (sight self.now) };
 
     /// The number of own events.
     fn made(&self) -> u64
-        ensures { result ≡ length (sight self.now).own };
+        ensures exact { result ≡ length (sight self.now).own }
+        ensures knows { IsKnown (sight self.now) };
 
     /// Makes room for `k` further own events.
     fn ready(&mut self, k: u64) -> Result<(), NoMemory>

@@ -5,8 +5,10 @@ ghost use Rattle.history_book.specs.Laws.{LegalHistoriesGoOn, StatesFollow, Firs
 ghost use Rattle.history_book.specs.Laws.{EventsStay, StatesStay, RecordsAreApart};
 ghost use Rattle.history_book.specs.Laws.{LiveRecordsAreConfirmed, DestroyedIdsStayDead};
 ghost use Rattle.history_book.specs.Laws.{RecordsAreOfOneProtocol};
+ghost use Rattle.history_book.specs.Laws.{EntriesKeepTheirProtocol, FoundAreFoundAgain};
+ghost use Rattle.history_book.specs.Laws.{FoundKeepTheirProtocol, LateEntriesAreNew};
 ghost use Rattle.history_book.specs.StateLaws.{SameTupleIsEquality};
-ghost use Rattle.history_book.specs.StateLaws.{FreeIsAbsent};
+ghost use Rattle.history_book.specs.StateLaws.{AbsentTuplesAreNobodys, FreeIsAbsent};
 ghost use Rattle.history_book.specs.StateLaws.{IdsNameRecords, TouchesChangeOne};
 ghost use Rattle.history_book.specs.StateLaws.{DestroysTakeOne, DestroysFree};
 ghost use Rattle.history_book.specs.StateLaws.{LiveRecordsHaveTheProtocol};
@@ -64,6 +66,34 @@ pub fn records_are_of_one_protocol()
     same_part_is_equality();
 }
 
+/// What is live under a tuple at one point and is live at another is live under the tuple there, in the
+/// same direction.
+pub fn found_are_found_again()
+    ensures { FoundAreFoundAgain }
+{}
+
+/// What is live under a tuple at a point, where nothing was at an earlier one, was confirmed from that
+/// one on.
+pub fn late_entries_are_new()
+    ensures { LateEntriesAreNew }
+{}
+
+/// A live record is of the protocol of the Confirm that made it.
+pub fn entries_keep_their_protocol()
+    ensures { EntriesKeepTheirProtocol }
+{
+    accepted_go_on();
+    same_part_is_equality();
+}
+
+/// What is live under a tuple is of the protocol of the Confirm that made it.
+pub fn found_keep_their_protocol()
+    ensures { FoundKeepTheirProtocol }
+{
+    accepted_go_on();
+    same_part_is_equality();
+}
+
 /// The test of two tuples says exactly whether they are equal.
 pub fn same_tuple_is_equality()
     ensures { SameTupleIsEquality }
@@ -72,6 +102,11 @@ pub fn same_tuple_is_equality()
 /// A tuple is free exactly where nothing is live under it.
 pub fn free_is_absent()
     ensures { FreeIsAbsent }
+{}
+
+/// Where nothing is live under a tuple, what is live under another has it not.
+pub fn absent_tuples_are_nobodys()
+    ensures { AbsentTuplesAreNobodys }
 {}
 
 /// Where the records of a state are apart, each is the one that is found by its id.

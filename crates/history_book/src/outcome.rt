@@ -57,7 +57,7 @@ pub enum ConfirmOutcome {
 /// What a packet did to an entry.
 #[derive(Clone, Copy)]
 pub enum TouchOutcome {
-    /// The entry accepted it; `before` is the entry as the packet found it.
+    /// The entry accepted it, by the event of this number; `before` is the entry as the packet found it.
     Touched { number: u64, before: Record },
     /// The step leaves the entry as it is.
     Ignored { at: u64 },
@@ -84,7 +84,7 @@ pub enum PeekOutcome {
 /// What became of an entry that was to be destroyed.
 #[derive(Clone, Copy)]
 pub enum KillOutcome {
-    /// It was destroyed as it stood.
+    /// It was destroyed as it stood, by the event of this number.
     Killed { number: u64, subject: Record },
     /// It was no longer live.
     Gone { at: u64 },
@@ -104,7 +104,7 @@ pub enum HoldOutcome {
 /// What became of a reference.
 #[derive(Clone, Copy)]
 pub enum ReleaseOutcome {
-    /// Others keep the place.
+    /// Other references to the place are left: of this desk, of others, or of the live entry.
     Kept,
     /// This was the last reference: the place is owed, and to be recycled.
     Last,

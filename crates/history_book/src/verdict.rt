@@ -97,8 +97,25 @@ pub enum Class {
         id: u64,
         at: u64,
     },
+    /// It would begin the flow of this entry, of UDP, which another packet confirmed meanwhile.
+    Merged {
+        id: u64,
+        at: u64,
+        translated: Translated,
+    },
+    /// It would begin a flow, and this entry has one of the flow's tuples.
+    Clash {
+        id: u64,
+        at: u64,
+        translated: Translated,
+    },
     /// It would begin a flow, and the table has no room.
     Full {
+        at: u64,
+    },
+    /// Four times it ended an entry of its flow and found another, and this one was to end too.
+    Contended {
+        id: u64,
         at: u64,
     },
 }

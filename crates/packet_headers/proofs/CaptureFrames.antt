@@ -1,5 +1,5 @@
 -- The frames that are read one after the other stand in the bytes.
-use Rattle.std.proofs.Common.{◌≡◌, ℕ, ◌^◌, ◌<◌, ◌≤◌, Bool, true, ◌&&◌, List, [], ◌∷◌, ◌++◌, length, Ok, refl, sym, ◌∙◌, subst, arith, length-append}
+use Rattle.std.proofs.Common.{◌≡◌, ℕ, ◌+◌, ◌*◌, ◌^◌, ◌≤◌, Bool, true, ◌&&◌, List, [], ◌∷◌, ◌++◌, length, Ok, refl, sym, ◌∙◌, subst, arith, length-append}
 use Rattle.std.proofs.lemmas.Bool.Decides.{nat_tests}
 use Rattle.std.proofs.lemmas.List.Folds.{list_all-append}
 use Rattle.packet_headers.specs.declared.frame.Frame.{Frame}
@@ -25,7 +25,7 @@ pub record HasRead (bytes : List ℕ) (form : Form) (frames : List Frame) (at : 
   pub records : Records bytes form first_record frames at
   pub inside : AreInside bytes frames
   pub timely : AreTimely frames
-  pub few : length frames ≤ at
+  pub few : 16 * length frames ≤ at
 
 inside_test : (bytes : List ℕ) (frame : Frame) → frame_end frame ≤ length bytes → is_inside bytes frame ≡ true
 inside_test bytes frame h = grind (arith, nat_tests)
@@ -35,7 +35,7 @@ timely_test frame h = grind (arith, nat_tests)
 
 -- one record more was read
 pub read_more : (bytes : List ℕ) (form : Form) (frames new : List Frame) (at : ℕ) (frame : Frame)
-    → HasRead bytes form frames at → Ok frame ≡ record_at bytes form at → frame_end frame ≤ length bytes → at < frame_end frame
+    → HasRead bytes form frames at → Ok frame ≡ record_at bytes form at → frame_end frame ≤ length bytes → at + 16 ≤ frame_end frame
     → frame.moment ≤ 10 ^ 16 → new ≡ frames ++ frame ∷ [] → HasRead bytes form new (frame_end frame)
 read_more bytes form frames new at frame read stands inside forward timely longer =
     let more : HasRead bytes form (frames ++ frame ∷ []) (frame_end frame) = record {

@@ -1,6 +1,6 @@
 //! Reads capture files (pcap 2.4): where their frames lie, and when they were captured.
 
-ghost use Rattle.std.specs.Prelude.{◌≡◌, ◌+◌, ◌^◌, ◌<◌, ◌≤◌, Ok, length, IfOk, IfErr, OnOk};
+ghost use Rattle.std.specs.Prelude.{◌≡◌, ◌+◌, ◌^◌, ◌<◌, ◌≤◌, ◌*◌, Ok, length, IfOk, IfErr, OnOk};
 ghost use Rattle.packet_headers.specs.CaptureHeader.{has_version, header_of, layout_at, link_of, resolution_of};
 ghost use Rattle.packet_headers.specs.CaptureRecord.{frame_end, microseconds_of, parts_of_second, record_at};
 ghost use Rattle.packet_headers.specs.Capture.{AreInside, AreTimely, capture_fault_of, HasFault, IsCapture, IsReason};
@@ -216,7 +216,7 @@ fn read_record(bytes: &[u8], form: Form, at: usize) -> Result<Frame, RecordFault
     requires { at ≤ length bytes.now }
     ensures exact { result ≡ record_at bytes.now form at }
     ensures inside { IfOk result (λ frame. frame_end frame ≤ length bytes.now) }
-    ensures forward { IfOk result (λ frame. at < frame_end frame) }
+    ensures forward { IfOk result (λ frame. at + 16 ≤ frame_end frame) }
     ensures timely { IfOk result (λ frame. frame.moment ≤ 10 ^ 16) }
 {
     if bytes.len() - at < RECORD_HEADER {
@@ -265,7 +265,7 @@ fn read_records(alloc: Global, bytes: &[u8], form: Form) -> Result<Frames, Captu
     ensures reason { IfErr result (IsReason bytes.now) }
     ensures inside { IfOk result (λ frames. AreInside bytes.now frames.items) }
     ensures timely { IfOk result (λ frames. AreTimely frames.items) }
-    ensures few { IfOk result (λ frames. length frames.items ≤ length bytes.now) }
+    ensures few { IfOk result (λ frames. 16 * length frames.items ≤ length bytes.now) }
 {
     let mut frames = Frames::new(alloc, 0)?;
     let mut at = FILE_HEADER;
@@ -290,7 +290,7 @@ pub fn read_capture(alloc: Global, bytes: &[u8]) -> Result<Frames, CaptureError>
     ensures reason { IfErr result (IsReason bytes.now) }
     ensures inside { IfOk result (λ frames. AreInside bytes.now frames.items) }
     ensures timely { IfOk result (λ frames. AreTimely frames.items) }
-    ensures few { IfOk result (λ frames. length frames.items ≤ length bytes.now) }
+    ensures few { IfOk result (λ frames. 16 * length frames.items ≤ length bytes.now) }
 {
     let form = read_header(bytes)?;
     read_records(alloc, bytes, form)

@@ -1,5 +1,5 @@
 -- A verdict that fits still fits when the history goes on: one case for each class.
-use Rattle.std.proofs.Common.{ℕ, ◌+◌, List, [], ◌∷◌, Option, subst, sym}
+use Rattle.std.proofs.Common.{ℕ, ◌+◌, Bool, true, false, List, [], ◌∷◌, Option, Some, None, inl, inr, subst, sym, ⊎_elim}
 use Rattle.tuple_core.specs.declared.Tuple.{Tuple}
 use Rattle.history_book.specs.Laws.{EventsStay, StatesStay}
 use Rattle.history_book.specs.Notes.{Happened}
@@ -11,7 +11,12 @@ use Rattle.history_book.specs.declared.sizes.Sizes.{Sizes}
 use Rattle.history_book.specs.declared.verdict.Class.{Class}
 use Rattle.history_book.specs.declared.verdict.Class.TheVariants as class
 use Rattle.proto_rules.specs.declared.Outcome.{Outcome}
+use Rattle.history_book.specs.declared.record.Record.{Record}
+use Rattle.history_book.specs.declared.verdict.Translated.{Translated}
+use Rattle.packet_path.specs.Absent.{WasAbsent}
+use Rattle.packet_path.specs.Made.{IsUnclaimed}
 use Rattle.packet_path.specs.Packet.{FlowPacket, Given}
+use Rattle.packet_path.specs.Winner.{MeetsWinner}
 use Rattle.packet_path.specs.Unchanged.{LeavesEntry}
 use Rattle.packet_path.specs.Error.{AnswersError, LooksUp}
 use Rattle.packet_path.specs.Verdict.{AnswersFlow, FitsFrame, Kills, KillsAll}
@@ -80,6 +85,33 @@ module _ (events : EventsStay) (states : StatesStay) (longer log : List Event) (
     step = l.step;
   }
 
+  absent_grows : (k : ℕ) (t : Tuple) (upto : ℕ) → WasAbsent log k t upto → WasAbsent longer k t upto
+  absent_grows k t upto a = record {
+    at = a.at;
+    from = a.from;
+    before = a.before;
+    absent = at_grows states longer log _ _ starts a.absent;
+  }
+
+  unclaimed_grows : (k : ℕ) (unclaimed : Option ℕ) (r : Record) → IsUnclaimed log k unclaimed r → IsUnclaimed longer k unclaimed r
+  unclaimed_grows k None r h = h
+  unclaimed_grows k (Some p) r h = (h.0, absent_grows k r.original p h.1, h.2)
+
+  winner_grows : (k : ℕ) (packet : FlowPacket) (rest : List Note) (id at : ℕ) (translated : Translated) (merged : Bool)
+      → MeetsWinner log k packet rest id at translated merged → MeetsWinner longer k packet rest id at translated merged
+  winner_grows k packet rest id at translated merged m = record {
+    own = m.own;
+    starts = m.starts;
+    absent = absent_grows k packet.tuple at m.absent;
+    reply = m.reply;
+    lawful = m.lawful;
+    found = m.found;
+    live = at_grows states longer log _ _ starts m.live;
+    named = m.named;
+    merge = m.merge;
+    new = m.new;
+  }
+
   pub frame_grows : (sizes : Sizes) (mark : ℕ) (given : Given) (own : List Note) (verdict : Class)
       → FitsFrame sizes log mark given own verdict → FitsFrame sizes longer mark given own verdict
   frame_grows sizes mark given own (class.Untracked why) f = f
@@ -121,7 +153,7 @@ module _ (events : EventsStay) (states : StatesStay) (longer log : List Event) (
         happened = happened_grows k _ m.happened;
         named = m.named;
         started = m.started;
-        alone = m.alone;
+        alone = unclaimed_grows k unclaimed m.subject m.alone;
         point = m.point;
       }) f
   frame_grows sizes mark given own (class.Passed label id at ftp) f =
@@ -140,14 +172,19 @@ module _ (events : EventsStay) (states : StatesStay) (longer log : List Event) (
       }) f
   frame_grows sizes mark given own (class.Ignored id at) f =
       flow_grows mark given own _ _ (λ packet kills k rest l. leaves_grows k packet rest id at _ l) f
+  frame_grows sizes mark given own (class.Merged id at translated) f =
+      flow_grows mark given own _ _ (λ packet kills k rest m. winner_grows k packet rest id at translated true m) f
+  frame_grows sizes mark given own (class.Clash id at translated) f =
+      flow_grows mark given own _ _ (λ packet kills k rest m. winner_grows k packet rest id at translated false m) f
   frame_grows sizes mark given own (class.Full at) f =
       flow_grows mark given own _ _
       (λ packet kills k rest m. record {
         own = m.own;
         starts = m.starts;
-        absent_at = m.absent_at;
-        from = m.from;
-        upto = m.upto;
-        absent = at_grows states longer log _ _ starts m.absent;
+        absent = absent_grows k packet.tuple at m.absent;
         full = at_grows states longer log _ _ starts m.full;
       }) f
+  frame_grows sizes mark given own (class.Contended id at) f =
+      flow_grows mark given own _ _
+      (λ packet kills k rest m. (m.0,
+        ⊎_elim (λ l. inl (leaves_grows k packet rest id at _ l)) (λ l. inr (leaves_grows k packet rest id at _ l)) m.1)) f

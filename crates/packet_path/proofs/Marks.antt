@@ -1,5 +1,5 @@
 -- A verdict that fits from a mark on fits from any lower one: one case for each class.
-use Rattle.std.proofs.Common.{ℕ, ◌+◌, ◌≤◌, List, [], ◌∷◌, max, arith, Option, Some, None}
+use Rattle.std.proofs.Common.{ℕ, ◌+◌, ◌≤◌, Bool, true, false, List, [], ◌∷◌, max, arith, Option, Some, None, inl, inr, ⊎_elim}
 use Rattle.tuple_core.specs.declared.Tuple.{Tuple}
 use Rattle.history_book.specs.Notes.{Happened, mark_past}
 use Rattle.history_book.specs.State.{Found}
@@ -13,7 +13,11 @@ use Rattle.proto_rules.specs.declared.Outcome.{Outcome}
 use Rattle.packet_path.specs.Packet.{FlowPacket, Given}
 use Rattle.packet_path.specs.Unchanged.{LeavesEntry}
 use Rattle.packet_path.specs.Error.{LooksUp}
+use Rattle.packet_path.specs.Absent.{WasAbsent}
 use Rattle.packet_path.specs.Made.{IsUnclaimed}
+use Rattle.packet_path.specs.Winner.{IsNewWinner, MeetsWinner}
+use Rattle.history_book.specs.declared.verdict.Translated.{Translated}
+use Rattle.history_book.specs.declared.verdict.Translated.TheVariants.{Chosen, Plain}
 use Rattle.packet_path.specs.Verdict.{AnswersFlow, FitsFrame, KillsAll}
 use Rattle.packet_path.proofs.Growth.{error_still}
 
@@ -24,9 +28,18 @@ mark_past-le m n (x ∷ xs) le = mark_past-le (max m (x.number + 1)) (max n (x.n
 happened_lower : (log : List Event) (m n : ℕ) (note : Note) → m ≤ n → Happened log n note → Happened log m note
 happened_lower log m n note le h = record { event = h.event; later = omega (arith, h.later) }
 
-unclaimed_lower : (m n : ℕ) (unclaimed : Option ℕ) (r : Record) → m ≤ n → IsUnclaimed n unclaimed r → IsUnclaimed m unclaimed r
-unclaimed_lower m n None r le h = h
-unclaimed_lower m n (Some p) r le h = (h.0, omega (arith, h.1), h.2)
+absent_lower : (log : List Event) (m n : ℕ) (t : Tuple) (upto : ℕ) → m ≤ n → WasAbsent log n t upto → WasAbsent log m t upto
+absent_lower log m n t upto le a = record { at = a.at; from = omega (arith, a.from); before = a.before; absent = a.absent }
+
+unclaimed_lower : (log : List Event) (m n : ℕ) (unclaimed : Option ℕ) (r : Record) → m ≤ n → IsUnclaimed log n unclaimed r
+    → IsUnclaimed log m unclaimed r
+unclaimed_lower log m n None r le h = h
+unclaimed_lower log m n (Some p) r le h = (h.0, absent_lower log m n r.original p le h.1, h.2)
+
+new_lower : (m n : ℕ) (translated : Translated) (t : Tuple) (r : Record) → m ≤ n → IsNewWinner n translated t r
+    → IsNewWinner m translated t r
+new_lower m n Plain t r le h = λ has. omega (arith, h has)
+new_lower m n (Chosen chosen taken_at) t r le h = omega (arith, h)
 
 kills_lower : (log : List Event) (m n : ℕ) (packet : FlowPacket) (notes : List Note) → m ≤ n
     → KillsAll log n packet notes → KillsAll log m packet notes
@@ -61,6 +74,21 @@ module _ (log : List Event) (m n : ℕ) (le : m ≤ n) where
     live = l.live;
     named = l.named;
     step = l.step;
+  }
+
+  winner_lower : (j k : ℕ) (packet : FlowPacket) (rest : List Note) (id at : ℕ) (translated : Translated) (merged : Bool) → j ≤ k
+      → MeetsWinner log k packet rest id at translated merged → MeetsWinner log j packet rest id at translated merged
+  winner_lower j k packet rest id at translated merged lower h = record {
+    own = h.own;
+    starts = h.starts;
+    absent = absent_lower log j k packet.tuple at lower h.absent;
+    reply = h.reply;
+    lawful = h.lawful;
+    found = h.found;
+    live = h.live;
+    named = h.named;
+    merge = h.merge;
+    new = new_lower j k translated packet.tuple h.found.subject lower h.new;
   }
 
   pub frame_lower : (sizes : Sizes) (given : Given) (own : List Note) (verdict : Class)
@@ -104,7 +132,7 @@ module _ (log : List Event) (m n : ℕ) (le : m ≤ n) where
         happened = happened_lower log j k _ lower h.happened;
         named = h.named;
         started = h.started;
-        alone = unclaimed_lower j k unclaimed h.subject lower h.alone;
+        alone = unclaimed_lower log j k unclaimed h.subject lower h.alone;
         point = h.point;
       }) f
   frame_lower sizes given own (class.Passed label id at ftp) f =
@@ -123,14 +151,19 @@ module _ (log : List Event) (m n : ℕ) (le : m ≤ n) where
       }) f
   frame_lower sizes given own (class.Ignored id at) f =
       flow_lower given own _ _ (λ packet kills j k rest lower l. leaves_lower j k packet rest id at _ lower l) f
+  frame_lower sizes given own (class.Merged id at translated) f =
+      flow_lower given own _ _ (λ packet kills j k rest lower h. winner_lower j k packet rest id at translated true lower h) f
+  frame_lower sizes given own (class.Clash id at translated) f =
+      flow_lower given own _ _ (λ packet kills j k rest lower h. winner_lower j k packet rest id at translated false lower h) f
   frame_lower sizes given own (class.Full at) f =
       flow_lower given own _ _
       (λ packet kills j k rest lower h. record {
         own = h.own;
         starts = h.starts;
-        absent_at = h.absent_at;
-        from = omega (arith, h.from, lower);
-        upto = h.upto;
-        absent = h.absent;
+        absent = absent_lower log j k packet.tuple at lower h.absent;
         full = h.full;
       }) f
+  frame_lower sizes given own (class.Contended id at) f =
+      flow_lower given own _ _
+      (λ packet kills j k rest lower h. (h.0,
+        ⊎_elim (λ l. inl (leaves_lower j k packet rest id at _ lower l)) (λ l. inr (leaves_lower j k packet rest id at _ lower l)) h.1)) f

@@ -36,7 +36,10 @@ module _ (sizes : Sizes) (log : List Event) (mark : ℕ) (given : Given) where
   untracked_only own (class.Made id at translated unclaimed) why is f = let e = f.flow.headers in cc
   untracked_only own (class.Passed label id at ftp) why is f = let e = f.flow.headers in cc
   untracked_only own (class.Ignored id at) why is f = let e = f.flow.headers in cc
+  untracked_only own (class.Merged id at translated) why is f = let e = f.flow.headers in cc
+  untracked_only own (class.Clash id at translated) why is f = let e = f.flow.headers in cc
   untracked_only own (class.Full at) why is f = let e = f.flow.headers in cc
+  untracked_only own (class.Contended id at) why is f = let e = f.flow.headers in cc
 
   pub invalid_only : (own : List Note) (answer : Class) → given.packet ≡ packet.Invalid
       → FitsFrame sizes log mark given own answer → (own ≡ []) × (answer ≡ class.BadHeader)
@@ -50,7 +53,10 @@ module _ (sizes : Sizes) (log : List Event) (mark : ℕ) (given : Given) where
   invalid_only own (class.Made id at translated unclaimed) is f = let e = f.flow.headers in cc
   invalid_only own (class.Passed label id at ftp) is f = let e = f.flow.headers in cc
   invalid_only own (class.Ignored id at) is f = let e = f.flow.headers in cc
+  invalid_only own (class.Merged id at translated) is f = let e = f.flow.headers in cc
+  invalid_only own (class.Clash id at translated) is f = let e = f.flow.headers in cc
   invalid_only own (class.Full at) is f = let e = f.flow.headers in cc
+  invalid_only own (class.Contended id at) is f = let e = f.flow.headers in cc
 
   pub error_silent : (inner : Tuple) (outer : ℕ) (own : List Note) (answer : Class) → given.packet ≡ packet.Error inner outer
       → FitsFrame sizes log mark given own answer → own ≡ []
@@ -64,4 +70,7 @@ module _ (sizes : Sizes) (log : List Event) (mark : ℕ) (given : Given) where
   error_silent inner outer own (class.Made id at translated unclaimed) is f = let e = f.flow.headers in cc
   error_silent inner outer own (class.Passed label id at ftp) is f = let e = f.flow.headers in cc
   error_silent inner outer own (class.Ignored id at) is f = let e = f.flow.headers in cc
+  error_silent inner outer own (class.Merged id at translated) is f = let e = f.flow.headers in cc
+  error_silent inner outer own (class.Clash id at translated) is f = let e = f.flow.headers in cc
   error_silent inner outer own (class.Full at) is f = let e = f.flow.headers in cc
+  error_silent inner outer own (class.Contended id at) is f = let e = f.flow.headers in cc

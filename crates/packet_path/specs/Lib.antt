@@ -1,8 +1,11 @@
 pub mod Packet
 pub mod Error
+pub mod Absent
 pub mod Made
+pub mod Winner
 pub mod Passed
 pub mod Unchanged
 pub mod Full
 pub mod Verdict
+pub mod Handled
 pub mod Laws

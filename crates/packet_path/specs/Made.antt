@@ -5,6 +5,7 @@ use Rattle.tuple_core.specs.declared.Tuple.{Tuple}
 use Rattle.history_book.specs.declared.event.Event.{Event}
 use Rattle.history_book.specs.declared.event.Event.TheVariants.{Confirm}
 use Rattle.history_book.specs.declared.event.Note.{Note}
+use Rattle.packet_path.specs.Absent.{WasAbsent}
 use Rattle.packet_path.specs.Packet.{FlowPacket}
 use Rattle.history_book.specs.declared.record.Record.{Record}
 use Rattle.history_book.specs.declared.verdict.Translated.{Translated}
@@ -17,11 +18,11 @@ abbrev pub IsLawfulReply : Tuple → Translated → Tuple → Type 0
 IsLawfulReply t Plain reply = reply ≡ inverse t
 IsLawfulReply t (Chosen chosen taken_at) reply = ⊥
 
--- no expectation matched at this point from k to the entry's Confirm, and the entry has no master;
--- as yet nothing is expected, and no entry can have one
-abbrev pub IsUnclaimed : ℕ → Option ℕ → Record → Type 0
-IsUnclaimed k None r = ⊥
-IsUnclaimed k (Some p) r = (r.master ≡ None) × (k ≤ p) × (p ≤ r.id)
+-- nothing was live under the packet's tuple, later no expectation matched at this point, up to the entry's
+-- Confirm, and the entry has no master; as yet nothing is expected, and no entry can have one
+abbrev pub IsUnclaimed : List Event → ℕ → Option ℕ → Record → Type 0
+IsUnclaimed log k None r = ⊥
+IsUnclaimed log k (Some p) r = (r.master ≡ None) × WasAbsent log k r.original p × (p ≤ r.id)
 
 -- the record is the packet's: its tuple, a lawful reply tuple, the part that the segment starts, and
 -- no helper
@@ -39,5 +40,5 @@ pub record Makes (log : List Event) (k : ℕ) (packet : FlowPacket) (rest : List
   pub happened : Happened log k (record { number = id; event = Confirm subject })
   pub named : subject.id ≡ id
   pub started : IsStarted packet translated subject
-  pub alone : IsUnclaimed k unclaimed subject
+  pub alone : IsUnclaimed log k unclaimed subject
   pub point : at ≡ id + 1

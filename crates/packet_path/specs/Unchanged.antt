@@ -1,7 +1,8 @@
--- A packet that leaves the table as it is: one that begins no flow, and one that its entry ignores or
--- can't have.
-use Rattle.std.specs.Prelude.{◌≡◌, ℕ, ◌≤◌, Some, None, List, []}
+-- A packet that leaves the table as it is: one that begins no flow, one that its entry ignores or can't
+-- have, and one that would end an entry too many.
+use Rattle.std.specs.Prelude.{◌≡◌, ℕ, ◌≤◌, ◌⊎◌, Some, None, List, []}
 use Rattle.proto_rules.specs.declared.Outcome.{Outcome}
+use Rattle.proto_rules.specs.declared.Outcome.TheVariants as outcome
 use Rattle.proto_rules.specs.Start.{start_of}
 use Rattle.proto_rules.specs.Step.{step_of}
 use Rattle.history_book.specs.declared.event.Event.{Event}
@@ -28,3 +29,8 @@ pub record LeavesEntry (log : List Event) (k : ℕ) (packet : FlowPacket) (rest 
   pub live : At log at (λ s. live_under packet.tuple s ≡ Some found)
   pub named : found.subject.id ≡ id
   pub step : step_of found.subject.part found.direction packet.segment packet.moment ≡ outcome
+
+-- no further event; the entry is expired, or the packet would reopen it
+abbrev pub IsToEnd : List Event → ℕ → FlowPacket → List Note → ℕ → ℕ → Type 0
+IsToEnd log k packet rest id at =
+    LeavesEntry log k packet rest id at outcome.Expired ⊎ LeavesEntry log k packet rest id at outcome.Reopen

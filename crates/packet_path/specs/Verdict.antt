@@ -1,5 +1,5 @@
 -- When a verdict fits a frame and the events that the frame made.
-use Rattle.std.specs.Prelude.{◌≡◌, ℕ, ◌+◌, ◌≤◌, ◌⊎◌, Some, None, List, [], ◌∷◌, ◌++◌, length, option_to_list}
+use Rattle.std.specs.Prelude.{◌≡◌, ℕ, ◌+◌, ◌≤◌, ◌⊎◌, true, false, Some, None, List, [], ◌∷◌, ◌++◌, length, option_to_list}
 use Rattle.history_book.specs.declared.event.Event.{Event}
 use Rattle.history_book.specs.declared.event.Event.TheVariants.{Destroy}
 use Rattle.history_book.specs.declared.event.Note.{Note}
@@ -7,7 +7,8 @@ use Rattle.history_book.specs.declared.event.Why.TheVariants as why
 use Rattle.packet_headers.specs.declared.packet.Packet.TheVariants as packet
 use Rattle.proto_rules.specs.declared.Outcome.TheVariants as outcome
 use Rattle.packet_path.specs.Packet.{FlowPacket, Given, IsFlow, cause_of}
-use Rattle.packet_path.specs.Unchanged.{BeginsNothing, LeavesEntry}
+use Rattle.packet_path.specs.Unchanged.{BeginsNothing, IsToEnd, LeavesEntry}
+use Rattle.packet_path.specs.Winner.{MeetsWinner}
 use Rattle.history_book.specs.declared.verdict.Class.{Class}
 use Rattle.history_book.specs.declared.verdict.Class.TheVariants as class
 use Rattle.history_book.specs.declared.verdict.Ftp.{Ftp}
@@ -77,8 +78,14 @@ FitsFrame sizes log mark given own (class.Passed label id at ftp) =
     AnswersFlow log mark given own (λ p kills k rest. Passes log k p rest label id at ftp)
 FitsFrame sizes log mark given own (class.Ignored id at) =
     AnswersFlow log mark given own (λ p kills k rest. LeavesEntry log k p rest id at outcome.Ignore)
+FitsFrame sizes log mark given own (class.Merged id at translated) =
+    AnswersFlow log mark given own (λ p kills k rest. MeetsWinner log k p rest id at translated true)
+FitsFrame sizes log mark given own (class.Clash id at translated) =
+    AnswersFlow log mark given own (λ p kills k rest. MeetsWinner log k p rest id at translated false)
 FitsFrame sizes log mark given own (class.Full at) =
     AnswersFlow log mark given own (λ p kills k rest. FindsNoRoom sizes log k p rest at)
+FitsFrame sizes log mark given own (class.Contended id at) =
+    AnswersFlow log mark given own (λ p kills k rest. (kills ≡ 4) × IsToEnd log k p rest id at)
 
 -- the point that a translation names
 abbrev pub translated_points : Translated → List ℕ
@@ -106,4 +113,7 @@ points_of (class.Error direction id at) = at ∷ []
 points_of (class.Made id at translated unclaimed) = at ∷ (option_to_list unclaimed ++ translated_points translated)
 points_of (class.Passed label id at payload) = at ∷ ftp_points payload
 points_of (class.Ignored id at) = at ∷ []
+points_of (class.Merged id at translated) = at ∷ translated_points translated
+points_of (class.Clash id at translated) = at ∷ translated_points translated
 points_of (class.Full at) = at ∷ []
+points_of (class.Contended id at) = at ∷ []

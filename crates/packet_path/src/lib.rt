@@ -1,4 +1,5 @@
-//! When a verdict on a frame fits a history.
+//! One packet's way through the tracker, and when a verdict on a frame fits a history.
 #![tactic(auto)]
 
+pub mod handle;
 pub mod laws;

@@ -160,4 +160,7 @@ class_text (class.Error direction id at) = error_word direction ++ entry_text id
 class_text (class.Made id at translated unclaimed) = made_word unclaimed ++ entry_text id at
 class_text (class.Passed label id at ftp) = label_word label ++ entry_text id at ++ ftp_text ftp
 class_text (class.Ignored id at) = codes "IGNORED" ++ entry_text id at
+class_text (class.Merged id at translated) = codes "MERGED" ++ entry_text id at
+class_text (class.Clash id at translated) = codes "CLASH" ++ entry_text id at
 class_text (class.Full at) = codes "FULL" ++ point_text at
+class_text (class.Contended id at) = codes "CONTENDED" ++ entry_text id at

@@ -366,9 +366,29 @@ impl<'b> Page<'b> {
                 self.text(b"IGNORED");
                 self.entry(id, at);
             }
+            Class::Merged {
+                id,
+                at,
+                translated: _,
+            } => {
+                self.text(b"MERGED");
+                self.entry(id, at);
+            }
+            Class::Clash {
+                id,
+                at,
+                translated: _,
+            } => {
+                self.text(b"CLASH");
+                self.entry(id, at);
+            }
             Class::Full { at } => {
                 self.text(b"FULL");
                 self.point(at);
+            }
+            Class::Contended { id, at } => {
+                self.text(b"CONTENDED");
+                self.entry(id, at);
             }
         }
     }

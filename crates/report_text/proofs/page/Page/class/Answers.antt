@@ -22,3 +22,24 @@ returns-in-Ignored c = record {
       (simp append_assoc);
   short = omega arith;
 }
+
+pub returns-in-Merged : goal.returns-in-Merged
+returns-in-Merged c = record {
+  joined = rw (c.entry-in-Merged.ensures.joined, c.text-in-Merged.ensures.joined, c.in-Merged.is)
+      (simp append_assoc);
+  short = omega arith;
+}
+
+pub returns-in-Clash : goal.returns-in-Clash
+returns-in-Clash c = record {
+  joined = rw (c.entry-in-Clash.ensures.joined, c.text-in-Clash.ensures.joined, c.in-Clash.is)
+      (simp append_assoc);
+  short = omega arith;
+}
+
+pub returns-in-Contended : goal.returns-in-Contended
+returns-in-Contended c = record {
+  joined = rw (c.entry-in-Contended.ensures.joined, c.text-in-Contended.ensures.joined, c.in-Contended.is)
+      (simp append_assoc);
+  short = omega arith;
+}
