@@ -1,10 +1,12 @@
 -- Places by numbers: how many there can be, and how many there are at least.
 use Rattle.std.proofs.Common.{◌≡◌, ◌≢◌, ℕ, ◌+◌, ◌<◌, ◌≤◌, zero, suc, Bool, true, false, List, [], ◌∷◌, length, refl, sym, ap, ◌∙◌, ⊎_elim, arith}
-use Rattle.std.specs.List.{AllByRecursion}
+use Rattle.std.specs.List.{AllByRecursion, AllPairs}
+use Rattle.std.proofs.lemmas.List.Elements.{All-from_recursion}
+use Rattle.std.proofs.lemmas.List.Kept.{AllPairs-cons}
 use Rattle.std.specs.Prelude.{◌==◌, ◌⊎◌}
 use Rattle.std.proofs.lemmas.Bool.{cases_eq, cases_lt}
 use Rattle.book_desk.specs.Book.{bit, tally}
-use Rattle.book_desk.proofs.Lists.{same_bit, other_bit}
+use Rattle.book_desk.proofs.Lists.{each_map, other_bit, same_bit}
 
 -- the sum of g over the numbers below n
 abbrev pub total : (ℕ → ℕ) → ℕ → ℕ
@@ -65,3 +67,25 @@ module _ {X : Type 0} (f : X → ℕ) where
     ⊎_elim (λ (e : f x < n). e) (λ (e : n ≤ f x). absurd (omega (arith, h (f x) e, same_bit (f x) (f x) refl))) (cases_lt (f x) n),
     all_below n xs (λ p above. omega (arith, h p above)),
   )
+
+-- no item has a place that is not counted
+pub none_has : {X : Type 0} (f : X → ℕ) (p : ℕ) (xs : List X) → tally (λ x. f x == p) xs ≡ 0 → AllByRecursion (λ x. f x ≢ p) xs
+none_has f p [] h = tt
+none_has f p (x ∷ xs) h = ((λ e. omega (arith, h, same_bit (f x) p e)), none_has f p xs (omega (arith, h)))
+
+-- what is so of each place that is counted is so of each item's
+pub each_counted : {X : Type 0} (f : X → ℕ) (P : ℕ → Type 0) (xs : List X) → ((p : ℕ) → 1 ≤ tally (λ x. f x == p) xs → P p)
+    → AllByRecursion (λ x. P (f x)) xs
+each_counted f P [] h = tt
+each_counted f P (x ∷ xs) h =
+    (h (f x) (omega (arith, same_bit (f x) (f x) refl)), each_counted f P xs (λ p e. h p (omega (arith, e))))
+
+-- places that are each counted once are distinct
+pub apart_once : (ps : List ℕ) → ((p : ℕ) → tally (λ q. q == p) ps ≤ 1) → AllPairs (λ p q. p ≢ q) ps
+apart_once [] h = λ i j d below short. absurd (omega (arith, short))
+apart_once (p ∷ ps) h =
+    AllPairs-cons (λ p q. p ≢ q) p ps
+    (All-from_recursion (λ q. p ≢ q) ps
+    (each_map (λ q. q ≢ p) (λ q. p ≢ q) ps (λ q e f. e (sym f))
+    (none_has (λ q. q) p ps (omega (arith, h p, same_bit p p refl)))))
+    (apart_once ps (λ q. omega (arith, h q)))

@@ -1,17 +1,21 @@
 -- What a right book tells its callers.
-use Rattle.std.proofs.Common.{◌≡◌, ℕ, ◌+◌, ◌<◌, ◌≤◌, List, [], ◌∷◌, ◌++◌, length, refl, sym, ap, subst, ◌∙◌, arith, Some, append_assoc, length-append}
+use Rattle.std.proofs.Common.{◌≡◌, ℕ, ◌+◌, ◌<◌, ◌≤◌, List, [], ◌∷◌, ◌++◌, length, refl, sym, ap, subst, ◌∙◌, arith, Some, append_assoc, length-append, false, ⊎_elim}
 use Rattle.std.specs.List.{AllByRecursion, AllPairs, slice_get}
+use Rattle.std.specs.Prelude.{◌==◌, ◌⊎◌}
+use Rattle.std.proofs.lemmas.Bool.{cases_lt}
 use Rattle.std.proofs.lemmas.List.Elements.{All-from_recursion}
 use Rattle.std.proofs.lemmas.List.Kept.{AllPairs-cons}
 use Rattle.history_book.specs.declared.desk.Hold.{Hold}
 use Rattle.history_book.specs.declared.event.Event.{Event}
 use Rattle.history_book.specs.declared.event.Note.{Note}
+use Rattle.history_book.specs.Held.{is_owed}
 use Rattle.history_book.specs.Sight.{IsForEntryOf, IsHoldOf, IsKnown, notes_from}
 use Rattle.book_desk.specs.declared.book.Book.{Book}
 use Rattle.book_desk.specs.Book.{IsBook, events_of, sight_of}
-use Rattle.book_desk.proofs.Counting.{all_below}
+use Rattle.book_desk.proofs.Counting.{all_below, apart_once, each_counted}
 use Rattle.book_desk.proofs.Histories.{get_last, get_append, length-events}
-use Rattle.book_desk.proofs.Lists.{each_map, each_two}
+use Rattle.book_desk.proofs.Lists.{each_map, each_two, none_of}
+use Rattle.book_desk.proofs.Pool.{place_below}
 use Rattle.book_desk.proofs.References.{pairs_agree}
 
 -- each note is the event at its number
@@ -59,6 +63,13 @@ known b h =
           (λ k low entry. (low, entry)) below h.references.confirmed);
       agreed = pairs_agree b.holds.items h.references.agreed;
       owed = All-from_recursion (λ p. p < b.sizes.entries) b.owed.items owing;
+      unowed = All-from_recursion (λ (k : Hold). is_owed k.place b.owed.items ≡ false) b.holds.items
+          (each_counted (λ (k : Hold). k.place) (λ p. is_owed p b.owed.items ≡ false) b.holds.items (λ p some.
+          none_of (λ q. q == p) b.owed.items (omega (arith, some, h.places.once p
+          (place_below b.sizes.entries b.records.items b.holds.items b.free.items b.owed.items p h.places (omega (arith, some)))))));
+      once = apart_once b.owed.items (λ p.
+          ⊎_elim (λ (e : p < b.sizes.entries). omega (arith, h.places.once p e))
+          (λ (e : b.sizes.entries ≤ p). omega (arith, h.places.beyond p e)) (cases_lt p b.sizes.entries));
       places = h.few;
       spared = h.rooms.spared;
       alone = λ one. h.history.numbered;

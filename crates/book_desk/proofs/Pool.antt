@@ -44,11 +44,11 @@ places_at n a rs rs' held held' free free' owed owed' h below same here one = re
 }
 
 -- a reference more to a place, a place more, a record more
-pub other_hold : (held : List Hold) (h : Hold) (p : ℕ) → h.place ≢ p → tally (is_at p) (held ++ h ∷ []) ≡ tally (is_at p) held
-other_hold held h p e = omega (arith, tally-push (is_at p) held h, other_bit h.place p e)
+pub other_hold : (held : List Hold) (h : Hold) (p : ℕ) → h.place ≢ p → tally (is_at p) (h ∷ held) ≡ tally (is_at p) held
+other_hold held h p e = omega (arith, other_bit h.place p e)
 
-pub same_hold : (held : List Hold) (h : Hold) → tally (is_at h.place) (held ++ h ∷ []) ≡ tally (is_at h.place) held + 1
-same_hold held h = omega (arith, tally-push (is_at h.place) held h, same_bit h.place h.place refl)
+pub same_hold : (held : List Hold) (h : Hold) → tally (is_at h.place) (h ∷ held) ≡ tally (is_at h.place) held + 1
+same_hold held h = omega (arith, same_bit h.place h.place refl)
 
 pub other_place : (places : List ℕ) (a p : ℕ) → a ≢ p → times p (places ++ a ∷ []) ≡ times p places
 other_place places a p e = omega (arith, tally-push (λ q. q == p) places a, other_bit a p e)
@@ -104,10 +104,10 @@ same_record rs r = omega (arith, tally-push (has_place r.place) rs r, same_bit r
 
 module _ (n : ℕ) (rs : List Record) (held : List Hold) (free owed : List ℕ) (h : ArePlaces n rs held free owed) where
   -- a further reference to the place of a live record
-  pub places_hold : (k : Hold) → 1 ≤ tally (has_place k.place) rs → ArePlaces n rs (held ++ k ∷ []) free owed
+  pub places_hold : (k : Hold) → 1 ≤ tally (has_place k.place) rs → ArePlaces n rs (k ∷ held) free owed
   places_hold k live =
       let below : k.place < n = place_below n rs held free owed k.place h (omega (arith, live)) in
-      places_at n k.place rs rs held (held ++ k ∷ []) free free owed owed h below
+      places_at n k.place rs rs held (k ∷ held) free free owed owed h below
       (record {
         in_records = λ p e. refl;
         in_holds = λ p e. other_hold held k p e;
@@ -117,11 +117,11 @@ module _ (n : ℕ) (rs : List Record) (held : List Hold) (free owed : List ℕ) 
       (omega (arith, h.once k.place below, live, same_hold held k)) (h.single k.place)
 
   -- a free place is taken
-  pub places_take : (i : ℕ) (k : Hold) → slice_get free i ≡ Some k.place → ArePlaces n rs (held ++ k ∷ []) (remove free i) owed
+  pub places_take : (i : ℕ) (k : Hold) → slice_get free i ≡ Some k.place → ArePlaces n rs (k ∷ held) (remove free i) owed
   places_take i k at =
       let there : times k.place (remove free i) + 1 ≡ times k.place free = same_removed free i k.place at in
       let below : k.place < n = place_below n rs held free owed k.place h (omega (arith, there)) in
-      places_at n k.place rs rs held (held ++ k ∷ []) free (remove free i) owed owed h below
+      places_at n k.place rs rs held (k ∷ held) free (remove free i) owed owed h below
       (record {
         in_records = λ p e. refl;
         in_holds = λ p e. other_hold held k p e;
@@ -146,18 +146,18 @@ module _ (n : ℕ) (rs : List Record) (held : List Hold) (free owed : List ℕ) 
 
   -- the last reference is given up
   pub places_owe : (a : ℕ) → is_held a held ≡ true → uses a rs (without a held) ≡ 0
-      → ArePlaces n rs (without a held) free (owed ++ a ∷ [])
+      → ArePlaces n rs (without a held) free (a ∷ owed)
   places_owe a there unused =
       let less = same_without a held there in
       let below : a < n = place_below n rs held free owed a h (omega (arith, less)) in
-      places_at n a rs rs held (without a held) free free owed (owed ++ a ∷ []) h below
+      places_at n a rs rs held (without a held) free free owed (a ∷ owed) h below
       (record {
         in_records = λ p e. refl;
         in_holds = λ p e. other_without a p held there e;
         in_free = λ p e. refl;
-        in_owed = λ p e. other_place owed a p e;
+        in_owed = λ p e. omega (arith, other_bit a p e);
       })
-      (omega (arith, h.once a below, less, unused, same_place owed a)) (h.single a)
+      (omega (arith, h.once a below, less, unused, same_bit a a refl)) (h.single a)
 
   -- an owed place is free again
   pub places_pay : (a : ℕ) → is_owed a owed ≡ true → ArePlaces n rs held (free ++ a ∷ []) (paid a owed)

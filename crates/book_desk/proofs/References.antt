@@ -15,10 +15,6 @@ use Rattle.book_desk.specs.Book.{Agree, AreReferences, IsForRecord}
 use Rattle.book_desk.proofs.Histories.{get_append, get_last}
 use Rattle.book_desk.proofs.Lists.{each_map, each_push, each_remove, each_rest, each_set, each_two}
 
-agree_push : (held : List Hold) (h : Hold) → Agree held → AllByRecursion (λ g. IsForOne g h) held → Agree (held ++ h ∷ [])
-agree_push [] h a one = (tt, tt)
-agree_push (g ∷ gs) h (a, rest) (one, ones) = (each_push (IsForOne g) gs h a one, agree_push gs h rest ones)
-
 agree_without : (place : ℕ) (held : List Hold) → Agree held → Agree (without place held)
 agree_without place [] a = tt
 agree_without place (g ∷ gs) (a, rest) =
@@ -76,12 +72,12 @@ refs_grow front more rs held h = record {
 
 -- one reference more
 pub refs_more : (front : List Event) (rs : List Record) (held : List Hold) (h : Hold) → AreReferences front rs held
-    → IsForEntryOf front h.place h.id → AllByRecursion (IsForRecord h) rs → AllByRecursion (λ g. IsForOne g h) held
-    → AreReferences front rs (held ++ h ∷ [])
+    → IsForEntryOf front h.place h.id → AllByRecursion (IsForRecord h) rs → AllByRecursion (IsForOne h) held
+    → AreReferences front rs (h ∷ held)
 refs_more front rs held h refs entry current one = record {
-  confirmed = each_push (λ (k : Hold). IsForEntryOf front k.place k.id) held h refs.confirmed entry;
-  current = each_push (λ k. AllByRecursion (IsForRecord k) rs) held h refs.current current;
-  agreed = agree_push held h refs.agreed one;
+  confirmed = (entry, refs.confirmed);
+  current = (current, refs.current);
+  agreed = (one, refs.agreed);
 }
 
 pub refs_without : (front : List Event) (rs : List Record) (held : List Hold) (place : ℕ) → AreReferences front rs held

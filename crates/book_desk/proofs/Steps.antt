@@ -7,8 +7,9 @@ use Rattle.std.proofs.lemmas.List.Elements.{recursion_from_All}
 use Rattle.room_list.specs.Roomed.{Roomed}
 use Rattle.history_book.specs.declared.desk.Hold.{Hold}
 use Rattle.history_book.specs.declared.event.Event.{Event}
+use Rattle.history_book.specs.declared.event.Note.{Note}
 use Rattle.history_book.specs.declared.record.Record.{Record}
-use Rattle.history_book.specs.Desk.{FindsFull, IsLiveIn, Saw, Takes, is_used}
+use Rattle.history_book.specs.Desk.{FindsFull, IsLiveIn, Saw, Takes, is_in_use}
 use Rattle.history_book.specs.Held.{is_at, is_held, is_owed, paid, without}
 use Rattle.history_book.specs.History.{after}
 use Rattle.history_book.specs.Laws.{AreApart, IsConfirmed, LiveRecordsAreConfirmed, RecordsAreApart}
@@ -21,6 +22,7 @@ use Rattle.book_desk.specs.declared.book.Book.{Book}
 use Rattle.book_desk.specs.Book.{ArePlaces, AreReferences, IsBook, IsForRecord, bit, events_of, sight_of, tally, times, uses}
 use Rattle.book_desk.proofs.Lists.{any_of, each_at, each_map, none_of, same_bit, tally-remove, tally_none, tally_some}
 use Rattle.book_desk.proofs.Pool.{few_free, full_pool, length-paid, length-without, place_below, places_hold, places_keep, places_owe, places_pay, places_take, same_paid, same_removed}
+use Rattle.book_desk.proofs.Counting.{none_has}
 use Rattle.book_desk.proofs.Histories.{looked}
 use Rattle.book_desk.proofs.Positions.{passes_at}
 use Rattle.book_desk.proofs.References.{refs_more, refs_without}
@@ -28,11 +30,6 @@ use Rattle.book_desk.proofs.References.{refs_more, refs_without}
 -- what stands in a list is counted
 pub tally_at : {X : Type 0} (q : X → Bool) (xs : List X) (i : ℕ) (x : X) → slice_get xs i ≡ Some x → q x ≡ true → 1 ≤ tally q xs
 tally_at q xs i x at passes = omega (arith, tally-remove q xs i x at, ap bit passes)
-
--- no item has a place that is not counted
-pub none_has : {X : Type 0} (f : X → ℕ) (p : ℕ) (xs : List X) → tally (λ x. f x == p) xs ≡ 0 → AllByRecursion (λ x. f x ≢ p) xs
-none_has f p [] h = tt
-none_has f p (x ∷ xs) h = ((λ e. omega (arith, h, same_bit (f x) p e)), none_has f p xs (omega (arith, h)))
 
 pub same_place_passes : (r : Record) → has_place r.place r ≡ true
 same_place_passes r = eq-eqb r.place r.place refl
@@ -57,12 +54,12 @@ only_one (x ∷ xs) (suc i) r one at = (
 -- references for the record in a place agree with a further one for it
 all_for_one : (rs : List Record) (held : List Hold) (i : ℕ) (r : Record) → slice_get rs i ≡ Some r
     → AllByRecursion (λ h. AllByRecursion (IsForRecord h) rs) held
-    → AllByRecursion (λ g. IsForOne g (record { place = r.place; id = Some r.id })) held
+    → AllByRecursion (IsForOne (record { place = r.place; id = Some r.id })) held
 all_for_one rs held i r at current =
-    each_map (λ h. AllByRecursion (IsForRecord h) rs) (λ g. IsForOne g (record { place = r.place; id = Some r.id })) held
+    each_map (λ h. AllByRecursion (IsForRecord h) rs) (IsForOne (record { place = r.place; id = Some r.id })) held
     (λ g all. record {
-      same = λ e. each_at (IsForRecord g) rs i r all at e;
-      entry = λ e. ap is_some (each_at (IsForRecord g) rs i r all at e);
+      same = λ e. sym (each_at (IsForRecord g) rs i r all at (sym e));
+      entry = λ e. refl;
     }) current
 
 -- a live record was confirmed in its place
@@ -78,7 +75,7 @@ confirmed_there law b i r h at =
 
 pub book_hold : LiveRecordsAreConfirmed → (b : Book) (holds : Roomed Hold) (i : ℕ) (r : Record) → IsBook b
     → length b.holds.items + length b.owed.items ≤ 3 → slice_get b.records.items i ≡ Some r
-    → holds.items ≡ b.holds.items ++ record { place = r.place; id = Some r.id } ∷ [] → holds.room ≡ b.holds.room
+    → holds.items ≡ record { place = r.place; id = Some r.id } ∷ b.holds.items → holds.room ≡ b.holds.room
     → IsBook (record b { holds = holds })
 book_hold law b holds i r h few at items room =
     let k : Hold = record { place = r.place; id = Some r.id } in
@@ -92,7 +89,7 @@ book_hold law b holds i r h few at items room =
       references = subst (λ hs. AreReferences (events_of b.notes.items) rs hs) (sym items)
           (refs_more (events_of b.notes.items) rs b.holds.items k h.references (confirmed_there law b i r h at)
           (only_one rs i r (h.places.single r.place) at) (all_for_one rs b.holds.items i r at h.references.current));
-      few = omega (arith, few, ap length items, length-append b.holds.items (k ∷ []));
+      few = omega (arith, few, ap length items);
       rooms = record { records = h.rooms.records; free = h.rooms.free; holds = omega (arith, room, h.rooms.holds); owed = h.rooms.owed; notes = h.rooms.notes; spared = h.rooms.spared };
     }
 
@@ -117,7 +114,7 @@ free_nobodys b i p h at =
 
 pub book_take : (b : Book) (holds : Roomed Hold) (free : Roomed ℕ) (i p : ℕ) → IsBook b
     → length b.holds.items + length b.owed.items ≤ 3 → slice_get b.free.items i ≡ Some p
-    → holds.items ≡ b.holds.items ++ record { place = p; id = None } ∷ [] → holds.room ≡ b.holds.room
+    → holds.items ≡ record { place = p; id = None } ∷ b.holds.items → holds.room ≡ b.holds.room
     → free.items ≡ remove b.free.items i → free.room ≡ b.free.room
     → IsBook (record b { holds = holds; free = free })
 book_take b holds free i p h few at items room rest free_room =
@@ -128,16 +125,16 @@ book_take b holds free i p h few at items room rest free_room =
       limits = h.limits;
       history = h.history;
       places = subst (λ hs. ArePlaces b.sizes.entries rs hs free.items b.owed.items) (sym items)
-          (subst (λ fs. ArePlaces b.sizes.entries rs (b.holds.items ++ k ∷ []) fs b.owed.items) (sym rest)
+          (subst (λ fs. ArePlaces b.sizes.entries rs (k ∷ b.holds.items) fs b.owed.items) (sym rest)
           (places_take b.sizes.entries rs b.holds.items b.free.items b.owed.items h.places i k at));
       references = subst (λ hs. AreReferences (events_of b.notes.items) rs hs) (sym items)
           (refs_more (events_of b.notes.items) rs b.holds.items k h.references tt
           (each_map (λ (s : Record). s.place ≢ p) (IsForRecord k) rs (λ s apart e. absurd (apart (sym e)))
           (none_has (λ (s : Record). s.place) p rs nobody.records))
-          (each_map (λ (g : Hold). g.place ≢ p) (λ g. IsForOne g k) b.holds.items
-          (λ g apart. record { same = λ e. absurd (apart e); entry = λ e. absurd (apart e) })
+          (each_map (λ (g : Hold). g.place ≢ p) (IsForOne k) b.holds.items
+          (λ g apart. record { same = λ e. absurd (apart (sym e)); entry = λ e. absurd (apart (sym e)) })
           (none_has (λ (g : Hold). g.place) p b.holds.items nobody.holds)));
-      few = omega (arith, few, ap length items, length-append b.holds.items (k ∷ []));
+      few = omega (arith, few, ap length items);
       rooms = record { records = h.rooms.records; free = omega (arith, free_room, h.rooms.free); holds = omega (arith, room, h.rooms.holds); owed = h.rooms.owed; notes = h.rooms.notes; spared = h.rooms.spared };
     }
 
@@ -160,7 +157,7 @@ book_keep b holds a h there items room used =
 
 pub book_owe : (b : Book) (holds : Roomed Hold) (owed : Roomed ℕ) (a : ℕ) → IsBook b → is_held a b.holds.items ≡ true
     → holds.items ≡ without a b.holds.items → holds.room ≡ b.holds.room
-    → owed.items ≡ b.owed.items ++ a ∷ [] → owed.room ≡ b.owed.room
+    → owed.items ≡ a ∷ b.owed.items → owed.room ≡ b.owed.room
     → uses a b.records.items holds.items ≡ 0 → IsBook (record b { holds = holds; owed = owed })
 book_owe b holds owed a h there items room more owed_room unused =
     let rs : List Record = b.records.items in
@@ -173,7 +170,7 @@ book_owe b holds owed a h there items room more owed_room unused =
           (subst (λ hs. uses a rs hs ≡ 0) items unused)));
       references = subst (λ hs. AreReferences (events_of b.notes.items) rs hs) (sym items)
           (refs_without (events_of b.notes.items) rs b.holds.items a h.references);
-      few = omega (arith, h.few, ap length items, length-without a b.holds.items there, ap length more, length-append b.owed.items (a ∷ []));
+      few = omega (arith, h.few, ap length items, length-without a b.holds.items there, ap length more);
       rooms = record { records = h.rooms.records; free = h.rooms.free; holds = omega (arith, room, h.rooms.holds); owed = omega (arith, owed_room, h.rooms.owed); notes = h.rooms.notes; spared = h.rooms.spared };
     }
 
@@ -206,13 +203,13 @@ not_not false = refl
 
 -- whether a place is in use, by the fields
 used_is : (b : Book) (p : ℕ) → IsBook b
-    → is_used p (sight_of b) ≡ (list_any (has_place p) b.records.items || is_held p b.holds.items || is_owed p b.owed.items)
+    → is_in_use p (sight_of b) ≡ (list_any (has_place p) b.records.items || is_held p b.holds.items || is_owed p b.owed.items)
 used_is b p h =
     ap (λ (s : State). not (not (list_any (has_place p) s.records)) || is_held p b.holds.items || is_owed p b.owed.items) (sym h.history.state)
     ∙ ap (λ x. x || is_held p b.holds.items || is_owed p b.owed.items) (not_not (list_any (has_place p) b.records.items))
 
 pub used : (b : Book) (p : ℕ) → IsBook b → 1 ≤ uses p b.records.items b.holds.items + times p b.owed.items
-    → is_used p (sight_of b) ≡ true
+    → is_in_use p (sight_of b) ≡ true
 used b p h some =
     used_is b p h ∙ true_from_ne_false _ (λ e.
     let parts = or_parts (list_any (has_place p) b.records.items || is_held p b.holds.items) (is_owed p b.owed.items) e in
@@ -221,7 +218,7 @@ used b p h some =
     tally_none (λ q. q == p) b.owed.items parts.1))
 
 pub unused : (b : Book) (p : ℕ) → IsBook b → uses p b.records.items b.holds.items + times p b.owed.items ≡ 0
-    → is_used p (sight_of b) ≡ false
+    → is_in_use p (sight_of b) ≡ false
 unused b p h none =
     used_is b p h ∙ or_from _ _ (or_from _ _ (none_of (has_place p) b.records.items (omega (arith, none)))
     (none_of (is_at p) b.holds.items (omega (arith, none)))) (none_of (λ q. q == p) b.owed.items (omega (arith, none)))
@@ -238,7 +235,7 @@ saw old new notes spare sizes = record {
 
 -- a place that is given back is in no use
 pub recycled : (b new : Book) (a : ℕ) → IsBook b → IsBook new → is_owed a b.owed.items ≡ true
-    → new.records ≡ b.records → new.holds ≡ b.holds → new.owed.items ≡ paid a b.owed.items → is_used a (sight_of new) ≡ false
+    → new.records ≡ b.records → new.holds ≡ b.holds → new.owed.items ≡ paid a b.owed.items → is_in_use a (sight_of new) ≡ false
 recycled b new a h right there records holds owed =
     let less = same_paid a b.owed.items there in
     let low : a < b.sizes.entries =
@@ -255,9 +252,16 @@ full b at h here none = record {
   alone = λ one p low. used b p h (omega (arith, h.places.once p low, ap (times p) none));
 }
 
+-- what is so of the records is so of the state after the history
+state_has : (F : List Record → Type 0) (b new : Book) → IsBook b → new.notes ≡ b.notes → F b.records.items
+    → F (after (events_of new.notes.items) (length (events_of new.notes.items))).records
+state_has F b new h notes fact =
+    subst (λ (ns : Roomed Note). F (after (events_of ns.items) (length (events_of ns.items))).records) (sym notes)
+    (subst (λ (s : State). F s.records) h.history.state fact)
+
 -- what a taken place says
 pub takes : (b new : Book) (i p : ℕ) → IsBook b → slice_get b.free.items i ≡ Some p → new.notes ≡ b.notes → new.spare ≡ b.spare
-    → new.sizes ≡ b.sizes → new.holds.items ≡ b.holds.items ++ record { place = p; id = None } ∷ [] → new.owed ≡ b.owed
+    → new.sizes ≡ b.sizes → new.holds.items ≡ record { place = p; id = None } ∷ b.holds.items → new.owed ≡ b.owed
     → Takes (sight_of b) (sight_of new) p
 takes b new i p h at notes spare sizes holds owed =
     let nobody : IsNobodys b p = free_nobodys b i p h at in
@@ -267,6 +271,7 @@ takes b new i p h at notes spare sizes holds owed =
       unheld = none_of (is_at p) b.holds.items nobody.holds;
       unowed = none_of (λ q. q == p) b.owed.items nobody.owed;
       holds = record { held = holds; owed = ap (λ os. os.items) owed };
+      alone = λ one. ap not (state_has (λ rs. list_any (has_place p) rs ≡ false) b new h notes (none_of (has_place p) b.records.items nobody.records));
     }
 
 -- a reference that is given up leaves the place in use

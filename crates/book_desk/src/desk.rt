@@ -74,6 +74,7 @@ impl PlainDesk {
     }
 
     /// Makes room.
+    #[tactic(auto, using(crate::proofs::Known::known))]
     pub fn ready(&mut self, k: u64) -> Result<(), NoMemory>
         requires { length self.old.own + k ≤ 2 ^ 30 }
         ensures ready { OnOk result (IsReady k self.old self.new) }
@@ -85,6 +86,7 @@ impl PlainDesk {
     }
 
     /// Looks up.
+    #[tactic(auto, using(crate::proofs::Known::known))]
     pub fn find(&mut self, t: &Tuple) -> FindOutcome
         requires { length self.old.held + length self.old.owed ≤ 3 }
         ensures says { FindSays t.now self.old self.new result }
@@ -94,6 +96,7 @@ impl PlainDesk {
     }
 
     /// Counts.
+    #[tactic(auto, using(crate::proofs::Known::known))]
     pub fn count(&mut self) -> LiveCount
         ensures says { CountSays self.old self.new result }
         ensures knows { IsKnown self.new }

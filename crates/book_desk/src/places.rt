@@ -30,7 +30,7 @@ impl Book {
     {
         live_records_are_confirmed();
         let subject = *self.records.at(index);
-        self.holds.push(Hold {
+        self.holds.put_first(Hold {
             place: subject.place,
             id: Some(subject.id),
         });
@@ -80,7 +80,7 @@ impl Book {
             return TakeOutcome::Full { at: self.point() };
         }
         let place = self.free.remove(count - 1);
-        self.holds.push(Hold { place, id: None });
+        self.holds.put_first(Hold { place, id: None });
         TakeOutcome::Taken { place }
     }
 
@@ -130,7 +130,7 @@ impl Book {
         if is_in_use(self.records.as_slice(), self.holds.as_slice(), place) {
             return ReleaseOutcome::Kept;
         }
-        self.owed.push(place);
+        self.owed.put_first(place);
         ReleaseOutcome::Last
     }
 

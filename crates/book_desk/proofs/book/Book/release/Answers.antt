@@ -13,6 +13,6 @@ returns-then-is_in_use-clause-book c =
 
 pub returns-clause-book : goal.returns-clause-book
 returns-clause-book c =
-    book_owe c.args.self.now c.give_up.new.holds c.push.new.self c.args.place c.requires.book c.requires.held c.give_up.ensures.items
-    c.give_up.ensures.room c.push.ensures.items c.push.ensures.room
+    book_owe c.args.self.now c.give_up.new.holds c.put_first.new.self c.args.place c.requires.book c.requires.held c.give_up.ensures.items
+    c.give_up.ensures.room c.put_first.ensures.items c.put_first.ensures.room
     (not_used c.args.place c.args.self.now.records.items c.give_up.new.holds.items (search rules))

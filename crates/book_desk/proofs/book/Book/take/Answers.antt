@@ -11,10 +11,10 @@ returns-then-count-eq0-clause-says c =
 pub returns-clause-says : goal.returns-clause-says
 returns-clause-says c =
     takes c.args.self.now
-    (record c.args.self.now { free = c.remove-place.new.self; holds = c.push.new.self }) _ c.remove-place.result c.requires.book
-    c.remove-place.ensures.item refl refl refl c.push.ensures.items refl
+    (record c.args.self.now { free = c.remove-place.new.self; holds = c.put_first.new.self }) _ c.remove-place.result c.requires.book
+    c.remove-place.ensures.item refl refl refl c.put_first.ensures.items refl
 
 pub returns-clause-book : goal.returns-clause-book
 returns-clause-book c =
-    book_take c.args.self.now c.push.new.self c.remove-place.new.self _ c.remove-place.result c.requires.book c.requires.room
-    c.remove-place.ensures.item c.push.ensures.items c.push.ensures.room c.remove-place.ensures.items c.remove-place.ensures.room
+    book_take c.args.self.now c.put_first.new.self c.remove-place.new.self _ c.remove-place.result c.requires.book c.requires.room
+    c.remove-place.ensures.item c.put_first.ensures.items c.put_first.ensures.room c.remove-place.ensures.items c.remove-place.ensures.room
