@@ -89,3 +89,7 @@ apart_once (p ∷ ps) h =
     (each_map (λ q. q ≢ p) (λ q. p ≢ q) ps (λ q e f. e (sym f))
     (none_has (λ q. q) p ps (omega (arith, h p, same_bit p p refl)))))
     (apart_once ps (λ q. omega (arith, h q)))
+
+pub none_counted : {X : Type 0} (f : X → ℕ) (p : ℕ) (xs : List X) → AllByRecursion (λ x. f x ≢ p) xs → tally (λ x. f x == p) xs ≡ 0
+none_counted f p [] h = refl
+none_counted f p (x ∷ xs) (h, hs) = omega (arith, other_bit (f x) p h, none_counted f p xs hs)

@@ -8,13 +8,13 @@ use Rattle.history_book.specs.declared.record.Record.{Record}
 use Rattle.history_book.specs.declared.sizes.Sizes.{Sizes}
 use Rattle.history_book.specs.Desk.{Looked, MadeEvent, Saw}
 use Rattle.history_book.specs.History.{after, is_legal}
-use Rattle.history_book.specs.Laws.{LegalHistoriesGoOn, StatesFollow}
+use Rattle.history_book.specs.Laws.{LegalHistoriesGoOn, StatesFollow, StatesStay}
 use Rattle.history_book.specs.Legality.{may_happen}
-use Rattle.history_book.specs.Point.{StartsWith}
+use Rattle.history_book.specs.Point.{At, StartsWith}
 use Rattle.history_book.specs.Sight.{Sight, notes_from}
 use Rattle.history_book.specs.State.{State, next, state_of}
 use Rattle.book_desk.specs.declared.book.Book.{Book}
-use Rattle.book_desk.specs.Book.{IsBook, IsHistory, events_of, sight_of}
+use Rattle.book_desk.specs.Book.{IsBook, IsHistory, events_of, noted, sight_of}
 
 pub length-events : (notes : List Note) → length (events_of notes) ≡ length notes
 length-events notes = length-map notes (λ (n : Note). n.event)
@@ -28,10 +28,6 @@ notes_from-push k [] e = ap (λ (n : ℕ). record { number = n; event = e } ∷ 
 notes_from-push k (x ∷ xs) e =
     ap (λ ns. record { number = k; event = x } ∷ ns) (notes_from-push (k + 1) xs e
     ∙ ap (λ (n : ℕ). notes_from (k + 1) xs ++ record { number = n; event = e } ∷ []) (omega arith))
-
--- the event that comes next
-abbrev pub noted : List Note → Event → Note
-noted notes e = record { number = length notes; event = e }
 
 -- the history goes on with an event that may happen
 pub history_next : StatesFollow → LegalHistoriesGoOn → (sizes : Sizes) (notes more : List Note) (rs rs' : List Record) (e : Event)
@@ -105,3 +101,12 @@ made old new at e here notes spare sizes =
       high = omega (arith, point, ap length longer, length-append log (e ∷ []));
       happened = ap (λ l. slice_get l at) longer ∙ ap (slice_get (log ++ e ∷ [])) (sym point) ∙ get_last log e;
     }
+
+-- what was so of the records is so at the point before the event
+pub at_before : StatesStay → (old new : Book) (at : ℕ) (e : Event) (F : State → Type 0) → IsBook old → at ≡ length old.notes.items
+    → MadeEvent (sight_of old) (sight_of new) at e → F (state_of old.records.items) → At (events_of new.notes.items) at F
+at_before stay old new at e F book here event fact =
+    let log : List Event = events_of old.notes.items in
+    let point : length log ≡ at = length-events old.notes.items ∙ sym here in
+    let later = stay (events_of new.notes.items) log at event.front (omega (arith, point)) in
+    record { within = later.0; fact = subst F (book.history.state ∙ ap (after log) point ∙ sym later.1) fact }

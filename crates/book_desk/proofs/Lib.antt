@@ -7,3 +7,4 @@ pub mod References
 pub mod Books
 pub mod Known
 pub mod Steps
+pub mod Events

@@ -100,7 +100,7 @@ pub held_id_at : (place : ℕ) (held : List Hold) (i : ℕ) (d : Hold) → posit
 held_id_at place held i d h =
     ap id_of (sym (item_at (is_at place) held i h) ∙ slice_get-get_or held i d (found_within (is_at place) held i h))
 
-find_passes : {X : Type 0} (p : X → Bool) (xs : List X) (x : X) → find p xs ≡ Some x → p x ≡ true
+pub find_passes : {X : Type 0} (p : X → Bool) (xs : List X) (x : X) → find p xs ≡ Some x → p x ≡ true
 find_passes p [] x h = cc
 find_passes p (y ∷ ys) x h =
     cond_both (p y) (Some y) (find p ys) (λ o. o ≡ Some x → p x ≡ true)

@@ -63,14 +63,19 @@ all_for_one rs held i r at current =
     }) current
 
 -- a live record was confirmed in its place
-confirmed_there : LiveRecordsAreConfirmed → (b : Book) (i : ℕ) (r : Record) → IsBook b → slice_get b.records.items i ≡ Some r
-    → WasConfirmedIn (events_of b.notes.items) r.place r.id
-confirmed_there law b i r h at =
+pub confirmed_record : LiveRecordsAreConfirmed → (b : Book) (i : ℕ) (r : Record) → IsBook b → slice_get b.records.items i ≡ Some r
+    → IsConfirmed (events_of b.notes.items) r
+confirmed_record law b i r h at =
     let log : List Event = events_of b.notes.items in
     let live : AllByRecursion (IsConfirmed log) (after log (length log)).records =
     recursion_from_All (IsConfirmed log) (after log (length log)).records (law b.sizes log (length log) h.history.legal).0 in
     let rs : b.records.items ≡ (after log (length log)).records = ap (λ (s : State). s.records) h.history.state in
-    let one : IsConfirmed log r = each_at (IsConfirmed log) (after log (length log)).records i r live (sym (ap (λ l. slice_get l i) rs) ∙ at) in
+    each_at (IsConfirmed log) (after log (length log)).records i r live (sym (ap (λ l. slice_get l i) rs) ∙ at)
+
+confirmed_there : LiveRecordsAreConfirmed → (b : Book) (i : ℕ) (r : Record) → IsBook b → slice_get b.records.items i ≡ Some r
+    → WasConfirmedIn (events_of b.notes.items) r.place r.id
+confirmed_there law b i r h at =
+    let one : IsConfirmed (events_of b.notes.items) r = confirmed_record law b i r h at in
     record { subject = one.subject; event = one.event; placed = sym one.same.place }
 
 pub book_hold : LiveRecordsAreConfirmed → (b : Book) (holds : Roomed Hold) (i : ℕ) (r : Record) → IsBook b

@@ -1,9 +1,10 @@
 -- What the desk's fields say, and when they are right.
-use Rattle.std.specs.Prelude.{◌≡◌, ℕ, ◌+◌, ◌<◌, ◌≤◌, ◌^◌, min, Bool, true, ◌==◌, if◌then◌else◌, Option, Some, None, List, [], ◌∷◌, length, map, IsSome}
+use Rattle.std.specs.Prelude.{◌≡◌, ℕ, ◌+◌, ◌<◌, ◌≤◌, ◌^◌, min, Bool, true, ◌==◌, if◌then◌else◌, Option, Some, None, List, [], ◌∷◌, length, map, slice_get}
 use Rattle.std.specs.List.{AllByRecursion}
 use Rattle.history_book.specs.declared.desk.Hold.{Hold}
 use Rattle.history_book.specs.declared.event.Event.{Event}
 use Rattle.history_book.specs.declared.event.Note.{Note}
+use Rattle.history_book.specs.declared.find.FoundAt.{FoundAt}
 use Rattle.history_book.specs.declared.record.Record.{Record}
 use Rattle.history_book.specs.declared.sizes.Sizes.{Sizes}
 use Rattle.history_book.specs.Held.{is_at}
@@ -11,12 +12,23 @@ use Rattle.history_book.specs.History.{after, is_legal}
 use Rattle.history_book.specs.Record.{has_place}
 use Rattle.history_book.specs.Sight.{IsForEntryOf, IsForOne, Sight, notes_from}
 use Rattle.history_book.specs.Sizes.{AreWithinLimits}
-use Rattle.history_book.specs.State.{state_of}
+use Rattle.history_book.specs.State.{State, state_of, winner}
+use Rattle.tuple_core.specs.declared.Tuple.{Tuple}
 use Rattle.book_desk.specs.declared.book.Book.{Book}
 
 -- the events of notes
 abbrev pub events_of : List Note → List Event
 events_of notes = map (λ (n : Note). n.event) notes
+
+-- an event with the number that comes next
+abbrev pub noted : List Note → Event → Note
+noted notes e = record { number = length notes; event = e }
+
+-- the record at this index is the one that a new flow with these tuples meets, by this direction
+pub record WinsAt (original reply : Tuple) (s : State) (found : FoundAt) : Type 0 where
+  pub subject : Record
+  pub item : slice_get s.records found.index ≡ Some subject
+  pub wins : winner original reply s ≡ Some (record { subject = subject; direction = found.direction })
 
 -- what the fields say to callers
 abbrev pub sight_of : Book → Sight

@@ -1,25 +1,29 @@
 //! The desk of a tracker of one thread.
+#![tactic(auto, using(crate::proofs::Known::known))]
 
-ghost use Rattle.std.specs.Prelude.{◌≡◌, ◌+◌, ◌<◌, ◌≤◌, ◌^◌, true, length, IfOk, OnErr, OnOk};
-ghost use Rattle.history_book.specs.Desk.{CountSays, FindSays, HoldSays, IsReady};
-ghost use Rattle.history_book.specs.Desk.{PeekSays, RecycleSays, ReleaseSays, TakeSays};
-ghost use Rattle.history_book.specs.Held.{is_held, is_held_for_entry, is_owed};
+ghost use Rattle.std.specs.Prelude.{IfOk};
 ghost use Rattle.history_book.specs.Sight.{IsKnown};
 ghost use Rattle.history_book.specs.Sizes.{AreWithinLimits};
 ghost use Rattle.book_desk.specs.Book.{IsFresh};
 ghost use Rattle.book_desk.specs.Closed.{Closes};
 
 use crate::book::Book;
+use history_book::desk::Desk;
+use history_book::event::Why;
 use history_book::outcome::{
-    FindOutcome, HoldOutcome, LiveCount, PeekOutcome, ReleaseOutcome, TakeOutcome,
+    ConfirmOutcome, FindOutcome, HoldOutcome, KillOutcome, LiveCount, PeekOutcome, ReleaseOutcome,
+    TakeOutcome, TouchOutcome,
 };
+use history_book::record::Flow;
 use history_book::report::Closed;
 use history_book::sizes::Sizes;
 use std::alloc::Global;
 use std::marker::Model;
-use tuple_core::{NoMemory, Tuple};
+use std::sync::Wait;
+use tuple_core::{Direction, NoMemory, Segment, Tuple};
 
-/// A tracker of one thread: a list of live records, and no index.
+/// A tracker of one thread: a list of live records, with no index. It has seen every event that it
+/// made, and it never waits.
 #[derive(Drop)]
 pub struct PlainDesk {
     book: Book,
@@ -37,7 +41,7 @@ impl Model for PlainDesk {
 }
 
 impl PlainDesk {
-    /// A desk with no event and no entry.
+    /// A desk of a tracker with no entry, which made no event and keeps no place.
     pub fn new(alloc: Global, sizes: Sizes) -> Result<PlainDesk, NoMemory>
         requires { AreWithinLimits sizes }
         ensures knows { IfOk result IsKnown }
@@ -47,7 +51,7 @@ impl PlainDesk {
         Ok(PlainDesk { book })
     }
 
-    /// What the desk leaves.
+    /// What the tracker leaves at its end.
     pub fn finish(self) -> Closed
         ensures { Closes self result }
     {
@@ -58,49 +62,67 @@ impl PlainDesk {
             notes: book.notes,
         }
     }
+}
 
-    /// The places of the pool.
-    pub fn places(&self) -> u32
-        ensures { result ≡ self.now.sizes.entries }
-    {
+impl Desk for PlainDesk {
+    ghost sight = { λ d. d };
+
+    fn places(&self) -> u32 {
         self.book.sizes.entries
     }
 
-    /// The number of own events.
-    pub fn made(&self) -> u64
-        ensures { result ≡ length self.now.own }
-    {
+    fn made(&self) -> u64 {
         self.book.point()
     }
 
-    /// Makes room.
-    #[tactic(auto, using(crate::proofs::Known::known))]
-    pub fn ready(&mut self, k: u64) -> Result<(), NoMemory>
-        requires { length self.old.own + k ≤ 2 ^ 30 }
-        ensures ready { OnOk result (IsReady k self.old self.new) }
-        ensures short { OnErr result (self.old.spare < k) }
-        ensures same { OnErr result (self.new ≡ self.old) }
-        ensures knows { IsKnown self.new }
-    {
+    fn ready(&mut self, k: u64) -> Result<(), NoMemory> {
         self.book.ready(k)
     }
 
-    /// Looks up.
-    #[tactic(auto, using(crate::proofs::Known::known))]
-    pub fn find(&mut self, t: &Tuple) -> FindOutcome
-        requires { length self.old.held + length self.old.owed ≤ 3 }
-        ensures says { FindSays t.now self.old self.new result }
-        ensures knows { IsKnown self.new }
-    {
+    fn find<R: Wait>(&mut self, _rt: &R, t: &Tuple) -> FindOutcome {
         self.book.find(t)
     }
 
-    /// Counts.
-    #[tactic(auto, using(crate::proofs::Known::known))]
-    pub fn count(&mut self) -> LiveCount
-        ensures says { CountSays self.old self.new result }
-        ensures knows { IsKnown self.new }
-    {
+    fn count<R: Wait>(&mut self, _rt: &R) -> LiveCount {
         self.book.count()
+    }
+
+    fn take<R: Wait>(&mut self, _rt: &R) -> TakeOutcome {
+        self.book.take()
+    }
+
+    fn confirm<R: Wait>(&mut self, _rt: &R, place: u32, flow: &Flow) -> ConfirmOutcome {
+        self.book.confirm(place, flow)
+    }
+
+    fn touch<R: Wait>(
+        &mut self,
+        _rt: &R,
+        place: u32,
+        direction: Direction,
+        segment: Segment,
+        moment: u64,
+    ) -> TouchOutcome {
+        self.book.touch(place, direction, segment, moment)
+    }
+
+    fn peek<R: Wait>(&mut self, _rt: &R, place: u32) -> PeekOutcome {
+        self.book.peek(place)
+    }
+
+    fn kill<R: Wait>(&mut self, _rt: &R, place: u32, why: Why) -> KillOutcome {
+        self.book.kill(place, why)
+    }
+
+    fn hold<R: Wait>(&mut self, _rt: &R, place: u32) -> HoldOutcome {
+        self.book.hold(place)
+    }
+
+    fn release<R: Wait>(&mut self, _rt: &R, place: u32) -> ReleaseOutcome {
+        self.book.release(place)
+    }
+
+    fn recycle<R: Wait>(&mut self, _rt: &R, place: u32) {
+        self.book.recycle(place);
     }
 }

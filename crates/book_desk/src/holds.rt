@@ -2,7 +2,7 @@
 
 ghost use Rattle.std.specs.Prelude.{◌≡◌, ◌==◌, ◌||◌, position, true};
 ghost use Rattle.std.specs.List.{list_any};
-ghost use Rattle.history_book.specs.Held.{held_id, is_at, is_held, is_owed, paid, without};
+ghost use Rattle.history_book.specs.Held.{for_entry, held_for, held_id, is_at, is_held, is_owed, paid, without};
 ghost use Rattle.history_book.specs.Record.{has_place};
 
 use history_book::desk::Hold;
@@ -96,5 +96,27 @@ pub fn pay(owed: &mut RoomList<u32>, place: u32)
 {
     if let Some(index) = owed_index(owed.as_slice(), place) {
         let _ = owed.remove(index);
+    }
+}
+
+/// The reference, for the entry of this id if it is to the place.
+fn for_entry(h: Hold, place: u32, id: u64) -> Hold
+    ensures { result ≡ for_entry place id h }
+{
+    if h.place == place {
+        Hold { id: Some(id), ..h }
+    } else {
+        h
+    }
+}
+
+/// Makes each reference to the place one for the entry of this id.
+pub fn name_holds(holds: &mut RoomList<Hold>, place: u32, id: u64)
+    ensures items { holds.new.items ≡ held_for place id holds.old.items }
+    ensures room { holds.new.room ≡ holds.old.room }
+{
+    for index in 0..holds.len() {
+        let hold = *holds.at(index);
+        holds.set(index, for_entry(hold, place, id));
     }
 }

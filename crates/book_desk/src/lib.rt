@@ -3,5 +3,6 @@
 
 mod book;
 pub mod desk;
+mod entries;
 mod holds;
 mod places;
