@@ -1,5 +1,5 @@
 -- The book of a desk that did nothing yet.
-use Rattle.std.proofs.Common.{◌≡◌, ◌≢◌, ℕ, ◌+◌, ◌<◌, ◌≤◌, zero, true, List, [], ◌∷◌, length, refl, sym, ap, subst, ◌∙◌, arith}
+use Rattle.std.proofs.Common.{◌≡◌, ℕ, ◌≤◌, List, [], refl, arith}
 use Rattle.room_list.specs.Roomed.{Roomed}
 use Rattle.history_book.specs.declared.desk.Hold.{Hold}
 use Rattle.history_book.specs.declared.event.Note.{Note}
@@ -7,9 +7,7 @@ use Rattle.history_book.specs.declared.record.Record.{Record}
 use Rattle.history_book.specs.declared.sizes.Sizes.{Sizes}
 use Rattle.history_book.specs.History.{after, is_legal}
 use Rattle.history_book.specs.Sizes.{AreWithinLimits}
-use Rattle.history_book.specs.State.{state_of}
-use Rattle.book_desk.specs.declared.book.Book.{Book}
-use Rattle.book_desk.specs.Book.{AreBelow, ArePlaces, AreReferences, IsBook, IsHistory, times}
+use Rattle.book_desk.specs.Book.{AreBelow, ArePlaces, IsBook, IsHistory}
 
 -- all lists are empty, but that of the free places, which has all
 pub record AreFresh (sizes : Sizes) (records : Roomed Record) (free : Roomed ℕ) (notes : Roomed Note) (holds : Roomed Hold) (owed : Roomed ℕ) : Type 0 where

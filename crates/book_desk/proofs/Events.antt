@@ -1,7 +1,7 @@
 -- What an event more leaves of a right book, and what is told of it.
-use Rattle.std.proofs.Common.{◌≡◌, ◌≢◌, ℕ, ◌+◌, ◌<◌, ◌≤◌, true, false, not, cond, List, [], ◌∷◌, ◌++◌, length, map, refl, sym, ap, subst, ◌∙◌, ⊎_elim, arith, Option, Some, None, length-append}
-use Rattle.std.specs.List.{AllByRecursion, find, list_any, remove, slice_get}
-use Rattle.std.specs.Prelude.{◌==◌, ◌&&◌, ◌||◌, ◌⊎◌, Bool, is_none, is_some, slice_set, unwrap_or}
+use Rattle.std.proofs.Common.{◌≡◌, ◌≢◌, ℕ, ◌+◌, ◌<◌, true, false, not, cond, List, [], ◌∷◌, ◌++◌, length, refl, sym, ap, subst, ◌∙◌, ⊎_elim, arith, Option, Some, None, length-append}
+use Rattle.std.specs.List.{AllByRecursion, find, remove, slice_get}
+use Rattle.std.specs.Prelude.{◌&&◌, ◌||◌, Bool, is_none, is_some, slice_set, unwrap_or}
 use Rattle.std.proofs.lemmas.Bool.{and_from, and_parts, cond_both, eq-eqb, eqb-true, lt-ltb, or_cases, or_left, or_right}
 use Rattle.std.proofs.lemmas.List.{length-map}
 use Rattle.std.proofs.lemmas.Option.{same_Some}
@@ -126,8 +126,11 @@ taken_below b p h taken =
 -- there is room for a record in a place that was taken
 pub enter_room : (b : Book) (p : ℕ) → IsBook b → is_taken p b.holds.items ≡ true → length b.records.items < b.records.room
 enter_room b p h taken =
-    omega (arith, h.rooms.records,
-    fewer_records b.sizes.entries b.records.items b.holds.items b.free.items b.owed.items h.places p (taken_below b p h taken) (nobodys b p h taken))
+    omega (
+      arith,
+      h.rooms.records,
+      fewer_records b.sizes.entries b.records.items b.holds.items b.free.items b.owed.items h.places p (taken_below b p h taken) (nobodys b p h taken),
+    )
 
 pub entered : StatesFollow → LegalHistoriesGoOn → FreeIsAbsent → (old new : Book) (r : Record) → IsBook old → Adds old new (Confirm r)
     → is_taken r.place old.holds.items ≡ true → r.id ≡ length old.notes.items → is_of_one_protocol r ≡ true
@@ -254,10 +257,10 @@ first_for p [] agree held = cc
 first_for p (h ∷ hs) (one, rest) held =
     elim (is_at p h) as (λ b. is_at p h ≡ b → ((b && is_some h.id) || is_held_for_entry p hs) ≡ true → IsFirstFor p (h ∷ hs)) [
       | true ↦ λ here some. record {
-          hold = h;
-          first = ap (λ b. cond b (Some h) (find (is_at p) hs)) here;
-          for_it = ⊎_elim (λ e. e) (λ e. some_by_others p h hs (eqb-true h.place p here) one e) (or_cases (is_some h.id) (is_held_for_entry p hs) some);
-        }
+        hold = h;
+        first = ap (λ b. cond b (Some h) (find (is_at p) hs)) here;
+        for_it = ⊎_elim (λ e. e) (λ e. some_by_others p h hs (eqb-true h.place p here) one e) (or_cases (is_some h.id) (is_held_for_entry p hs) some);
+      }
       | false ↦ λ here some.
           let later : IsFirstFor p hs = first_for p hs rest some in
           record {

@@ -1,17 +1,17 @@
 -- What an event more leaves of the history, and what is told of it.
-use Rattle.std.proofs.Common.{◌≡◌, ℕ, ◌+◌, ◌<◌, ◌≤◌, zero, suc, true, List, [], ◌∷◌, ◌++◌, length, map, refl, sym, ap, subst, ◌∙◌, arith, Some, length-append, append_assoc, append-nil}
-use Rattle.std.specs.List.{AllByRecursion, slice_get}
+use Rattle.std.proofs.Common.{◌≡◌, ℕ, ◌+◌, zero, suc, true, List, [], ◌∷◌, ◌++◌, length, refl, sym, ap, subst, ◌∙◌, arith, Some, length-append, append-nil}
+use Rattle.std.specs.List.{slice_get}
 use Rattle.std.proofs.lemmas.List.{length-map, map-append}
 use Rattle.history_book.specs.declared.event.Event.{Event}
 use Rattle.history_book.specs.declared.event.Note.{Note}
 use Rattle.history_book.specs.declared.record.Record.{Record}
 use Rattle.history_book.specs.declared.sizes.Sizes.{Sizes}
-use Rattle.history_book.specs.Desk.{Looked, MadeEvent, Saw}
+use Rattle.history_book.specs.Desk.{Looked, MadeEvent}
 use Rattle.history_book.specs.History.{after, is_legal}
 use Rattle.history_book.specs.Laws.{LegalHistoriesGoOn, StatesFollow, StatesStay}
 use Rattle.history_book.specs.Legality.{may_happen}
-use Rattle.history_book.specs.Point.{At, StartsWith}
-use Rattle.history_book.specs.Sight.{Sight, notes_from}
+use Rattle.history_book.specs.Point.{At}
+use Rattle.history_book.specs.Sight.{notes_from}
 use Rattle.history_book.specs.State.{State, next, state_of}
 use Rattle.book_desk.specs.declared.book.Book.{Book}
 use Rattle.book_desk.specs.Book.{IsBook, IsHistory, events_of, noted, sight_of}

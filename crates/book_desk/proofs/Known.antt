@@ -1,7 +1,7 @@
 -- What a right book tells its callers.
 use Rattle.std.proofs.Common.{◌≡◌, ℕ, ◌+◌, ◌<◌, ◌≤◌, List, [], ◌∷◌, ◌++◌, length, refl, sym, ap, subst, ◌∙◌, arith, Some, append_assoc, length-append, false, ⊎_elim}
 use Rattle.std.specs.List.{AllByRecursion, AllPairs, slice_get}
-use Rattle.std.specs.Prelude.{◌==◌, ◌⊎◌}
+use Rattle.std.specs.Prelude.{◌==◌}
 use Rattle.std.proofs.lemmas.Bool.{cases_lt}
 use Rattle.std.proofs.lemmas.List.Elements.{All-from_recursion}
 use Rattle.std.proofs.lemmas.List.Kept.{AllPairs-cons}
@@ -25,10 +25,9 @@ noted_at k before [] h = tt
 noted_at k before (e ∷ es) h =
     let more : (before ++ e ∷ []) ++ es ≡ before ++ e ∷ es = append_assoc before (e ∷ []) es in
     let rest : AllByRecursion (λ (n : Note). slice_get ((before ++ e ∷ []) ++ es) n.number ≡ Some n.event) (notes_from (k + 1) es) =
-    noted_at (k + 1) (before ++ e ∷ []) es (omega (arith, h, length-append before (e ∷ []))) in
-    (
+    noted_at (k + 1) (before ++ e ∷ []) es (omega (arith, h, length-append before (e ∷ []))) in (
       ap (slice_get (before ++ e ∷ es)) (sym h) ∙ ap (λ l. slice_get l (length before)) (sym more)
-      ∙ get_append (before ++ e ∷ []) es (length before) e (get_last before e),
+          ∙ get_append (before ++ e ∷ []) es (length before) e (get_last before e),
       subst (λ l. AllByRecursion (λ (n : Note). slice_get l n.number ≡ Some n.event) (notes_from (k + 1) es)) more rest,
     )
 
@@ -65,8 +64,12 @@ known b h =
       owed = All-from_recursion (λ p. p < b.sizes.entries) b.owed.items owing;
       unowed = All-from_recursion (λ (k : Hold). is_owed k.place b.owed.items ≡ false) b.holds.items
           (each_counted (λ (k : Hold). k.place) (λ p. is_owed p b.owed.items ≡ false) b.holds.items (λ p some.
-          none_of (λ q. q == p) b.owed.items (omega (arith, some, h.places.once p
-          (place_below b.sizes.entries b.records.items b.holds.items b.free.items b.owed.items p h.places (omega (arith, some)))))));
+          none_of (λ q. q == p) b.owed.items (omega (
+            arith,
+            some,
+            h.places.once p
+                (place_below b.sizes.entries b.records.items b.holds.items b.free.items b.owed.items p h.places (omega (arith, some))),
+          ))));
       once = apart_once b.owed.items (λ p.
           ⊎_elim (λ (e : p < b.sizes.entries). omega (arith, h.places.once p e))
           (λ (e : b.sizes.entries ≤ p). omega (arith, h.places.beyond p e)) (cases_lt p b.sizes.entries));

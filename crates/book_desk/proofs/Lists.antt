@@ -1,9 +1,9 @@
 -- How many items of a list pass a test, and facts of each item.
-use Rattle.std.proofs.Common.{◌≡◌, ◌≢◌, ℕ, ◌+◌, ◌-◌, ◌<◌, ◌≤◌, zero, suc, Bool, true, false, not, cond, List, [], ◌∷◌, ◌++◌, length, map, refl, sym, ap, subst, ◌∙◌, arith, Some, length-append, append-nil, ⊎_elim}
+use Rattle.std.proofs.Common.{◌≡◌, ◌≢◌, ℕ, ◌+◌, ◌-◌, ◌<◌, ◌≤◌, zero, suc, Bool, true, false, cond, List, [], ◌∷◌, ◌++◌, length, refl, sym, ap, subst, ◌∙◌, arith, Some, ⊎_elim}
 use Rattle.std.specs.List.{AllByRecursion, list_any, remove, slice_get}
-use Rattle.std.specs.Prelude.{slice_set, ◌==◌, ◌||◌, ◌⊎◌}
+use Rattle.std.specs.Prelude.{slice_set, ◌==◌, ◌||◌}
 use Rattle.std.proofs.lemmas.Bool.{cases_Bool, cases_eq, cond_both, eq-eqb, ne_eqb}
-use Rattle.book_desk.specs.Book.{AreBelow, bit, tally, times}
+use Rattle.book_desk.specs.Book.{AreBelow, bit, tally}
 
 pub bit_le : (b : Bool) → bit b ≤ 1
 bit_le true = omega arith

@@ -1,15 +1,15 @@
 -- What each change does to the places.
-use Rattle.std.proofs.Common.{◌≡◌, ◌≢◌, ℕ, ◌+◌, ◌<◌, ◌≤◌, min, Bool, true, false, List, [], ◌∷◌, ◌++◌, length, refl, sym, ap, subst, ◌∙◌, ⊎_elim, arith, Some}
-use Rattle.std.specs.List.{AllByRecursion, list_any, remove, slice_get}
-use Rattle.std.specs.Prelude.{◌==◌, ◌⊎◌, slice_set}
+use Rattle.std.proofs.Common.{◌≡◌, ◌≢◌, ℕ, ◌+◌, ◌<◌, ◌≤◌, min, true, List, [], ◌∷◌, ◌++◌, length, refl, sym, ap, subst, ◌∙◌, ⊎_elim, arith, Some}
+use Rattle.std.specs.List.{AllByRecursion, remove, slice_get}
+use Rattle.std.specs.Prelude.{◌==◌, slice_set}
 use Rattle.std.proofs.lemmas.Bool.{cases_eq, cases_lt, cond_both, eqb-true}
 use Rattle.history_book.specs.declared.desk.Hold.{Hold}
 use Rattle.history_book.specs.declared.record.Record.{Record}
 use Rattle.history_book.specs.Held.{for_entry, held_for, is_at, is_held, is_owed, paid, without}
 use Rattle.history_book.specs.Record.{has_place}
-use Rattle.book_desk.specs.Book.{AreBelow, ArePlaces, bit, tally, times, uses}
+use Rattle.book_desk.specs.Book.{ArePlaces, bit, tally, times, uses}
 use Rattle.book_desk.proofs.Lists.{length-rest, other_bit, same_bit, tally-push, tally-remove, tally-rest, tally-set, tally_some}
-use Rattle.book_desk.proofs.Counting.{all_below, total, total_add, total_hit, total_le, total_ones, total_tally, total_tally_le}
+use Rattle.book_desk.proofs.Counting.{all_below, total_add, total_hit, total_le, total_ones, total_tally, total_tally_le}
 
 -- a place that is somewhere is one of the pool
 pub place_below : (n : ℕ) (rs : List Record) (held : List Hold) (free owed : List ℕ) (a : ℕ) → ArePlaces n rs held free owed
@@ -68,8 +68,11 @@ tally-held_for a id p (h ∷ hs) =
 pub other_without : (a p : ℕ) (held : List Hold) → is_held a held ≡ true → a ≢ p
     → tally (is_at p) (without a held) ≡ tally (is_at p) held
 other_without a p held h e =
-    omega (arith, tally-rest (is_at a) (without a) (λ x xs. refl) (is_at p) 0
-    (λ x passes. other_bit x.place p (λ k. e (sym (eqb-true x.place a passes) ∙ k))) held h)
+    omega (
+      arith,
+      tally-rest (is_at a) (without a) (λ x xs. refl) (is_at p) 0
+          (λ x passes. other_bit x.place p (λ k. e (sym (eqb-true x.place a passes) ∙ k))) held h,
+    )
 
 pub same_without : (a : ℕ) (held : List Hold) → is_held a held ≡ true
     → tally (is_at a) (without a held) + 1 ≡ tally (is_at a) held
@@ -78,8 +81,11 @@ same_without a held h =
 
 pub other_paid : (a p : ℕ) (owed : List ℕ) → is_owed a owed ≡ true → a ≢ p → times p (paid a owed) ≡ times p owed
 other_paid a p owed h e =
-    omega (arith, tally-rest (λ q. q == a) (paid a) (λ x xs. refl) (λ q. q == p) 0
-    (λ x passes. other_bit x p (λ k. e (sym (eqb-true x a passes) ∙ k))) owed h)
+    omega (
+      arith,
+      tally-rest (λ q. q == a) (paid a) (λ x xs. refl) (λ q. q == p) 0
+          (λ x passes. other_bit x p (λ k. e (sym (eqb-true x a passes) ∙ k))) owed h,
+    )
 
 pub same_paid : (a : ℕ) (owed : List ℕ) → is_owed a owed ≡ true → times a (paid a owed) + 1 ≡ times a owed
 same_paid a owed h = tally-rest (λ q. q == a) (paid a) (λ x xs. refl) (λ q. q == a) 1 (λ x passes. ap bit passes) owed h
@@ -222,9 +228,14 @@ module _ (n : ℕ) (rs : List Record) (held : List Hold) (free owed : List ℕ) 
   few_free =
       let each : AllByRecursion (λ q. q < n) free = all_below (λ q. q) n free (λ p above. omega (arith, h.beyond p above)) in
       let owing : AllByRecursion (λ q. q < n) owed = all_below (λ q. q) n owed (λ p above. omega (arith, h.beyond p above)) in
-      omega (arith, total_tally (λ q. q) n free each, total_tally (λ q. q) n owed owing,
-      total_add (λ p. times p free) (λ p. times p owed) n, total_ones n,
-      total_le (λ p. times p free + times p owed) (λ p. 1) n (λ p below. omega (arith, h.once p below)))
+      omega (
+        arith,
+        total_tally (λ q. q) n free each,
+        total_tally (λ q. q) n owed owing,
+        total_add (λ p. times p free) (λ p. times p owed) n,
+        total_ones n,
+        total_le (λ p. times p free + times p owed) (λ p. 1) n (λ p below. omega (arith, h.once p below)),
+      )
 
   records_below : AllByRecursion (λ (r : Record). r.place < n) rs
   records_below = all_below (λ (r : Record). r.place) n rs (λ p above. omega (arith, h.beyond p above))
@@ -232,23 +243,38 @@ module _ (n : ℕ) (rs : List Record) (held : List Hold) (free owed : List ℕ) 
   -- records are no more than there are places
   pub few_records : length rs ≤ n
   few_records =
-      omega (arith, total_tally (λ (r : Record). r.place) n rs records_below, total_ones n,
-      total_le (λ p. tally (has_place p) rs) (λ p. 1) n (λ p below. h.single p))
+      omega (
+        arith,
+        total_tally (λ (r : Record). r.place) n rs records_below,
+        total_ones n,
+        total_le (λ p. tally (has_place p) rs) (λ p. 1) n (λ p below. h.single p),
+      )
 
   -- and fewer where a place is no record's
   pub fewer_records : (a : ℕ) → a < n → tally (has_place a) rs ≡ 0 → length rs < n
   fewer_records a below none =
-      omega (arith, total_tally (λ (r : Record). r.place) n rs records_below, total_ones n, total_hit a n below,
-      total_add (λ p. tally (has_place p) rs) (λ p. bit (a == p)) n,
-      total_le (λ p. tally (has_place p) rs + bit (a == p)) (λ p. 1) n (λ p under. ⊎_elim
-      (λ (e : a ≡ p). omega (arith, same_bit a p e, subst (λ (k : ℕ). tally (has_place k) rs ≡ 0) e none))
-      (λ (e : a ≡ p → ⊥). omega (arith, other_bit a p e, h.single p)) (cases_eq a p)))
+      omega (
+        arith,
+        total_tally (λ (r : Record). r.place) n rs records_below,
+        total_ones n,
+        total_hit a n below,
+        total_add (λ p. tally (has_place p) rs) (λ p. bit (a == p)) n,
+        total_le (λ p. tally (has_place p) rs + bit (a == p)) (λ p. 1) n (λ p under. ⊎_elim
+            (λ (e : a ≡ p). omega (arith, same_bit a p e, subst (λ (k : ℕ). tally (has_place k) rs ≡ 0) e none))
+            (λ (e : a ≡ p → ⊥). omega (arith, other_bit a p e, h.single p)) (cases_eq a p)),
+      )
 
   -- where no place is free, all are in use
   pub full_pool : free ≡ [] → n ≤ length rs + length held + length owed
   full_pool none =
-      omega (arith, total_ones n, total_tally_le (λ (r : Record). r.place) n rs, total_tally_le (λ (k : Hold). k.place) n held,
-      total_tally_le (λ q. q) n owed, total_add (λ p. tally (has_place p) rs) (λ p. tally (is_at p) held) n,
-      total_add (λ p. tally (has_place p) rs + tally (is_at p) held) (λ p. times p owed) n,
-      total_le (λ p. 1) (λ p. tally (has_place p) rs + tally (is_at p) held + times p owed) n (λ p below.
-      omega (arith, h.once p below, ap (times p) none)))
+      omega (
+        arith,
+        total_ones n,
+        total_tally_le (λ (r : Record). r.place) n rs,
+        total_tally_le (λ (k : Hold). k.place) n held,
+        total_tally_le (λ q. q) n owed,
+        total_add (λ p. tally (has_place p) rs) (λ p. tally (is_at p) held) n,
+        total_add (λ p. tally (has_place p) rs + tally (is_at p) held) (λ p. times p owed) n,
+        total_le (λ p. 1) (λ p. tally (has_place p) rs + tally (is_at p) held + times p owed) n (λ p below.
+            omega (arith, h.once p below, ap (times p) none)),
+      )

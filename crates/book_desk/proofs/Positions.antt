@@ -1,5 +1,5 @@
 -- The first item that passes a test, by its index.
-use Rattle.std.proofs.Common.{◌≡◌, ℕ, ◌+◌, ◌<◌, suc, Bool, true, false, not, cond, List, [], ◌∷◌, length, get_or, refl, sym, ap, subst, ◌∙◌, ⊎_elim, arith, Option, Some, None}
+use Rattle.std.proofs.Common.{◌≡◌, ℕ, ◌+◌, ◌<◌, suc, Bool, true, false, not, cond, List, [], ◌∷◌, length, get_or, refl, sym, ap, ◌∙◌, ⊎_elim, arith, Some, None}
 use Rattle.std.specs.List.{find, list_any, position, position_or_len, remove, slice_get}
 use Rattle.std.specs.Prelude.{◌||◌, ◌==◌, nat_lt, unwrap_or}
 use Rattle.std.proofs.lemmas.Bool.{cases_Bool, cond_both, lt-ltb, ltb-true}

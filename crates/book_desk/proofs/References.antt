@@ -1,8 +1,8 @@
 -- What each change does to the references.
-use Rattle.std.proofs.Common.{◌≡◌, ◌≢◌, ℕ, ◌+◌, ◌<◌, zero, true, false, cond, List, [], ◌∷◌, ◌++◌, length, map, refl, sym, ap, subst, ◌∙◌, arith, Option, Some, None}
+use Rattle.std.proofs.Common.{◌≡◌, ◌≢◌, ℕ, List, [], ◌∷◌, ◌++◌, length, refl, sym, ap, subst, ◌∙◌, arith, Option, Some, None}
 use Rattle.std.specs.List.{AllByRecursion, AllPairs, remove, slice_get}
-use Rattle.std.specs.Prelude.{◌==◌, IsSome, slice_set}
-use Rattle.std.proofs.lemmas.Bool.{cond_both, eqb-true, eqb-false, eq-eqb}
+use Rattle.std.specs.Prelude.{slice_set}
+use Rattle.std.proofs.lemmas.Bool.{cond_both, eqb-true, eqb-false}
 use Rattle.std.proofs.lemmas.List.Elements.{All-from_recursion}
 use Rattle.std.proofs.lemmas.List.Kept.{AllPairs-cons}
 use Rattle.history_book.specs.declared.desk.Hold.{Hold}
@@ -10,7 +10,7 @@ use Rattle.history_book.specs.declared.event.Event.{Event}
 use Rattle.history_book.specs.declared.event.Event.TheVariants.{Confirm}
 use Rattle.history_book.specs.declared.record.Record.{Record}
 use Rattle.history_book.specs.Held.{for_entry, held_for, is_at, without}
-use Rattle.history_book.specs.Sight.{IsForEntryOf, IsForOne, WasConfirmedIn}
+use Rattle.history_book.specs.Sight.{IsForEntryOf, IsForOne}
 use Rattle.book_desk.specs.Book.{Agree, AreReferences, IsForRecord}
 use Rattle.book_desk.proofs.Histories.{get_append, get_last}
 use Rattle.book_desk.proofs.Lists.{each_map, each_push, each_remove, each_rest, each_set, each_two}
@@ -139,7 +139,7 @@ entries_here : (front : List Event) (r : Record) (held : List Hold) → r.id ≡
 entries_here front r [] id old = tt
 entries_here front r (h ∷ hs) id (old, olds) = (
   subst (λ (p : ℕ). IsForEntryOf (front ++ Confirm r ∷ []) p (for_entry r.place r.id h).id) (sym (place_kept r.place r.id h))
-  (entry_here front r h id old),
+      (entry_here front r h id old),
   entries_here front r hs id olds,
 )
 

@@ -1,7 +1,7 @@
 -- What each change of the places leaves of a right book.
-use Rattle.std.proofs.Common.{◌≡◌, ◌≢◌, ℕ, ◌+◌, ◌-◌, ◌<◌, ◌≤◌, zero, suc, min, Bool, true, false, not, List, [], ◌∷◌, ◌++◌, length, refl, sym, ap, subst, ◌∙◌, ⊎_elim, arith, Option, Some, None, append-nil, length-append}
+use Rattle.std.proofs.Common.{◌≡◌, ◌≢◌, ℕ, ◌+◌, ◌-◌, ◌<◌, ◌≤◌, zero, suc, Bool, true, false, not, List, [], ◌∷◌, ◌++◌, length, refl, sym, ap, subst, ◌∙◌, ⊎_elim, arith, Some, None, append-nil}
 use Rattle.std.specs.List.{AllByRecursion, AllPairs, list_any, position, remove, slice_get}
-use Rattle.std.specs.Prelude.{◌==◌, ◌||◌, ◌⊎◌, is_some}
+use Rattle.std.specs.Prelude.{◌==◌, ◌||◌}
 use Rattle.std.proofs.lemmas.Bool.{eq-eqb, eqb-true, or_cases, or_from, or_parts, true_from_ne_false}
 use Rattle.std.proofs.lemmas.List.Elements.{recursion_from_All}
 use Rattle.room_list.specs.Roomed.{Roomed}
@@ -20,7 +20,7 @@ use Rattle.history_book.specs.Sight.{IsForOne, WasConfirmedIn}
 use Rattle.history_book.specs.State.{State, state_of}
 use Rattle.book_desk.specs.declared.book.Book.{Book}
 use Rattle.book_desk.specs.Book.{ArePlaces, AreReferences, IsBook, IsForRecord, bit, events_of, sight_of, tally, times, uses}
-use Rattle.book_desk.proofs.Lists.{any_of, each_at, each_map, none_of, same_bit, tally-remove, tally_none, tally_some}
+use Rattle.book_desk.proofs.Lists.{each_at, each_map, none_of, same_bit, tally-remove, tally_none, tally_some}
 use Rattle.book_desk.proofs.Pool.{few_free, full_pool, length-paid, length-without, place_below, places_hold, places_keep, places_owe, places_pay, places_take, same_paid, same_removed}
 use Rattle.book_desk.proofs.Counting.{none_has}
 use Rattle.book_desk.proofs.Histories.{looked}
@@ -39,12 +39,11 @@ only_one : (rs : List Record) (i : ℕ) (r : Record) → tally (has_place r.plac
     → AllByRecursion (IsForRecord (record { place = r.place; id = Some r.id })) rs
 only_one [] i r one at = tt
 only_one (x ∷ xs) zero r one at =
-    let here : x ≡ r = cc in
-    (
+    let here : x ≡ r = cc in (
       (λ e. ap (λ (s : Record). Some s.id) (sym here)),
       each_map (λ (s : Record). s.place ≢ r.place) (IsForRecord (record { place = r.place; id = Some r.id })) xs
-      (λ s apart e. absurd (apart (sym e)))
-      (none_has (λ (s : Record). s.place) r.place xs (omega (arith, one, same_bit x.place r.place (ap (λ (s : Record). s.place) here)))),
+          (λ s apart e. absurd (apart (sym e)))
+          (none_has (λ (s : Record). s.place) r.place xs (omega (arith, one, same_bit x.place r.place (ap (λ (s : Record). s.place) here)))),
     )
 only_one (x ∷ xs) (suc i) r one at = (
   (λ e. absurd (omega (arith, one, same_bit x.place r.place (sym e), tally_at (has_place r.place) xs i r at (same_place_passes r)))),
@@ -199,8 +198,12 @@ book_pay b free owed a h there items room more free_room =
 -- there is room for an owed place among the free ones
 pub pay_room : (b : Book) (a : ℕ) → IsBook b → is_owed a b.owed.items ≡ true → length b.free.items < b.free.room
 pay_room b a h there =
-    omega (arith, h.rooms.free, length-paid a b.owed.items there,
-    few_free b.sizes.entries b.records.items b.holds.items b.free.items b.owed.items h.places)
+    omega (
+      arith,
+      h.rooms.free,
+      length-paid a b.owed.items there,
+      few_free b.sizes.entries b.records.items b.holds.items b.free.items b.owed.items h.places,
+    )
 
 not_not : (x : Bool) → not (not x) ≡ x
 not_not true = refl
@@ -219,8 +222,13 @@ used b p h some =
     used_is b p h ∙ true_from_ne_false _ (λ e.
     let parts = or_parts (list_any (has_place p) b.records.items || is_held p b.holds.items) (is_owed p b.owed.items) e in
     let both = or_parts (list_any (has_place p) b.records.items) (is_held p b.holds.items) parts.0 in
-    omega (arith, some, tally_none (has_place p) b.records.items both.0, tally_none (is_at p) b.holds.items both.1,
-    tally_none (λ q. q == p) b.owed.items parts.1))
+    omega (
+      arith,
+      some,
+      tally_none (has_place p) b.records.items both.0,
+      tally_none (is_at p) b.holds.items both.1,
+      tally_none (λ q. q == p) b.owed.items parts.1,
+    ))
 
 pub unused : (b : Book) (p : ℕ) → IsBook b → uses p b.records.items b.holds.items + times p b.owed.items ≡ 0
     → is_in_use p (sight_of b) ≡ false
@@ -245,8 +253,14 @@ recycled b new a h right there records holds owed =
     let less = same_paid a b.owed.items there in
     let low : a < b.sizes.entries =
     place_below b.sizes.entries b.records.items b.holds.items b.free.items b.owed.items a h.places (omega (arith, less)) in
-    unused new a right (omega (arith, less, h.places.once a low, ap (times a) owed,
-    ap (λ (rs : Roomed Record). tally (has_place a) rs.items) records, ap (λ (hs : Roomed Hold). tally (is_at a) hs.items) holds))
+    unused new a right (omega (
+      arith,
+      less,
+      h.places.once a low,
+      ap (times a) owed,
+      ap (λ (rs : Roomed Record). tally (has_place a) rs.items) records,
+      ap (λ (hs : Roomed Hold). tally (is_at a) hs.items) holds,
+    ))
 
 -- what the full pool says
 pub full : (b : Book) (at : ℕ) → IsBook b → at ≡ length b.notes.items → b.free.items ≡ [] → FindsFull (sight_of b) (sight_of b) at

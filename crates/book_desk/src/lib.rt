@@ -6,3 +6,5 @@ pub mod desk;
 mod entries;
 mod holds;
 mod places;
+#[cfg(test)]
+mod tests;

@@ -1,5 +1,4 @@
-use Rattle.std.proofs.Common.{arith, length, length-append, subst, sym, ap, ◌∙◌, ◌≡◌, ◌-◌, ◌+◌, List, ℕ}
-use Rattle.book_desk.specs.Book.{AreBelow}
+use Rattle.std.proofs.Common.{length, length-append, ap, ◌∙◌, ◌+◌}
 use Rattle.book_desk.proofs.Lists.{below_pushed}
 use Rattle.book_desk.proofs.book.fill.Goals as goal
 

@@ -1,4 +1,4 @@
-use Rattle.std.proofs.Common.{◌≡◌, ◌-◌, ◌≤◌, length}
+use Rattle.std.proofs.Common.{◌≡◌, ◌-◌, length}
 use Rattle.book_desk.specs.Book.{AreBelow}
 use Rattle.book_desk.proofs.book.fill.Given as goal
 

@@ -1,6 +1,5 @@
-use Rattle.std.proofs.Common.{ap, sym, subst, ◌∙◌, ◌≡◌, true, List}
-use Rattle.std.specs.List.{list_any, position}
-use Rattle.history_book.specs.declared.desk.Hold.{Hold}
+use Rattle.std.proofs.Common.{ap, sym, ◌∙◌}
+use Rattle.std.specs.List.{position}
 use Rattle.history_book.specs.Held.{is_at}
 use Rattle.book_desk.proofs.Positions.{without_at, some_at}
 use Rattle.book_desk.proofs.holds.give_up.Goals as goal

@@ -1,5 +1,5 @@
-use Rattle.std.proofs.Common.{ap, sym, subst, ◌∙◌, ◌≡◌, true, List}
-use Rattle.std.specs.List.{list_any, position}
+use Rattle.std.proofs.Common.{ap, sym, ◌∙◌}
+use Rattle.std.specs.List.{position}
 use Rattle.std.specs.Prelude.{◌==◌}
 use Rattle.book_desk.proofs.Positions.{paid_at, some_at}
 use Rattle.book_desk.proofs.holds.pay.Goals as goal

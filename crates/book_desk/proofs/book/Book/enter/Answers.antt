@@ -1,4 +1,4 @@
-use Rattle.std.proofs.Common.{◌≡◌, ◌<◌, ◌++◌, [], ◌∷◌, ap, sym, subst, refl, length, ◌∙◌}
+use Rattle.std.proofs.Common.{◌<◌, ◌++◌, [], ◌∷◌, ap, sym, subst, refl, length, ◌∙◌}
 use Rattle.room_list.specs.Roomed.{Roomed}
 use Rattle.history_book.specs.declared.event.Event.{Event}
 use Rattle.history_book.specs.declared.event.Event.TheVariants.{Confirm}

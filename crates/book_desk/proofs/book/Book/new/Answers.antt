@@ -1,4 +1,4 @@
-use Rattle.std.proofs.Common.{arith, ap, sym, subst, ◌∙◌}
+use Rattle.std.proofs.Common.{arith}
 use Rattle.book_desk.proofs.Books.{fresh_book}
 use Rattle.book_desk.proofs.book.Book.new.Goals as goal
 

@@ -1,8 +1,4 @@
-use Rattle.std.proofs.Common.{◌≡◌, ap, sym, ◌∙◌, true, false, rules}
-use Rattle.std.specs.List.{list_any}
-use Rattle.std.specs.Prelude.{◌||◌}
-use Rattle.history_book.specs.Held.{is_held}
-use Rattle.history_book.specs.Record.{has_place}
+use Rattle.std.proofs.Common.{rules}
 use Rattle.book_desk.proofs.Steps.{book_keep, book_owe, not_used, still_used}
 use Rattle.book_desk.proofs.book.Book.release.Goals as goal
 

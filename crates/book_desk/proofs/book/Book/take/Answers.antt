@@ -1,4 +1,4 @@
-use Rattle.std.proofs.Common.{arith, refl, sym, ◌∙◌}
+use Rattle.std.proofs.Common.{refl, sym, ◌∙◌}
 use Rattle.std.proofs.lemmas.List.{nil_from_length}
 use Rattle.book_desk.proofs.Steps.{book_take, full, takes}
 use Rattle.book_desk.proofs.book.Book.take.Goals as goal

@@ -1,4 +1,4 @@
-use Rattle.std.proofs.Common.{◌≡◌, ℕ, ap, subst, sym, length, ◌∙◌}
+use Rattle.std.proofs.Common.{ℕ, ap, subst, sym, length, ◌∙◌}
 use Rattle.history_book.specs.Held.{held_id}
 use Rattle.book_desk.specs.Book.{events_of, sight_of}
 use Rattle.history_book.specs.Desk.{Touches}
