@@ -116,7 +116,7 @@ fn is_resetting(part: &Part, segment: Segment, moment: u64) -> bool
 }
 
 /// Whether the reason holds of the record.
-fn is_reason_for(why: &Why, r: &Record) -> bool
+pub fn is_reason_for(why: &Why, r: &Record) -> bool
     requires { reason_moment_of why.now ≤ 10 ^ 16 }
     ensures { result ≡ is_reason why.now r.now }
 {

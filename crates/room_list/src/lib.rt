@@ -62,6 +62,16 @@ impl<T> RoomList<T> {
         self.items.push_reserved(item);
     }
 
+    /// Puts one item before all others, which move down. Takes no memory.
+    pub fn put_first(&mut self, item: T)
+        requires { length self.old.items < self.old.room }
+        ensures items { self.new.items ≡ item ∷ self.old.items }
+        ensures room { self.new.room ≡ self.old.room }
+    {
+        self.items.push_reserved(item);
+        self.items.rotate_right(1);
+    }
+
     /// The number of items.
     pub fn len(&self) -> usize
         ensures exact { result ≡ length self.now.items }

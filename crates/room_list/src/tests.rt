@@ -24,6 +24,8 @@ fn each_call_once(rt: HostRuntime) -> Result<(), Fail> {
     assert_eq!(rt; list.len(), 0);
     // The room is kept.
     list.push(60);
-    assert_eq!(rt; list.as_slice(), [60].as_slice());
+    list.put_first(70);
+    list.put_first(80);
+    assert_eq!(rt; list.as_slice(), [80, 70, 60].as_slice());
     Ok(())
 }

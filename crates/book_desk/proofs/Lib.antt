@@ -1,0 +1,10 @@
+pub mod Lists
+pub mod Positions
+pub mod Counting
+pub mod Pool
+pub mod Histories
+pub mod References
+pub mod Books
+pub mod Known
+pub mod Steps
+pub mod Events

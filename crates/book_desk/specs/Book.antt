@@ -1,0 +1,120 @@
+-- What the desk's fields say, and when they are right.
+use Rattle.std.specs.Prelude.{◌≡◌, ℕ, ◌+◌, ◌<◌, ◌≤◌, ◌^◌, min, Bool, true, ◌==◌, if◌then◌else◌, Some, List, [], ◌∷◌, length, map, slice_get}
+use Rattle.std.specs.List.{AllByRecursion}
+use Rattle.history_book.specs.declared.desk.Hold.{Hold}
+use Rattle.history_book.specs.declared.event.Event.{Event}
+use Rattle.history_book.specs.declared.event.Note.{Note}
+use Rattle.history_book.specs.declared.find.FoundAt.{FoundAt}
+use Rattle.history_book.specs.declared.record.Record.{Record}
+use Rattle.history_book.specs.declared.sizes.Sizes.{Sizes}
+use Rattle.history_book.specs.Held.{is_at}
+use Rattle.history_book.specs.History.{after, is_legal}
+use Rattle.history_book.specs.Record.{has_place}
+use Rattle.history_book.specs.Sight.{IsForEntryOf, IsForOne, Sight, notes_from}
+use Rattle.history_book.specs.Sizes.{AreWithinLimits}
+use Rattle.history_book.specs.State.{State, state_of, winner}
+use Rattle.tuple_core.specs.declared.Tuple.{Tuple}
+use Rattle.book_desk.specs.declared.book.Book.{Book}
+
+-- the events of notes
+abbrev pub events_of : List Note → List Event
+events_of notes = map (λ (n : Note). n.event) notes
+
+-- an event with the number that comes next
+abbrev pub noted : List Note → Event → Note
+noted notes e = record { number = length notes; event = e }
+
+-- the record at this index is the one that a new flow with these tuples meets, by this direction
+pub record WinsAt (original reply : Tuple) (s : State) (found : FoundAt) : Type 0 where
+  pub subject : Record
+  pub item : slice_get s.records found.index ≡ Some subject
+  pub wins : winner original reply s ≡ Some (record { subject = subject; direction = found.direction })
+
+-- what the fields say to callers
+abbrev pub sight_of : Book → Sight
+sight_of b = record {
+  front = events_of b.notes.items;
+  own = b.notes.items;
+  held = b.holds.items;
+  owed = b.owed.items;
+  spare = b.spare;
+  sizes = b.sizes;
+}
+
+-- a test that passes counts one
+abbrev pub bit : Bool → ℕ
+bit b = (if b then 1 else 0)
+
+-- how many items pass a test
+abbrev pub tally : {X : Type 0} → (X → Bool) → List X → ℕ
+tally p [] = 0
+tally p (x ∷ xs) = bit (p x) + tally p xs
+
+-- how often a place stands among places
+abbrev pub times : ℕ → List ℕ → ℕ
+times place places = tally (λ p. p == place) places
+
+-- how many live records and references have a place
+abbrev pub uses : ℕ → List Record → List Hold → ℕ
+uses place rs held = tally (has_place place) rs + tally (is_at place) held
+
+-- Each place of the pool is free once, or owed once, or in use; no other place is anywhere. No two
+-- records have one place.
+pub record ArePlaces (entries : ℕ) (rs : List Record) (held : List Hold) (free owed : List ℕ) : Type 0 where
+  pub once : (p : ℕ) → p < entries → times p free + times p owed + min (uses p rs held) 1 ≡ 1
+  pub beyond : (p : ℕ) → entries ≤ p → times p free + times p owed + uses p rs held ≡ 0
+  pub single : (p : ℕ) → tally (has_place p) rs ≤ 1
+
+-- a reference to the place of a record is for that record
+abbrev pub IsForRecord : Hold → Record → Type 0
+IsForRecord h r = h.place ≡ r.place → h.id ≡ Some r.id
+
+-- any two references to one place are to one entry
+abbrev pub Agree : List Hold → Type 0
+Agree [] = Unit {0}
+Agree (h ∷ hs) = AllByRecursion (IsForOne h) hs × Agree hs
+
+-- each reference is to an entry that was confirmed in its place, and to the live one where one is there
+pub record AreReferences (front : List Event) (rs : List Record) (held : List Hold) : Type 0 where
+  pub confirmed : AllByRecursion (λ h. IsForEntryOf front h.place h.id) held
+  pub current : AllByRecursion (λ h. AllByRecursion (IsForRecord h) rs) held
+  pub agreed : Agree held
+
+-- the notes are a legal history whose state the records are
+pub record IsHistory (sizes : Sizes) (notes : List Note) (rs : List Record) : Type 0 where
+  pub numbered : notes ≡ notes_from 0 (events_of notes)
+  pub legal : is_legal sizes (events_of notes) ≡ true
+  pub state : state_of rs ≡ after (events_of notes) (length (events_of notes))
+
+-- there is room for all that may come
+pub record HasRooms (b : Book) : Type 0 where
+  pub records : b.sizes.entries ≤ b.records.room
+  pub free : b.sizes.entries ≤ b.free.room
+  pub holds : 4 ≤ b.holds.room
+  pub owed : 4 ≤ b.owed.room
+  pub notes : length b.notes.items + b.spare ≤ b.notes.room
+  pub spared : length b.notes.items + b.spare ≤ 2 ^ 30
+
+-- the fields are right
+pub record IsBook (b : Book) : Type 0 where
+  pub limits : AreWithinLimits b.sizes
+  pub history : IsHistory b.sizes b.notes.items b.records.items
+  pub places : ArePlaces b.sizes.entries b.records.items b.holds.items b.free.items b.owed.items
+  pub references : AreReferences (events_of b.notes.items) b.records.items b.holds.items
+  pub few : length b.holds.items + length b.owed.items ≤ 4
+  pub rooms : HasRooms b
+
+-- nothing was done yet
+pub record IsFresh (given : Sizes) (s : Sight) : Type 0 where
+  pub front : s.front ≡ []
+  pub own : s.own ≡ []
+  pub held : s.held ≡ []
+  pub owed : s.owed ≡ []
+  pub spare : s.spare ≡ 0
+  pub sizes : s.sizes ≡ given
+
+-- no place but those below n is among the places, and each of those once
+pub record AreBelow (n from : ℕ) (places : List ℕ) : Type 0 where
+  pub low : (p : ℕ) → p < from → times p places ≡ 0
+  pub each : (p : ℕ) → from ≤ p → p < n → times p places ≡ 1
+  pub high : (p : ℕ) → n ≤ p → times p places ≡ 0

@@ -1,0 +1,10 @@
+//! The tracker of one thread: a desk that keeps its records in a list.
+#![tactic(auto)]
+
+mod book;
+pub mod desk;
+mod entries;
+mod holds;
+mod places;
+#[cfg(test)]
+mod tests;
