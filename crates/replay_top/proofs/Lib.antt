@@ -1,10 +1,7 @@
-pub mod Books
 pub mod Collecting
 pub mod Findings
 pub mod Flaws
-pub mod Flows
-pub mod Places
+pub mod Names
 pub mod Reading
 pub mod Replays
-pub mod Steps
-pub mod Tracks
+pub mod Reports

@@ -1,5 +1,4 @@
 -- What private functions keep for the clauses of the public ones. A reader of those need not open it.
-pub mod Book
 pub mod Ending
-pub mod Flow
-pub mod Track
+pub mod Naming
+pub mod Replayed

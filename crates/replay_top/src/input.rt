@@ -13,13 +13,14 @@ use ct_io::Files;
 use history_book::report::Report;
 use packet_headers::capture::{CaptureError, read_capture};
 use std::alloc::Global;
+use std::sync::Wait;
 
 /// The most bytes of a capture that is read.
 const MOST_BYTES: usize = 268_435_456;
 
 /// Replays the capture that these bytes are. An `Err` says what is wrong with them, or that memory was
 /// wanting.
-pub fn replay_bytes(alloc: Global, bytes: &[u8]) -> Result<Report, ReplayError>
+pub fn replay_bytes<R: Wait>(rt: &R, alloc: Global, bytes: &[u8]) -> Result<Report, ReplayError>
     ensures { ReplaysAs bytes.now result }
 {
     if bytes.len() > MOST_BYTES {
@@ -30,14 +31,19 @@ pub fn replay_bytes(alloc: Global, bytes: &[u8]) -> Result<Report, ReplayError>
         Err(CaptureError::Fault(fault)) => return Err(ReplayError::Flawed(Flaw::Fault(fault))),
         Err(CaptureError::NoMemory) => return Err(ReplayError::NoMemory),
     };
-    match replay(alloc, &program_sizes(), bytes, frames.as_slice()) {
+    match replay(rt, alloc, &program_sizes(), bytes, frames.as_slice()) {
         Ok(report) => Ok(report),
         Err(_) => Err(ReplayError::NoMemory),
     }
 }
 
 /// Reads the capture of this name, the only file of the words, and replays it.
-pub fn replay_file<F: Files>(alloc: Global, files: &mut F, name: &str) -> Result<Report, Refusal>
+pub fn replay_file<R: Wait, F: Files>(
+    rt: &R,
+    alloc: Global,
+    files: &mut F,
+    name: &str,
+) -> Result<Report, Refusal>
     ensures replays { Replays (name.now ∷ []) (F.source files.old) (F.source files.new) result }
     ensures others { OthersStandBeside name.now (F.source files.old) (F.source files.new) }
     ensures stays { Stays (F.source files.old) (F.source files.new) }
@@ -54,7 +60,7 @@ pub fn replay_file<F: Files>(alloc: Global, files: &mut F, name: &str) -> Result
         }
         Err(ReadError::NoMemory) => return Err(Refusal::NoMemory),
     };
-    match replay_bytes(alloc, bytes.as_slice()) {
+    match replay_bytes(rt, alloc, bytes.as_slice()) {
         Ok(report) => Ok(report),
         Err(ReplayError::Flawed(flaw)) => Err(Refusal::Flawed { file: 0, flaw }),
         Err(ReplayError::NoMemory) => Err(Refusal::NoMemory),

@@ -1,20 +1,18 @@
 //! The whole program as one call.
 #![tactic(auto)]
 
-mod book;
 mod command_line;
 mod ending;
 mod error_line;
 mod flaw;
-mod flow;
 mod input;
 pub mod laws;
+mod naming;
 mod process;
 mod program;
 mod read;
 mod replay;
 mod sizes;
-mod track;
 
 pub use ending::Run;
 pub use flaw::{Flaw, Refusal, ReplayError};

@@ -25,7 +25,13 @@ use std::thread::Threads;
 const BUFFER: usize = 65_536;
 
 /// Replays the capture that the words name, and writes the report's text to `out`.
-fn run<F: Files, K: Sink>(alloc: Global, words: &[String], files: &mut F, out: &mut K) -> Ending
+fn run<R: Wait, F: Files, K: Sink>(
+    rt: &R,
+    alloc: Global,
+    words: &[String],
+    files: &mut F,
+    out: &mut K,
+) -> Ending
     ensures ends { Ends (map string_bytes words.now) (F.source files.old) (F.source files.new)
         (K.tape out.old) (K.tape out.new) result }
     ensures others { OthersStand (map string_bytes words.now)
@@ -35,7 +41,7 @@ fn run<F: Files, K: Sink>(alloc: Global, words: &[String], files: &mut F, out: &
     let Some(name) = capture_name(words) else {
         return Ending::Refused(Refusal::Misused);
     };
-    let report = match replay_file(alloc, files, name) {
+    let report = match replay_file(rt, alloc, files, name) {
         Ok(report) => report,
         Err(why) => return Ending::Refused(why),
     };
@@ -58,7 +64,7 @@ fn run<F: Files, K: Sink>(alloc: Global, words: &[String], files: &mut F, out: &
 /// (memory was wanted). The report is there with 0 and 4. No thread
 /// is started and the gate is not called.
 pub fn top<R: Threads + Wait + Sync, F: Files, K: Sink, G: Gate + Sync>(
-    _rt: &R,
+    rt: &R,
     alloc: Global,
     words: &[String],
     files: &mut F,
@@ -105,7 +111,7 @@ pub fn top<R: Threads + Wait + Sync, F: Files, K: Sink, G: Gate + Sync>(
 {
     read_files_have_no_flaw();
     flaws_are_unique();
-    match run(alloc, words, files, out) {
+    match run(rt, alloc, words, files, out) {
         Ending::Done(report) => Run {
             status: 0,
             report: Some(report),

@@ -208,10 +208,10 @@ fn the_first_write_fails(rt: HostRuntime) -> Result<(), Fail> {
 #[test]
 fn bytes_are_replayed(rt: HostRuntime) -> Result<(), Fail> {
     let alloc = rt.alloc();
-    let report = replay_bytes(alloc, &CAPTURE).ok().ok_or("no report")?;
+    let report = replay_bytes(&rt, alloc, &CAPTURE).ok().ok_or("no report")?;
     assert_eq!(rt; report.history.len(), 2);
     assert_eq!(rt; report.live, 1);
-    let cut = replay_bytes(alloc, &CAPTURE[..119]);
+    let cut = replay_bytes(&rt, alloc, &CAPTURE[..119]);
     assert!(rt;
         matches!(
             cut,
