@@ -242,7 +242,8 @@ fn end_entry<R: Wait, D: Desk>(
     records_are_of_one_protocol();
     same_protocol_is_equality();
     states_stay();
-    if kills == 4 {
+    let is_last = kills == 4;
+    if is_last {
         return Attempt::Done(Class::Contended { id: met.id, at });
     }
     match desk.kill(rt, met.place, why) {

@@ -8,8 +8,8 @@ use Rattle.packet_path.proofs.Attempts.{contended, met_protocol, suits, was_kill
 use Rattle.packet_path.proofs.Places.{only_id}
 use Rattle.packet_path.proofs.attempt.end_entry.Goals as goal
 
-pub returns-then-kills-eq4-clause-says : goal.returns-then-kills-eq4-clause-says
-returns-then-kills-eq4-clause-says g c = λ from low within.
+pub returns-then-is_last-clause-says : goal.returns-then-is_last-clause-says
+returns-then-is_last-clause-says g c = λ from low within.
     let s = g.D.Desk.sight c.args.desk.now in
     let four : 4 ≡ c.args.kills = omega arith in
     subst (λ n. AttemptSays s s c.args.packet.now n from (Done (Contended c.args.met.now.id c.args.at))) four
@@ -30,6 +30,6 @@ returns-in-Killed-clause-says g c = λ from low within.
     let s = g.D.Desk.sight c.args.desk.now in
     let new = g.D.Desk.sight c.kill.new.self in
     was_killed c.states_stay.ensures c.events_stay.ensures c.found_are_found_again.ensures c.args.why s s new c.args.packet.now
-    c.args.met.now c.args.kills from c.args.at c.in-Killed.number c.in-Killed.subject (omega (arith, c.requires.few, c.if-kills-eq4.false)) within c.kill.ensures.knows c.requires.met c.requires.ends
+    c.args.met.now c.args.kills from c.args.at c.in-Killed.number c.in-Killed.subject (omega (arith, c.requires.few, c.if-is_last.false)) within c.kill.ensures.knows c.requires.met c.requires.ends
     (subst (λ id. Destroys id c.args.why s new c.in-Killed.number c.in-Killed.subject)
     (only_id c.args.met.now.place c.args.met.now.id s c.requires.met.holds) c.in-Killed.ensures.says)
