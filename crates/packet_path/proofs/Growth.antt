@@ -15,7 +15,8 @@ use Rattle.history_book.specs.declared.record.Record.{Record}
 use Rattle.history_book.specs.declared.verdict.Translated.{Translated}
 use Rattle.packet_path.specs.Absent.{WasAbsent}
 use Rattle.packet_path.specs.Made.{IsUnclaimed}
-use Rattle.packet_path.specs.Packet.{FlowPacket, Given}
+use Rattle.packet_path.specs.declared.packet.FlowPacket.{FlowPacket}
+use Rattle.packet_path.specs.Packet.{Given}
 use Rattle.packet_path.specs.Winner.{MeetsWinner}
 use Rattle.packet_path.specs.Unchanged.{LeavesEntry}
 use Rattle.packet_path.specs.Error.{AnswersError, LooksUp}
@@ -40,10 +41,10 @@ error_still given own P Q then f = record {
 }
 
 module _ (events : EventsStay) (states : StatesStay) (longer log : List Event) (starts : StartsWith longer log) where
-  happened_grows : (mark : ℕ) (note : Note) → Happened log mark note → Happened longer mark note
+  pub happened_grows : (mark : ℕ) (note : Note) → Happened log mark note → Happened longer mark note
   happened_grows mark note h = record { event = events longer log _ _ starts h.event; later = h.later }
 
-  kills_grows : (mark : ℕ) (packet : FlowPacket) (note : Note) → Kills log mark packet note → Kills longer mark packet note
+  pub kills_grows : (mark : ℕ) (packet : FlowPacket) (note : Note) → Kills log mark packet note → Kills longer mark packet note
   kills_grows mark packet note k = record {
     happened = happened_grows mark note k.happened;
     found = k.found;
@@ -51,7 +52,7 @@ module _ (events : EventsStay) (states : StatesStay) (longer log : List Event) (
     kill = k.kill;
   }
 
-  kills_all_grows : (mark : ℕ) (packet : FlowPacket) (notes : List Note)
+  pub kills_all_grows : (mark : ℕ) (packet : FlowPacket) (notes : List Note)
       → KillsAll log mark packet notes → KillsAll longer mark packet notes
   kills_all_grows mark packet [] k = tt
   kills_all_grows mark packet (n ∷ ns) (k, ks) = (kills_grows mark packet n k, kills_all_grows (n.number + 1) packet ns ks)
@@ -186,5 +187,7 @@ module _ (events : EventsStay) (states : StatesStay) (longer log : List Event) (
       }) f
   frame_grows sizes mark given own (class.Contended id at) f =
       flow_grows mark given own _ _
-      (λ packet kills k rest m. (m.0,
-        ⊎_elim (λ l. inl (leaves_grows k packet rest id at _ l)) (λ l. inr (leaves_grows k packet rest id at _ l)) m.1)) f
+      (λ packet kills k rest m. (
+        m.0,
+        ⊎_elim (λ l. inl (leaves_grows k packet rest id at _ l)) (λ l. inr (leaves_grows k packet rest id at _ l)) m.1,
+      )) f

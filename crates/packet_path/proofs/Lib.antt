@@ -2,3 +2,5 @@ pub mod Growth
 pub mod Marks
 pub mod Silent
 pub mod Protocols
+pub mod Places
+pub mod Attempts

@@ -10,7 +10,8 @@ use Rattle.history_book.specs.declared.sizes.Sizes.{Sizes}
 use Rattle.history_book.specs.declared.verdict.Class.{Class}
 use Rattle.history_book.specs.declared.verdict.Class.TheVariants as class
 use Rattle.proto_rules.specs.declared.Outcome.{Outcome}
-use Rattle.packet_path.specs.Packet.{FlowPacket, Given}
+use Rattle.packet_path.specs.declared.packet.FlowPacket.{FlowPacket}
+use Rattle.packet_path.specs.Packet.{Given}
 use Rattle.packet_path.specs.Unchanged.{LeavesEntry}
 use Rattle.packet_path.specs.Error.{LooksUp}
 use Rattle.packet_path.specs.Absent.{WasAbsent}
@@ -21,11 +22,11 @@ use Rattle.history_book.specs.declared.verdict.Translated.TheVariants.{Chosen, P
 use Rattle.packet_path.specs.Verdict.{AnswersFlow, FitsFrame, KillsAll}
 use Rattle.packet_path.proofs.Growth.{error_still}
 
-mark_past-le : (m n : ℕ) (notes : List Note) → m ≤ n → mark_past m notes ≤ mark_past n notes
+pub mark_past-le : (m n : ℕ) (notes : List Note) → m ≤ n → mark_past m notes ≤ mark_past n notes
 mark_past-le m n [] le = le
 mark_past-le m n (x ∷ xs) le = mark_past-le (max m (x.number + 1)) (max n (x.number + 1)) xs (omega arith)
 
-happened_lower : (log : List Event) (m n : ℕ) (note : Note) → m ≤ n → Happened log n note → Happened log m note
+pub happened_lower : (log : List Event) (m n : ℕ) (note : Note) → m ≤ n → Happened log n note → Happened log m note
 happened_lower log m n note le h = record { event = h.event; later = omega (arith, h.later) }
 
 absent_lower : (log : List Event) (m n : ℕ) (t : Tuple) (upto : ℕ) → m ≤ n → WasAbsent log n t upto → WasAbsent log m t upto
@@ -165,5 +166,7 @@ module _ (log : List Event) (m n : ℕ) (le : m ≤ n) where
       }) f
   frame_lower sizes given own (class.Contended id at) f =
       flow_lower given own _ _
-      (λ packet kills j k rest lower h. (h.0,
-        ⊎_elim (λ l. inl (leaves_lower j k packet rest id at _ lower l)) (λ l. inr (leaves_lower j k packet rest id at _ lower l)) h.1)) f
+      (λ packet kills j k rest lower h. (
+        h.0,
+        ⊎_elim (λ l. inl (leaves_lower j k packet rest id at _ lower l)) (λ l. inr (leaves_lower j k packet rest id at _ lower l)) h.1,
+      )) f

@@ -3,7 +3,7 @@ use Rattle.std.specs.Prelude.{◌≡◌, ℕ, ◌≤◌, List, [], length, IsSom
 use Rattle.history_book.specs.declared.event.Event.{Event}
 use Rattle.history_book.specs.declared.event.Note.{Note}
 use Rattle.packet_path.specs.Absent.{WasAbsent}
-use Rattle.packet_path.specs.Packet.{FlowPacket}
+use Rattle.packet_path.specs.declared.packet.FlowPacket.{FlowPacket}
 use Rattle.history_book.specs.Point.{At}
 use Rattle.proto_rules.specs.Start.{start_of}
 use Rattle.history_book.specs.Sizes.{fewest_of_full}

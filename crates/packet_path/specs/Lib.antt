@@ -8,4 +8,5 @@ pub mod Unchanged
 pub mod Full
 pub mod Verdict
 pub mod Handled
+pub mod Internal
 pub mod Laws

@@ -1,7 +1,5 @@
 -- What the tracker is given of a frame.
 use Rattle.std.specs.Prelude.{◌≡◌, ℕ, List}
-use Rattle.tuple_core.specs.declared.Segment.{Segment}
-use Rattle.tuple_core.specs.declared.Tuple.{Tuple}
 use Rattle.packet_headers.specs.declared.frame.Frame.{Frame}
 use Rattle.packet_headers.specs.declared.packet.Packet.{Packet}
 use Rattle.packet_headers.specs.declared.packet.Packet.TheVariants as packet
@@ -9,6 +7,7 @@ use Rattle.packet_headers.specs.declared.frame.Span.{Span}
 use Rattle.packet_headers.specs.declared.packet.Untracked.{Untracked}
 use Rattle.packet_headers.specs.declared.packet.Untracked.TheVariants as untracked
 use Rattle.packet_headers.specs.Classify.{packet_of}
+use Rattle.packet_path.specs.declared.packet.FlowPacket.{FlowPacket}
 use Rattle.history_book.specs.declared.verdict.UntrackedWhy.{UntrackedWhy}
 use Rattle.history_book.specs.declared.verdict.UntrackedWhy.TheVariants as why
 
@@ -20,12 +19,6 @@ pub record Given : Type 0 where
 -- of a frame of a file with these bytes
 unfoldable pub given_of : List ℕ → Frame → Given
 given_of bytes frame = record { packet = packet_of bytes frame; moment = frame.moment }
-
--- a packet of a flow: its tuple, what else of its headers the tracker reads, and its moment
-pub record FlowPacket : Type 0 where
-  pub tuple : Tuple
-  pub segment : Segment
-  pub moment : ℕ
 
 -- the frame is this packet of a flow
 pub record IsFlow (given : Given) (p : FlowPacket) : Type 0 where

@@ -12,7 +12,7 @@ use Rattle.history_book.specs.Label.{label_of}
 use Rattle.history_book.specs.Notes.{Happened}
 use Rattle.history_book.specs.Point.{At}
 use Rattle.history_book.specs.State.{Found, live_under}
-use Rattle.packet_path.specs.Packet.{FlowPacket}
+use Rattle.packet_path.specs.declared.packet.FlowPacket.{FlowPacket}
 
 -- the Touch of the entry that was found, by this packet
 abbrev pub touch_by : FlowPacket → Found → Part → Event

@@ -6,7 +6,8 @@ use Rattle.history_book.specs.declared.event.Note.{Note}
 use Rattle.history_book.specs.declared.event.Why.TheVariants as why
 use Rattle.packet_headers.specs.declared.packet.Packet.TheVariants as packet
 use Rattle.proto_rules.specs.declared.Outcome.TheVariants as outcome
-use Rattle.packet_path.specs.Packet.{FlowPacket, Given, IsFlow, cause_of}
+use Rattle.packet_path.specs.declared.packet.FlowPacket.{FlowPacket}
+use Rattle.packet_path.specs.Packet.{Given, IsFlow, cause_of}
 use Rattle.packet_path.specs.Unchanged.{BeginsNothing, IsToEnd, LeavesEntry}
 use Rattle.packet_path.specs.Winner.{MeetsWinner}
 use Rattle.history_book.specs.declared.verdict.Class.{Class}

@@ -1,5 +1,5 @@
 -- A packet that would begin a flow, and meets an entry that has one of the flow's tuples.
-use Rattle.std.specs.Prelude.{◌≡◌, ℕ, ◌≤◌, Bool, true, ◌&&◌, Option, Some, List, [], IsSome}
+use Rattle.std.specs.Prelude.{◌≡◌, ℕ, ◌≤◌, Bool, true, ◌&&◌, Some, List, [], IsSome}
 use Rattle.tuple_core.specs.declared.Proto.TheVariants as proto
 use Rattle.tuple_core.specs.declared.Tuple.{Tuple}
 use Rattle.history_book.specs.declared.event.Event.{Event}
@@ -14,7 +14,7 @@ use Rattle.history_book.specs.State.{Found, winner}
 use Rattle.proto_rules.specs.Start.{start_of}
 use Rattle.packet_path.specs.Absent.{WasAbsent}
 use Rattle.packet_path.specs.Made.{IsLawfulReply}
-use Rattle.packet_path.specs.Packet.{FlowPacket}
+use Rattle.packet_path.specs.declared.packet.FlowPacket.{FlowPacket}
 
 -- the flow is of UDP, and its two tuples are those of the entry, in this order: the packet is merged into it
 abbrev pub is_merged : Tuple → Tuple → Record → Bool

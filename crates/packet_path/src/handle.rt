@@ -1,15 +1,139 @@
 //! What becomes of one packet, over any desk.
 
-ghost use Rattle.std.specs.Prelude.{◌≡◌, ◌+◌, ◌≤◌, ◌^◌, [], length, IfOk, OnErr};
+ghost use Rattle.std.specs.Prelude.{◌≡◌, ℕ, ◌+◌, ◌≤◌, ◌^◌, true, [], length, IfOk, OnErr};
+ghost use Rattle.std.specs.List.{AllByRecursion};
+ghost use Rattle.tuple_core.specs.Tuple.{is_valid};
+ghost use Rattle.history_book.specs.Desk.{Saw};
 ghost use Rattle.history_book.specs.Sight.{IsKnown};
+ghost use Rattle.packet_headers.specs.ClassifySound.{has_valid_tuple, HasItsProtocol};
+ghost use Rattle.packet_headers.specs.declared.packet.Packet.TheVariants.{Error};
 ghost use Rattle.packet_path.specs.Handled.{Handled};
-ghost use Rattle.packet_path.specs.Packet.{given_of};
+ghost use Rattle.packet_path.specs.Internal.Attempt.{HoldsNothing, IsClassified};
+ghost use Rattle.packet_path.specs.Packet.{cause_of, given_of, Given, IsFlow};
+ghost use Rattle.packet_path.specs.Verdict.{FitsFrame, points_of};
 
+use crate::attempt::{Attempt, give_up, try_packet};
+use crate::packet::FlowPacket;
 use history_book::desk::Desk;
-use history_book::verdict::Verdict;
+use history_book::laws::{events_stay, states_stay};
+use history_book::outcome::FindOutcome;
+use history_book::verdict::{Class, UntrackedWhy, Verdict};
+use packet_headers::classify::classify;
 use packet_headers::frame::Frame;
+use packet_headers::packet::{Packet, Untracked};
 use std::sync::Wait;
-use tuple_core::NoMemory;
+use tuple_core::{NoMemory, Tuple, invert};
+
+/// Handles a packet of a flow: attempts are made until one says what became of it.
+fn handle_flow<R: Wait, D: Desk>(rt: &R, desk: &mut D, packet: &FlowPacket) -> Verdict
+    requires classified { IsClassified packet.now }
+    requires empty { HoldsNothing (D.sight desk.old) }
+    requires spare { 5 ≤ (D.sight desk.old).spare }
+    requires knows { IsKnown (D.sight desk.old) }
+    ensures handled { (given : Given) → IsFlow given packet.now →
+        Handled given (D.sight desk.old) (D.sight desk.new) result }
+    ensures knows { IsKnown (D.sight desk.new) }
+{
+    events_stay();
+    states_stay();
+    let first = desk.made();
+    let mut kills = 0;
+    'attempts: for _ in rt.forever() {
+        match try_packet(rt, desk, packet, kills) {
+            Attempt::Done(class) => {
+                let made = (desk.made() - first) as u8;
+                return Verdict { class, first, made };
+            }
+            Attempt::Killed => kills += 1,
+            Attempt::Again => {}
+        }
+    }
+    unreachable!()
+}
+
+/// Looks up the entry that an ICMP error is about, by the inverse of the tuple in it.
+fn error_class<R: Wait, D: Desk>(
+    rt: &R,
+    desk: &mut D,
+    inner: &Tuple,
+    outer_destination: u32,
+) -> Class
+    requires valid { is_valid inner.now ≡ true }
+    requires empty { HoldsNothing (D.sight desk.old) }
+    ensures saw { Saw (D.sight desk.old) (D.sight desk.new) }
+    ensures fits { (moment : ℕ) → FitsFrame (D.sight desk.old).sizes (D.sight desk.new).front
+        (length (D.sight desk.old).front)
+        (record { packet = Error inner.now outer_destination; moment = moment }) [] result }
+    ensures points { AllByRecursion (λ p. p ≤ length (D.sight desk.new).front) (points_of result) }
+    ensures empty { HoldsNothing (D.sight desk.new) }
+    ensures knows { IsKnown (D.sight desk.new) }
+{
+    states_stay();
+    let looked_up = invert(inner);
+    match desk.find(rt, &looked_up) {
+        FindOutcome::Absent { at } => Class::ErrorLost { at },
+        FindOutcome::Found {
+            place,
+            id,
+            direction,
+            at,
+        } => {
+            give_up(rt, desk, place);
+            if looked_up.dst == outer_destination {
+                Class::Error { direction, id, at }
+            } else {
+                Class::ErrorAddress { id, at }
+            }
+        }
+    }
+}
+
+/// Why a frame is not tracked, as a verdict says it.
+fn untracked_why(cause: Untracked) -> UntrackedWhy
+    ensures { cause_of result ≡ cause }
+{
+    match cause {
+        Untracked::Link => UntrackedWhy::Link,
+        Untracked::Fragment => UntrackedWhy::Fragment,
+        Untracked::Protocol => UntrackedWhy::Protocol,
+    }
+}
+
+/// Handles one packet, by what its headers say. Only a packet of a flow makes events.
+fn handle_packet<R: Wait, D: Desk>(rt: &R, desk: &mut D, packet: &Packet, moment: u64) -> Verdict
+    requires valid { has_valid_tuple packet.now ≡ true }
+    requires protocol { HasItsProtocol packet.now }
+    requires timely { moment ≤ 10 ^ 16 }
+    requires empty { HoldsNothing (D.sight desk.old) }
+    requires spare { 5 ≤ (D.sight desk.old).spare }
+    requires knows { IsKnown (D.sight desk.old) }
+    ensures handled { Handled (record { packet = packet.now; moment = moment })
+        (D.sight desk.old) (D.sight desk.new) result }
+    ensures knows { IsKnown (D.sight desk.new) }
+{
+    let first = desk.made();
+    let class = match packet {
+        Packet::Flow { tuple, segment, .. } => {
+            let packet = FlowPacket {
+                tuple: *tuple,
+                segment: *segment,
+                moment,
+            };
+            return handle_flow(rt, desk, &packet);
+        }
+        Packet::Untracked(cause) => Class::Untracked(untracked_why(*cause)),
+        Packet::Invalid => Class::BadHeader,
+        Packet::Error {
+            inner,
+            outer_destination,
+        } => error_class(rt, desk, inner, *outer_destination),
+    };
+    Verdict {
+        class,
+        first,
+        made: 0,
+    }
+}
 
 /// Handles one frame of a file with these bytes, with a desk that holds and owes nothing, and says what
 /// became of it. Takes its memory first: after `NoMemory` no event was made, and the desk is as it was.
@@ -29,6 +153,7 @@ pub fn handle<R: Wait, D: Desk>(
     ensures same { OnErr result (D.sight desk.new ≡ D.sight desk.old) }
     ensures knows { IsKnown (D.sight desk.new) }
 {
-    for _ in rt.forever() {}
-    unreachable!()
+    desk.ready(8)?;
+    let packet = classify(bytes, frame);
+    Ok(handle_packet(rt, desk, &packet, frame.moment))
 }

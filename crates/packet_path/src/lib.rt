@@ -1,5 +1,7 @@
 //! One packet's way through the tracker, and when a verdict on a frame fits a history.
 #![tactic(auto)]
 
+mod attempt;
 pub mod handle;
 pub mod laws;
+pub mod packet;

@@ -1,0 +1,73 @@
+use Rattle.std.proofs.Common.{◌∙◌, ap, length, subst, sym}
+use Rattle.history_book.specs.declared.verdict.Class.{Class}
+use Rattle.history_book.specs.Desk.{Leaves, Touches}
+use Rattle.history_book.specs.Entry.{is_of_entry}
+use Rattle.proto_rules.specs.declared.Outcome.TheVariants as outcome
+use Rattle.packet_path.specs.Internal.Attempt.{Answers}
+use Rattle.packet_path.proofs.Attempts.{attempt_after, left_ignored, left_invalid, met_protocol, starts_longer, touched}
+use Rattle.packet_path.proofs.Places.{only_id}
+use Rattle.packet_path.proofs.attempt.meet_entry.Goals as goal
+
+pub touch-requires-clause-protocol : goal.touch-requires-clause-protocol
+touch-requires-clause-protocol g c =
+    let s = g.D.Desk.sight c.args.desk.now in
+    ap (λ id. is_of_entry c.args.packet.now.segment id s.front) (only_id c.args.met.now.place c.args.met.now.id s c.requires.met.holds)
+    ∙ met_protocol c.found_keep_their_protocol.ensures c.live_records_have_the_protocol.ensures
+    c.records_are_of_one_protocol.ensures c.same_protocol_is_equality.ensures s c.args.packet.now c.args.met.now c.requires.knows
+    c.requires.classified c.requires.met
+
+pub returns-in-Touched-clause-says : goal.returns-in-Touched-clause-says
+returns-in-Touched-clause-says g c =
+    let s = g.D.Desk.sight c.args.desk.now in
+    let new = g.D.Desk.sight c.touch.new.self in
+    subst (λ (k : Class). Answers s new c.args.packet.now c.args.kills (length s.front) k) (sym c.passed.ensures)
+    (touched c.states_stay.ensures c.events_stay.ensures c.found_are_found_again.ensures s new c.args.packet.now c.args.met.now
+    c.args.kills c.in-Touched.number c.in-Touched.before c.requires.few c.touch.ensures.knows c.requires.met
+    (subst (λ id. Touches id c.args.met.now.direction c.args.packet.now.segment c.args.packet.now.moment s new c.in-Touched.number
+    c.in-Touched.before)
+    (only_id c.args.met.now.place c.args.met.now.id s c.requires.met.holds) c.in-Touched.ensures.says))
+
+pub returns-in-Ignored-clause-says : goal.returns-in-Ignored-clause-says
+returns-in-Ignored-clause-says g c =
+    let s = g.D.Desk.sight c.args.desk.now in
+    let new = g.D.Desk.sight c.touch.new.self in
+    left_ignored c.states_stay.ensures c.events_stay.ensures c.found_are_found_again.ensures s new c.args.packet.now c.args.met.now
+    c.args.kills c.in-Ignored.at c.requires.few c.touch.ensures.knows c.requires.met
+    (subst (λ id. Leaves id c.args.met.now.direction c.args.packet.now.segment c.args.packet.now.moment outcome.Ignore s new c.in-Ignored.at)
+    (only_id c.args.met.now.place c.args.met.now.id s c.requires.met.holds) c.in-Ignored.ensures.says)
+
+pub returns-in-Invalid-clause-says : goal.returns-in-Invalid-clause-says
+returns-in-Invalid-clause-says g c =
+    let s = g.D.Desk.sight c.args.desk.now in
+    let new = g.D.Desk.sight c.touch.new.self in
+    left_invalid c.states_stay.ensures c.events_stay.ensures c.found_are_found_again.ensures s new c.args.packet.now c.args.met.now
+    c.args.kills c.in-Invalid.at c.requires.few c.touch.ensures.knows c.requires.met
+    (subst (λ id. Leaves id c.args.met.now.direction c.args.packet.now.segment c.args.packet.now.moment outcome.Invalid s new c.in-Invalid.at)
+    (only_id c.args.met.now.place c.args.met.now.id s c.requires.met.holds) c.in-Invalid.ensures.says)
+
+pub returns-in-Reset-clause-says : goal.returns-in-Reset-clause-says
+returns-in-Reset-clause-says g c =
+    let s = g.D.Desk.sight c.args.desk.now in
+    let mid = g.D.Desk.sight c.touch.new.self in
+    let saw = c.in-Reset.ensures.says.0.saw in
+    attempt_after c.states_stay.ensures c.events_stay.ensures s mid (g.D.Desk.sight c.reset_entry.new.desk) c.args.packet.now
+    c.args.kills (length s.front) c.reset_entry.result saw
+    (c.reset_entry.ensures.says c.args.kills (length s.front) c.requires.few (starts_longer mid.front s.front saw.front))
+
+pub returns-in-Expired-clause-says : goal.returns-in-Expired-clause-says
+returns-in-Expired-clause-says g c =
+    let s = g.D.Desk.sight c.args.desk.now in
+    let mid = g.D.Desk.sight c.touch.new.self in
+    let looked = c.in-Expired.ensures.says.0 in
+    attempt_after c.states_stay.ensures c.events_stay.ensures s mid (g.D.Desk.sight c.end_entry.new.desk) c.args.packet.now
+    c.args.kills (length s.front) c.end_entry.result looked.saw
+    (c.end_entry.ensures.says (length s.front) looked.low (starts_longer mid.front s.front looked.saw.front))
+
+pub returns-in-Reopen-clause-says : goal.returns-in-Reopen-clause-says
+returns-in-Reopen-clause-says g c =
+    let s = g.D.Desk.sight c.args.desk.now in
+    let mid = g.D.Desk.sight c.touch.new.self in
+    let looked = c.in-Reopen.ensures.says.0 in
+    attempt_after c.states_stay.ensures c.events_stay.ensures s mid (g.D.Desk.sight c.end_entry-in-Reopen.new.desk) c.args.packet.now
+    c.args.kills (length s.front) c.end_entry-in-Reopen.result looked.saw
+    (c.end_entry-in-Reopen.ensures.says (length s.front) looked.low (starts_longer mid.front s.front looked.saw.front))

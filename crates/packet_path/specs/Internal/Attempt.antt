@@ -1,0 +1,96 @@
+-- One attempt to handle a packet of a flow with a desk.
+use Rattle.std.specs.Prelude.{◌≡◌, ℕ, ◌+◌, ◌<◌, ◌≤◌, ◌^◌, true, Some, List, [], ◌∷◌, ◌++◌, length}
+use Rattle.std.specs.List.{AllByRecursion}
+use Rattle.tuple_core.specs.Tuple.{is_valid}
+use Rattle.history_book.specs.declared.desk.Hold.{Hold}
+use Rattle.history_book.specs.declared.event.Note.{Note}
+use Rattle.history_book.specs.declared.event.Why.{Why}
+use Rattle.history_book.specs.declared.event.Why.TheVariants as why
+use Rattle.history_book.specs.declared.verdict.Class.{Class}
+use Rattle.proto_rules.specs.declared.Outcome.TheVariants as outcome
+use Rattle.history_book.specs.Desk.{IsLiveUnder, Saw, StepGives}
+use Rattle.history_book.specs.Notes.{mark_past}
+use Rattle.history_book.specs.Point.{At, StartsWith}
+use Rattle.history_book.specs.Sight.{IsKnown, Sight}
+use Rattle.packet_headers.specs.ClassifySound.{protocol_of}
+use Rattle.packet_path.specs.declared.attempt.Attempt.{Attempt}
+use Rattle.packet_path.specs.declared.attempt.Attempt.TheVariants.{Done, Killed, Again}
+use Rattle.packet_path.specs.declared.attempt.Met.{Met}
+use Rattle.packet_path.specs.declared.packet.FlowPacket.{FlowPacket}
+use Rattle.packet_path.specs.Packet.{Given, IsFlow}
+use Rattle.packet_path.specs.Verdict.{FitsFrame, Kills, KillsAll, points_of}
+
+-- the tuple is valid and of the segment's protocol, and the moment is one that a capture can name
+pub record IsClassified (p : FlowPacket) : Type 0 where
+  pub valid : is_valid p.tuple ≡ true
+  pub protocol : p.tuple.proto ≡ protocol_of p.segment
+  pub timely : p.moment ≤ 10 ^ 16
+
+-- the desk holds and owes nothing
+pub record HoldsNothing (s : Sight) : Type 0 where
+  pub held : s.held ≡ []
+  pub owed : s.owed ≡ []
+
+-- the desk holds one place, for an entry or for none
+pub record HoldsOne (hold : Hold) (s : Sight) : Type 0 where
+  pub held : s.held ≡ hold ∷ []
+  pub owed : s.owed ≡ []
+
+-- the entry that the packet met was live under its tuple, and its place is held for it
+pub record IsMet (packet : FlowPacket) (met : Met) (s : Sight) : Type 0 where
+  pub live : At s.front met.at (IsLiveUnder packet.tuple met.place met.id met.direction)
+  pub holds : HoldsOne (record { place = met.place; id = Some met.id }) s
+
+-- the entry that was met is to end for this reason, since the step said so at the point
+abbrev pub EndsEntry : FlowPacket → Met → ℕ → Why → Sight → Type 0
+EndsEntry packet met at (why.Expired moment) s =
+    (moment ≡ packet.moment)
+    × At s.front at (StepGives met.id met.direction packet.segment packet.moment outcome.Expired)
+EndsEntry packet met at (why.Reopened direction segment moment) s =
+    (direction ≡ met.direction) × (segment ≡ packet.segment) × (moment ≡ packet.moment)
+    × At s.front at (StepGives met.id met.direction packet.segment packet.moment outcome.Reopen)
+EndsEntry packet met at (why.Reset segment moment) s = ⊥
+
+-- The packet's class, which fits whatever kills of this number came before, none of them later than this
+-- point.
+pub record Answers (old new : Sight) (packet : FlowPacket) (killed from : ℕ) (answer : Class) : Type 0 where
+  pub front : StartsWith new.front old.front
+  pub sizes : new.sizes ≡ old.sizes
+  pub rest : List Note
+  pub own : new.own ≡ old.own ++ rest
+  pub few : length rest ≤ 1
+  pub points : AllByRecursion (λ p. p ≤ length new.front) (points_of answer)
+  pub fits : (given : Given) (mark : ℕ) (kills : List Note) → IsFlow given packet → length kills ≡ killed
+      → KillsAll old.front mark packet kills → mark_past mark kills ≤ from
+      → FitsFrame old.sizes new.front mark given (kills ++ rest) answer
+
+-- the packet killed the entry that it met, and fewer than four before
+pub record KilledOne (old new : Sight) (packet : FlowPacket) (killed from : ℕ) : Type 0 where
+  pub few : killed < 4
+  pub front : StartsWith new.front old.front
+  pub sizes : new.sizes ≡ old.sizes
+  pub note : Note
+  pub own : new.own ≡ old.own ++ note ∷ []
+  pub spare : old.spare ≡ new.spare + 1
+  pub high : note.number < length new.front
+  pub kill : Kills new.front from packet note
+
+-- what an attempt says, after so many kills
+abbrev pub AttemptSays : Sight → Sight → FlowPacket → ℕ → ℕ → Attempt → Type 0
+AttemptSays old new packet killed from (Done answer) = Answers old new packet killed from answer
+AttemptSays old new packet killed from Killed = KilledOne old new packet killed from
+AttemptSays old new packet killed from Again = Saw old new
+
+-- what was done with a packet so far: so many kills, and nothing is held
+pub record IsKilling (old now : Sight) (packet : FlowPacket) (killed : ℕ) : Type 0 where
+  pub front : StartsWith now.front old.front
+  pub sizes : now.sizes ≡ old.sizes
+  pub kills : List Note
+  pub own : now.own ≡ old.own ++ kills
+  pub count : length kills ≡ killed
+  pub few : killed ≤ 4
+  pub all : KillsAll now.front (length old.front) packet kills
+  pub mark : mark_past (length old.front) kills ≤ length now.front
+  pub spare : 5 ≤ now.spare + killed
+  pub empty : HoldsNothing now
+  pub known : IsKnown now
