@@ -21,10 +21,12 @@ pub record AreFresh (sizes : Sizes) (records : Roomed Record) (free : Roomed ℕ
   pub holds_room : 4 ≤ holds.room
   pub owed_room : 4 ≤ owed.room
 
+-- no events are a history
 no_history : (sizes : Sizes) → IsHistory sizes [] []
 unfolding is_legal after
 no_history sizes = record { numbered = refl; legal = refl; state = refl }
 
+-- where all places are free, each is once
 fresh_places : (n : ℕ) (free : List ℕ) → AreBelow n 0 free → ArePlaces n [] [] free []
 fresh_places n free h = record {
   once = λ p below. omega (arith, h.each p (omega arith) below);
@@ -32,6 +34,7 @@ fresh_places n free h = record {
   single = λ p. omega arith;
 }
 
+-- a book with nothing in it is right
 pub fresh_book : (sizes : Sizes) (records : Roomed Record) (free : Roomed ℕ) (notes : Roomed Note) (holds : Roomed Hold) (owed : Roomed ℕ)
     → AreWithinLimits sizes → AreFresh sizes records free notes holds owed
     → IsBook (record { sizes = sizes; records = records; free = free; notes = notes; spare = 0; holds = holds; owed = owed })

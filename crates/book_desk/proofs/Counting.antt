@@ -13,26 +13,32 @@ abbrev pub total : (ℕ → ℕ) → ℕ → ℕ
 total g zero = 0
 total g (suc n) = g n + total g n
 
+-- sums keep the order of their terms
 pub total_le : (g h : ℕ → ℕ) (n : ℕ) → ((p : ℕ) → p < n → g p ≤ h p) → total g n ≤ total h n
 total_le g h zero f = omega arith
 total_le g h (suc n) f = omega (arith, f n (omega arith), total_le g h n (λ p below. f p (omega (arith, below))))
 
+-- the sum of sums
 pub total_add : (g h : ℕ → ℕ) (n : ℕ) → total (λ p. g p + h p) n ≡ total g n + total h n
 total_add g h zero = omega arith
 total_add g h (suc n) = omega (arith, total_add g h n)
 
+-- n ones
 pub total_ones : (n : ℕ) → total (λ p. 1) n ≡ n
 total_ones zero = refl
 total_ones (suc n) = omega (arith, total_ones n)
 
+-- n zeros
 pub total_zeros : (n : ℕ) → total (λ p. 0) n ≡ 0
 total_zeros zero = refl
 total_zeros (suc n) = omega (arith, total_zeros n)
 
+-- a number that is not below n is none of those
 total_miss : (a n : ℕ) → n ≤ a → total (λ p. bit (a == p)) n ≡ 0
 total_miss a zero h = refl
 total_miss a (suc n) h = omega (arith, other_bit a n (λ e. omega (arith, e, h)), total_miss a n (omega (arith, h)))
 
+-- a number below n is one of those
 pub total_hit : (a n : ℕ) → a < n → total (λ p. bit (a == p)) n ≡ 1
 total_hit a zero h = absurd (omega (arith, h))
 total_hit a (suc n) h =
@@ -41,6 +47,7 @@ total_hit a (suc n) h =
     (λ (e : a ≡ n → ⊥). omega (arith, other_bit a n e, total_hit a n (omega (arith, e, h))))
     (cases_eq a n)
 
+-- a number is at most one of those
 total_bit : (a n : ℕ) → total (λ p. bit (a == p)) n ≤ 1
 total_bit a n =
     ⊎_elim (λ (e : a < n). omega (arith, total_hit a n e)) (λ (e : n ≤ a). omega (arith, total_miss a n e)) (cases_lt a n)
@@ -90,6 +97,7 @@ apart_once (p ∷ ps) h =
     (none_has (λ q. q) p ps (omega (arith, h p, same_bit p p refl)))))
     (apart_once ps (λ q. omega (arith, h q)))
 
+-- a place that no item has is not counted
 pub none_counted : {X : Type 0} (f : X → ℕ) (p : ℕ) (xs : List X) → AllByRecursion (λ x. f x ≢ p) xs → tally (λ x. f x == p) xs ≡ 0
 none_counted f p [] h = refl
 none_counted f p (x ∷ xs) (h, hs) = omega (arith, other_bit (f x) p h, none_counted f p xs hs)

@@ -54,6 +54,7 @@ pub record Adds (old new : Book) (e : Event) : Type 0 where
   pub holds_room : new.holds.room ≡ old.holds.room
 
 module _ (follow : StatesFollow) (goes_on : LegalHistoriesGoOn) where
+  -- a book is right after an event that may happen, if its places and references are
   book_next : (old new : Book) (e : Event) → IsBook old → Adds old new e
       → may_happen old.sizes (state_of old.records.items) (length old.notes.items) e ≡ true
       → state_of new.records.items ≡ next (state_of old.records.items) e
@@ -86,6 +87,7 @@ module _ (follow : StatesFollow) (goes_on : LegalHistoriesGoOn) where
         };
       }
 
+-- what has the test of none is none
 is_none_is : (o : Option ℕ) → is_none o ≡ true → o ≡ None
 is_none_is None h = refl
 is_none_is (Some n) h = cc
@@ -106,6 +108,7 @@ taken_nobodys p rs (h ∷ hs) taken (current, rest) =
     (λ e. taken_nobodys p rs hs e rest)
     (or_cases (is_at p h && is_none h.id) (is_taken p hs) taken)
 
+-- a place that was taken is held
 taken_held : (p : ℕ) (held : List Hold) → is_taken p held ≡ true → is_held p held ≡ true
 taken_held p [] taken = cc
 taken_held p (h ∷ hs) taken =
@@ -114,10 +117,12 @@ taken_held p (h ∷ hs) taken =
     (λ e. or_right (is_at p h) (is_held p hs) (taken_held p hs e))
     (or_cases (is_at p h && is_none h.id) (is_taken p hs) taken)
 
+-- no record counts in a place that was taken
 nobodys : (b : Book) (p : ℕ) → IsBook b → is_taken p b.holds.items ≡ true → tally (has_place p) b.records.items ≡ 0
 nobodys b p h taken =
     none_counted (λ (s : Record). s.place) p b.records.items (taken_nobodys p b.records.items b.holds.items taken h.references.current)
 
+-- a place that was taken is one of the pool
 taken_below : (b : Book) (p : ℕ) → IsBook b → is_taken p b.holds.items ≡ true → p < b.sizes.entries
 taken_below b p h taken =
     place_below b.sizes.entries b.records.items b.holds.items b.free.items b.owed.items p h.places
@@ -132,6 +137,7 @@ enter_room b p h taken =
       fewer_records b.sizes.entries b.records.items b.holds.items b.free.items b.owed.items h.places p (taken_below b p h taken) (nobodys b p h taken),
     )
 
+-- a book is right after a Confirm
 pub entered : StatesFollow → LegalHistoriesGoOn → FreeIsAbsent → (old new : Book) (r : Record) → IsBook old → Adds old new (Confirm r)
     → is_taken r.place old.holds.items ≡ true → r.id ≡ length old.notes.items → is_of_one_protocol r ≡ true
     → live_under r.original (state_of old.records.items) ≡ None → live_under r.reply (state_of old.records.items) ≡ None
@@ -243,6 +249,7 @@ pub record IsFirstFor (p : ℕ) (held : List Hold) : Type 0 where
   pub first : find (is_at p) held ≡ Some hold
   pub for_it : is_some hold.id ≡ true
 
+-- a reference is for an entry where another to its place is
 some_by_others : (p : ℕ) (h : Hold) (hs : List Hold) → h.place ≡ p → AllByRecursion (IsForOne h) hs → is_held_for_entry p hs ≡ true
     → is_some h.id ≡ true
 some_by_others p h [] same one held = cc
@@ -252,6 +259,7 @@ some_by_others p h (g ∷ gs) same (one, ones) held =
     (λ e. some_by_others p h gs same ones e)
     (or_cases (is_at p g && is_some g.id) (is_held_for_entry p gs) held)
 
+-- the first reference is for the entry
 first_for : (p : ℕ) (held : List Hold) → Agree held → is_held_for_entry p held ≡ true → IsFirstFor p held
 first_for p [] agree held = cc
 first_for p (h ∷ hs) (one, rest) held =
@@ -270,6 +278,7 @@ first_for p (h ∷ hs) (one, rest) held =
           }
     ] refl held
 
+-- a place that is held for an entry is held
 held_at_all : (p : ℕ) (held : List Hold) → is_held_for_entry p held ≡ true → is_held p held ≡ true
 held_at_all p [] h = cc
 held_at_all p (g ∷ gs) h =
@@ -278,10 +287,12 @@ held_at_all p (g ∷ gs) h =
     (λ e. or_right (is_at p g) (is_held p gs) (held_at_all p gs e))
     (or_cases (is_at p g && is_some g.id) (is_held_for_entry p gs) h)
 
+-- what is some is its value
 some_is : (o : Option ℕ) → is_some o ≡ true → o ≡ Some (unwrap_or o 0)
 some_is None h = cc
 some_is (Some n) h = refl
 
+-- what is so of each reference is so of the one that is found
 each_found : (P : Hold → Type 0) (q : Hold → Bool) (held : List Hold) (h : Hold) → AllByRecursion P held → find q held ≡ Some h → P h
 each_found P q [] h all found = cc
 each_found P q (g ∷ gs) h (all, alls) found =
@@ -343,6 +354,7 @@ pub record IsEntryOf (b : Book) (p id : ℕ) (r : Record) : Type 0 where
   pub its : record_of id (state_of b.records.items) ≡ Some r
   pub named : r.id ≡ id
 
+-- the record that was found for the reference
 pub entry_of : (b : Book) (holds : List Hold) (records : List Record) (p id i : ℕ) (r : Record) → holds ≡ b.holds.items
     → records ≡ b.records.items → id ≡ held_id p holds → IsRecordAt id (state_of records) i → slice_get b.records.items i ≡ Some r
     → IsEntryOf b p id r

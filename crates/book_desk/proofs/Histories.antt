@@ -16,12 +16,15 @@ use Rattle.history_book.specs.State.{State, next, state_of}
 use Rattle.book_desk.specs.declared.book.Book.{Book}
 use Rattle.book_desk.specs.Book.{IsBook, IsHistory, events_of, noted, sight_of}
 
+-- as many events as notes
 pub length-events : (notes : List Note) → length (events_of notes) ≡ length notes
 length-events notes = length-map notes (λ (n : Note). n.event)
 
+-- one event more
 pub events-push : (notes : List Note) (n : Note) → events_of (notes ++ n ∷ []) ≡ events_of notes ++ n.event ∷ []
 events-push notes n = map-append (λ (m : Note). m.event) notes (n ∷ [])
 
+-- one note more, with the next number
 notes_from-push : (k : ℕ) (es : List Event) (e : Event)
     → notes_from k (es ++ e ∷ []) ≡ notes_from k es ++ record { number = k + length es; event = e } ∷ []
 notes_from-push k [] e = ap (λ (n : ℕ). record { number = n; event = e } ∷ []) (omega arith)
@@ -52,11 +55,13 @@ history_next follow goes_on sizes notes more rs rs' e h pushed may state =
           ∙ ap (λ l. after l (length l)) (sym longer);
     }
 
+-- what stands at an index stands there when the list goes on
 pub get_append : {X : Type 0} (xs ys : List X) (i : ℕ) (x : X) → slice_get xs i ≡ Some x → slice_get (xs ++ ys) i ≡ Some x
 get_append [] ys i x h = cc
 get_append (y ∷ xs) ys zero x h = h
 get_append (y ∷ xs) ys (suc i) x h = get_append xs ys i x h
 
+-- the last item stands at the old length
 pub get_last : {X : Type 0} (xs : List X) (x : X) → slice_get (xs ++ x ∷ []) (length xs) ≡ Some x
 get_last [] x = refl
 get_last (y ∷ ys) x = get_last ys x

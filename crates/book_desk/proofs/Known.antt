@@ -31,10 +31,12 @@ noted_at k before (e ∷ es) h =
       subst (λ l. AllByRecursion (λ (n : Note). slice_get l n.number ≡ Some n.event) (notes_from (k + 1) es)) more rest,
     )
 
+-- notes from a number on have no lower one
 from_on : (k j : ℕ) (es : List Event) → k ≤ j → AllByRecursion (λ (n : Note). k ≤ n.number) (notes_from j es)
 from_on k j [] h = tt
 from_on k j (e ∷ es) h = (h, from_on k (j + 1) es (omega (arith, h)))
 
+-- numbers of notes rise
 rising : (k : ℕ) (es : List Event) → AllPairs (λ (m n : Note). m.number < n.number) (notes_from k es)
 rising k [] = λ i j d below short. absurd (omega (arith, short))
 rising k (e ∷ es) =
@@ -44,6 +46,7 @@ rising k (e ∷ es) =
     (from_on (k + 1) (k + 1) es (omega arith))))
     (rising (k + 1) es)
 
+-- a right book knows what a desk knows
 pub known : (b : Book) → IsBook b → IsKnown (sight_of b)
 known b h =
     let log : List Event = events_of b.notes.items in

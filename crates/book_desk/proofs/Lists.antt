@@ -5,14 +5,12 @@ use Rattle.std.specs.Prelude.{slice_set, ◌==◌, ◌||◌}
 use Rattle.std.proofs.lemmas.Bool.{cases_Bool, cases_eq, cond_both, eq-eqb, ne_eqb}
 use Rattle.book_desk.specs.Book.{AreBelow, bit, tally}
 
-pub bit_le : (b : Bool) → bit b ≤ 1
-bit_le true = omega arith
-bit_le false = omega arith
-
+-- the items of two lists count together
 pub tally-append : {X : Type 0} (p : X → Bool) (xs ys : List X) → tally p (xs ++ ys) ≡ tally p xs + tally p ys
 tally-append p [] ys = omega arith
 tally-append p (x ∷ xs) ys = omega (arith, tally-append p xs ys)
 
+-- one item more counts by its test
 pub tally-push : {X : Type 0} (p : X → Bool) (xs : List X) (x : X) → tally p (xs ++ x ∷ []) ≡ tally p xs + bit (p x)
 tally-push p xs x = omega (arith, tally-append p xs (x ∷ []))
 
@@ -40,6 +38,7 @@ tally_some p (x ∷ xs) h =
       | false ↦ λ e. omega (arith, tally_some p xs e)
     ] h
 
+-- where none passes, none counts
 pub tally_none : {X : Type 0} (p : X → Bool) (xs : List X) → list_any p xs ≡ false → tally p xs ≡ 0
 tally_none p [] h = refl
 tally_none p (x ∷ xs) h =
@@ -48,17 +47,16 @@ tally_none p (x ∷ xs) h =
       | false ↦ λ e. omega (arith, tally_none p xs e)
     ] h
 
-pub any_of : {X : Type 0} (p : X → Bool) (xs : List X) → 1 ≤ tally p xs → list_any p xs ≡ true
-any_of p xs h =
-    ⊎_elim (λ e. e) (λ e. absurd (omega (arith, h, tally_none p xs e))) (cases_Bool (list_any p xs))
-
+-- what counts nothing is nowhere
 pub none_of : {X : Type 0} (p : X → Bool) (xs : List X) → tally p xs ≡ 0 → list_any p xs ≡ false
 none_of p xs h =
     ⊎_elim (λ e. absurd (omega (arith, h, tally_some p xs e))) (λ e. e) (cases_Bool (list_any p xs))
 
+-- a number is itself, and counts one
 pub same_bit : (p q : ℕ) → p ≡ q → bit (p == q) ≡ 1
 same_bit p q e = ap bit (eq-eqb p q e)
 
+-- two numbers that differ count nothing
 pub other_bit : (p q : ℕ) → p ≢ q → bit (p == q) ≡ 0
 other_bit p q e = ap bit (ne_eqb p q e)
 
@@ -74,6 +72,7 @@ below_more n from places h below = record {
   high = λ p above. omega (arith, tally-push (λ q. q == p) places from, h.high p above, other_bit from p (λ e. omega (arith, e)));
 }
 
+-- the same, as the loop counts
 pub below_pushed : (n count : ℕ) (places more : List ℕ) → AreBelow n (n - count) places → count < n
     → more ≡ places ++ (n - 1 - count) ∷ [] → AreBelow n (n - (count + 1)) more
 below_pushed n count places more h within e =
@@ -95,6 +94,7 @@ module _ {X : Type 0} (p : X → Bool) (rest : List X → List X)
       (λ e. omega (arith, one x e))
       (λ e. omega (arith, tally-rest q c one xs (sym (ap (λ b. b || list_any p xs) e) ∙ h)))
 
+  -- the list is one shorter
   pub length-rest : (xs : List X) → list_any p xs ≡ true → length (rest xs) + 1 ≡ length xs
   length-rest [] h = cc
   length-rest (x ∷ xs) h =
@@ -109,6 +109,7 @@ module _ {X : Type 0} (p : X → Bool) (rest : List X → List X)
       subst (AllByRecursion P) (sym (step x xs))
       (cond_both (p x) xs (x ∷ rest xs) (AllByRecursion P) (λ e. hs) (λ e. (h, each_rest P xs none hs)))
 
+-- what is so of each item is so of the one at an index
 pub each_at : {X : Type 0} (P : X → Type 0) (xs : List X) (i : ℕ) (x : X) → AllByRecursion P xs → slice_get xs i ≡ Some x → P x
 each_at P [] i x h at = cc
 each_at P (y ∷ ys) zero x (h, hs) at = let same : y ≡ x = cc in subst P same h
@@ -121,12 +122,14 @@ each_set P [] i x h one = tt
 each_set P (y ∷ ys) zero x (h, hs) one = (one, hs)
 each_set P (y ∷ ys) (suc i) x (h, hs) one = (h, each_set P ys i x hs one)
 
+-- and when one is taken out
 pub each_remove : {X : Type 0} (P : X → Type 0) (xs : List X) (i : ℕ) → AllByRecursion P xs → AllByRecursion P (remove xs i)
 each_remove P [] zero h = tt
 each_remove P [] (suc i) h = tt
 each_remove P (y ∷ ys) zero (h, hs) = hs
 each_remove P (y ∷ ys) (suc i) (h, hs) = (h, each_remove P ys i hs)
 
+-- and when one is added that has it
 pub each_push : {X : Type 0} (P : X → Type 0) (xs : List X) (x : X) → AllByRecursion P xs → P x → AllByRecursion P (xs ++ x ∷ [])
 each_push P [] x h one = (one, tt)
 each_push P (y ∷ ys) x (h, hs) one = (h, each_push P ys x hs one)

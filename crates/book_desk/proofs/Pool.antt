@@ -43,16 +43,19 @@ places_at n a rs rs' held held' free free' owed owed' h below same here one = re
       (cases_eq a p);
 }
 
--- a reference more to a place, a place more, a record more
+-- a reference more, at another place than its own
 pub other_hold : (held : List Hold) (h : Hold) (p : ℕ) → h.place ≢ p → tally (is_at p) (h ∷ held) ≡ tally (is_at p) held
 other_hold held h p e = omega (arith, other_bit h.place p e)
 
+-- and at its place
 pub same_hold : (held : List Hold) (h : Hold) → tally (is_at h.place) (h ∷ held) ≡ tally (is_at h.place) held + 1
 same_hold held h = omega (arith, same_bit h.place h.place refl)
 
+-- a place more, at another place
 pub other_place : (places : List ℕ) (a p : ℕ) → a ≢ p → times p (places ++ a ∷ []) ≡ times p places
 other_place places a p e = omega (arith, tally-push (λ q. q == p) places a, other_bit a p e)
 
+-- and at the place
 pub same_place : (places : List ℕ) (a : ℕ) → times a (places ++ a ∷ []) ≡ times a places + 1
 same_place places a = omega (arith, tally-push (λ q. q == a) places a, same_bit a a refl)
 
@@ -64,7 +67,7 @@ tally-held_for a id p (h ∷ hs) =
     cond_both (is_at a h) (record h { id = Some id }) h (λ (g : Hold). is_at p g ≡ is_at p h) (λ e. refl) (λ e. refl) in
     omega (arith, ap bit here, tally-held_for a id p hs)
 
--- what was taken out counts no more
+-- a reference that was given up, at another place
 pub other_without : (a p : ℕ) (held : List Hold) → is_held a held ≡ true → a ≢ p
     → tally (is_at p) (without a held) ≡ tally (is_at p) held
 other_without a p held h e =
@@ -74,11 +77,13 @@ other_without a p held h e =
           (λ x passes. other_bit x.place p (λ k. e (sym (eqb-true x.place a passes) ∙ k))) held h,
     )
 
+-- and at the place
 pub same_without : (a : ℕ) (held : List Hold) → is_held a held ≡ true
     → tally (is_at a) (without a held) + 1 ≡ tally (is_at a) held
 same_without a held h =
     tally-rest (is_at a) (without a) (λ x xs. refl) (is_at a) 1 (λ x passes. ap bit passes) held h
 
+-- an owed place that was taken out, at another place
 pub other_paid : (a p : ℕ) (owed : List ℕ) → is_owed a owed ≡ true → a ≢ p → times p (paid a owed) ≡ times p owed
 other_paid a p owed h e =
     omega (
@@ -87,24 +92,31 @@ other_paid a p owed h e =
           (λ x passes. other_bit x p (λ k. e (sym (eqb-true x a passes) ∙ k))) owed h,
     )
 
+-- and at the place
 pub same_paid : (a : ℕ) (owed : List ℕ) → is_owed a owed ≡ true → times a (paid a owed) + 1 ≡ times a owed
 same_paid a owed h = tally-rest (λ q. q == a) (paid a) (λ x xs. refl) (λ q. q == a) 1 (λ x passes. ap bit passes) owed h
 
+-- one reference is given up
 pub length-without : (a : ℕ) (held : List Hold) → is_held a held ≡ true → length (without a held) + 1 ≡ length held
 length-without a held h = length-rest (is_at a) (without a) (λ x xs. refl) held h
 
+-- one owed place is taken out
 pub length-paid : (a : ℕ) (owed : List ℕ) → is_owed a owed ≡ true → length (paid a owed) + 1 ≡ length owed
 length-paid a owed h = length-rest (λ q. q == a) (paid a) (λ x xs. refl) owed h
 
+-- a place that was taken out by its index, at another place
 pub other_removed : (places : List ℕ) (i a p : ℕ) → slice_get places i ≡ Some a → a ≢ p → times p (remove places i) ≡ times p places
 other_removed places i a p at e = omega (arith, tally-remove (λ q. q == p) places i a at, other_bit a p e)
 
+-- and at the place
 pub same_removed : (places : List ℕ) (i a : ℕ) → slice_get places i ≡ Some a → times a (remove places i) + 1 ≡ times a places
 same_removed places i a at = omega (arith, tally-remove (λ q. q == a) places i a at, same_bit a a refl)
 
+-- a record more, at another place
 pub other_record : (rs : List Record) (r : Record) (p : ℕ) → r.place ≢ p → tally (has_place p) (rs ++ r ∷ []) ≡ tally (has_place p) rs
 other_record rs r p e = omega (arith, tally-push (has_place p) rs r, other_bit r.place p e)
 
+-- and at its place
 pub same_record : (rs : List Record) (r : Record) → tally (has_place r.place) (rs ++ r ∷ []) ≡ tally (has_place r.place) rs + 1
 same_record rs r = omega (arith, tally-push (has_place r.place) rs r, same_bit r.place r.place refl)
 
@@ -237,6 +249,7 @@ module _ (n : ℕ) (rs : List Record) (held : List Hold) (free owed : List ℕ) 
         total_le (λ p. times p free + times p owed) (λ p. 1) n (λ p below. omega (arith, h.once p below)),
       )
 
+  -- each record has a place of the pool
   records_below : AllByRecursion (λ (r : Record). r.place < n) rs
   records_below = all_below (λ (r : Record). r.place) n rs (λ p above. omega (arith, h.beyond p above))
 

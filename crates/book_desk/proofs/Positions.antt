@@ -16,6 +16,7 @@ below_any p (x ∷ xs) h =
       | false ↦ λ e. omega (arith, below_any p xs e)
     ] h
 
+-- where an item passes, an index is found
 position_any : {X : Type 0} (p : X → Bool) (xs : List X) → list_any p xs ≡ true → position p xs ≡ Some (position_or_len p xs)
 position_any p xs h =
     ap (λ b. cond b (Some (position_or_len p xs)) None) (lt-ltb (position_or_len p xs) (length xs) (below_any p xs h))
@@ -32,11 +33,13 @@ found_at p xs i h =
     let parts = cond_some (nat_lt (position_or_len p xs) (length xs)) (position_or_len p xs) i h in
     (ltb-true (position_or_len p xs) (length xs) parts.0, parts.1)
 
+-- the index that was found is within the list
 pub found_within : {X : Type 0} (p : X → Bool) (xs : List X) (i : ℕ) → position p xs ≡ Some i → i < length xs
 found_within p xs i h = let at = found_at p xs i h in omega (arith, at.0, at.1)
 
 module _ {X : Type 0} (p : X → Bool) (rest : List X → List X)
     (step : (x : X) (xs : List X) → rest (x ∷ xs) ≡ cond (p x) xs (x ∷ rest xs)) where
+  -- to take out the first item that passes is to take out that at its index
   first_removed : (xs : List X) → position_or_len p xs < length xs → remove xs (position_or_len p xs) ≡ rest xs
   first_removed [] h = absurd (omega (arith, h))
   first_removed (x ∷ xs) h =
@@ -53,6 +56,7 @@ module _ {X : Type 0} (p : X → Bool) (rest : List X → List X)
       let at = found_at p xs i h in
       ap (remove xs) (sym at.1) ∙ first_removed xs at.0
 
+-- the first item that passes stands at its index
 first_found : {X : Type 0} (p : X → Bool) (xs : List X) → position_or_len p xs < length xs
     → slice_get xs (position_or_len p xs) ≡ find p xs
 first_found p [] h = absurd (omega (arith, h))
@@ -71,12 +75,15 @@ item_at p xs i h =
     let at = found_at p xs i h in
     ap (slice_get xs) (sym at.1) ∙ first_found p xs at.0
 
+-- the references without the one at the index
 pub without_at : (place : ℕ) (held : List Hold) (i : ℕ) → position (is_at place) held ≡ Some i → remove held i ≡ without place held
 without_at place held i h = removed_at (is_at place) (without place) (λ x xs. refl) held i h
 
+-- the owed places without the one at the index
 pub paid_at : (place : ℕ) (owed : List ℕ) (i : ℕ) → position (λ p. p == place) owed ≡ Some i → remove owed i ≡ paid place owed
 paid_at place owed i h = removed_at (λ p. p == place) (paid place) (λ x xs. refl) owed i h
 
+-- where none passes, none is found
 none_found : {X : Type 0} (p : X → Bool) (xs : List X) → list_any p xs ≡ false → find p xs ≡ None
 none_found p [] h = refl
 none_found p (x ∷ xs) h =
@@ -85,6 +92,7 @@ none_found p (x ∷ xs) h =
       | false ↦ λ e. none_found p xs e
     ] h
 
+-- where no index was found, no item is
 pub find_none : {X : Type 0} (p : X → Bool) (xs : List X) → position p xs ≡ None → find p xs ≡ None
 find_none p xs h = none_found p xs (none_at p xs h)
 
@@ -92,14 +100,17 @@ find_none p xs h = none_found p xs (none_at p xs h)
 pub some_at : {X : Type 0} (p : X → Bool) (xs : List X) → list_any p xs ≡ true → position p xs ≡ None → ⊥
 some_at p xs h e = let some = position_any p xs h in cc
 
+-- a place that no reference is to has the id 0
 pub held_id_none : (place : ℕ) (held : List Hold) → position (is_at place) held ≡ None → held_id place held ≡ 0
 held_id_none place held h = ap id_of (find_none (is_at place) held h)
 
+-- the id of the reference at the index
 pub held_id_at : (place : ℕ) (held : List Hold) (i : ℕ) (d : Hold) → position (is_at place) held ≡ Some i
     → held_id place held ≡ unwrap_or (get_or held i d).id 0
 held_id_at place held i d h =
     ap id_of (sym (item_at (is_at place) held i h) ∙ slice_get-get_or held i d (found_within (is_at place) held i h))
 
+-- what is found passes
 pub find_passes : {X : Type 0} (p : X → Bool) (xs : List X) (x : X) → find p xs ≡ Some x → p x ≡ true
 find_passes p [] x h = cc
 find_passes p (y ∷ ys) x h =

@@ -15,6 +15,7 @@ use Rattle.book_desk.specs.Book.{Agree, AreReferences, IsForRecord}
 use Rattle.book_desk.proofs.Histories.{get_append, get_last}
 use Rattle.book_desk.proofs.Lists.{each_map, each_push, each_remove, each_rest, each_set, each_two}
 
+-- references agree when one is given up
 agree_without : (place : ℕ) (held : List Hold) → Agree held → Agree (without place held)
 agree_without place [] a = tt
 agree_without place (g ∷ gs) (a, rest) =
@@ -39,15 +40,18 @@ for_one place id g h one =
     })
     (λ e. one))
 
+-- the same of one reference and each of others
 for_ones : (place id : ℕ) (g : Hold) (hs : List Hold) → AllByRecursion (IsForOne g) hs
     → AllByRecursion (IsForOne (for_entry place id g)) (held_for place id hs)
 for_ones place id g [] a = tt
 for_ones place id g (h ∷ hs) (a, as') = (for_one place id g h a, for_ones place id g hs as')
 
+-- references agree when each is given an entry
 agree_for : (place id : ℕ) (held : List Hold) → Agree held → Agree (held_for place id held)
 agree_for place id [] a = tt
 agree_for place id (g ∷ gs) (a, rest) = (for_ones place id g gs a, agree_for place id gs rest)
 
+-- any two references agree
 pub pairs_agree : (held : List Hold) → Agree held → AllPairs IsForOne held
 pairs_agree [] a = λ i j d below short. absurd (omega (arith, short))
 pairs_agree (g ∷ gs) (a, rest) = AllPairs-cons IsForOne g gs (All-from_recursion (IsForOne g) gs a) (pairs_agree gs rest)
@@ -61,6 +65,7 @@ for_entry_grows front more place (Some n) h = record {
   placed = h.placed;
 }
 
+-- a longer history leaves the references right
 pub refs_grow : (front more : List Event) (rs : List Record) (held : List Hold) → AreReferences front rs held
     → AreReferences (front ++ more) rs held
 refs_grow front more rs held h = record {
@@ -80,6 +85,7 @@ refs_more front rs held h refs entry current one = record {
   agreed = (one, refs.agreed);
 }
 
+-- one reference less
 pub refs_without : (front : List Event) (rs : List Record) (held : List Hold) (place : ℕ) → AreReferences front rs held
     → AreReferences front rs (without place held)
 refs_without front rs held place refs = record {
@@ -98,6 +104,7 @@ refs_set front rs held i r s refs own id place = record {
   agreed = refs.agreed;
 }
 
+-- one record less
 pub refs_remove : (front : List Event) (rs : List Record) (held : List Hold) (i : ℕ) → AreReferences front rs held
     → AreReferences front (remove rs i) held
 refs_remove front rs held i refs = record {
@@ -107,6 +114,7 @@ refs_remove front rs held i refs = record {
   agreed = refs.agreed;
 }
 
+-- a reference that is given an entry keeps its place
 place_kept : (place id : ℕ) (h : Hold) → (for_entry place id h).place ≡ h.place
 place_kept place id h =
     cond_both (is_at place h) (record h { id = Some id }) h (λ (k : Hold). k.place ≡ h.place) (λ e. refl) (λ e. refl)
@@ -123,6 +131,7 @@ entry_here front r h id old =
     })
     (λ e. for_entry_grows front (Confirm r ∷ []) h.place h.id old)
 
+-- and to that of the record where one has the place
 record_here : (r : Record) (rs : List Record) (h : Hold) → AllByRecursion (λ (s : Record). s.place ≢ r.place) rs
     → AllByRecursion (IsForRecord h) rs → AllByRecursion (IsForRecord (for_entry r.place r.id h)) (rs ++ r ∷ [])
 record_here r rs h none old =
@@ -133,6 +142,7 @@ record_here r rs h none old =
     (λ same. refl))
     (λ e. each_push (IsForRecord h) rs r old (λ same. absurd (eqb-false h.place r.place e same)))
 
+-- the same of each reference, of the entry
 entries_here : (front : List Event) (r : Record) (held : List Hold) → r.id ≡ length front
     → AllByRecursion (λ (h : Hold). IsForEntryOf front h.place h.id) held
     → AllByRecursion (λ (h : Hold). IsForEntryOf (front ++ Confirm r ∷ []) h.place h.id) (held_for r.place r.id held)
@@ -143,6 +153,7 @@ entries_here front r (h ∷ hs) id (old, olds) = (
   entries_here front r hs id olds,
 )
 
+-- and of the records
 records_here : (r : Record) (rs : List Record) (held : List Hold) → AllByRecursion (λ (s : Record). s.place ≢ r.place) rs
     → AllByRecursion (λ h. AllByRecursion (IsForRecord h) rs) held
     → AllByRecursion (λ h. AllByRecursion (IsForRecord h) (rs ++ r ∷ [])) (held_for r.place r.id held)

@@ -31,6 +31,7 @@ use Rattle.book_desk.proofs.References.{refs_more, refs_without}
 pub tally_at : {X : Type 0} (q : X → Bool) (xs : List X) (i : ℕ) (x : X) → slice_get xs i ≡ Some x → q x ≡ true → 1 ≤ tally q xs
 tally_at q xs i x at passes = omega (arith, tally-remove q xs i x at, ap bit passes)
 
+-- a record has its place
 pub same_place_passes : (r : Record) → has_place r.place r ≡ true
 same_place_passes r = eq-eqb r.place r.place refl
 
@@ -71,12 +72,14 @@ confirmed_record law b i r h at =
     let rs : b.records.items ≡ (after log (length log)).records = ap (λ (s : State). s.records) h.history.state in
     each_at (IsConfirmed log) (after log (length log)).records i r live (sym (ap (λ l. slice_get l i) rs) ∙ at)
 
+-- and in its place
 confirmed_there : LiveRecordsAreConfirmed → (b : Book) (i : ℕ) (r : Record) → IsBook b → slice_get b.records.items i ≡ Some r
     → WasConfirmedIn (events_of b.notes.items) r.place r.id
 confirmed_there law b i r h at =
     let one : IsConfirmed (events_of b.notes.items) r = confirmed_record law b i r h at in
     record { subject = one.subject; event = one.event; placed = sym one.same.place }
 
+-- the place of a live record is held once more
 pub book_hold : LiveRecordsAreConfirmed → (b : Book) (holds : Roomed Hold) (i : ℕ) (r : Record) → IsBook b
     → length b.holds.items + length b.owed.items ≤ 3 → slice_get b.records.items i ≡ Some r
     → holds.items ≡ record { place = r.place; id = Some r.id } ∷ b.holds.items → holds.room ≡ b.holds.room
@@ -104,6 +107,7 @@ pub record IsNobodys (b : Book) (p : ℕ) : Type 0 where
   pub holds : tally (is_at p) b.holds.items ≡ 0
   pub owed : times p b.owed.items ≡ 0
 
+-- a free place is nobody's
 pub free_nobodys : (b : Book) (i p : ℕ) → IsBook b → slice_get b.free.items i ≡ Some p → IsNobodys b p
 free_nobodys b i p h at =
     let there = same_removed b.free.items i p at in
@@ -116,6 +120,7 @@ free_nobodys b i p h at =
       owed = omega (arith, there, h.places.once p low);
     }
 
+-- a free place is taken
 pub book_take : (b : Book) (holds : Roomed Hold) (free : Roomed ℕ) (i p : ℕ) → IsBook b
     → length b.holds.items + length b.owed.items ≤ 3 → slice_get b.free.items i ≡ Some p
     → holds.items ≡ record { place = p; id = None } ∷ b.holds.items → holds.room ≡ b.holds.room
@@ -142,6 +147,7 @@ book_take b holds free i p h few at items room rest free_room =
       rooms = record { records = h.rooms.records; free = omega (arith, free_room, h.rooms.free); holds = omega (arith, room, h.rooms.holds); owed = h.rooms.owed; notes = h.rooms.notes; spared = h.rooms.spared };
     }
 
+-- a reference is given up, and others are left
 pub book_keep : (b : Book) (holds : Roomed Hold) (a : ℕ) → IsBook b → is_held a b.holds.items ≡ true
     → holds.items ≡ without a b.holds.items → holds.room ≡ b.holds.room
     → 1 ≤ uses a b.records.items holds.items → IsBook (record b { holds = holds })
@@ -159,6 +165,7 @@ book_keep b holds a h there items room used =
       rooms = record { records = h.rooms.records; free = h.rooms.free; holds = omega (arith, room, h.rooms.holds); owed = h.rooms.owed; notes = h.rooms.notes; spared = h.rooms.spared };
     }
 
+-- the last reference is given up
 pub book_owe : (b : Book) (holds : Roomed Hold) (owed : Roomed ℕ) (a : ℕ) → IsBook b → is_held a b.holds.items ≡ true
     → holds.items ≡ without a b.holds.items → holds.room ≡ b.holds.room
     → owed.items ≡ a ∷ b.owed.items → owed.room ≡ b.owed.room
@@ -178,6 +185,7 @@ book_owe b holds owed a h there items room more owed_room unused =
       rooms = record { records = h.rooms.records; free = h.rooms.free; holds = omega (arith, room, h.rooms.holds); owed = omega (arith, owed_room, h.rooms.owed); notes = h.rooms.notes; spared = h.rooms.spared };
     }
 
+-- an owed place is free again
 pub book_pay : (b : Book) (free owed : Roomed ℕ) (a : ℕ) → IsBook b → is_owed a b.owed.items ≡ true
     → owed.items ≡ paid a b.owed.items → owed.room ≡ b.owed.room
     → free.items ≡ b.free.items ++ a ∷ [] → free.room ≡ b.free.room
@@ -205,6 +213,7 @@ pay_room b a h there =
       few_free b.sizes.entries b.records.items b.holds.items b.free.items b.owed.items h.places,
     )
 
+-- twice not is nothing
 not_not : (x : Bool) → not (not x) ≡ x
 not_not true = refl
 not_not false = refl
@@ -216,6 +225,7 @@ used_is b p h =
     ap (λ (s : State). not (not (list_any (has_place p) s.records)) || is_held p b.holds.items || is_owed p b.owed.items) (sym h.history.state)
     ∙ ap (λ x. x || is_held p b.holds.items || is_owed p b.owed.items) (not_not (list_any (has_place p) b.records.items))
 
+-- a place that counts is in use
 pub used : (b : Book) (p : ℕ) → IsBook b → 1 ≤ uses p b.records.items b.holds.items + times p b.owed.items
     → is_in_use p (sight_of b) ≡ true
 used b p h some =
@@ -230,6 +240,7 @@ used b p h some =
       tally_none (λ q. q == p) b.owed.items parts.1,
     ))
 
+-- a place that does not count is in no use
 pub unused : (b : Book) (p : ℕ) → IsBook b → uses p b.records.items b.holds.items + times p b.owed.items ≡ 0
     → is_in_use p (sight_of b) ≡ false
 unused b p h none =
@@ -299,6 +310,7 @@ still_used p rs held h =
     ⊎_elim (λ (e : is_held p held ≡ true). omega (arith, tally_some (is_at p) held e))
     (λ (e : list_any (has_place p) rs ≡ true). omega (arith, tally_some (has_place p) rs e)) (or_cases (is_held p held) (list_any (has_place p) rs) h)
 
+-- or the place in no use
 pub not_used : (p : ℕ) (rs : List Record) (held : List Hold) → (is_held p held || list_any (has_place p) rs) ≡ false → uses p rs held ≡ 0
 not_used p rs held h =
     let parts = or_parts (is_held p held) (list_any (has_place p) rs) h in

@@ -3,7 +3,7 @@
 ghost use Rattle.std.specs.Prelude.{◌≡◌, ◌+◌, ◌<◌, ◌≤◌, Some, length, slice_get, true};
 ghost use Rattle.history_book.specs.Desk.{CountSays, FindSays, HoldSays, HoldsOneMore, PeekSays};
 ghost use Rattle.history_book.specs.Desk.{RecycleSays, ReleaseSays, TakeSays};
-ghost use Rattle.history_book.specs.Held.{is_held, is_held_for_entry, is_owed};
+ghost use Rattle.history_book.specs.Held.{is_held, is_owed};
 ghost use Rattle.book_desk.specs.Book.{IsBook, sight_of};
 
 use crate::book::Book;
@@ -86,8 +86,7 @@ impl Book {
 
     /// Reads the entry for which a place is held.
     pub fn peek(&self, place: u32) -> PeekOutcome
-        requires book { IsBook self.now }
-        requires held { is_held_for_entry place self.now.holds.items ≡ true }
+        requires { IsBook self.now }
         ensures { PeekSays place (sight_of self.now) (sight_of self.now) result }
     {
         let at = self.point();
@@ -104,7 +103,6 @@ impl Book {
     /// Holds a place for the entry that is live in it.
     pub fn hold(&mut self, place: u32) -> HoldOutcome
         requires book { IsBook self.old }
-        requires below { place < self.old.sizes.entries }
         requires room { length self.old.holds.items + length self.old.owed.items ≤ 3 }
         ensures says { HoldSays place (sight_of self.old) (sight_of self.new) result }
         ensures book { IsBook self.new }

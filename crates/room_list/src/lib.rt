@@ -68,7 +68,7 @@ impl<T> RoomList<T> {
         ensures items { self.new.items ≡ item ∷ self.old.items }
         ensures room { self.new.room ≡ self.old.room }
     {
-        self.items.push_reserved(item);
+        self.push(item);
         self.items.rotate_right(1);
     }
 
