@@ -10,7 +10,7 @@ ghost use Rattle.replay_top.specs.Internal.Replayed.{Replayed};
 ghost use Rattle.replay_top.specs.Report.{IsWellFormed};
 
 use crate::naming::name_events;
-use book_desk::PlainDesk;
+use book_desk::desk::PlainDesk;
 use history_book::desk::Desk;
 use history_book::report::{Closed, Report, ThreadVerdicts, Verdicts};
 use history_book::sizes::Sizes;
