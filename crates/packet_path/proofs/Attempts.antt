@@ -111,6 +111,7 @@ module _ (states : StatesStay) (events : EventsStay) where
     rest = ans.rest;
     own = ans.own ∙ ap (λ (l : List Note). l ++ ans.rest) saw.own;
     few = ans.few;
+    spare = omega (arith, ans.spare, saw.spare);
     points = ans.points;
     fits = λ given mark kills flow count killed le.
         subst (λ (z : Sizes). FitsFrame z c.front mark given (kills ++ ans.rest) k) saw.sizes
@@ -126,6 +127,7 @@ module _ (states : StatesStay) (events : EventsStay) where
     rest = ans.rest;
     own = saw.own ∙ ans.own;
     few = ans.few;
+    spare = omega (arith, ans.spare, saw.spare);
     points = points_more (length b.front) (length c.front) (points_of k) (starts_longer c.front b.front saw.front) ans.points;
     fits = λ given mark kills flow count killed le.
         frame_grows events states c.front b.front saw.front a.sizes mark given (kills ++ ans.rest) k
@@ -185,6 +187,7 @@ module _ (states : StatesStay) (events : EventsStay) where
     rest = ans.rest;
     own = ans.own;
     few = ans.few;
+    spare = ans.spare;
     points = ans.points;
     fits = λ given mark kills flow count killed h. ans.fits given mark kills flow count killed (omega (arith, h));
   }
@@ -238,6 +241,7 @@ module _ (states : StatesStay) (events : EventsStay) where
     rest = [];
     own = saw.own ∙ sym (append-nil old.own);
     few = omega arith;
+    spare = omega (arith, saw.spare);
     points = subst (AllByRecursion (λ p. p ≤ length new.front)) (sym points) (within, tt);
     fits = fits;
   }
@@ -293,6 +297,7 @@ module _ (states : StatesStay) (events : EventsStay) where
         rest = record { number = id; event = Confirm (record_for flow id place) } ∷ [];
         own = made.own;
         few = omega arith;
+        spare = omega (arith, made.spare);
         points = (omega (arith, made.high), (omega (arith, absent.within, made.low, made.high), tt));
         fits = λ given mark kills is count killed le.
             flow_answer new.front old.front made.front mark given packet kills _ _ is (omega (arith, count)) killed
@@ -401,6 +406,7 @@ module _ (states : StatesStay) (events : EventsStay) where
       rest = record { number = number; event = event } ∷ [];
       own = made.own;
       few = omega arith;
+      spare = omega (arith, made.spare);
       points = (omega (arith, made.high), tt);
       fits = λ given mark kills flow count killed le.
           flow_answer new.front old.front made.front mark given packet kills _ _ flow (omega (arith, count)) killed
@@ -610,8 +616,8 @@ mark_push m [] note = refl
 mark_push m (k ∷ ks) note = mark_push (max m (k.number + 1)) ks note
 
 -- nothing was done with a packet yet
-pub killing_none : (s : Sight) (packet : FlowPacket) → 5 ≤ s.spare → HoldsNothing s → IsKnown s → IsKilling s s packet 0
-killing_none s packet spare empty known = record {
+pub killing_none : (s : Sight) (packet : FlowPacket) → HoldsNothing s → IsKnown s → IsKilling s s packet 0
+killing_none s packet empty known = record {
   front = starts_refl s.front;
   sizes = refl;
   kills = [];
@@ -620,7 +626,7 @@ killing_none s packet spare empty known = record {
   few = omega arith;
   all = tt;
   mark = omega arith;
-  spare = omega (arith, spare);
+  spare = omega arith;
   empty = empty;
   known = known;
 }
@@ -678,6 +684,7 @@ module _ (states : StatesStay) (events : EventsStay) (old : Sight) (packet : Flo
         first = first;
         made = omega (arith, made, ap length own, length-append old.own (k.kills ++ a.rest));
         few = omega (arith, length-append k.kills a.rest, k.count, k.few, a.few);
+        spare = omega (arith, length-append k.kills a.rest, k.count, k.spare, a.spare);
         fits = subst (λ (z : Sizes). FitsFrame z new.front (length old.front) given (k.kills ++ a.rest) verdict.class) k.sizes
             (a.fits given (length old.front) k.kills flow k.count k.all k.mark);
         points = a.points;
@@ -710,6 +717,7 @@ handled_ready k old mid new given verdict ready h =
       first = h.first ∙ ap length own;
       made = h.made;
       few = h.few;
+      spare = omega (arith, h.spare, ready.kept);
       fits = subst (λ (l : List Event). FitsFrame old.sizes new.front (length l) given h.own verdict.class) front
           (subst (λ (z : Sizes). FitsFrame z new.front (length mid.front) given h.own verdict.class) sizes h.fits);
       points = h.points;
@@ -730,6 +738,7 @@ handled_silent old new given verdict saw empty first made fits points = record {
   first = first;
   made = made;
   few = omega arith;
+  spare = omega (arith, saw.spare);
   fits = fits;
   points = points;
   held = empty.held;

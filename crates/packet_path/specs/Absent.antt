@@ -5,7 +5,7 @@ use Rattle.history_book.specs.declared.event.Event.{Event}
 use Rattle.history_book.specs.Point.{At}
 use Rattle.history_book.specs.State.{live_under}
 
--- nothing was live under the tuple at a point from k to this one
+-- nothing was live under the tuple at some point from k up to this one
 pub record WasAbsent (log : List Event) (k : ℕ) (t : Tuple) (upto : ℕ) : Type 0 where
   pub at : ℕ
   pub from : k ≤ at

@@ -1,5 +1,5 @@
 -- What handling one frame leaves of a desk.
-use Rattle.std.specs.Prelude.{◌≡◌, ◌≤◌, List, [], ◌++◌, length}
+use Rattle.std.specs.Prelude.{◌≡◌, ◌+◌, ◌≤◌, List, [], ◌++◌, length}
 use Rattle.std.specs.List.{AllByRecursion}
 use Rattle.history_book.specs.declared.event.Note.{Note}
 use Rattle.history_book.specs.declared.verdict.Verdict.{Verdict}
@@ -8,8 +8,9 @@ use Rattle.history_book.specs.Sight.{Sight}
 use Rattle.packet_path.specs.Packet.{Given}
 use Rattle.packet_path.specs.Verdict.{FitsFrame, points_of}
 
--- The desk saw no less than before. Its further own events are those of the verdict, which fits the frame on
--- the new front; nothing of it is older than what the desk had seen. No place is held or owed.
+-- The desk saw no less than before. Its further own events are those of the verdict, for which it had room,
+-- and the verdict fits the frame on the new front: nothing of it is older than what the desk had seen, nor
+-- later than what it sees now. No place is held or owed.
 pub record Handled (given : Given) (old new : Sight) (verdict : Verdict) : Type 0 where
   pub front : StartsWith new.front old.front
   pub sizes : new.sizes ≡ old.sizes
@@ -17,7 +18,8 @@ pub record Handled (given : Given) (old new : Sight) (verdict : Verdict) : Type 
   pub added : new.own ≡ old.own ++ own
   pub first : verdict.first ≡ length old.own
   pub made : verdict.made ≡ length own
-  pub few : length own ≤ 5
+  pub few : length own ≤ 8
+  pub spare : old.spare ≤ new.spare + length own
   pub fits : FitsFrame old.sizes new.front (length old.front) given own verdict.class
   pub points : AllByRecursion (λ p. p ≤ length new.front) (points_of verdict.class)
   pub held : new.held ≡ []

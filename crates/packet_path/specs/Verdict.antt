@@ -58,15 +58,15 @@ pub record AnswersFlow (log : List Event) (mark : ℕ) (given : Given) (own : Li
   pub fits : Fits packet (length kills) (mark_past mark kills) rest
 
 -- The class fits what the tracker was given of a frame and the events that the frame made. The headers
--- alone decide where it is not tracked or a header is wrong.
+-- alone decide where it is not tracked or a header is wrong. Before Contended exactly four kills stand.
 abbrev pub FitsFrame : Sizes → List Event → ℕ → Given → List Note → Class → Type 0
 FitsFrame sizes log mark given own (class.Untracked why) =
     (given.packet ≡ packet.Untracked (cause_of why)) × (own ≡ [])
 FitsFrame sizes log mark given own class.BadHeader = (given.packet ≡ packet.Invalid) × (own ≡ [])
 FitsFrame sizes log mark given own (class.NoEntry at) =
-    AnswersFlow log mark given own (λ p kills k rest. BeginsNothing log k p rest at)
+    AnswersFlow log mark given own (λ p killed k rest. BeginsNothing log k p rest at)
 FitsFrame sizes log mark given own (class.BadState id at) =
-    AnswersFlow log mark given own (λ p kills k rest. LeavesEntry log k p rest id at outcome.Invalid)
+    AnswersFlow log mark given own (λ p killed k rest. LeavesEntry log k p rest id at outcome.Invalid)
 FitsFrame sizes log mark given own (class.ErrorLost at) =
     AnswersError given own (λ inner outer. LooksUp log mark inner at None)
 FitsFrame sizes log mark given own (class.ErrorAddress id at) =
@@ -74,19 +74,19 @@ FitsFrame sizes log mark given own (class.ErrorAddress id at) =
 FitsFrame sizes log mark given own (class.Error direction id at) =
     AnswersError given own (λ inner outer. IsRelated log mark inner outer direction id at)
 FitsFrame sizes log mark given own (class.Made id at translated unclaimed) =
-    AnswersFlow log mark given own (λ p kills k rest. Makes log k p rest id at translated unclaimed)
+    AnswersFlow log mark given own (λ p killed k rest. Makes log k p rest id at translated unclaimed)
 FitsFrame sizes log mark given own (class.Passed label id at ftp) =
-    AnswersFlow log mark given own (λ p kills k rest. Passes log k p rest label id at ftp)
+    AnswersFlow log mark given own (λ p killed k rest. Passes log k p rest label id at ftp)
 FitsFrame sizes log mark given own (class.Ignored id at) =
-    AnswersFlow log mark given own (λ p kills k rest. LeavesEntry log k p rest id at outcome.Ignore)
+    AnswersFlow log mark given own (λ p killed k rest. LeavesEntry log k p rest id at outcome.Ignore)
 FitsFrame sizes log mark given own (class.Merged id at translated) =
-    AnswersFlow log mark given own (λ p kills k rest. MeetsWinner log k p rest id at translated true)
+    AnswersFlow log mark given own (λ p killed k rest. MeetsWinner log k p rest id at translated true)
 FitsFrame sizes log mark given own (class.Clash id at translated) =
-    AnswersFlow log mark given own (λ p kills k rest. MeetsWinner log k p rest id at translated false)
+    AnswersFlow log mark given own (λ p killed k rest. MeetsWinner log k p rest id at translated false)
 FitsFrame sizes log mark given own (class.Full at) =
-    AnswersFlow log mark given own (λ p kills k rest. FindsNoRoom sizes log k p rest at)
+    AnswersFlow log mark given own (λ p killed k rest. FindsNoRoom sizes log k p rest at)
 FitsFrame sizes log mark given own (class.Contended id at) =
-    AnswersFlow log mark given own (λ p kills k rest. (kills ≡ 4) × IsToEnd log k p rest id at)
+    AnswersFlow log mark given own (λ p killed k rest. (killed ≡ 4) × IsToEnd log k p rest id at)
 
 -- the point that a translation names
 abbrev pub translated_points : Translated → List ℕ

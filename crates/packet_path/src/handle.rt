@@ -1,6 +1,6 @@
 //! What becomes of one packet, over any desk.
 
-ghost use Rattle.std.specs.Prelude.{◌≡◌, ℕ, ◌+◌, ◌≤◌, ◌^◌, true, [], length, IfOk, OnErr};
+ghost use Rattle.std.specs.Prelude.{◌≡◌, ℕ, ◌+◌, ◌<◌, ◌≤◌, ◌^◌, true, [], length, IfOk, OnErr};
 ghost use Rattle.std.specs.List.{AllByRecursion};
 ghost use Rattle.tuple_core.specs.Tuple.{is_valid};
 ghost use Rattle.history_book.specs.Desk.{Saw};
@@ -136,7 +136,8 @@ fn handle_packet<R: Wait, D: Desk>(rt: &R, desk: &mut D, packet: &Packet, moment
 }
 
 /// Handles one frame of a file with these bytes, with a desk that holds and owes nothing, and says what
-/// became of it. Takes its memory first: after `NoMemory` no event was made, and the desk is as it was.
+/// became of it. Takes its memory first: `NoMemory` comes only where the desk had room for fewer than eight
+/// events, and then none was made, and the desk is as it was.
 pub fn handle<R: Wait, D: Desk>(
     rt: &R,
     desk: &mut D,
@@ -150,6 +151,7 @@ pub fn handle<R: Wait, D: Desk>(
     requires nothing_owed { (D.sight desk.old).owed ≡ [] }
     ensures handled { IfOk result
         (Handled (given_of bytes.now frame.now) (D.sight desk.old) (D.sight desk.new)) }
+    ensures short { OnErr result ((D.sight desk.old).spare < 8) }
     ensures same { OnErr result (D.sight desk.new ≡ D.sight desk.old) }
     ensures knows { IsKnown (D.sight desk.new) }
 {

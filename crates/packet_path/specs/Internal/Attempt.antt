@@ -59,6 +59,7 @@ pub record Answers (old new : Sight) (packet : FlowPacket) (killed from : ℕ) (
   pub rest : List Note
   pub own : new.own ≡ old.own ++ rest
   pub few : length rest ≤ 1
+  pub spare : old.spare ≤ new.spare + length rest
   pub points : AllByRecursion (λ p. p ≤ length new.front) (points_of answer)
   pub fits : (given : Given) (mark : ℕ) (kills : List Note) → IsFlow given packet → length kills ≡ killed
       → KillsAll old.front mark packet kills → mark_past mark kills ≤ from
@@ -91,6 +92,6 @@ pub record IsKilling (old now : Sight) (packet : FlowPacket) (killed : ℕ) : Ty
   pub few : killed ≤ 4
   pub all : KillsAll now.front (length old.front) packet kills
   pub mark : mark_past (length old.front) kills ≤ length now.front
-  pub spare : 5 ≤ now.spare + killed
+  pub spare : old.spare ≤ now.spare + killed
   pub empty : HoldsNothing now
   pub known : IsKnown now
