@@ -41,13 +41,14 @@ impl Model for PlainDesk {
 }
 
 impl PlainDesk {
-    /// A desk of a tracker with no entry, which made no event and keeps no place.
+    /// A desk of a tracker with no entry, which made no event and keeps no place. It is the only pass of
+    /// its tracker, whatever number the sizes allow.
     pub fn new(alloc: Global, sizes: Sizes) -> Result<PlainDesk, NoMemory>
         requires { AreWithinLimits sizes }
         ensures knows { IfOk result IsKnown }
-        ensures fresh { IfOk result (IsFresh sizes) }
+        ensures fresh { IfOk result (IsFresh (record sizes { passes = 1 })) }
     {
-        let book = Book::new(alloc, sizes)?;
+        let book = Book::new(alloc, Sizes { passes: 1, ..sizes })?;
         Ok(PlainDesk { book })
     }
 

@@ -31,7 +31,7 @@ pub record IsReplayed (packets : List Given) (index : ℕ) (old new : Sight) (ve
   pub sizes : new.sizes ≡ old.sizes
   pub own : List Note
   pub added : new.own ≡ old.own ++ own
-  pub few : length own ≤ 5 * index
+  pub few : length own ≤ 8 * index
   pub fit : NotesFit old.sizes new.front own (length old.own) (length old.front) (take index packets) verdicts.items
   pub mark : marks_beyond (length old.front) own verdicts.items ≤ length new.front
   pub counted : length verdicts.items ≡ index

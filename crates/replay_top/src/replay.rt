@@ -32,7 +32,7 @@ fn replay_frames<R: Wait, D: Desk>(
 ) -> Result<(), NoMemory>
     requires inside { AreInside bytes.now frames.now }
     requires timely { AreTimely frames.now }
-    requires few { length (D.sight desk.old).own + 5 * length frames.now + 8 ≤ 2 ^ 30 }
+    requires few { length (D.sight desk.old).own + 8 * length frames.now + 8 ≤ 2 ^ 30 }
     requires room { length frames.now ≤ verdicts.old.room }
     requires none { verdicts.old.items ≡ [] }
     requires nothing_held { (D.sight desk.old).held ≡ [] }
@@ -83,7 +83,7 @@ pub fn replay<R: Wait>(
     requires one_pass { sizes.now.passes ≡ 1 }
     requires inside { AreInside bytes.now frames.now }
     requires timely { AreTimely frames.now }
-    requires few { 5 * length frames.now + 8 ≤ 2 ^ 30 }
+    requires few { 8 * length frames.now + 8 ≤ 2 ^ 30 }
     ensures { IfOk result (IsWellFormed sizes.now (map (given_of bytes.now) frames.now ∷ [])) }
 {
     let mut desk = PlainDesk::new(alloc, *sizes)?;
