@@ -1,5 +1,6 @@
 pub mod Lists
 pub mod Positions
+pub mod FirstMet
 pub mod Counting
 pub mod Pool
 pub mod Histories

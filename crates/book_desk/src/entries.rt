@@ -12,11 +12,12 @@ ghost use Rattle.proto_rules.specs.declared.Outcome.TheVariants.{Accept};
 ghost use Rattle.proto_rules.specs.Protocol.{is_of_protocol};
 ghost use Rattle.proto_rules.specs.Step.{step_of};
 ghost use Rattle.book_desk.specs.Book.{IsBook, WinsAt, events_of, noted, sight_of};
+ghost use Rattle.book_desk.specs.Winner.{best_of, first_of};
 
 use crate::book::Book;
 use crate::holds::{held_id, name_holds};
 use history_book::event::{Event, Note, Why};
-use history_book::find::{FoundAt, find, find_id};
+use history_book::find::{FoundAt, find_id};
 use history_book::laws::{
     destroys_take_one, entries_keep_their_protocol, free_is_absent, ids_name_records,
     legal_histories_go_on, live_records_are_confirmed, records_are_apart, states_follow,
@@ -29,16 +30,98 @@ use proto_rules::laws::same_part_is_equality;
 use proto_rules::{Outcome, Part, step};
 use tuple_core::{Direction, Segment, Tuple};
 
-/// The record that a new flow with these tuples meets.
+/// Which of the records seen so far a new flow may meet, by their indices. None of those seen has the
+/// flow's original tuple as its original one: such a record is met at once.
+#[derive(Clone, Copy)]
+struct Candidates {
+    /// The first whose reply tuple is the flow's original one.
+    original_by_reply: Option<usize>,
+    /// The first whose original tuple is the flow's reply one.
+    reply_by_original: Option<usize>,
+    /// The first whose reply tuple is the flow's reply one.
+    reply_by_reply: Option<usize>,
+}
+
+impl Candidates {
+    /// Remembers the record at `index` under each tuple that it is the first to have.
+    fn see(&mut self, index: usize, r: &Record, original: &Tuple, reply: &Tuple)
+        ensures original_by_reply { self.new.original_by_reply
+            ≡ first_of self.old.original_by_reply (has_reply original.now r.now) index }
+        ensures reply_by_original { self.new.reply_by_original
+            ≡ first_of self.old.reply_by_original (has_original reply.now r.now) index }
+        ensures reply_by_reply { self.new.reply_by_reply
+            ≡ first_of self.old.reply_by_reply (has_reply reply.now r.now) index }
+    {
+        self.original_by_reply = first(self.original_by_reply, r.reply == *original, index);
+        self.reply_by_original = first(self.reply_by_original, r.original == *reply, index);
+        self.reply_by_reply = first(self.reply_by_reply, r.reply == *reply, index);
+    }
+
+    /// The candidate that the flow meets: the one that has the flow's original tuple, else the one that
+    /// has the flow's reply tuple as its original one, else the one that has it as its reply one.
+    fn best(&self) -> Option<FoundAt>
+        ensures { result ≡ best_of self.now }
+    {
+        if let Some(index) = self.original_by_reply {
+            Some(FoundAt {
+                index,
+                direction: Direction::Reply,
+            })
+        } else if let Some(index) = self.reply_by_original {
+            Some(FoundAt {
+                index,
+                direction: Direction::Original,
+            })
+        } else if let Some(index) = self.reply_by_reply {
+            Some(FoundAt {
+                index,
+                direction: Direction::Reply,
+            })
+        } else {
+            None
+        }
+    }
+}
+
+/// The index that is remembered, else this one where its record passes.
+fn first(remembered: Option<usize>, passes: bool, index: usize) -> Option<usize>
+    ensures { result ≡ first_of remembered passes index }
+{
+    match remembered {
+        Some(before) => Some(before),
+        None if passes => Some(index),
+        None => None,
+    }
+}
+
+/// Whether the record has the tuple as its original one.
+fn is_original_of(t: &Tuple, r: &Record) -> bool
+    ensures { result ≡ has_original t.now r.now }
+{
+    r.original == *t
+}
+
+/// The record that a new flow with these tuples meets. Takes one pass over the records.
 fn winner(records: &[Record], original: &Tuple, reply: &Tuple) -> Option<FoundAt>
     ensures original { IfNone result (live_under original.now (state_of records.now) ≡ None) }
     ensures reply { IfNone result (live_under reply.now (state_of records.now) ≡ None) }
     ensures wins { IfSome result (WinsAt original.now reply.now (state_of records.now)) }
 {
-    match find(records, original) {
-        Some(found) => Some(found),
-        None => find(records, reply),
+    let mut candidates = Candidates {
+        original_by_reply: None,
+        reply_by_original: None,
+        reply_by_reply: None,
+    };
+    for (index, r) in records.iter().enumerate() {
+        if is_original_of(original, r) {
+            return Some(FoundAt {
+                index,
+                direction: Direction::Original,
+            });
+        }
+        candidates.see(index, r, original, reply);
     }
+    candidates.best()
 }
 
 /// Whether the tuples of the record are the flow's.
