@@ -31,11 +31,21 @@ fn is_held(holds: &[Hold], place: u32) -> bool
     holds.iter().any(|h| is_at(h, place))
 }
 
+/// Whether the newest record has the place: a place is mostly given up right after its entry was confirmed.
+fn is_of_newest(records: &[Record], place: u32) -> bool
+    ensures { result ≡ true → list_any (has_place place) records.now ≡ true }
+{
+    match records.last() {
+        Some(newest) => newest.place == place,
+        None => false,
+    }
+}
+
 /// Whether a live record or a reference has the place.
 pub fn is_in_use(records: &[Record], holds: &[Hold], place: u32) -> bool
     ensures { result ≡ (is_held place holds.now || list_any (has_place place) records.now) }
 {
-    is_held(holds, place) || is_place_used(records, place)
+    is_held(holds, place) || is_of_newest(records, place) || is_place_used(records, place)
 }
 
 /// The id for which the place is held.

@@ -294,4 +294,5 @@ script 0
 
 mod builder;
 mod captures;
+mod desk;
 mod flows;
