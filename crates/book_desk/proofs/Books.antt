@@ -7,7 +7,7 @@ use Rattle.history_book.specs.declared.record.Record.{Record}
 use Rattle.history_book.specs.declared.sizes.Sizes.{Sizes}
 use Rattle.history_book.specs.History.{after, is_legal}
 use Rattle.history_book.specs.Sizes.{AreWithinLimits}
-use Rattle.book_desk.specs.Book.{AreBelow, ArePlaces, IsBook, IsHistory}
+use Rattle.book_desk.specs.Internal.Book.{AreBelow, ArePlaces, IsBook, IsHistory}
 
 -- all lists are empty, but that of the free places, which has all
 pub record AreFresh (sizes : Sizes) (records : Roomed Record) (free : Roomed ℕ) (notes : Roomed Note) (holds : Roomed Hold) (owed : Roomed ℕ) : Type 0 where

@@ -33,7 +33,7 @@ use Rattle.history_book.specs.Sizes.{AreWithinLimits}
 use Rattle.history_book.specs.State.{State, live_under, next, record_of, state_of}
 use Rattle.history_book.specs.StateLaws.{DestroysTakeOne, FreeIsAbsent, IdsNameRecords, TouchesChangeOne}
 use Rattle.book_desk.specs.declared.book.Book.{Book}
-use Rattle.book_desk.specs.Book.{Agree, ArePlaces, AreReferences, IsBook, IsForRecord, IsHistory, WinsAt, events_of, noted, sight_of, tally}
+use Rattle.book_desk.specs.Internal.Book.{Agree, ArePlaces, AreReferences, IsBook, IsForRecord, IsHistory, WinsAt, events_of, noted, sight_of, tally}
 use Rattle.book_desk.proofs.Counting.{none_counted}
 use Rattle.book_desk.proofs.Histories.{at_before, events-push, history_next, length-events, made}
 use Rattle.book_desk.proofs.Lists.{each_at, each_map, none_of, tally_some}

@@ -9,8 +9,8 @@ use Rattle.history_book.specs.declared.record.Record.{Record}
 use Rattle.history_book.specs.Record.{has_original, has_reply}
 use Rattle.history_book.specs.State.{first_found, live_under, original_first, state_of}
 use Rattle.book_desk.specs.declared.entries.Candidates.{Candidates}
-use Rattle.book_desk.specs.Book.{WinsAt}
-use Rattle.book_desk.specs.Winner.{first_of}
+use Rattle.book_desk.specs.Internal.Book.{WinsAt}
+use Rattle.book_desk.specs.Internal.Winner.{first_of}
 
 find_at : {X : Type 0} (p : X → Bool) (xs : List X) (i : ℕ) (d : X) → i < length xs
     → find p (drop i xs) ≡ cond (p (get_or xs i d)) (Some (get_or xs i d)) (find p (drop (i + 1) xs))

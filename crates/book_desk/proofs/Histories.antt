@@ -14,7 +14,7 @@ use Rattle.history_book.specs.Point.{At}
 use Rattle.history_book.specs.Sight.{notes_from}
 use Rattle.history_book.specs.State.{State, next, state_of}
 use Rattle.book_desk.specs.declared.book.Book.{Book}
-use Rattle.book_desk.specs.Book.{IsBook, IsHistory, events_of, noted, sight_of}
+use Rattle.book_desk.specs.Internal.Book.{IsBook, IsHistory, events_of, noted, sight_of}
 
 -- as many events as notes
 pub length-events : (notes : List Note) → length (events_of notes) ≡ length notes

@@ -11,7 +11,7 @@ use Rattle.history_book.specs.declared.event.Note.{Note}
 use Rattle.history_book.specs.Held.{is_owed}
 use Rattle.history_book.specs.Sight.{IsForEntryOf, IsHoldOf, IsKnown, notes_from}
 use Rattle.book_desk.specs.declared.book.Book.{Book}
-use Rattle.book_desk.specs.Book.{IsBook, events_of, sight_of}
+use Rattle.book_desk.specs.Internal.Book.{IsBook, events_of, sight_of}
 use Rattle.book_desk.proofs.Counting.{all_below, apart_once, each_counted}
 use Rattle.book_desk.proofs.Histories.{get_last, get_append, length-events}
 use Rattle.book_desk.proofs.Lists.{each_map, each_two, none_of}

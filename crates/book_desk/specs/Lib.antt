@@ -1,3 +1,3 @@
-pub mod Book
 pub mod Closed
-pub mod Winner
+pub mod Fresh
+pub mod Internal

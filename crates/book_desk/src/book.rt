@@ -3,7 +3,8 @@
 ghost use Rattle.std.specs.Prelude.{◌≡◌, ◌+◌, ◌<◌, ◌≤◌, ◌^◌, [], length, IfOk, OnErr, OnOk};
 ghost use Rattle.history_book.specs.Desk.{IsReady};
 ghost use Rattle.history_book.specs.Sizes.{AreWithinLimits};
-ghost use Rattle.book_desk.specs.Book.{AreBelow, IsBook, IsFresh, sight_of};
+ghost use Rattle.book_desk.specs.Internal.Book.{AreBelow, IsBook, sight_of};
+ghost use Rattle.book_desk.specs.Fresh.{IsFresh};
 
 use history_book::desk::Hold;
 use history_book::record::Record;

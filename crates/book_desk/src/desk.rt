@@ -4,7 +4,7 @@
 ghost use Rattle.std.specs.Prelude.{IfOk};
 ghost use Rattle.history_book.specs.Sight.{IsKnown};
 ghost use Rattle.history_book.specs.Sizes.{AreWithinLimits};
-ghost use Rattle.book_desk.specs.Book.{IsFresh};
+ghost use Rattle.book_desk.specs.Fresh.{IsFresh};
 ghost use Rattle.book_desk.specs.Closed.{Closes};
 
 use crate::book::Book;
@@ -31,7 +31,7 @@ pub struct PlainDesk {
 
 impl Model for PlainDesk {
     ghost use Rattle.history_book.specs.Sight.{Sight};
-    ghost use Rattle.book_desk.specs.Book.{IsBook, sight_of};
+    ghost use Rattle.book_desk.specs.Internal.Book.{IsBook, sight_of};
 
     ghost Value = { Sight };
 

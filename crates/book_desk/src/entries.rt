@@ -11,8 +11,8 @@ ghost use Rattle.history_book.specs.State.{live_under, state_of};
 ghost use Rattle.proto_rules.specs.declared.Outcome.TheVariants.{Accept};
 ghost use Rattle.proto_rules.specs.Protocol.{is_of_protocol};
 ghost use Rattle.proto_rules.specs.Step.{step_of};
-ghost use Rattle.book_desk.specs.Book.{IsBook, WinsAt, events_of, noted, sight_of};
-ghost use Rattle.book_desk.specs.Winner.{best_of, first_of};
+ghost use Rattle.book_desk.specs.Internal.Book.{IsBook, WinsAt, events_of, noted, sight_of};
+ghost use Rattle.book_desk.specs.Internal.Winner.{best_of, first_of};
 
 use crate::book::Book;
 use crate::holds::{held_id, name_holds};

@@ -4,7 +4,7 @@ ghost use Rattle.std.specs.Prelude.{◌≡◌, ◌+◌, ◌<◌, ◌≤◌, Some
 ghost use Rattle.history_book.specs.Desk.{CountSays, FindSays, HoldSays, HoldsOneMore, PeekSays};
 ghost use Rattle.history_book.specs.Desk.{RecycleSays, ReleaseSays, TakeSays};
 ghost use Rattle.history_book.specs.Held.{is_held, is_owed};
-ghost use Rattle.book_desk.specs.Book.{IsBook, sight_of};
+ghost use Rattle.book_desk.specs.Internal.Book.{IsBook, sight_of};
 
 use crate::book::Book;
 use crate::holds::{give_up, held_id, is_in_use, pay, place_index};

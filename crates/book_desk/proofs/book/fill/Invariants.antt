@@ -1,5 +1,5 @@
 use Rattle.std.proofs.Common.{◌≡◌, ◌-◌, length}
-use Rattle.book_desk.specs.Book.{AreBelow}
+use Rattle.book_desk.specs.Internal.Book.{AreBelow}
 use Rattle.book_desk.proofs.book.fill.Given as goal
 
 abbrev pub invariant-loop-count : goal.invariant-loop-count

@@ -1,7 +1,7 @@
 use Rattle.std.proofs.Common.{refl, subst}
 use Rattle.history_book.specs.Desk.{IsWinner}
 use Rattle.history_book.specs.State.{state_of}
-use Rattle.book_desk.specs.Book.{WinsAt}
+use Rattle.book_desk.specs.Internal.Book.{WinsAt}
 use Rattle.book_desk.proofs.Events.{winner_is}
 use Rattle.book_desk.proofs.Histories.{looked}
 use Rattle.book_desk.proofs.book.Book.confirm.Goals as goal

@@ -6,7 +6,7 @@ use Rattle.history_book.specs.declared.record.Record.{Record}
 use Rattle.history_book.specs.Entry.{record_for}
 use Rattle.history_book.specs.Held.{held_for}
 use Rattle.book_desk.specs.declared.book.Book.{Book}
-use Rattle.book_desk.specs.Book.{noted}
+use Rattle.book_desk.specs.Internal.Book.{noted}
 use Rattle.book_desk.proofs.Events.{Adds, enter_room, entered}
 use Rattle.book_desk.proofs.Histories.{made}
 use Rattle.book_desk.proofs.book.Book.enter.Goals as goal

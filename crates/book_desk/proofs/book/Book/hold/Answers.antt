@@ -5,7 +5,7 @@ use Rattle.std.proofs.lemmas.Bool.{eqb-true}
 use Rattle.history_book.specs.Desk.{HoldsOneMore, IsLiveIn}
 use Rattle.history_book.specs.Record.{has_place}
 use Rattle.history_book.specs.State.{is_unused, state_of}
-use Rattle.book_desk.specs.Book.{sight_of}
+use Rattle.book_desk.specs.Internal.Book.{sight_of}
 use Rattle.book_desk.proofs.Histories.{looked}
 use Rattle.book_desk.proofs.Positions.{none_at, passes_at}
 use Rattle.book_desk.proofs.Steps.{live_in}

@@ -1,6 +1,6 @@
 use Rattle.std.proofs.Common.{ℕ, subst, sym, length, ◌∙◌}
 use Rattle.history_book.specs.Held.{held_id}
-use Rattle.book_desk.specs.Book.{sight_of}
+use Rattle.book_desk.specs.Internal.Book.{sight_of}
 use Rattle.history_book.specs.Desk.{Destroys}
 use Rattle.book_desk.proofs.Events.{IsEntryOf, entry_of, held_place}
 use Rattle.book_desk.proofs.book.Book.kill.Goals as goal

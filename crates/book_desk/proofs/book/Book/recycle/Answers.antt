@@ -1,6 +1,6 @@
 use Rattle.std.proofs.Common.{refl}
 use Rattle.book_desk.specs.declared.book.Book.{Book}
-use Rattle.book_desk.specs.Book.{IsBook}
+use Rattle.book_desk.specs.Internal.Book.{IsBook}
 use Rattle.book_desk.proofs.Steps.{book_pay, pay_room, recycled, saw}
 use Rattle.book_desk.proofs.book.Book.recycle.Goals as goal
 

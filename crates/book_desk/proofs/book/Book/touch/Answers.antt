@@ -1,6 +1,6 @@
 use Rattle.std.proofs.Common.{ℕ, ap, subst, sym, length, ◌∙◌}
 use Rattle.history_book.specs.Held.{held_id}
-use Rattle.book_desk.specs.Book.{events_of, sight_of}
+use Rattle.book_desk.specs.Internal.Book.{events_of, sight_of}
 use Rattle.history_book.specs.Desk.{Touches}
 use Rattle.history_book.specs.Entry.{is_of_entry}
 use Rattle.book_desk.proofs.Events.{IsEntryOf, entry_of, keeps_protocol}

@@ -104,15 +104,6 @@ pub record IsBook (b : Book) : Type 0 where
   pub few : length b.holds.items + length b.owed.items ≤ 4
   pub rooms : HasRooms b
 
--- nothing was done yet
-pub record IsFresh (given : Sizes) (s : Sight) : Type 0 where
-  pub front : s.front ≡ []
-  pub own : s.own ≡ []
-  pub held : s.held ≡ []
-  pub owed : s.owed ≡ []
-  pub spare : s.spare ≡ 0
-  pub sizes : s.sizes ≡ given
-
 -- no place but those below n is among the places, and each of those once
 pub record AreBelow (n from : ℕ) (places : List ℕ) : Type 0 where
   pub low : (p : ℕ) → p < from → times p places ≡ 0

@@ -1,0 +1,13 @@
+-- What a new desk is.
+use Rattle.std.specs.Prelude.{◌≡◌, []}
+use Rattle.history_book.specs.declared.sizes.Sizes.{Sizes}
+use Rattle.history_book.specs.Sight.{Sight}
+
+-- nothing was done yet
+pub record IsFresh (given : Sizes) (s : Sight) : Type 0 where
+  pub front : s.front ≡ []
+  pub own : s.own ≡ []
+  pub held : s.held ≡ []
+  pub owed : s.owed ≡ []
+  pub spare : s.spare ≡ 0
+  pub sizes : s.sizes ≡ given
