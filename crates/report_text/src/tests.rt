@@ -334,7 +334,7 @@ script 0
 }
 
 /// A verdict of each class, with each label and each word of a payload.
-fn every_verdict() -> [Verdict; 20] {
+fn every_verdict() -> [Verdict; 23] {
     [
         made(4, 5),
         verdict(Class::Made {
@@ -361,6 +361,17 @@ fn every_verdict() -> [Verdict; 20] {
         verdict(Class::NoEntry { at: 18 }),
         verdict(Class::BadState { id: 19, at: 20 }),
         verdict(Class::Ignored { id: 21, at: 22 }),
+        verdict(Class::Merged {
+            id: 23,
+            at: 24,
+            translated: Translated::Plain,
+        }),
+        verdict(Class::Clash {
+            id: 25,
+            at: 26,
+            translated: Translated::Plain,
+        }),
+        verdict(Class::Contended { id: 27, at: 28 }),
     ]
 }
 
@@ -431,7 +442,7 @@ events 3
 1 touch 0.1 id=0 reply until=1 replied assured
 2 confirm 1.3 tcp src=203.0.113.5 dst=198.51.100.21 sport=65535 dport=21 src=203.0.113.5 dst=198.51.100.21 sport=65535 dport=21 until=31000000 state=SYN_SENT2 master=20 helper
 thread 0 packets 0
-thread 1 packets 20
+thread 1 packets 23
 0 NEW id=4 @5
 1 RELATED id=6 @8
 2 NEW id=0 @1
@@ -452,6 +463,9 @@ thread 1 packets 20
 17 INVALID new @18
 18 INVALID state id=19 @20
 19 IGNORED id=21 @22
+20 MERGED id=23 @24
+21 CLASH id=25 @26
+22 CONTENDED id=27 @28
 script 0
 ";
 
