@@ -4,3 +4,6 @@ pub mod Silent
 pub mod Protocols
 pub mod Places
 pub mod Attempts
+pub mod Beginnings
+pub mod Meetings
+pub mod Handling

@@ -1,5 +1,6 @@
 use Rattle.std.proofs.Common.{rules}
-use Rattle.packet_path.proofs.Attempts.{answers_after, full, no_entry}
+use Rattle.packet_path.proofs.Attempts.{answers_after}
+use Rattle.packet_path.proofs.Beginnings.{full, no_entry}
 use Rattle.packet_path.proofs.attempt.begin_flow.Goals as goal
 
 pub returns-in_default-clause-answers : goal.returns-in_default-clause-answers

@@ -4,7 +4,8 @@ use Rattle.tuple_core.specs.declared.Proto.TheVariants as proto
 use Rattle.history_book.specs.declared.verdict.Class.{Class}
 use Rattle.history_book.specs.Legality.{same_proto}
 use Rattle.packet_path.specs.Internal.Attempt.{Answers}
-use Rattle.packet_path.proofs.Attempts.{answers_before, flow_is, flow_of, made_answer, winner_answer}
+use Rattle.packet_path.proofs.Attempts.{answers_before}
+use Rattle.packet_path.proofs.Beginnings.{flow_is, flow_of, made_answer, winner_answer}
 use Rattle.packet_path.proofs.attempt.confirm_flow.Goals as goal
 
 pub returns-in-Confirmed-clause-answers : goal.returns-in-Confirmed-clause-answers

@@ -1,10 +1,12 @@
-use Rattle.std.proofs.Common.{◌∙◌, ap, length, subst, sym}
+use Rattle.history_book.specs.declared.verdict.Class.TheVariants as class
+use Rattle.std.proofs.Common.{refl, ◌∙◌, ap, length, subst, sym}
 use Rattle.history_book.specs.declared.verdict.Class.{Class}
 use Rattle.history_book.specs.Desk.{Leaves, Touches}
 use Rattle.history_book.specs.Entry.{is_of_entry}
 use Rattle.proto_rules.specs.declared.Outcome.TheVariants as outcome
 use Rattle.packet_path.specs.Internal.Attempt.{Answers}
-use Rattle.packet_path.proofs.Attempts.{attempt_after, left_ignored, left_invalid, met_protocol, starts_longer, touched}
+use Rattle.packet_path.proofs.Attempts.{attempt_after, starts_longer}
+use Rattle.packet_path.proofs.Meetings.{left_as_it_is, met_protocol, touched}
 use Rattle.packet_path.proofs.Places.{only_id}
 use Rattle.packet_path.proofs.attempt.meet_entry.Goals as goal
 
@@ -31,19 +33,23 @@ pub returns-in-Ignored-clause-says : goal.returns-in-Ignored-clause-says
 returns-in-Ignored-clause-says g c =
     let s = g.D.Desk.sight c.args.desk.now in
     let new = g.D.Desk.sight c.touch.new.self in
-    left_ignored c.states_stay.ensures c.events_stay.ensures c.found_are_found_again.ensures s new c.args.packet.now c.args.met.now
+    left_as_it_is c.states_stay.ensures c.events_stay.ensures c.found_are_found_again.ensures outcome.Ignore
+    (class.Ignored c.args.met.now.id c.in-Ignored.at) s new c.args.packet.now c.args.met.now
     c.args.kills c.in-Ignored.at c.requires.few c.touch.ensures.knows c.requires.met
     (subst (λ id. Leaves id c.args.met.now.direction c.args.packet.now.segment c.args.packet.now.moment outcome.Ignore s new c.in-Ignored.at)
     (only_id c.args.met.now.place c.args.met.now.id s c.requires.met.holds) c.in-Ignored.ensures.says)
+    refl (λ given mark own h. h)
 
 pub returns-in-Invalid-clause-says : goal.returns-in-Invalid-clause-says
 returns-in-Invalid-clause-says g c =
     let s = g.D.Desk.sight c.args.desk.now in
     let new = g.D.Desk.sight c.touch.new.self in
-    left_invalid c.states_stay.ensures c.events_stay.ensures c.found_are_found_again.ensures s new c.args.packet.now c.args.met.now
+    left_as_it_is c.states_stay.ensures c.events_stay.ensures c.found_are_found_again.ensures outcome.Invalid
+    (class.BadState c.args.met.now.id c.in-Invalid.at) s new c.args.packet.now c.args.met.now
     c.args.kills c.in-Invalid.at c.requires.few c.touch.ensures.knows c.requires.met
     (subst (λ id. Leaves id c.args.met.now.direction c.args.packet.now.segment c.args.packet.now.moment outcome.Invalid s new c.in-Invalid.at)
     (only_id c.args.met.now.place c.args.met.now.id s c.requires.met.holds) c.in-Invalid.ensures.says)
+    refl (λ given mark own h. h)
 
 pub returns-in-Reset-clause-says : goal.returns-in-Reset-clause-says
 returns-in-Reset-clause-says g c =

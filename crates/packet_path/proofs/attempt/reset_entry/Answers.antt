@@ -4,7 +4,7 @@ use Rattle.history_book.specs.declared.verdict.Class.{Class}
 use Rattle.history_book.specs.Desk.{Destroys}
 use Rattle.history_book.specs.Entry.{is_of_entry}
 use Rattle.packet_path.specs.Internal.Attempt.{Answers}
-use Rattle.packet_path.proofs.Attempts.{met_protocol, was_reset}
+use Rattle.packet_path.proofs.Meetings.{met_protocol, was_reset}
 use Rattle.packet_path.proofs.Places.{only_id}
 use Rattle.packet_path.proofs.attempt.reset_entry.Goals as goal
 

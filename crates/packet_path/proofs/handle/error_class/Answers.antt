@@ -1,4 +1,4 @@
-use Rattle.packet_path.proofs.Attempts.{error_misdirected, error_related}
+use Rattle.packet_path.proofs.Handling.{error_misdirected, error_related}
 use Rattle.packet_path.proofs.handle.error_class.Goals as goal
 
 pub returns-then-looked_up-outer_destination-clause-fits : goal.returns-then-looked_up-outer_destination-clause-fits

@@ -2,7 +2,7 @@ use Rattle.std.proofs.Common.{subst}
 use Rattle.packet_headers.specs.declared.packet.Packet.{Packet}
 use Rattle.packet_path.specs.Handled.{Handled}
 use Rattle.packet_path.specs.Packet.{given_of}
-use Rattle.packet_path.proofs.Attempts.{handled_ready}
+use Rattle.packet_path.proofs.Handling.{handled_ready}
 use Rattle.packet_path.proofs.handle.handle.Goals as goal
 
 pub returns-clause-handled : goal.returns-clause-handled

@@ -1,5 +1,5 @@
 use Rattle.std.proofs.Common.{arith}
-use Rattle.packet_path.proofs.Attempts.{killing_again, killing_done, killing_more}
+use Rattle.packet_path.proofs.Handling.{killing_again, killing_done, killing_more}
 use Rattle.packet_path.proofs.handle.handle_flow.Goals as goal
 
 pub returns-in-Done-clause-handled : goal.returns-in-Done-clause-handled

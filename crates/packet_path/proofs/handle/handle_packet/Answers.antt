@@ -3,7 +3,7 @@ use Rattle.history_book.specs.declared.verdict.Verdict.{Verdict}
 use Rattle.packet_headers.specs.declared.packet.Packet.{Packet}
 use Rattle.packet_headers.specs.declared.packet.Packet.TheVariants.{Error}
 use Rattle.packet_path.specs.Handled.{Handled}
-use Rattle.packet_path.proofs.Attempts.{handled_silent}
+use Rattle.packet_path.proofs.Handling.{handled_silent}
 use Rattle.packet_path.proofs.handle.handle_packet.Goals as goal
 
 pub returns-in-Error-clause-handled : goal.returns-in-Error-clause-handled

@@ -1,0 +1,203 @@
+-- One kill after another, and what is left when a frame is handled.
+use Rattle.std.proofs.Common.{◌≡◌, ℕ, ◌+◌, ◌-◌, max, ◌≤◌, List, [], ◌∷◌, ◌++◌, length, Some, refl, sym, ap, subst, ◌∙◌, arith, append_assoc, length-append}
+use Rattle.std.specs.List.{AllByRecursion}
+use Rattle.std.specs.Prelude.{◌≢◌}
+use Rattle.std.proofs.lemmas.List.{append-nil}
+use Rattle.tuple_core.specs.Inverse.{inverse}
+use Rattle.tuple_core.specs.declared.Direction.{Direction}
+use Rattle.tuple_core.specs.declared.Tuple.{Tuple}
+use Rattle.history_book.specs.declared.event.Event.{Event}
+use Rattle.history_book.specs.declared.event.Note.{Note}
+use Rattle.history_book.specs.declared.record.Record.{Record}
+use Rattle.history_book.specs.declared.sizes.Sizes.{Sizes}
+use Rattle.history_book.specs.declared.verdict.Verdict.{Verdict}
+use Rattle.history_book.specs.Desk.{IsLiveUnder, IsReady, Looked, Saw}
+use Rattle.history_book.specs.History.{after}
+use Rattle.history_book.specs.Laws.{EventsStay, StatesStay}
+use Rattle.history_book.specs.Notes.{mark_past}
+use Rattle.history_book.specs.Point.{StartsWith}
+use Rattle.history_book.specs.Sight.{IsKnown, Sight}
+use Rattle.history_book.specs.State.{live_under}
+use Rattle.packet_path.specs.declared.packet.FlowPacket.{FlowPacket}
+use Rattle.packet_path.specs.Error.{AnswersError, IsMisdirected, IsRelated, LooksUp}
+use Rattle.packet_headers.specs.declared.packet.Packet.TheVariants as packet
+use Rattle.packet_path.specs.Internal.Attempt.{Answers, HoldsNothing, IsKilling, KilledOne}
+use Rattle.packet_path.specs.Handled.{Handled}
+use Rattle.packet_path.specs.Packet.{Given, IsFlow}
+use Rattle.packet_path.specs.Verdict.{FitsFrame, Kills, KillsAll, points_of}
+use Rattle.packet_path.proofs.Growth.{at_grows, kills_all_grows}
+use Rattle.packet_path.proofs.Marks.{happened_lower, mark_past-le}
+use Rattle.packet_path.proofs.Attempts.{starts_longer, starts_trans}
+
+kills_push : (log : List Event) (m from : ℕ) (packet : FlowPacket) (kills : List Note) (note : Note) → KillsAll log m packet kills
+    → mark_past m kills ≤ from → Kills log from packet note → KillsAll log m packet (kills ++ note ∷ [])
+kills_push log m from packet [] note all le kill =
+    (record { happened = happened_lower log m from note le kill.happened; found = kill.found; live = kill.live; kill = kill.kill }, tt)
+kills_push log m from packet (k ∷ ks) note (one, all) le kill =
+    (one, kills_push log (k.number + 1) from packet ks note all (omega (arith, le, mark_least (max m (k.number + 1)) ks, mark_order m (k.number + 1) ks)) kill)
+  where
+    mark_least : (m : ℕ) (notes : List Note) → m ≤ mark_past m notes
+    mark_least m [] = omega arith
+    mark_least m (x ∷ xs) = omega (arith, mark_least (max m (x.number + 1)) xs)
+
+    mark_order : (m n : ℕ) (notes : List Note) → mark_past n notes ≤ mark_past (max m n) notes
+    mark_order m n notes = mark_past-le n (max m n) notes (omega arith)
+
+mark_push : (m : ℕ) (kills : List Note) (note : Note) → mark_past m (kills ++ note ∷ []) ≡ max (mark_past m kills) (note.number + 1)
+mark_push m [] note = refl
+mark_push m (k ∷ ks) note = mark_push (max m (k.number + 1)) ks note
+
+module _ (states : StatesStay) (events : EventsStay) (old : Sight) (packet : FlowPacket) where
+  -- one kill more
+  pub killing_more : (now new : Sight) (n : ℕ) → IsKilling old now packet n → KilledOne now new packet n (length now.front)
+      → HoldsNothing new → IsKnown new → IsKilling old new packet (n + 1)
+  killing_more now new n k one empty known =
+      let grown : KillsAll new.front (length old.front) packet k.kills =
+      kills_all_grows events states new.front now.front one.front (length old.front) packet k.kills k.all in
+      record {
+        front = starts_trans new.front now.front old.front one.front k.front;
+        sizes = one.sizes ∙ k.sizes;
+        kills = k.kills ++ one.note ∷ [];
+        own = one.own ∙ ap (λ (l : List Note). l ++ one.note ∷ []) k.own ∙ append_assoc old.own k.kills (one.note ∷ []);
+        count = length-append k.kills (one.note ∷ []) ∙ ap (λ m. m + 1) k.count;
+        few = omega (arith, one.few);
+        all = kills_push new.front (length old.front) (length now.front) packet k.kills one.note grown k.mark one.kill;
+        mark = omega (arith, mark_push (length old.front) k.kills one.note, k.mark, one.high, starts_longer new.front now.front one.front);
+        spare = omega (arith, k.spare, one.spare);
+        empty = empty;
+        known = known;
+      }
+
+  -- the entry was gone
+  pub killing_again : (now new : Sight) (n : ℕ) → IsKilling old now packet n → Saw now new → HoldsNothing new → IsKnown new
+      → IsKilling old new packet n
+  killing_again now new n k saw empty known = record {
+    front = starts_trans new.front now.front old.front saw.front k.front;
+    sizes = saw.sizes ∙ k.sizes;
+    kills = k.kills;
+    own = saw.own ∙ k.own;
+    count = k.count;
+    few = k.few;
+    all = kills_all_grows events states new.front now.front saw.front (length old.front) packet k.kills k.all;
+    mark = omega (arith, k.mark, starts_longer new.front now.front saw.front);
+    spare = omega (arith, k.spare, saw.spare);
+    empty = empty;
+    known = known;
+  }
+
+  -- an answer after the kills
+  pub killing_done : (now new : Sight) (n : ℕ) (verdict : Verdict) (given : Given) → IsFlow given packet → IsKilling old now packet n
+      → Answers now new packet n (length now.front) verdict.class → HoldsNothing new → verdict.first ≡ length old.own
+      → verdict.made ≡ length new.own - length old.own → Handled given old new verdict
+  killing_done now new n verdict given flow k a empty first made =
+      let own : new.own ≡ old.own ++ (k.kills ++ a.rest) =
+      a.own ∙ ap (λ (l : List Note). l ++ a.rest) k.own ∙ append_assoc old.own k.kills a.rest in
+      record {
+        front = starts_trans new.front now.front old.front a.front k.front;
+        sizes = a.sizes ∙ k.sizes;
+        own = k.kills ++ a.rest;
+        added = own;
+        first = first;
+        made = omega (arith, made, ap length own, length-append old.own (k.kills ++ a.rest));
+        few = omega (arith, length-append k.kills a.rest, k.count, k.few, a.few);
+        spare = omega (arith, length-append k.kills a.rest, k.count, k.spare, a.spare);
+        fits = subst (λ (z : Sizes). FitsFrame z new.front (length old.front) given (k.kills ++ a.rest) verdict.class) k.sizes
+            (a.fits given (length old.front) k.kills flow k.count k.all k.mark);
+        points = a.points;
+        held = empty.held;
+        owed = empty.owed;
+      }
+
+-- what is handled after making room is handled
+pub handled_ready : (k : ℕ) (old mid new : Sight) (given : Given) (verdict : Verdict) → IsReady k old mid → Handled given mid new verdict
+    → Handled given old new verdict
+handled_ready k old mid new given verdict ready h =
+    let front : mid.front ≡ old.front = ap (λ (s : Sight). s.front) ready.same in
+    let own : mid.own ≡ old.own = ap (λ (s : Sight). s.own) ready.same in
+    let sizes : mid.sizes ≡ old.sizes = ap (λ (s : Sight). s.sizes) ready.same in
+    record {
+      front = subst (StartsWith new.front) front h.front;
+      sizes = h.sizes ∙ sizes;
+      own = h.own;
+      added = h.added ∙ ap (λ (l : List Note). l ++ h.own) own;
+      first = h.first ∙ ap length own;
+      made = h.made;
+      few = h.few;
+      spare = omega (arith, h.spare, ready.kept);
+      fits = subst (λ (l : List Event). FitsFrame old.sizes new.front (length l) given h.own verdict.class) front
+          (subst (λ (z : Sizes). FitsFrame z new.front (length mid.front) given h.own verdict.class) sizes h.fits);
+      points = h.points;
+      held = h.held;
+      owed = h.owed;
+    }
+
+-- a frame that makes no event is handled
+pub handled_silent : (old new : Sight) (given : Given) (verdict : Verdict) → Saw old new → HoldsNothing new
+    → verdict.first ≡ length old.own → verdict.made ≡ 0
+    → FitsFrame old.sizes new.front (length old.front) given [] verdict.class
+    → AllByRecursion (λ p. p ≤ length new.front) (points_of verdict.class) → Handled given old new verdict
+handled_silent old new given verdict saw empty first made fits points = record {
+  front = saw.front;
+  sizes = saw.sizes;
+  own = [];
+  added = saw.own ∙ sym (append-nil old.own);
+  first = first;
+  made = made;
+  few = omega arith;
+  spare = omega (arith, saw.spare);
+  fits = fits;
+  points = points;
+  held = empty.held;
+  owed = empty.owed;
+}
+
+-- what an error is about was looked up at a point that stays when the desk sees more
+pub error_found : StatesStay → (old mid new : Sight) (inner looked_up : Tuple) (place id at : ℕ) (d : Direction)
+    → looked_up ≡ inverse inner → (looked : Looked old mid at (IsLiveUnder looked_up place id d)) → Saw mid new
+    → LooksUp new.front (length old.front) inner at (Some (record { subject = looked.fact.fact.subject; direction = d }))
+error_found states old mid new inner looked_up place id at d same looked saw =
+    let subject : Record = looked.fact.fact.subject in
+    record {
+      from = looked.low;
+      live = at_grows states new.front mid.front at
+          (λ s. live_under (inverse inner) s ≡ Some (record { subject = subject; direction = d })) saw.front
+          (record {
+            within = looked.fact.within;
+            fact = ap (λ t. live_under t (after mid.front at)) (sym same) ∙ looked.fact.fact.live;
+          });
+    }
+
+pub error_related : StatesStay → (old mid new : Sight) (inner looked_up : Tuple) (outer place id at moment : ℕ) (d : Direction)
+    → looked_up ≡ inverse inner → Looked old mid at (IsLiveUnder looked_up place id d) → Saw mid new → looked_up.dst ≡ outer
+    → AnswersError (record { packet = packet.Error inner outer; moment = moment }) []
+    (λ i o. IsRelated new.front (length old.front) i o d id at)
+error_related states old mid new inner looked_up outer place id at moment d same looked saw address = record {
+  inner = inner;
+  outer = outer;
+  error = refl;
+  none = refl;
+  fits = record {
+    found = record { subject = looked.fact.fact.subject; direction = d };
+    looked = error_found states old mid new inner looked_up place id at d same looked saw;
+    named = looked.fact.fact.named;
+    directed = refl;
+    address = ap (λ (t : Tuple). t.dst) (sym same) ∙ address;
+  };
+}
+
+pub error_misdirected : StatesStay → (old mid new : Sight) (inner looked_up : Tuple) (outer place id at moment : ℕ) (d : Direction)
+    → looked_up ≡ inverse inner → Looked old mid at (IsLiveUnder looked_up place id d) → Saw mid new → looked_up.dst ≢ outer
+    → AnswersError (record { packet = packet.Error inner outer; moment = moment }) []
+    (λ i o. IsMisdirected new.front (length old.front) i o id at)
+error_misdirected states old mid new inner looked_up outer place id at moment d same looked saw address = record {
+  inner = inner;
+  outer = outer;
+  error = refl;
+  none = refl;
+  fits = record {
+    found = record { subject = looked.fact.fact.subject; direction = d };
+    looked = error_found states old mid new inner looked_up place id at d same looked saw;
+    named = looked.fact.fact.named;
+    address = λ e. address (ap (λ (t : Tuple). t.dst) same ∙ e);
+  };
+}
