@@ -1,3 +1,4 @@
+pub mod BusyDesk
 pub mod Collecting
 pub mod Findings
 pub mod Flaws

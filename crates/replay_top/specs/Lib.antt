@@ -1,3 +1,4 @@
+pub mod Busy
 pub mod Capture
 pub mod Causes
 pub mod ErrorLine

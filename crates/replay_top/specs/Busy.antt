@@ -1,0 +1,38 @@
+-- For tests: a pass of two, and what the other pass does before a call of it. The inner sight has the events
+-- of both passes.
+use Rattle.std.specs.Prelude.{◌≡◌, ℕ, ◌+◌, ◌<◌, ◌≤◌, ◌^◌, Some, List, length, slice_get, All, AllPairs}
+use Rattle.history_book.specs.declared.event.Note.{Note}
+use Rattle.history_book.specs.Point.{StartsWith}
+use Rattle.history_book.specs.Sight.{IsKnown, Sight}
+
+-- what the pass knows that made these events alone
+abbrev pub seen_by : Sight → List Note → ℕ → Sight
+seen_by inner notes spare = record {
+  front = inner.front;
+  own = notes;
+  held = inner.held;
+  owed = inner.owed;
+  spare = spare;
+  sizes = inner.sizes;
+}
+
+-- the notes are events of the inner history in the order of their numbers, and there is room for further
+-- events of both passes
+pub record IsBusy (inner : Sight) (notes : List Note) (capacity spare others : ℕ) : Type 0 where
+  pub known : IsKnown inner
+  pub two : inner.sizes.passes ≡ 2
+  pub own : All (λ n. slice_get inner.front n.number ≡ Some n.event) notes
+  pub ordered : AllPairs (λ m n. m.number < n.number) notes
+  pub room : length notes + spare ≤ capacity
+  pub few : length notes + spare ≤ 2 ^ 30
+  pub left : spare + others ≤ inner.spare
+
+-- the other pass made events, and gave up each place that it took
+pub record Went (old new : Sight) (before after : ℕ) : Type 0 where
+  pub known : IsKnown new
+  pub front : StartsWith new.front old.front
+  pub held : new.held ≡ old.held
+  pub owed : new.owed ≡ old.owed
+  pub sizes : new.sizes ≡ old.sizes
+  pub fewer : after ≤ before
+  pub spare : old.spare + after ≤ new.spare + before

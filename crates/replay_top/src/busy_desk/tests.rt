@@ -1,0 +1,474 @@
+//! What becomes of a packet where another pass comes between the calls of its own.
+
+ghost use Rattle.std.specs.Prelude.{◌≡◌, [], IfOk};
+
+use super::BusyDesk;
+use super::stage::{Act, Call, Script, Turn};
+use history_book::desk::Desk;
+use history_book::record::Flow;
+use history_book::verdict::{Class, Label, Verdict};
+use packet_headers::frame::{Frame, Link};
+use packet_path::handle::handle;
+use proto_rules::{Part, PartKind, TcpState};
+use std::alloc::Global;
+use std::process::Abort;
+use std::sync::Wait;
+use std::test::Fail;
+use tuple_core::{Direction, NoMemory, Proto, Segment, Tuple};
+
+/// A query of UDP from 10.0.0.1:5000 to 10.0.0.2:53.
+const QUERY: [u8; 32] = [
+    0x45, 0, 0, 0x20, 0, 0, 0, 0, 0x40, 0x11, 0, 0, 10, 0, 0, 1, 10, 0, 0, 2, 0x13, 0x88, 0, 0x35,
+    0, 0x0c, 0, 0, 0, 0, 0, 0,
+];
+
+/// A segment of TCP with SYN from 10.0.0.1:40000 to 10.0.0.2:80.
+const SYN: [u8; 40] = [
+    0x45, 0, 0, 0x28, 0, 0, 0, 0, 0x40, 6, 0, 0, 10, 0, 0, 1, 10, 0, 0, 2, 0x9c, 0x40, 0, 0x50, 0,
+    0, 0, 0, 0, 0, 0, 0, 0x50, 2, 0, 0, 0, 0, 0, 0,
+];
+
+/// The same with RST.
+const RST: [u8; 40] = [
+    0x45, 0, 0, 0x28, 0, 0, 0, 0, 0x40, 6, 0, 0, 10, 0, 0, 1, 10, 0, 0, 2, 0x9c, 0x40, 0, 0x50, 0,
+    0, 0, 0, 0, 0, 0, 0, 0x50, 4, 0, 0, 0, 0, 0, 0,
+];
+
+/// A second, in microseconds.
+const SECOND: u64 = 1_000_000;
+
+/// A moment at which all is expired.
+const LATE: u64 = 1_000_000_000 * SECOND;
+
+/// The tuple of the query.
+const ASKS: Tuple = Tuple {
+    proto: Proto::Udp,
+    src: 0x0a00_0001,
+    dst: 0x0a00_0002,
+    a: 5000,
+    b: 53,
+};
+
+/// The tuple of its answer.
+const ANSWERS: Tuple = Tuple {
+    proto: Proto::Udp,
+    src: 0x0a00_0002,
+    dst: 0x0a00_0001,
+    a: 53,
+    b: 5000,
+};
+
+/// The flow of the query, expired from 31 s on.
+const ASKED: Flow = Flow {
+    original: ASKS,
+    reply: ANSWERS,
+    part: Part {
+        kind: PartKind::Udp,
+        replied: false,
+        assured: false,
+        deadline: 31 * SECOND,
+    },
+    helper: false,
+    master: None,
+};
+
+/// The flow of the SYN, expired from 121 s on.
+const OPENED: Flow = Flow {
+    original: Tuple {
+        proto: Proto::Tcp,
+        src: 0x0a00_0001,
+        dst: 0x0a00_0002,
+        a: 40_000,
+        b: 80,
+    },
+    reply: Tuple {
+        proto: Proto::Tcp,
+        src: 0x0a00_0002,
+        dst: 0x0a00_0001,
+        a: 80,
+        b: 40_000,
+    },
+    part: Part {
+        kind: PartKind::Tcp(TcpState::SynSent),
+        replied: false,
+        assured: false,
+        deadline: 121 * SECOND,
+    },
+    helper: false,
+    master: None,
+};
+
+/// A desk whose other pass takes these turns.
+fn desk(alloc: Global, turns: &[Turn]) -> Result<BusyDesk, NoMemory>
+    ensures held { IfOk result (λ b. b.held ≡ []) }
+    ensures owed { IfOk result (λ b. b.owed ≡ []) }
+{
+    let mut script = Script::new(alloc, 0)?;
+    script.append(turns)?;
+    BusyDesk::new(alloc, script, 100)
+}
+
+/// What becomes of a packet at this moment.
+fn handled<R: Wait + Abort>(
+    rt: &R,
+    desk: &mut BusyDesk,
+    packet: &[u8],
+    moment: u64,
+) -> Result<Verdict, NoMemory>
+    requires held { desk.old.held ≡ [] }
+    requires owed { desk.old.owed ≡ [] }
+    ensures held { desk.new.held ≡ [] }
+    ensures owed { desk.new.owed ≡ [] }
+{
+    assert!(rt; desk.made() < 1000);
+    assert!(rt; moment <= LATE);
+    assert!(rt; packet.len() < 1000);
+    let length = packet.len() as u32;
+    let frame = Frame {
+        moment,
+        start: 0,
+        captured: length,
+        original: length,
+        link: Link::Raw,
+    };
+    handle(rt, desk, packet, &frame)
+}
+
+#[test]
+fn an_entry_goes_before_it_is_touched(rt: HostRuntime) -> Result<(), Fail> {
+    let mut desk = desk(
+        rt.alloc(),
+        &[Turn {
+            before: Call::Touch,
+            act: Act::Expire(LATE),
+        }],
+    )?;
+    let first = handled(&rt, &mut desk, &QUERY, SECOND)?;
+    let again = handled(&rt, &mut desk, &QUERY, 2 * SECOND)?;
+    let after = handled(&rt, &mut desk, &QUERY, 3 * SECOND)?;
+    assert!(rt;
+        matches!(
+            first,
+            Verdict {
+                class: Class::Made { id: 0, at: 1, .. },
+                first: 0,
+                made: 1
+            }
+        )
+    );
+    assert!(rt;
+        matches!(
+            again,
+            Verdict {
+                class: Class::Made { id: 2, at: 3, .. },
+                first: 1,
+                made: 1
+            }
+        )
+    );
+    assert!(rt;
+        matches!(
+            after,
+            Verdict {
+                class: Class::Passed {
+                    label: Label::New,
+                    id: 2,
+                    at: 4,
+                    ..
+                },
+                first: 2,
+                made: 1
+            }
+        )
+    );
+    Ok(())
+}
+
+#[test]
+fn an_expired_entry_is_touched_before_it_is_destroyed(rt: HostRuntime) -> Result<(), Fail> {
+    let mut desk = desk(
+        rt.alloc(),
+        &[Turn {
+            before: Call::Kill,
+            act: Act::Touch {
+                direction: Direction::Reply,
+                segment: Segment::Udp,
+                moment: 20 * SECOND,
+            },
+        }],
+    )?;
+    let first = handled(&rt, &mut desk, &QUERY, SECOND)?;
+    let again = handled(&rt, &mut desk, &QUERY, 31 * SECOND)?;
+    let after = handled(&rt, &mut desk, &QUERY, 32 * SECOND)?;
+    assert!(rt;
+        matches!(
+            first,
+            Verdict {
+                class: Class::Made { id: 0, at: 1, .. },
+                first: 0,
+                made: 1
+            }
+        )
+    );
+    assert!(rt;
+        matches!(
+            again,
+            Verdict {
+                class: Class::Passed {
+                    label: Label::Established,
+                    id: 0,
+                    at: 3,
+                    ..
+                },
+                first: 1,
+                made: 1
+            }
+        )
+    );
+    assert!(rt;
+        matches!(
+            after,
+            Verdict {
+                class: Class::Passed {
+                    label: Label::Established,
+                    id: 0,
+                    at: 4,
+                    ..
+                },
+                first: 2,
+                made: 1
+            }
+        )
+    );
+    Ok(())
+}
+
+#[test]
+fn a_fifth_expired_entry_is_left(rt: HostRuntime) -> Result<(), Fail> {
+    let turn = Turn {
+        before: Call::Find,
+        act: Act::Confirm(ASKED),
+    };
+    let mut desk = desk(rt.alloc(), &[turn; 5])?;
+    let contended = handled(&rt, &mut desk, &QUERY, 100 * SECOND)?;
+    let after = handled(&rt, &mut desk, &QUERY, 101 * SECOND)?;
+    assert!(rt;
+        matches!(
+            contended,
+            Verdict {
+                class: Class::Contended { id: 8, at: 9 },
+                first: 0,
+                made: 4
+            }
+        )
+    );
+    assert!(rt;
+        matches!(
+            after,
+            Verdict {
+                class: Class::Made { id: 10, at: 11, .. },
+                first: 4,
+                made: 2
+            }
+        )
+    );
+    Ok(())
+}
+
+/// A desk whose other pass confirms this flow before the first packet's is.
+fn overtaken(alloc: Global, flow: Flow) -> Result<BusyDesk, NoMemory>
+    ensures held { IfOk result (λ b. b.held ≡ []) }
+    ensures owed { IfOk result (λ b. b.owed ≡ []) }
+{
+    desk(
+        alloc,
+        &[Turn {
+            before: Call::Take,
+            act: Act::Confirm(flow),
+        }],
+    )
+}
+
+#[test]
+fn the_other_pass_confirms_the_flow_first(rt: HostRuntime) -> Result<(), Fail> {
+    let mut desk = overtaken(rt.alloc(), ASKED)?;
+    let merged = handled(&rt, &mut desk, &QUERY, SECOND)?;
+    let after = handled(&rt, &mut desk, &QUERY, 2 * SECOND)?;
+    assert!(rt;
+        matches!(
+            merged,
+            Verdict {
+                class: Class::Merged { id: 0, at: 1, .. },
+                first: 0,
+                made: 0
+            }
+        )
+    );
+    assert!(rt;
+        matches!(
+            after,
+            Verdict {
+                class: Class::Passed {
+                    label: Label::New,
+                    id: 0,
+                    at: 2,
+                    ..
+                },
+                first: 0,
+                made: 1
+            }
+        )
+    );
+    Ok(())
+}
+
+#[test]
+fn the_other_pass_confirms_the_connection_first(rt: HostRuntime) -> Result<(), Fail> {
+    let mut desk = overtaken(rt.alloc(), OPENED)?;
+    let clash = handled(&rt, &mut desk, &SYN, SECOND)?;
+    let after = handled(&rt, &mut desk, &SYN, 2 * SECOND)?;
+    assert!(rt;
+        matches!(
+            clash,
+            Verdict {
+                class: Class::Clash { id: 0, at: 1, .. },
+                first: 0,
+                made: 0
+            }
+        )
+    );
+    assert!(rt;
+        matches!(
+            after,
+            Verdict {
+                class: Class::Passed {
+                    label: Label::New,
+                    id: 0,
+                    at: 2,
+                    ..
+                },
+                first: 0,
+                made: 1
+            }
+        )
+    );
+    Ok(())
+}
+
+#[test]
+fn the_other_pass_confirms_a_flow_with_the_reply_tuple_first(rt: HostRuntime) -> Result<(), Fail> {
+    let elsewhere = Flow {
+        original: Tuple {
+            src: 0x0a00_0003,
+            ..ASKS
+        },
+        ..ASKED
+    };
+    let mut desk = overtaken(rt.alloc(), elsewhere)?;
+    let clash = handled(&rt, &mut desk, &QUERY, SECOND)?;
+    let after = handled(&rt, &mut desk, &QUERY, 2 * SECOND)?;
+    assert!(rt;
+        matches!(
+            clash,
+            Verdict {
+                class: Class::Clash { id: 0, at: 1, .. },
+                first: 0,
+                made: 0
+            }
+        )
+    );
+    assert!(rt;
+        matches!(
+            after,
+            Verdict {
+                class: Class::Clash { id: 0, at: 1, .. },
+                first: 0,
+                made: 0
+            }
+        )
+    );
+    Ok(())
+}
+
+#[test]
+fn the_other_pass_confirms_the_flow_the_other_way_round_first(rt: HostRuntime) -> Result<(), Fail> {
+    let reversed = Flow {
+        original: ANSWERS,
+        reply: ASKS,
+        ..ASKED
+    };
+    let mut desk = overtaken(rt.alloc(), reversed)?;
+    let clash = handled(&rt, &mut desk, &QUERY, SECOND)?;
+    let after = handled(&rt, &mut desk, &QUERY, 2 * SECOND)?;
+    assert!(rt;
+        matches!(
+            clash,
+            Verdict {
+                class: Class::Clash { id: 0, at: 1, .. },
+                first: 0,
+                made: 0
+            }
+        )
+    );
+    assert!(rt;
+        matches!(
+            after,
+            Verdict {
+                class: Class::Passed {
+                    label: Label::EstablishedReply,
+                    id: 0,
+                    at: 2,
+                    ..
+                },
+                first: 0,
+                made: 1
+            }
+        )
+    );
+    Ok(())
+}
+
+#[test]
+fn a_reset_connection_goes_before_it_is_destroyed(rt: HostRuntime) -> Result<(), Fail> {
+    let mut desk = desk(
+        rt.alloc(),
+        &[Turn {
+            before: Call::Kill,
+            act: Act::Expire(LATE),
+        }],
+    )?;
+    let opened = handled(&rt, &mut desk, &SYN, SECOND)?;
+    let reset = handled(&rt, &mut desk, &RST, 2 * SECOND)?;
+    let after = handled(&rt, &mut desk, &SYN, 3 * SECOND)?;
+    assert!(rt;
+        matches!(
+            opened,
+            Verdict {
+                class: Class::Made { id: 0, at: 1, .. },
+                first: 0,
+                made: 1
+            }
+        )
+    );
+    assert!(rt;
+        matches!(
+            reset,
+            Verdict {
+                class: Class::NoEntry { at: 2 },
+                first: 1,
+                made: 0
+            }
+        )
+    );
+    assert!(rt;
+        matches!(
+            after,
+            Verdict {
+                class: Class::Made { id: 2, at: 3, .. },
+                first: 1,
+                made: 1
+            }
+        )
+    );
+    Ok(())
+}
