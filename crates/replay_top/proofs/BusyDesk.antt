@@ -1,6 +1,6 @@
 -- What a pass of two knows and answers, where the other pass came between.
 use Rattle.std.proofs.Common.{◌≡◌, ℕ, ◌+◌, ◌-◌, ◌<◌, ◌≤◌, Bool, true, false, cond, List, [], ◌∷◌, ◌++◌, length, Option, Some, None, refl, sym, ap, subst, ◌∙◌, arith, append_assoc, length-append, zero, suc}
-use Rattle.std.specs.List.{All, AllPairs, find as find_in, slice_get, list_any, slice_index_or}
+use Rattle.std.specs.List.{find as find_in, slice_get}
 use Rattle.std.specs.Prelude.{◌||◌}
 use Rattle.std.proofs.lemmas.Bool.{eq-eqb, eqb-true}
 use Rattle.std.proofs.lemmas.List.{append-nil}
@@ -9,39 +9,28 @@ use Rattle.std.proofs.lemmas.List.Quantifiers.{all_pairs_push}
 use Rattle.std.proofs.lemmas.Option.{slice_get_within}
 use Rattle.tuple_core.specs.declared.Direction.{Direction}
 use Rattle.tuple_core.specs.declared.Segment.{Segment}
-use Rattle.tuple_core.specs.declared.Tuple.{Tuple}
 use Rattle.history_book.specs.declared.desk.Hold.{Hold}
 use Rattle.history_book.specs.declared.event.Event.{Event}
 use Rattle.history_book.specs.declared.event.Note.{Note}
 use Rattle.history_book.specs.declared.event.Why.{Why}
 use Rattle.history_book.specs.declared.outcome.ConfirmOutcome.{ConfirmOutcome}
 use Rattle.history_book.specs.declared.outcome.ConfirmOutcome.TheVariants as confirm
-use Rattle.history_book.specs.declared.outcome.FindOutcome.{FindOutcome}
-use Rattle.history_book.specs.declared.outcome.FindOutcome.TheVariants as find
-use Rattle.history_book.specs.declared.outcome.HoldOutcome.{HoldOutcome}
-use Rattle.history_book.specs.declared.outcome.HoldOutcome.TheVariants as hold
 use Rattle.history_book.specs.declared.outcome.KillOutcome.{KillOutcome}
 use Rattle.history_book.specs.declared.outcome.KillOutcome.TheVariants as kill
-use Rattle.history_book.specs.declared.outcome.PeekOutcome.{PeekOutcome}
-use Rattle.history_book.specs.declared.outcome.PeekOutcome.TheVariants as peek
-use Rattle.history_book.specs.declared.outcome.ReleaseOutcome.{ReleaseOutcome}
-use Rattle.history_book.specs.declared.outcome.ReleaseOutcome.TheVariants as release
 use Rattle.history_book.specs.declared.outcome.TakeOutcome.{TakeOutcome}
 use Rattle.history_book.specs.declared.outcome.TakeOutcome.TheVariants as take
 use Rattle.history_book.specs.declared.outcome.TouchOutcome.{TouchOutcome}
 use Rattle.history_book.specs.declared.outcome.TouchOutcome.TheVariants as touch
 use Rattle.history_book.specs.declared.record.Flow.{Flow}
 use Rattle.history_book.specs.declared.sizes.Sizes.{Sizes}
-use Rattle.history_book.specs.Desk.{ConfirmSays, Confirms, CountSays, Destroys, FindSays, HoldSays, HoldsOneMore, KeepsPlace, KillSays, Looked, MadeEvent, OwesPlace, PeekSays, RecycleSays, ReleaseSays, SamePlaces, Saw, TakeSays, Takes, TouchSays, Touches}
-use Rattle.history_book.specs.Held.{for_entry, held_for, held_id, is_at, is_held, paid, without}
-use Rattle.history_book.specs.Point.{At, StartsWith}
+use Rattle.history_book.specs.Desk.{ConfirmSays, Destroys, HoldsOneMore, KeepsPlace, KillSays, Looked, MadeEvent, OwesPlace, RecycleSays, SamePlaces, Saw, TakeSays, Takes, TouchSays, Touches}
+use Rattle.history_book.specs.Held.{held_for, held_id, is_at, is_held, paid, without}
+use Rattle.history_book.specs.Point.{StartsWith}
 use Rattle.history_book.specs.Sight.{IsKnown, Sight}
 use Rattle.history_book.specs.Record.{has_id}
 use Rattle.history_book.specs.State.{State, record_of}
-use Rattle.history_book.specs.declared.event.Event.TheVariants.{Confirm, Destroy, Touch}
-use Rattle.history_book.specs.declared.outcome.LiveCount.{LiveCount}
+use Rattle.history_book.specs.declared.event.Event.TheVariants.{Destroy, Touch}
 use Rattle.history_book.specs.declared.record.Record.{Record}
-use Rattle.proto_rules.specs.declared.Outcome.{Outcome}
 use Rattle.proto_rules.specs.declared.Outcome.TheVariants.{Accept}
 use Rattle.proto_rules.specs.declared.Part.{Part}
 use Rattle.proto_rules.specs.Step.{step_of}
