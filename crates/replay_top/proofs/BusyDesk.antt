@@ -1,7 +1,7 @@
 -- What a pass of two knows and answers, where the other pass came between.
 use Rattle.std.proofs.Common.{◌≡◌, ℕ, ◌+◌, ◌-◌, ◌<◌, ◌≤◌, Bool, true, false, cond, List, [], ◌∷◌, ◌++◌, length, Option, Some, None, refl, sym, ap, subst, ◌∙◌, arith, append_assoc, length-append, zero, suc}
 use Rattle.std.specs.List.{find as find_in, slice_get}
-use Rattle.std.specs.Prelude.{◌||◌}
+use Rattle.std.specs.Prelude.{◌&&◌, ◌||◌}
 use Rattle.std.proofs.lemmas.Bool.{eq-eqb, eqb-true}
 use Rattle.std.proofs.lemmas.List.{append-nil}
 use Rattle.std.proofs.lemmas.List.Elements.{All-push}
@@ -9,12 +9,21 @@ use Rattle.std.proofs.lemmas.List.Quantifiers.{all_pairs_push}
 use Rattle.std.proofs.lemmas.Option.{slice_get_within}
 use Rattle.tuple_core.specs.declared.Direction.{Direction}
 use Rattle.tuple_core.specs.declared.Segment.{Segment}
+use Rattle.tuple_core.specs.declared.Tuple.{Tuple}
 use Rattle.history_book.specs.declared.desk.Hold.{Hold}
 use Rattle.history_book.specs.declared.event.Event.{Event}
 use Rattle.history_book.specs.declared.event.Note.{Note}
 use Rattle.history_book.specs.declared.event.Why.{Why}
 use Rattle.history_book.specs.declared.outcome.ConfirmOutcome.{ConfirmOutcome}
 use Rattle.history_book.specs.declared.outcome.ConfirmOutcome.TheVariants as confirm
+use Rattle.history_book.specs.declared.outcome.FindOutcome.{FindOutcome}
+use Rattle.history_book.specs.declared.outcome.FindOutcome.TheVariants as find
+use Rattle.history_book.specs.declared.outcome.HoldOutcome.{HoldOutcome}
+use Rattle.history_book.specs.declared.outcome.HoldOutcome.TheVariants as hold
+use Rattle.history_book.specs.declared.outcome.PeekOutcome.{PeekOutcome}
+use Rattle.history_book.specs.declared.outcome.PeekOutcome.TheVariants as peek
+use Rattle.history_book.specs.declared.outcome.ReleaseOutcome.{ReleaseOutcome}
+use Rattle.history_book.specs.declared.outcome.ReleaseOutcome.TheVariants as release
 use Rattle.history_book.specs.declared.outcome.KillOutcome.{KillOutcome}
 use Rattle.history_book.specs.declared.outcome.KillOutcome.TheVariants as kill
 use Rattle.history_book.specs.declared.outcome.TakeOutcome.{TakeOutcome}
@@ -23,18 +32,20 @@ use Rattle.history_book.specs.declared.outcome.TouchOutcome.{TouchOutcome}
 use Rattle.history_book.specs.declared.outcome.TouchOutcome.TheVariants as touch
 use Rattle.history_book.specs.declared.record.Flow.{Flow}
 use Rattle.history_book.specs.declared.sizes.Sizes.{Sizes}
-use Rattle.history_book.specs.Desk.{ConfirmSays, Destroys, HoldsOneMore, KeepsPlace, KillSays, Looked, MadeEvent, OwesPlace, RecycleSays, SamePlaces, Saw, TakeSays, Takes, TouchSays, Touches}
+use Rattle.history_book.specs.Desk.{ConfirmSays, Destroys, FindSays, HoldSays, HoldsOneMore, KeepsPlace, KillSays, PeekSays, ReleaseSays, Looked, MadeEvent, OwesPlace, RecycleSays, SamePlaces, Saw, TakeSays, Takes, TouchSays, Touches}
 use Rattle.history_book.specs.Held.{held_for, held_id, is_at, is_held, paid, without}
 use Rattle.history_book.specs.Point.{StartsWith}
 use Rattle.history_book.specs.Sight.{IsKnown, Sight}
 use Rattle.history_book.specs.Record.{has_id}
-use Rattle.history_book.specs.State.{State, record_of}
-use Rattle.history_book.specs.declared.event.Event.TheVariants.{Destroy, Touch}
+use Rattle.history_book.specs.History.{is_legal, is_legal_from}
+use Rattle.history_book.specs.Legality.{may_happen}
+use Rattle.history_book.specs.State.{State, empty_state, next, record_of}
+use Rattle.history_book.specs.declared.event.Event.TheVariants.{Confirm, Destroy, Touch}
 use Rattle.history_book.specs.declared.record.Record.{Record}
 use Rattle.proto_rules.specs.declared.Outcome.TheVariants.{Accept}
 use Rattle.proto_rules.specs.declared.Part.{Part}
 use Rattle.proto_rules.specs.Step.{step_of}
-use Rattle.replay_top.specs.Busy.{IsBusy, Went, seen_by}
+use Rattle.replay_top.specs.Internal.Busy.{IsBusy, Went, seen_by}
 
 starts_refl : (l : List Event) → StartsWith l l
 starts_refl l = ([], sym (append-nil l))
@@ -231,14 +242,14 @@ has_id_of id s r h = eqb-true r.id id (found_has (has_id id) s.records r h)
 accepted : (p q : Part) → Accept p ≡ Accept q → p ≡ q
 accepted p q e = cc
 
-module _ (old : Sight) (f : List Event) (o : List Note) (k : ℕ) (start : StartsWith f old.front) (two : old.sizes.passes ≡ 2)
+module _ (old : Sight) (f : List Event) (o : List Note) (k : ℕ) (start : StartsWith f old.front) (lone : old.sizes.passes ≡ 1)
     (new : Sight) (notes : List Note) (spare : ℕ) where
   saw : Saw (moved old f o k) new → Saw (seen_by old notes spare) (seen_by new notes spare)
   saw s = record {
     front = starts_trans new.front f old.front s.front start;
     own = refl;
     spare = refl;
-    sizes = s.sizes;
+    sizes = ap (λ (z : Sizes). record z { passes = 2 }) s.sizes;
   }
 
   looked : (at : ℕ) (F : State → Type 0) → Looked (moved old f o k) new at F → Looked (seen_by old notes spare) (seen_by new notes spare) at F
@@ -261,7 +272,7 @@ module _ (old : Sight) (f : List Event) (o : List Note) (k : ℕ) (start : Start
     front = starts_trans new.front f old.front m.front start;
     own = refl;
     spare = one;
-    sizes = m.sizes;
+    sizes = ap (λ (z : Sizes). record z { passes = 2 }) m.sizes;
     low = omega (arith, m.low, starts_longer f old.front start);
     high = m.high;
     happened = m.happened;
@@ -274,12 +285,16 @@ module _ (old : Sight) (f : List Event) (o : List Note) (k : ℕ) (start : Start
     unheld = says.unheld;
     unowed = says.unowed;
     holds = more place None says.holds;
-    alone = λ one. absurd (omega (arith, one, two));
+    alone = λ one. absurd (omega (arith, one));
   }
   moved_take (take.Full at) says = record {
-    looked = looked at _ says.looked;
+    looked = record {
+      saw = saw says.looked.saw;
+      low = omega (arith, says.looked.low, starts_longer f old.front start);
+      fact = record { within = says.looked.fact.within; fact = omega (arith, says.looked.fact.fact, lone) };
+    };
     same = same says.same;
-    alone = λ one place below. absurd (omega (arith, one, two));
+    alone = λ one place below. absurd (omega (arith, one));
   }
 
   pub moved_touched : (id : ℕ) (d : Direction) (segment : Segment) (moment n spare' : ℕ) (before : Record) (after : Part)
@@ -323,21 +338,42 @@ module _ (old : Sight) (f : List Event) (o : List Note) (k : ℕ) (start : Start
       }
 
 pub take_went : (old mid new : Sight) (notes : List Note) (spare b a : ℕ) (r : TakeOutcome) → Went old mid b a
-    → old.sizes.passes ≡ 2 → TakeSays mid new r → TakeSays (seen_by old notes spare) (seen_by new notes spare) r
-take_went old mid new notes spare b a r went two says =
-    moved_take old mid.front mid.own mid.spare went.front two new notes spare r
+    → old.sizes.passes ≡ 1 → TakeSays mid new r → TakeSays (seen_by old notes spare) (seen_by new notes spare) r
+take_went old mid new notes spare b a r went lone says =
+    moved_take old mid.front mid.own mid.spare went.front lone new notes spare r
     (subst (λ (m : Sight). TakeSays m new r) (moved_by old mid b a went) says)
 
 pub take_saw : (mid new : Sight) (r : TakeOutcome) → TakeSays mid new r → Saw mid new
 take_saw mid new (take.Taken place) says = says.saw
 take_saw mid new (take.Full at) says = says.looked.saw
 
+-- which events may happen does not depend on the number of passes
+may_two : (z : Sizes) (k : ℕ) (s : State) (n : ℕ) (e : Event) → may_happen (record z { passes = k }) s n e ≡ may_happen z s n e
+may_two z k s n (Confirm r) = refl
+may_two z k s n (Touch id direction segment moment after) = refl
+may_two z k s n (Destroy id why) = refl
+
+legal_from_two : (z : Sizes) (k : ℕ) (s : State) (n : ℕ) (log : List Event)
+    → is_legal_from (record z { passes = k }) s n log ≡ is_legal_from z s n log
+legal_from_two z k s n [] = refl
+legal_from_two z k s n (e ∷ es) =
+    ap (λ b. b && is_legal_from (record z { passes = k }) (next s e) (n + 1) es) (may_two z k s n e)
+    ∙ ap (λ b. may_happen z s n e && b) (legal_from_two z k (next s e) (n + 1) es)
+
+legal_two : (z : Sizes) (k : ℕ) (log : List Event) → is_legal (record z { passes = k }) log ≡ is_legal z log
+unfolding is_legal
+legal_two z k log = legal_from_two z k empty_state 0 log
+
+-- the front is a legal history of a tracker of two passes too
+pub legal_seen : (z : Sizes) (log : List Event) → is_legal z log ≡ true → is_legal (record z { passes = 2 }) log ≡ true
+legal_seen z log legal = legal_two z 2 log ∙ legal
+
 -- What this pass knows.
 
 pub known_seen : (inner : Sight) (notes : List Note) (capacity spare others : ℕ) → IsBusy inner notes capacity spare others
     → IsKnown (seen_by inner notes spare)
 known_seen inner notes capacity spare others b = record {
-  legal = b.known.legal;
+  legal = legal_seen inner.sizes inner.front b.known.legal;
   few = b.known.few;
   own = b.own;
   ordered = b.ordered;
@@ -348,14 +384,14 @@ known_seen inner notes capacity spare others b = record {
   once = b.known.once;
   places = b.known.places;
   spared = b.few;
-  alone = λ one. absurd (omega (arith, one, b.two));
+  alone = λ one. absurd (omega (arith, one));
 }
 
 pub busy_went : (old new : Sight) (notes : List Note) (capacity spare b a : ℕ) → IsBusy old notes capacity spare b → Went old new b a
     → IsBusy new notes capacity spare a
 busy_went old new notes capacity spare b a busy went = record {
   known = went.known;
-  two = ap (λ (z : Sizes). z.passes) went.sizes ∙ busy.two;
+  lone = ap (λ (z : Sizes). z.passes) went.sizes ∙ busy.lone;
   own = λ i d h. get_grows new.front old.front _ _ went.front (busy.own i d h);
   ordered = busy.ordered;
   room = busy.room;
@@ -367,7 +403,7 @@ pub busy_saw : (old new : Sight) (notes : List Note) (capacity spare a : ℕ) �
     → IsKnown new → IsBusy new notes capacity spare a
 busy_saw old new notes capacity spare a busy saw known = record {
   known = known;
-  two = ap (λ (z : Sizes). z.passes) saw.sizes ∙ busy.two;
+  lone = ap (λ (z : Sizes). z.passes) saw.sizes ∙ busy.lone;
   own = λ i d h. get_grows new.front old.front _ _ saw.front (busy.own i d h);
   ordered = busy.ordered;
   room = busy.room;
@@ -383,7 +419,7 @@ busy_made old new notes capacity spare spare' a n e busy made known one =
     length-append notes (record { number = n; event = e } ∷ []) in
     record {
       known = known;
-      two = ap (λ (z : Sizes). z.passes) made.sizes ∙ busy.two;
+      lone = ap (λ (z : Sizes). z.passes) made.sizes ∙ busy.lone;
       own = All-push (λ (x : Note). slice_get new.front x.number ≡ Some x.event) notes (record { number = n; event = e })
           (λ i d h. get_grows new.front old.front _ _ made.front (busy.own i d h)) made.happened;
       ordered = all_pairs_push (λ (x y : Note). x.number < y.number) notes (record { number = n; event = e }) busy.ordered
@@ -422,25 +458,49 @@ kill_made id w mid new n subject says =
     subst (λ i. MadeEvent mid new n (Destroy i w)) (sym (has_id_of id _ subject says.found.fact)) says.made
 
 pub touched_went : (place : ℕ) (old mid new : Sight) (notes items : List Note) (spare spare' b a : ℕ) (d : Direction) (segment : Segment)
-    (moment n : ℕ) (before : Record) (after : Part) → Went old mid b a → old.sizes.passes ≡ 2
+    (moment n : ℕ) (before : Record) (after : Part) → Went old mid b a → old.sizes.passes ≡ 1
     → Touches (held_id place mid.held) d segment moment mid new n before → step_of before.part d segment moment ≡ Accept after
     → items ≡ notes ++ record { number = n; event = Touch before.id d segment moment after } ∷ [] → spare ≡ spare' + 1
     → Touches (held_id place old.held) d segment moment (seen_by old notes spare) (seen_by new items spare') n before
-touched_went place old mid new notes items spare spare' b a d segment moment n before after went two says step pushed one =
+touched_went place old mid new notes items spare spare' b a d segment moment n before after went lone says step pushed one =
     subst (λ (l : List Note). Touches (held_id place old.held) d segment moment (seen_by old notes spare) (seen_by new l spare') n before)
     (sym pushed)
-    (moved_touched old mid.front mid.own mid.spare went.front two new notes spare (held_id place old.held) d segment moment n spare' before after
+    (moved_touched old mid.front mid.own mid.spare went.front lone new notes spare (held_id place old.held) d segment moment n spare' before after
     (subst (λ (m : Sight). Touches (held_id place m.held) d segment moment m new n before) (moved_by old mid b a went) says) step one)
 
 pub killed_went : (place : ℕ) (old mid new : Sight) (notes items : List Note) (spare spare' b a : ℕ) (w : Why) (n : ℕ)
-    (subject : Record) → Went old mid b a → old.sizes.passes ≡ 2 → Destroys (held_id place mid.held) w mid new n subject
+    (subject : Record) → Went old mid b a → old.sizes.passes ≡ 1 → Destroys (held_id place mid.held) w mid new n subject
     → items ≡ notes ++ record { number = n; event = Destroy subject.id w } ∷ [] → spare ≡ spare' + 1
     → Destroys (held_id place old.held) w (seen_by old notes spare) (seen_by new items spare') n subject
-killed_went place old mid new notes items spare spare' b a w n subject went two says pushed one =
+killed_went place old mid new notes items spare spare' b a w n subject went lone says pushed one =
     subst (λ (l : List Note). Destroys (held_id place old.held) w (seen_by old notes spare) (seen_by new l spare') n subject)
     (sym pushed)
-    (moved_killed old mid.front mid.own mid.spare went.front two new notes spare (held_id place old.held) w n spare' subject
+    (moved_killed old mid.front mid.own mid.spare went.front lone new notes spare (held_id place old.held) w n spare' subject
     (subst (λ (m : Sight). Destroys (held_id place m.held) w m new n subject) (moved_by old mid b a went) says) one)
 
 pub one_less : (seen : Sight) (spare : ℕ) → spare ≡ seen.spare → 1 ≤ seen.spare → spare ≡ (spare - 1) + 1
 one_less seen spare same some = omega (arith, same, some)
+
+-- A call that makes no event of this pass.
+
+pub find_saw : (t : Tuple) (old new : Sight) (r : FindOutcome) → FindSays t old new r → Saw old new
+find_saw t old new (find.Found place id d at) says = says.0.saw
+find_saw t old new (find.Absent at) says = says.0.saw
+
+pub peek_saw : (place : ℕ) (old new : Sight) (r : PeekOutcome) → PeekSays place old new r → Saw old new
+peek_saw place old new (peek.Seen subject at) says = says.0.saw
+peek_saw place old new (peek.Gone at) says = says.0.saw
+
+pub hold_saw : (place : ℕ) (old new : Sight) (r : HoldOutcome) → HoldSays place old new r → Saw old new
+hold_saw place old new (hold.Held id at) says = says.0.saw
+hold_saw place old new (hold.Empty at) says = says.0.saw
+
+pub release_saw : (place : ℕ) (old new : Sight) (r : ReleaseOutcome) → ReleaseSays place old new r → Saw old new
+release_saw place old new release.Kept says = says.saw
+release_saw place old new release.Last says = says.saw
+
+-- what this pass knows after such a call
+pub known_saw : (old new : Sight) (notes : List Note) (capacity spare a : ℕ) → IsBusy old notes capacity spare a → Saw old new
+    → IsKnown new → IsKnown (seen_by new notes spare)
+known_saw old new notes capacity spare a busy saw known =
+    known_seen new notes capacity spare a (busy_saw old new notes capacity spare a busy saw known)

@@ -1,4 +1,3 @@
-pub mod Busy
 pub mod Capture
 pub mod Causes
 pub mod ErrorLine

@@ -1,6 +1,6 @@
 //! A desk of one pass of two, for tests. What the other pass does before a call of this one is told
 //! beforehand.
-#![tactic(auto)]
+#![tactic(auto, using(crate::proofs::BusyDesk::legal_seen))]
 
 ghost use Rattle.std.specs.Prelude.{◌≡◌, ◌≤◌, ◌^◌, [], IfOk};
 ghost use Rattle.proto_rules.specs.declared.Outcome.TheVariants.{Accept};
@@ -34,7 +34,7 @@ struct BusyDesk {
 
 impl Model for BusyDesk {
     ghost use Rattle.history_book.specs.Sight.{Sight};
-    ghost use Rattle.replay_top.specs.Busy.{IsBusy, seen_by};
+    ghost use Rattle.replay_top.specs.Internal.Busy.{IsBusy, seen_by};
 
     ghost Value = { Sight };
 

@@ -5,7 +5,7 @@ ghost use Rattle.history_book.specs.Entry.{is_flow_of_one_protocol};
 ghost use Rattle.history_book.specs.Held.{is_held_for_entry};
 ghost use Rattle.history_book.specs.Sight.{IsKnown};
 ghost use Rattle.history_book.specs.Sizes.{AreWithinLimits};
-ghost use Rattle.replay_top.specs.Busy.{Went};
+ghost use Rattle.replay_top.specs.Internal.Busy.{Went};
 
 use book_desk::desk::PlainDesk;
 use history_book::desk::Desk;
@@ -58,8 +58,7 @@ pub type Script = RoomList<Turn>;
 
 /// A pool of four places, for two passes.
 fn sizes() -> Sizes
-    ensures limits { AreWithinLimits result }
-    ensures two { result.passes ≡ 2 }
+    ensures { AreWithinLimits result }
 {
     Sizes {
         entries: 4,
@@ -97,7 +96,7 @@ impl Stage {
     pub fn new(alloc: Global, script: Script, others: u64) -> Result<Stage, NoMemory>
         requires { others ≤ 1000 }
         ensures known { IfOk result (λ s. IsKnown s.desk) }
-        ensures two { IfOk result (λ s. s.desk.sizes.passes ≡ 2) }
+        ensures lone { IfOk result (λ s. s.desk.sizes.passes ≡ 1) }
         ensures others { IfOk result (λ s. s.others ≤ s.desk.spare) }
         ensures held { IfOk result (λ s. s.desk.held ≡ []) }
         ensures owed { IfOk result (λ s. s.desk.owed ≡ []) }

@@ -5,7 +5,7 @@ pub returns-clause-says : goal.returns-clause-says
 returns-clause-says g c =
     rw (← c.self.view_is)
     (take_went c.self.inside.stage.desk c.other_begins.new.self.desk c.take.new.self c.self.inside.notes.items c.self.inside.spare
-    c.self.inside.stage.others c.other_begins.new.self.others c.take.result c.other_begins.ensures c.self.invariant.two
+    c.self.inside.stage.others c.other_begins.new.self.others c.take.result c.other_begins.ensures c.self.invariant.lone
     c.take.ensures.says)
 
 pub returns-clause-knows : goal.returns-clause-knows

@@ -2,9 +2,9 @@ use Rattle.std.proofs.Common.{arith, refl}
 use lib.Count.{ones}
 use Rattle.replay_top.proofs.busy_desk.stage.sizes.Goals as goal
 
-pub returns-clause-limits : goal.returns-clause-limits
+pub returns : goal.returns
 unfolding ones
-returns-clause-limits c = record {
+returns c = record {
   some_entries = omega arith;
   entries = omega arith;
   buckets = omega arith;

@@ -1,5 +1,5 @@
 -- For tests: a pass of two, and what the other pass does before a call of it. The inner sight has the events
--- of both passes.
+-- of both passes, and is that of a tracker of one.
 use Rattle.std.specs.Prelude.{◌≡◌, ℕ, ◌+◌, ◌<◌, ◌≤◌, ◌^◌, Some, List, length, slice_get, All, AllPairs}
 use Rattle.history_book.specs.declared.event.Note.{Note}
 use Rattle.history_book.specs.Point.{StartsWith}
@@ -13,14 +13,14 @@ seen_by inner notes spare = record {
   held = inner.held;
   owed = inner.owed;
   spare = spare;
-  sizes = inner.sizes;
+  sizes = record inner.sizes { passes = 2 };
 }
 
 -- the notes are events of the inner history in the order of their numbers, and there is room for further
 -- events of both passes
 pub record IsBusy (inner : Sight) (notes : List Note) (capacity spare others : ℕ) : Type 0 where
   pub known : IsKnown inner
-  pub two : inner.sizes.passes ≡ 2
+  pub lone : inner.sizes.passes ≡ 1
   pub own : All (λ n. slice_get inner.front n.number ≡ Some n.event) notes
   pub ordered : AllPairs (λ m n. m.number < n.number) notes
   pub room : length notes + spare ≤ capacity
