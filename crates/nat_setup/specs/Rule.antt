@@ -1,0 +1,60 @@
+-- Which flows a rule is for.
+use Rattle.std.specs.Prelude.{◌≡◌, ℕ, ◌-◌, ◌/◌, ◌^◌, ◌≤◌, Bool, true, false, ◌==◌, ◌&&◌, ◌||◌, not, Option, Some, None, is_none}
+use Rattle.tuple_core.specs.declared.Proto.{Proto}
+use Rattle.tuple_core.specs.declared.Proto.TheVariants.{Icmp, Tcp, Udp}
+use Rattle.tuple_core.specs.declared.Tuple.{Tuple}
+use Rattle.tuple_core.specs.Tuple.{number_of}
+use Rattle.nat_setup.specs.declared.rule.Block.{Block}
+use Rattle.nat_setup.specs.declared.rule.PortRange.{PortRange}
+use Rattle.nat_setup.specs.declared.rule.Rule.{Rule}
+
+-- the first bits of the address, as many as the block's length, are the block's
+abbrev pub is_in_block : Block → ℕ → Bool
+is_in_block block address = block.address / 2 ^ (32 - block.length) == address / 2 ^ (32 - block.length)
+
+-- a rule without an option is for all flows that its other options allow
+abbrev pub is_from : Option Block → ℕ → Bool
+is_from None address = true
+is_from (Some block) address = is_in_block block address
+
+abbrev pub is_number : Option ℕ → ℕ → Bool
+is_number None number = true
+is_number (Some wanted) number = wanted == number
+
+abbrev pub is_proto : Option Proto → Proto → Bool
+is_proto None proto = true
+is_proto (Some wanted) proto = number_of wanted == number_of proto
+
+-- each option of the rule allows the original tuple
+abbrev pub matches : Tuple → Rule → Bool
+matches t rule =
+    is_proto rule.proto t.proto && is_from rule.src t.src && is_from rule.dst t.dst
+    && is_number rule.sport t.a && is_number rule.dport t.b
+
+-- a block has a length of at most 32
+abbrev pub IsBlock : Option Block → Type 0
+IsBlock None = Unit {0}
+IsBlock (Some block) = block.length ≤ 32
+
+-- ports go up
+abbrev pub IsRange : Option PortRange → Type 0
+IsRange None = Unit {0}
+IsRange (Some range) = range.low ≤ range.high
+
+-- the protocol has ports
+abbrev pub has_ports : Option Proto → Bool
+has_ports None = false
+has_ports (Some Icmp) = false
+has_ports (Some Tcp) = true
+has_ports (Some Udp) = true
+
+-- the rule names no port
+abbrev pub is_portless : Rule → Bool
+is_portless rule = is_none rule.sport && is_none rule.dport && is_none rule.ports
+
+-- a rule that a file can have: its blocks and its range are such, and ports stand only beside TCP or UDP
+pub record IsLawfulRule (rule : Rule) : Type 0 where
+  pub src : IsBlock rule.src
+  pub dst : IsBlock rule.dst
+  pub ports : IsRange rule.ports
+  pub beside : (has_ports rule.proto || is_portless rule) ≡ true

@@ -1,0 +1,4 @@
+//! Rules of network address translation, and the reply tuples that they allow.
+#![tactic(auto)]
+
+pub mod rule;
