@@ -1,2 +1,4 @@
 pub mod Rule
 pub mod Reply
+pub mod Translation
+pub mod Internal

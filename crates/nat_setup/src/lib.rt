@@ -3,3 +3,5 @@
 
 pub mod reply;
 pub mod rule;
+mod search;
+pub mod translate;

@@ -29,10 +29,34 @@ fn changed_at(side: Side, t: &Tuple, address: u32, number: u16) -> Tuple
 {
     let (proto, src, dst, a, b) = (t.proto, t.src, t.dst, t.a, t.b);
     match (side, proto) {
-        (Side::Source, _) => Tuple { proto, src: address, dst, a: number, b },
-        (Side::Destination, Proto::Icmp) => Tuple { proto, src, dst: address, a: number, b },
-        (Side::Destination, Proto::Tcp) => Tuple { proto, src, dst: address, a, b: number },
-        (Side::Destination, Proto::Udp) => Tuple { proto, src, dst: address, a, b: number },
+        (Side::Source, _) => Tuple {
+            proto,
+            src: address,
+            dst,
+            a: number,
+            b,
+        },
+        (Side::Destination, Proto::Icmp) => Tuple {
+            proto,
+            src,
+            dst: address,
+            a: number,
+            b,
+        },
+        (Side::Destination, Proto::Tcp) => Tuple {
+            proto,
+            src,
+            dst: address,
+            a,
+            b: number,
+        },
+        (Side::Destination, Proto::Udp) => Tuple {
+            proto,
+            src,
+            dst: address,
+            a,
+            b: number,
+        },
     }
 }
 
@@ -79,9 +103,21 @@ pub fn choice_for(rule: &Rule, t: &Tuple) -> Choice
     let own = own_number(rule, t);
     let (ports, keeps_own) = match (rule.ports, rule.side, t.proto) {
         (Some(ports), _, _) => (ports, false),
-        (None, _, Proto::Icmp) => (PortRange { low: 0, high: 65_535 }, false),
+        (None, _, Proto::Icmp) => (
+            PortRange {
+                low: 0,
+                high: 65_535,
+            },
+            false,
+        ),
         (None, Side::Source, _) => (alike(own), true),
-        (None, Side::Destination, _) => (PortRange { low: own, high: own }, false),
+        (None, Side::Destination, _) => (
+            PortRange {
+                low: own,
+                high: own,
+            },
+            false,
+        ),
     };
     Choice {
         low: ports.low,

@@ -1,0 +1,102 @@
+//! The search for a number under which nothing is live.
+
+ghost use Rattle.std.specs.Prelude.{◌≡◌, ◌+◌, ◌≤◌, true, length};
+ghost use Rattle.tuple_core.specs.Tuple.{is_valid};
+ghost use Rattle.history_book.specs.Desk.{SamePlaces, Saw};
+ghost use Rattle.history_book.specs.Held.{is_held, without};
+ghost use Rattle.history_book.specs.Sight.{IsKnown};
+ghost use Rattle.nat_setup.specs.Internal.Search.{ProbeSays, SearchSays};
+
+use crate::reply::reply_with;
+use crate::rule::Rule;
+use history_book::desk::Desk;
+use history_book::laws::states_stay;
+use history_book::outcome::{FindOutcome, ReleaseOutcome};
+use std::sync::Wait;
+use tuple_core::Tuple;
+
+/// What one look at a tuple says, and at which point.
+#[derive(Clone, Copy)]
+pub enum Probe {
+    Free { at: u64 },
+    Taken { at: u64 },
+}
+
+/// What a search among numbers says.
+#[derive(Clone, Copy)]
+pub enum Search {
+    /// This number was free, and gives this reply tuple.
+    Found { number: u16, reply: Tuple },
+    /// Each was taken, the last one at this point.
+    AllTaken { to: u64 },
+}
+
+/// Gives up a reference; the place is not owed afterwards.
+fn give_up<R: Wait, D: Desk>(rt: &R, desk: &mut D, place: u32)
+    requires { is_held place (D.sight desk.old).held ≡ true }
+    ensures saw { Saw (D.sight desk.old) (D.sight desk.new) }
+    ensures held { (D.sight desk.new).held ≡ without place (D.sight desk.old).held }
+    ensures owed { (D.sight desk.new).owed ≡ (D.sight desk.old).owed }
+    ensures knows { IsKnown (D.sight desk.new) }
+{
+    match desk.release(rt, place) {
+        ReleaseOutcome::Kept => {}
+        ReleaseOutcome::Last => desk.recycle(rt, place),
+    }
+}
+
+/// Looks whether anything is live under a tuple.
+pub fn look<R: Wait, D: Desk>(rt: &R, desk: &mut D, t: &Tuple) -> Probe
+    requires { length (D.sight desk.old).held + length (D.sight desk.old).owed ≤ 3 }
+    ensures says { ProbeSays t.now (D.sight desk.old) (D.sight desk.new) result }
+    ensures same { SamePlaces (D.sight desk.old) (D.sight desk.new) }
+    ensures knows { IsKnown (D.sight desk.new) }
+{
+    states_stay();
+    match desk.find(rt, t) {
+        FindOutcome::Absent { at } => Probe::Free { at },
+        FindOutcome::Found { place, at, .. } => {
+            give_up(rt, desk, place);
+            Probe::Taken { at }
+        }
+    }
+}
+
+/// Looks for a free number among those from the lowest to below the end. `from` and `since` are points that
+/// the desk has seen.
+pub fn search_between<R: Wait, D: Desk>(
+    rt: &R,
+    desk: &mut D,
+    rule: &Rule,
+    t: &Tuple,
+    lowest: u32,
+    end: u32,
+    from: u64,
+    since: u64,
+) -> Search
+    requires valid { is_valid t.now ≡ true }
+    requires below { end ≤ 65536 }
+    requires ordered { from ≤ since }
+    requires seen { since ≤ length (D.sight desk.old).front }
+    requires room { length (D.sight desk.old).held + length (D.sight desk.old).owed ≤ 3 }
+    requires knows { IsKnown (D.sight desk.old) }
+    ensures says { SearchSays rule.now t.now lowest end from since (D.sight desk.old) (D.sight desk.new) result }
+    ensures saw { Saw (D.sight desk.old) (D.sight desk.new) }
+    ensures same { SamePlaces (D.sight desk.old) (D.sight desk.new) }
+    ensures knows { IsKnown (D.sight desk.new) }
+{
+    states_stay();
+    let mut to = since;
+    for number in lowest..end {
+        let port = number as u16;
+        let reply = reply_with(rule, t, port);
+        match look(rt, desk, &reply) {
+            Probe::Free { .. } => return Search::Found {
+                number: port,
+                reply,
+            },
+            Probe::Taken { at } => to = at,
+        }
+    }
+    Search::AllTaken { to }
+}

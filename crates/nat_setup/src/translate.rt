@@ -1,0 +1,153 @@
+//! The translation of a flow by the rules: a reply tuple that was free.
+
+ghost use Rattle.std.specs.Prelude.{◌≡◌, ◌+◌, ◌≤◌, ◌||◌, false, true, find, length, Some};
+ghost use Rattle.std.specs.List.{AllByRecursion};
+ghost use Rattle.tuple_core.specs.Tuple.{is_valid};
+ghost use Rattle.history_book.specs.Desk.{SamePlaces, Saw};
+ghost use Rattle.history_book.specs.Sight.{IsKnown};
+ghost use Rattle.nat_setup.specs.Reply.{is_between};
+ghost use Rattle.nat_setup.specs.Rule.{IsLawfulRule, matches};
+ghost use Rattle.nat_setup.specs.Internal.Search.{SearchSays};
+ghost use Rattle.nat_setup.specs.Translation.{TranslateSays};
+
+use crate::reply::{Choice, choice_for, own_number, reply_with};
+use crate::rule::{Rule, Rules, rule_for};
+use crate::search::{Probe, Search, look, search_between};
+use history_book::desk::Desk;
+use history_book::laws::states_stay;
+use std::sync::Wait;
+use tuple_core::{Tuple, bucket_of};
+
+/// The reply tuple of a new flow. A point is a number of events of the history.
+#[derive(Clone, Copy)]
+pub enum TranslateOutcome {
+    /// No rule is for the flow.
+    Plain,
+    /// The first rule that is for the flow allows this reply tuple, and nothing was live under it.
+    /// `kept_taken_at` is the point at which the flow's own number was taken; none where the flow keeps
+    /// it, or the rule does not allow it.
+    Chosen {
+        reply: Tuple,
+        kept_taken_at: Option<u64>,
+    },
+    /// Each number that the rule allows was taken at a point between these two.
+    NoPort {
+        from: u64,
+        to: u64,
+    },
+}
+
+/// Whether the flow's own number is among those of the choice.
+fn has_own(choice: &Choice, own: u16) -> bool
+    ensures { result ≡ (is_between choice.now.low choice.now.high own || choice.now.keeps_own) }
+{
+    choice.keeps_own || (choice.low <= own && own <= choice.high)
+}
+
+/// The number that is tried first: the flow's own one, where the choice has it.
+fn first_number(choice: &Choice, own: u16, has_own: bool) -> u16
+    ensures own { has_own ≡ true → result ≡ own }
+    ensures other { has_own ≡ false → result ≡ choice.now.low }
+{
+    if has_own { own } else { choice.low }
+}
+
+/// From where on the numbers of a choice are tried: flows that share their own number begin at others.
+fn first_tried(choice: &Choice, t: &Tuple) -> u32
+    requires { choice.now.low ≤ choice.now.high }
+    ensures low { choice.now.low ≤ result }
+    ensures high { result ≤ choice.now.high }
+{
+    let size = (choice.high - choice.low) as u32 + 1;
+    choice.low as u32 + bucket_of(t, 0, 65_536) % size
+}
+
+/// Looks for a free number in the whole choice, where the flow's own one was taken or is not to be kept.
+fn search_choice<R: Wait, D: Desk>(
+    rt: &R,
+    desk: &mut D,
+    rule: &Rule,
+    t: &Tuple,
+    choice: &Choice,
+    from: u64,
+) -> Search
+    requires valid { is_valid t.now ≡ true }
+    requires up { choice.now.low ≤ choice.now.high }
+    requires seen { from ≤ length (D.sight desk.old).front }
+    requires room { length (D.sight desk.old).held + length (D.sight desk.old).owed ≤ 3 }
+    requires knows { IsKnown (D.sight desk.old) }
+    ensures says { SearchSays rule.now t.now choice.now.low (choice.now.high + 1) from from
+        (D.sight desk.old) (D.sight desk.new) result }
+    ensures saw { Saw (D.sight desk.old) (D.sight desk.new) }
+    ensures same { SamePlaces (D.sight desk.old) (D.sight desk.new) }
+    ensures knows { IsKnown (D.sight desk.new) }
+{
+    states_stay();
+    let middle = first_tried(choice, t);
+    let end = choice.high as u32 + 1;
+    match search_between(rt, desk, rule, t, middle, end, from, from) {
+        Search::Found { number, reply } => Search::Found { number, reply },
+        Search::AllTaken { to } => {
+            search_between(rt, desk, rule, t, choice.low as u32, middle, from, to)
+        }
+    }
+}
+
+/// Translates a flow by the first rule that is for it, where nothing is live under its tuple: it keeps its
+/// own number where the rule allows that and the reply tuple is free, and else has any other that is.
+fn translate_by<R: Wait, D: Desk>(rt: &R, desk: &mut D, rule: &Rule, t: &Tuple) -> TranslateOutcome
+    requires lawful { IsLawfulRule rule.now }
+    requires valid { is_valid t.now ≡ true }
+    requires room { length (D.sight desk.old).held + length (D.sight desk.old).owed ≤ 3 }
+    ensures says { TranslateSays (Some rule.now) t.now (D.sight desk.old) (D.sight desk.new) result }
+    ensures saw { Saw (D.sight desk.old) (D.sight desk.new) }
+    ensures same { SamePlaces (D.sight desk.old) (D.sight desk.new) }
+    ensures knows { IsKnown (D.sight desk.new) }
+{
+    states_stay();
+    let own = own_number(rule, t);
+    let choice = choice_for(rule, t);
+    let has_own = has_own(&choice, own);
+    let reply = reply_with(rule, t, first_number(&choice, own, has_own));
+    match look(rt, desk, &reply) {
+        Probe::Free { .. } => TranslateOutcome::Chosen {
+            reply,
+            kept_taken_at: None,
+        },
+        Probe::Taken { at } => match search_choice(rt, desk, rule, t, &choice, at) {
+            Search::Found { number, reply } => TranslateOutcome::Chosen {
+                reply,
+                kept_taken_at: if has_own && number != own {
+                    Some(at)
+                } else {
+                    None
+                },
+            },
+            Search::AllTaken { to } => TranslateOutcome::NoPort { from: at, to },
+        },
+    }
+}
+
+/// Finds the reply tuple of a new flow by the first rule that is for it. Makes no event, and leaves the places
+/// that the desk holds and owes as they were.
+pub fn translate<R: Wait, D: Desk>(
+    rt: &R,
+    desk: &mut D,
+    rules: &Rules,
+    t: &Tuple,
+) -> TranslateOutcome
+    requires lawful { AllByRecursion IsLawfulRule rules.now.items }
+    requires valid { is_valid t.now ≡ true }
+    requires room { length (D.sight desk.old).held + length (D.sight desk.old).owed ≤ 3 }
+    requires knows { IsKnown (D.sight desk.old) }
+    ensures says { TranslateSays (find (matches t.now) rules.now.items) t.now
+        (D.sight desk.old) (D.sight desk.new) result }
+    ensures saw { Saw (D.sight desk.old) (D.sight desk.new) }
+    ensures same { SamePlaces (D.sight desk.old) (D.sight desk.new) }
+    ensures knows { IsKnown (D.sight desk.new) }
+{
+    match rule_for(rules.as_slice(), t) {
+        Some(rule) => translate_by(rt, desk, &rule, t),
+        None => TranslateOutcome::Plain,
+    }
+}
