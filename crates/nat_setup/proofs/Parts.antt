@@ -6,7 +6,7 @@ use Rattle.std.proofs.lemmas.List.Quantifiers.{position-Some}
 use Rattle.std.proofs.lemmas.List.Sums.{position_or_len_is, fails_before_first}
 use Rattle.std.proofs.lemmas.Bool.Decides.{nat_tests}
 use Rattle.std.proofs.lemmas.List.Elements.{All-from_get_or}
-use Rattle.nat_setup.specs.Text.{address_of_parts, parts_at}
+use Rattle.nat_setup.specs.Text.{address_of_parts, lines_from, lines_of, parts_at}
 
 split_there : (p : ℕ → Bool) (text : List ℕ) (at : ℕ) → position_or_len p text ≡ at → at < length text → slice_split p text ≡ take at text ∷ slice_split p (drop (at + 1) text)
 split_there p text at here inside =
@@ -35,3 +35,23 @@ more_parts a b c d (part ∷ parts) some = refl
 
 pub too_many : (a b c d rest : List ℕ) → address_of_parts (a ∷ b ∷ c ∷ d ∷ parts_at 46 rest) ≡ None
 too_many a b c d rest = more_parts a b c d (parts_at 46 rest) (omega (arith, length-slice_split (λ (b : ℕ). b == 46) rest))
+
+line_before : (line : List ℕ) (parts : List (List ℕ)) → 0 < length parts → lines_from (line ∷ parts) ≡ line ∷ lines_from parts
+line_before line [] some = absurd (omega arith)
+line_before [] (part ∷ parts) some = refl
+line_before (b ∷ bs) (part ∷ parts) some = refl
+
+pub first_line : (bytes : List ℕ) (at : ℕ) → position (λ b. b == 10) bytes ≡ Some at → lines_of bytes ≡ take at bytes ∷ lines_of (drop (at + 1) bytes)
+unfolding lines_of
+first_line bytes at found =
+    let rest : List ℕ = drop (at + 1) bytes in
+    rw (parts_split 10 bytes at found) (line_before (take at bytes) (parts_at 10 rest) (omega (arith, length-slice_split (λ (b : ℕ). b == 10) rest)))
+
+line_alone : (bytes : List ℕ) → 0 < length bytes → lines_from (bytes ∷ []) ≡ bytes ∷ []
+line_alone [] some = absurd (omega arith)
+line_alone (b ∷ bs) some = refl
+
+pub only_line : (bytes rest : List ℕ) → position (λ b. b == 10) bytes ≡ None → 0 < length bytes → length rest ≡ 0 → lines_of bytes ≡ bytes ∷ lines_of rest
+unfolding lines_of
+only_line bytes [] none some empty = rw (parts_whole 10 bytes none) (line_alone bytes some)
+only_line bytes (b ∷ bs) none some empty = absurd (omega arith)

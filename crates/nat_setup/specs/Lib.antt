@@ -1,2 +1,3 @@
 pub mod Rule
+pub mod RuleText
 pub mod Text

@@ -1,5 +1,5 @@
 -- Text of a rules file: lines, words, numbers and addresses.
-use Rattle.std.specs.Prelude.{ℕ, ◌+◌, ◌-◌, ◌*◌, ◌^◌, ◌==◌, ◌&&◌, ◌||◌, Bool, nat_lt, nat_le, if◌then◌else◌, List, [], ◌∷◌, length, get_or, take, drop, filter, position, Option, Some, None, option_map}
+use Rattle.std.specs.Prelude.{ℕ, ◌+◌, ◌-◌, ◌*◌, ◌^◌, ◌==◌, ◌&&◌, ◌||◌, Bool, nat_lt, nat_le, if◌then◌else◌, List, [], ◌∷◌, length, get_or, take, drop, position, Option, Some, None, option_map}
 use Rattle.std.specs.List.{slice_split}
 use Rattle.std.specs.Str.{all_ascii_digits}
 use Rattle.std.specs.Str.Parse.{digits_value}
@@ -27,9 +27,19 @@ without_return line = if get_or line (length line - 1) 0 == 13 then take (length
 abbrev pub is_blank : ℕ → Bool
 is_blank b = b == 32 || b == 9
 
--- the words of a line: what stands between blanks and is not empty
+-- what is empty is no word
+abbrev pub with_word : List ℕ → List (List ℕ) → List (List ℕ)
+with_word [] words = words
+with_word (b ∷ bs) words = (b ∷ bs) ∷ words
+
+-- the parts that are words
+abbrev pub words_from : List (List ℕ) → List (List ℕ)
+words_from [] = []
+words_from (part ∷ parts) = with_word part (words_from parts)
+
+-- the words of a line stand between blanks
 unfoldable pub words_of : List ℕ → List (List ℕ)
-words_of line = filter (λ part. nat_lt 0 (length part)) (slice_split is_blank line)
+words_of line = words_from (slice_split is_blank line)
 
 -- what stands before the first byte of this value, and what stands behind it
 abbrev pub halves_at : ℕ → List ℕ → Option (List ℕ × List ℕ)

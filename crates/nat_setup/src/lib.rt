@@ -1,5 +1,6 @@
 //! Rules of network address translation, and the reply tuples that they allow.
 #![tactic(auto)]
 
+pub mod read;
 pub mod rule;
 mod text;

@@ -1,7 +1,7 @@
 //! Text of a rules file: lines, words, numbers and addresses.
 
 ghost use Rattle.std.specs.Prelude.{◌≡◌, ◌==◌, ◌+◌, ◌∷◌, ◌<◌, ◌≤◌, [], length, position, take, drop, IfSome, MatchOption, None, Some};
-ghost use Rattle.nat_setup.specs.Text.{address_of, address_of_octets, halves_at, is_blank, length_of, lines_of, number_in, number_of, octet_of, parts_at, port_of, without_return, words_of};
+ghost use Rattle.nat_setup.specs.Text.{address_of, address_of_octets, halves_at, is_blank, length_of, lines_of, number_in, number_of, octet_of, parts_at, port_of, with_word, without_return, words_of};
 
 /// The first place with this byte.
 fn place_of(text: &[u8], sign: u8) -> Option<usize>
@@ -130,4 +130,57 @@ pub(crate) fn read_address(text: &[u8]) -> Option<u32>
         Some(_) => None,
         None => address_of_octets(a, b, c, rest),
     }
+}
+
+/// The line without one carriage return at its end.
+pub(crate) fn line_text(line: &[u8]) -> &[u8]
+    ensures { result.now ≡ without_return line.now }
+{
+    match line.last() {
+        Some(b'\r') => line.split_at(line.len() - 1).0,
+        _ => line,
+    }
+}
+
+/// The first line, and what stands behind it.
+#[tactic(auto, using(crate::proofs::Parts::first_line, crate::proofs::Parts::only_line))]
+pub(crate) fn next_line(bytes: &[u8]) -> (&[u8], &[u8])
+    requires { 0 < length bytes.now }
+    ensures lines { lines_of bytes.now ≡ result.0.now ∷ lines_of result.1.now }
+    ensures less { length result.1.now < length bytes.now }
+{
+    match place_of(bytes, b'\n') {
+        Some(at) => around(bytes, at),
+        None => (bytes, bytes.split_at(bytes.len()).1),
+    }
+}
+
+/// What stands before the first blank, and what stands behind it.
+#[tactic(auto, using(crate::proofs::Words::first_word, crate::proofs::Words::only_word))]
+fn cut_blank(text: &[u8]) -> (&[u8], &[u8])
+    requires { 0 < length text.now }
+    ensures words { words_of text.now ≡ with_word result.0.now (words_of result.1.now) }
+    ensures less { length result.1.now < length text.now }
+{
+    match place_of_blank(text) {
+        Some(at) => around(text, at),
+        None => (text, text.split_at(text.len()).1),
+    }
+}
+
+/// The first word, and what stands behind it.
+pub(crate) fn next_word(text: &[u8]) -> Option<(&[u8], &[u8])>
+    ensures words { MatchOption result (words_of text.now ≡ []) (λ x. words_of text.now ≡ x.0.now ∷ words_of x.1.now) }
+    ensures less { IfSome result (λ x. length x.1.now < length text.now) }
+    ensures some { IfSome result (λ x. 0 < length x.0.now) }
+{
+    let mut rest = text;
+    'blanks: while !rest.is_empty() {
+        let (word, behind) = cut_blank(rest);
+        if !word.is_empty() {
+            return Some((word, behind));
+        }
+        rest = behind;
+    }
+    None
 }
