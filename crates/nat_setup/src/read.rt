@@ -1,13 +1,13 @@
 //! Reads a file of rules.
 
 ghost use Rattle.std.specs.Prelude.{◌≡◌, ◌<◌, ◌≤◌, ◌^◌, ◌||◌, length, IfOk, IfSome, Some, None};
-ghost use Rattle.nat_setup.specs.Rule.{has_ports, is_portless, IsLawfulRule};
+ghost use Rattle.nat_setup.specs.Rule.{has_ports, is_portless, IsBlock, IsLawfulRule, IsRange};
 ghost use Rattle.nat_setup.specs.Text.{address_of, length_of, port_of, words_of};
 ghost use Rattle.nat_setup.specs.declared.read.RuleKind.TheVariants.{Word, Address, Prefix, Range, TooMany};
-ghost use Rattle.nat_setup.specs.RuleText.{block_of, ended, required, line_of, new_rule, ports_of, proto_of, rule_from, side_of, with_dport, with_dst, with_option, with_proto, with_sport, with_src, with_target};
+ghost use Rattle.nat_setup.specs.RuleText.{block_of, ended, required, IsUnaimed, line_of, new_rule, once, ports_of, proto_of, rule_from, side_of, with_dport, with_dst, with_option, with_proto, with_sport, with_src, with_target};
 
 use crate::rule::{Block, PortRange, Rule, Rules, Side};
-use crate::text::{read_address, read_length, read_port, split_once};
+use crate::text::{next_word, read_address, read_length, read_port, split_once};
 use tuple_core::Proto;
 
 /// What is wrong with a line.
@@ -130,5 +130,174 @@ fn read_ports(text: &[u8]) -> Result<PortRange, RuleKind>
             let high = want_port(behind)?;
             if low <= high { Ok(PortRange { low, high }) } else { Err(RuleKind::Range) }
         }
+    }
+}
+
+/// The rule with `-p` and its value.
+fn with_proto(rule: Rule, value: &[u8]) -> Result<Rule, RuleKind>
+    requires { IsUnaimed rule }
+    ensures exact { result ≡ with_proto rule value.now }
+    ensures lawful { IfOk result IsUnaimed }
+{
+    if rule.proto.is_some() {
+        return Err(RuleKind::Word);
+    }
+    match read_proto(value) {
+        Some(proto) => Ok(Rule { proto: Some(proto), ..rule }),
+        None => Err(RuleKind::Word),
+    }
+}
+
+/// The rule with `-s` and its value.
+fn with_src(rule: Rule, value: &[u8]) -> Result<Rule, RuleKind>
+    requires { IsUnaimed rule }
+    ensures exact { result ≡ with_src rule value.now }
+    ensures lawful { IfOk result IsUnaimed }
+{
+    if rule.src.is_some() {
+        return Err(RuleKind::Word);
+    }
+    let block = read_block(value)?;
+    Ok(Rule { src: Some(block), ..rule })
+}
+
+/// The rule with `-d` and its value.
+fn with_dst(rule: Rule, value: &[u8]) -> Result<Rule, RuleKind>
+    requires { IsUnaimed rule }
+    ensures exact { result ≡ with_dst rule value.now }
+    ensures lawful { IfOk result IsUnaimed }
+{
+    if rule.dst.is_some() {
+        return Err(RuleKind::Word);
+    }
+    let block = read_block(value)?;
+    Ok(Rule { dst: Some(block), ..rule })
+}
+
+/// The rule with `--sport` and its value.
+fn with_sport(rule: Rule, value: &[u8]) -> Result<Rule, RuleKind>
+    requires { IsUnaimed rule }
+    ensures exact { result ≡ with_sport rule value.now }
+    ensures lawful { IfOk result IsUnaimed }
+{
+    if rule.sport.is_some() {
+        return Err(RuleKind::Word);
+    }
+    let port = want_port(value)?;
+    Ok(Rule { sport: Some(port), ..rule })
+}
+
+/// The rule with `--dport` and its value.
+fn with_dport(rule: Rule, value: &[u8]) -> Result<Rule, RuleKind>
+    requires { IsUnaimed rule }
+    ensures exact { result ≡ with_dport rule value.now }
+    ensures lawful { IfOk result IsUnaimed }
+{
+    if rule.dport.is_some() {
+        return Err(RuleKind::Word);
+    }
+    let port = want_port(value)?;
+    Ok(Rule { dport: Some(port), ..rule })
+}
+
+/// The rule with an option and its value.
+#[tactic(auto, unfolding(crate::specs::RuleText::with_option))]
+fn with_option(rule: Rule, name: &[u8], value: &[u8]) -> Result<Rule, RuleKind>
+    requires { IsUnaimed rule }
+    ensures exact { result ≡ with_option rule name.now value.now }
+    ensures lawful { IfOk result IsUnaimed }
+{
+    if name == b"-p".as_slice() {
+        with_proto(rule, value)
+    } else if name == b"-s".as_slice() {
+        with_src(rule, value)
+    } else if name == b"-d".as_slice() {
+        with_dst(rule, value)
+    } else if name == b"--sport".as_slice() {
+        with_sport(rule, value)
+    } else if name == b"--dport".as_slice() {
+        with_dport(rule, value)
+    } else {
+        Err(RuleKind::Word)
+    }
+}
+
+/// The rule with its target, an address with or without ports.
+#[tactic(auto, unfolding(crate::specs::RuleText::with_target))]
+fn with_target(rule: Rule, text: &[u8]) -> Result<Rule, RuleKind>
+    requires { IsUnaimed rule }
+    ensures exact { result ≡ with_target rule text.now }
+    ensures src { IfOk result (λ r. IsBlock r.src) }
+    ensures dst { IfOk result (λ r. IsBlock r.dst) }
+    ensures ports { IfOk result (λ r. IsRange r.ports) }
+{
+    match split_once(text, b':') {
+        None => {
+            let target = want_address(text)?;
+            Ok(Rule { target, ..rule })
+        }
+        Some((front, behind)) => {
+            let target = want_address(front)?;
+            let ports = read_ports(behind)?;
+            Ok(Rule { target, ports: Some(ports), ..rule })
+        }
+    }
+}
+
+/// Whether the rule names no port, or its protocol has ports.
+fn may_have_ports(rule: &Rule) -> bool
+    ensures { result ≡ (has_ports rule.now.proto || is_portless rule.now) }
+{
+    match rule.proto {
+        Some(Proto::Tcp) => true,
+        Some(Proto::Udp) => true,
+        _ => rule.sport.is_none() && rule.dport.is_none() && rule.ports.is_none(),
+    }
+}
+
+/// The rule, where nothing stands behind its target.
+fn ended(rule: Rule, rest: &[u8]) -> Result<Rule, RuleKind>
+    requires src { IsBlock rule.src }
+    requires dst { IsBlock rule.dst }
+    requires ports { IsRange rule.ports }
+    ensures exact { result ≡ ended rule (words_of rest.now) }
+    ensures lawful { IfOk result IsLawfulRule }
+{
+    if next_word(rest).is_some() {
+        return Err(RuleKind::Word);
+    }
+    if may_have_ports(&rule) { Ok(rule) } else { Err(RuleKind::Word) }
+}
+
+/// The rule of a side and the words behind the first.
+#[tactic(auto, unfolding(crate::specs::RuleText::rule_from))]
+fn read_rule(side: Side, words: &[u8]) -> Result<Rule, RuleKind>
+    ensures exact { result ≡ rule_from (new_rule side) (words_of words.now) }
+    ensures lawful { IfOk result IsLawfulRule }
+{
+    let mut rule = Rule {
+        side,
+        proto: None,
+        src: None,
+        dst: None,
+        sport: None,
+        dport: None,
+        target: 0,
+        ports: None,
+    };
+    let mut rest = words;
+    'options: loop {
+        let Some((name, behind)) = next_word(rest) else {
+            return Err(RuleKind::Word);
+        };
+        let Some((value, behind)) = next_word(behind) else {
+            return Err(RuleKind::Word);
+        };
+        if name == b"to".as_slice() {
+            let rule = with_target(rule, value)?;
+            return ended(rule, behind);
+        }
+        rule = with_option(rule, name, value)?;
+        rest = behind;
     }
 }
