@@ -1,4 +1,5 @@
 pub mod Digits
 pub mod Parts
+pub mod RuleLines
 pub mod RuleWords
 pub mod Words

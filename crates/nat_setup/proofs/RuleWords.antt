@@ -1,8 +1,6 @@
 -- A rule read word by word.
-use Rattle.std.proofs.Common.{◌≡◌, ℕ, Bool, true, false, List, [], ◌∷◌, Result, Ok, Err, codes, bytes_eq, refl}
+use Rattle.std.proofs.Common.{◌≡◌, ℕ, false, List, ◌∷◌, Ok, codes, bytes_eq}
 use Rattle.nat_setup.specs.declared.rule.Rule.{Rule}
-use Rattle.nat_setup.specs.declared.read.RuleKind.{RuleKind}
-use Rattle.nat_setup.specs.Text.{words_of}
 use Rattle.nat_setup.specs.RuleText.{rule_from, with_option}
 
 pub one_option : (rule next : Rule) (name value : List ℕ) (line words : List (List ℕ)) → line ≡ name ∷ value ∷ words → bytes_eq name (codes "to") ≡ false → with_option rule name value ≡ Ok next → rule_from next words ≡ rule_from rule line

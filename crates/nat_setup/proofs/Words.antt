@@ -1,7 +1,6 @@
 -- The words of a line, one by one.
-use Rattle.std.proofs.Common.{◌≡◌, ◌∙◌, ℕ, ◌+◌, ◌<◌, ◌==◌, List, [], ◌∷◌, length, take, drop, position, Some, None, arith, refl, sym, ap}
-use Rattle.std.specs.List.{slice_split}
-use Rattle.nat_setup.specs.Text.{is_blank, with_word, words_from, words_of}
+use Rattle.std.proofs.Common.{◌≡◌, ℕ, ◌+◌, ◌<◌, List, [], ◌∷◌, length, take, drop, position, Some, None, arith, refl}
+use Rattle.nat_setup.specs.Text.{is_blank, with_word, words_of}
 use Rattle.nat_setup.proofs.Parts.{split_at_position, split_whole}
 
 pub first_word : (text : List ℕ) (at : ℕ) → position is_blank text ≡ Some at → words_of text ≡ with_word (take at text) (words_of (drop (at + 1) text))

@@ -1,3 +1,4 @@
 pub mod Rule
+pub mod RuleFile
 pub mod RuleText
 pub mod Text

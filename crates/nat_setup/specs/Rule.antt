@@ -1,5 +1,5 @@
 -- Which flows a rule is for.
-use Rattle.std.specs.Prelude.{◌≡◌, ℕ, ◌-◌, ◌/◌, ◌^◌, ◌≤◌, Bool, true, false, ◌==◌, ◌&&◌, ◌||◌, not, Option, Some, None, is_none}
+use Rattle.std.specs.Prelude.{◌≡◌, ℕ, ◌-◌, ◌/◌, ◌^◌, ◌≤◌, Bool, true, false, ◌==◌, ◌&&◌, ◌||◌, Option, Some, None, is_none}
 use Rattle.tuple_core.specs.declared.Proto.{Proto}
 use Rattle.tuple_core.specs.declared.Proto.TheVariants.{Icmp, Tcp, Udp}
 use Rattle.tuple_core.specs.declared.Tuple.{Tuple}

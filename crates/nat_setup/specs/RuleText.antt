@@ -1,5 +1,5 @@
--- What a line of a rules file says, word by word, and what the lines of a file say.
-use Rattle.std.specs.Prelude.{◌≡◌, ℕ, ◌+◌, ◌==◌, ◌||◌, Bool, nat_le, if◌then◌else◌, List, [], ◌∷◌, ◌++◌, length, get_or, Option, Some, None, is_some, Result, Ok, Err, codes, bytes_eq, option_to_list}
+-- What a line of a rules file says, word by word.
+use Rattle.std.specs.Prelude.{◌≡◌, ℕ, ◌==◌, ◌||◌, Bool, nat_le, if◌then◌else◌, List, [], ◌∷◌, get_or, Option, Some, None, Result, Ok, Err, codes, bytes_eq}
 use Rattle.tuple_core.specs.declared.Proto.{Proto}
 use Rattle.tuple_core.specs.declared.Proto.TheVariants.{Icmp, Tcp, Udp}
 use Rattle.nat_setup.specs.declared.rule.Side.{Side}
@@ -9,9 +9,8 @@ use Rattle.nat_setup.specs.declared.rule.PortRange.{PortRange}
 use Rattle.nat_setup.specs.declared.rule.Rule.{Rule}
 use Rattle.nat_setup.specs.declared.read.RuleKind.{RuleKind}
 use Rattle.nat_setup.specs.declared.read.RuleKind.TheVariants.{Word, Address, Prefix, Range, TooMany}
-use Rattle.nat_setup.specs.declared.read.RuleFault.{RuleFault}
 use Rattle.nat_setup.specs.Rule.{has_ports, is_portless, IsBlock}
-use Rattle.nat_setup.specs.Text.{address_of, halves_at, length_of, lines_of, port_of, without_return, words_of}
+use Rattle.nat_setup.specs.Text.{address_of, halves_at, length_of, port_of}
 
 -- go on with what was read; a fault stays
 infixl 10 ◌>>=◌
@@ -122,19 +121,3 @@ line_of full (word ∷ words) =
     if get_or word 0 0 == 35 then Ok None else
     (if full then Err TooMany else
     (required Word (side_of word) >>= λ side. rule_from (new_rule side) words >>= λ rule. Ok (Some rule)))
-
--- a fault of the line of this number
-abbrev pub located : {A : Type 0} → ℕ → Result A RuleKind → Result A RuleFault
-located number (Ok x) = Ok x
-located number (Err kind) = Err (record { line = number; kind = kind })
-
--- the rules of the lines from this number on, behind so many rules; 256 fill a file
-unfoldable pub rules_from : ℕ → ℕ → List (List ℕ) → Result (List Rule) RuleFault
-rules_from number count [] = Ok []
-rules_from number count (line ∷ lines) =
-    located number (line_of (nat_le 256 count) (words_of (without_return line))) >>= λ rule.
-    rules_from (number + 1) (count + length (option_to_list rule)) lines >>= λ rules. Ok (option_to_list rule ++ rules)
-
--- the rules of a file, or its first fault
-abbrev pub file_of : List ℕ → Result (List Rule) RuleFault
-file_of bytes = rules_from 1 0 (lines_of bytes)

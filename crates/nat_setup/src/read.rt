@@ -1,14 +1,22 @@
 //! Reads a file of rules.
 
-ghost use Rattle.std.specs.Prelude.{◌≡◌, ◌<◌, ◌≤◌, ◌^◌, ◌||◌, length, IfOk, IfSome, Some, None};
+ghost use Rattle.std.specs.Prelude.{◌≡◌, ◌<◌, ◌≤◌, ◌^◌, ◌||◌, ◌++◌, false, length, option_to_list, IfErr, IfOk, IfSome, OnOk, Some, None};
+ghost use Rattle.std.specs.List.{AllByRecursion};
 ghost use Rattle.nat_setup.specs.Rule.{has_ports, is_portless, IsBlock, IsLawfulRule, IsRange};
-ghost use Rattle.nat_setup.specs.Text.{address_of, length_of, port_of, words_of};
+ghost use Rattle.nat_setup.specs.Text.{address_of, length_of, port_of, without_return, words_of};
 ghost use Rattle.nat_setup.specs.declared.read.RuleKind.TheVariants.{Word, Address, Prefix, Range, TooMany};
+ghost use Rattle.nat_setup.specs.RuleFile.{IsReason, IsRulesFile};
 ghost use Rattle.nat_setup.specs.RuleText.{block_of, ended, required, IsUnaimed, line_of, new_rule, once, ports_of, proto_of, rule_from, side_of, with_dport, with_dst, with_option, with_proto, with_sport, with_src, with_target};
 
 use crate::rule::{Block, PortRange, Rule, Rules, Side};
-use crate::text::{next_word, read_address, read_length, read_port, split_once};
-use tuple_core::Proto;
+use crate::text::{
+    line_text, next_line, next_word, read_address, read_length, read_port, split_once,
+};
+use std::alloc::Global;
+use tuple_core::{NoMemory, Proto};
+
+/// The most rules of a file.
+const MOST_RULES: usize = 256;
 
 /// What is wrong with a line.
 #[derive(Clone, Copy, PartialEq, Eq)]
@@ -37,6 +45,16 @@ pub struct RuleFault {
 pub enum RuleError {
     Fault(RuleFault),
     NoMemory,
+}
+
+impl From<NoMemory> for RuleError {
+    ghost use Rattle.nat_setup.specs.declared.read.RuleError.{RuleError};
+
+    ghost from_gives = { λ _ error. error ≡ RuleError.NoMemory };
+
+    fn from(_error: NoMemory) -> RuleError {
+        RuleError::NoMemory
+    }
 }
 
 /// Which end a rule of this first word changes.
@@ -104,7 +122,10 @@ fn read_block(text: &[u8]) -> Result<Block, RuleKind>
     match split_once(text, b'/') {
         None => {
             let address = want_address(text)?;
-            Ok(Block { address, length: 32 })
+            Ok(Block {
+                address,
+                length: 32,
+            })
         }
         Some((front, behind)) => {
             let address = want_address(front)?;
@@ -123,12 +144,19 @@ fn read_ports(text: &[u8]) -> Result<PortRange, RuleKind>
     match split_once(text, b'-') {
         None => {
             let port = want_port(text)?;
-            Ok(PortRange { low: port, high: port })
+            Ok(PortRange {
+                low: port,
+                high: port,
+            })
         }
         Some((front, behind)) => {
             let low = want_port(front)?;
             let high = want_port(behind)?;
-            if low <= high { Ok(PortRange { low, high }) } else { Err(RuleKind::Range) }
+            if low <= high {
+                Ok(PortRange { low, high })
+            } else {
+                Err(RuleKind::Range)
+            }
         }
     }
 }
@@ -143,7 +171,10 @@ fn with_proto(rule: Rule, value: &[u8]) -> Result<Rule, RuleKind>
         return Err(RuleKind::Word);
     }
     match read_proto(value) {
-        Some(proto) => Ok(Rule { proto: Some(proto), ..rule }),
+        Some(proto) => Ok(Rule {
+            proto: Some(proto),
+            ..rule
+        }),
         None => Err(RuleKind::Word),
     }
 }
@@ -158,7 +189,10 @@ fn with_src(rule: Rule, value: &[u8]) -> Result<Rule, RuleKind>
         return Err(RuleKind::Word);
     }
     let block = read_block(value)?;
-    Ok(Rule { src: Some(block), ..rule })
+    Ok(Rule {
+        src: Some(block),
+        ..rule
+    })
 }
 
 /// The rule with `-d` and its value.
@@ -171,7 +205,10 @@ fn with_dst(rule: Rule, value: &[u8]) -> Result<Rule, RuleKind>
         return Err(RuleKind::Word);
     }
     let block = read_block(value)?;
-    Ok(Rule { dst: Some(block), ..rule })
+    Ok(Rule {
+        dst: Some(block),
+        ..rule
+    })
 }
 
 /// The rule with `--sport` and its value.
@@ -184,7 +221,10 @@ fn with_sport(rule: Rule, value: &[u8]) -> Result<Rule, RuleKind>
         return Err(RuleKind::Word);
     }
     let port = want_port(value)?;
-    Ok(Rule { sport: Some(port), ..rule })
+    Ok(Rule {
+        sport: Some(port),
+        ..rule
+    })
 }
 
 /// The rule with `--dport` and its value.
@@ -197,7 +237,10 @@ fn with_dport(rule: Rule, value: &[u8]) -> Result<Rule, RuleKind>
         return Err(RuleKind::Word);
     }
     let port = want_port(value)?;
-    Ok(Rule { dport: Some(port), ..rule })
+    Ok(Rule {
+        dport: Some(port),
+        ..rule
+    })
 }
 
 /// The rule with an option and its value.
@@ -239,7 +282,11 @@ fn with_target(rule: Rule, text: &[u8]) -> Result<Rule, RuleKind>
         Some((front, behind)) => {
             let target = want_address(front)?;
             let ports = read_ports(behind)?;
-            Ok(Rule { target, ports: Some(ports), ..rule })
+            Ok(Rule {
+                target,
+                ports: Some(ports),
+                ..rule
+            })
         }
     }
 }
@@ -266,7 +313,11 @@ fn ended(rule: Rule, rest: &[u8]) -> Result<Rule, RuleKind>
     if next_word(rest).is_some() {
         return Err(RuleKind::Word);
     }
-    if may_have_ports(&rule) { Ok(rule) } else { Err(RuleKind::Word) }
+    if may_have_ports(&rule) {
+        Ok(rule)
+    } else {
+        Err(RuleKind::Word)
+    }
 }
 
 /// The rule of a side and the words behind the first.
@@ -300,4 +351,62 @@ fn read_rule(side: Side, words: &[u8]) -> Result<Rule, RuleKind>
         rule = with_option(rule, name, value)?;
         rest = behind;
     }
+}
+
+/// The rule of a line, if it says one. Where the file is full, it may not.
+#[tactic(auto, unfolding(crate::specs::RuleText::line_of))]
+fn read_line(line: &[u8], full: bool) -> Result<Option<Rule>, RuleKind>
+    ensures exact { result ≡ line_of full (words_of (without_return line.now)) }
+    ensures lawful { IfOk result (λ rule. IfSome rule IsLawfulRule) }
+    ensures room { IfOk result (λ rule. IfSome rule (λ _. full ≡ false)) }
+{
+    let Some((first, words)) = next_word(line_text(line)) else {
+        return Ok(None);
+    };
+    if first[0] == b'#' {
+        return Ok(None);
+    }
+    if full {
+        return Err(RuleKind::TooMany);
+    }
+    let Some(side) = read_side(first) else {
+        return Err(RuleKind::Word);
+    };
+    let rule = read_rule(side, words)?;
+    Ok(Some(rule))
+}
+
+/// Appends the rule, if there is one.
+fn append(rules: &mut Rules, rule: Option<Rule>) -> Result<(), NoMemory>
+    ensures { OnOk result (rules.new.items ≡ rules.old.items ++ option_to_list rule) }
+{
+    if let Some(rule) = rule {
+        rules.reserve(1)?;
+        rules.push(rule);
+    }
+    Ok(())
+}
+
+/// The rules of a file, in the order of its lines. Its bytes are not copied.
+pub fn read_rules(alloc: Global, bytes: &[u8]) -> Result<Rules, RuleError>
+    requires { length bytes.now < 2 ^ 32 }
+    ensures rules { IfOk result (λ rules. IsRulesFile bytes.now rules.items) }
+    ensures reason { IfErr result (IsReason bytes.now) }
+    ensures lawful { IfOk result (λ rules. AllByRecursion IsLawfulRule rules.items) }
+    ensures few { IfOk result (λ rules. length rules.items ≤ 256) }
+{
+    let mut rules = Rules::new(alloc, 0)?;
+    let mut number = 0u32;
+    let mut rest = bytes;
+    'lines: while !rest.is_empty() {
+        number += 1;
+        let (line, behind) = next_line(rest);
+        let rule = match read_line(line, rules.len() >= MOST_RULES) {
+            Ok(rule) => rule,
+            Err(kind) => return Err(RuleError::Fault(RuleFault { line: number, kind })),
+        };
+        append(&mut rules, rule)?;
+        rest = behind;
+    }
+    Ok(rules)
 }

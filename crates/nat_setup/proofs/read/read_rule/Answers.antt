@@ -1,4 +1,4 @@
-use Rattle.std.proofs.Common.{rules, arith, ◌≡◌, ◌∙◌, ◌∷◌, ℕ, List, false, codes, bytes_eq, Ok, sym}
+use Rattle.std.proofs.Common.{rules, ◌≡◌, ◌∙◌, ◌∷◌, false, codes, bytes_eq, Ok}
 use Rattle.nat_setup.specs.Text.{words_of}
 use Rattle.nat_setup.specs.RuleText.{with_option}
 use Rattle.nat_setup.proofs.RuleWords.{one_option, two_words}

@@ -1,5 +1,5 @@
-use Rattle.std.proofs.Common.{rules, arith, ◌≡◌, ◌<◌, ◌+◌, ◌*◌, ◌^◌}
-use Rattle.nat_setup.proofs.Digits.{bounded, more}
+use Rattle.std.proofs.Common.{rules}
+use Rattle.nat_setup.proofs.Digits.{more}
 use Rattle.nat_setup.proofs.text.digits.Goals as goal
 
 pub digits-preserved : goal.digits-preserved

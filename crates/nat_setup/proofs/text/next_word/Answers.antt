@@ -1,4 +1,4 @@
-use Rattle.std.proofs.Common.{rules, arith}
+use Rattle.std.proofs.Common.{arith}
 use Rattle.nat_setup.proofs.Words.{no_words}
 use Rattle.nat_setup.proofs.text.next_word.Goals as goal
 
