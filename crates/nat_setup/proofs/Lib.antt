@@ -1,2 +1,7 @@
+pub mod Digits
+pub mod Parts
+pub mod RuleLines
+pub mod RuleWords
+pub mod Words
 pub mod Searching
 pub mod Translating

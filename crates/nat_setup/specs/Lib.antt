@@ -1,4 +1,7 @@
 pub mod Rule
+pub mod Text
+pub mod RuleText
+pub mod RuleFile
 pub mod Reply
 pub mod Translation
 pub mod Internal

@@ -1,7 +1,10 @@
-//! Rules of network address translation, and the reply tuples that they allow.
+//! Rules of network address translation: how a file says them, which flows each is for, and the reply tuple
+//! that a flow gets by them.
 #![tactic(auto)]
 
-pub mod reply;
+pub mod read;
+mod reply;
 pub mod rule;
 mod search;
+mod text;
 pub mod translate;
