@@ -33,7 +33,7 @@ use Rattle.history_book.specs.Sizes.{AreWithinLimits}
 use Rattle.history_book.specs.State.{State, live_under, next, record_of, state_of}
 use Rattle.history_book.specs.StateLaws.{DestroysTakeOne, FreeIsAbsent, IdsNameRecords, TouchesChangeOne}
 use Rattle.book_desk.specs.declared.book.Book.{Book}
-use Rattle.book_desk.specs.Internal.Book.{Agree, ArePlaces, AreReferences, IsBook, IsForRecord, IsHistory, WinsAt, events_of, noted, sight_of, tally}
+use Rattle.book_desk.specs.Internal.Book.{Adds, Agree, ArePlaces, AreReferences, IsBook, IsForRecord, IsHistory, WinsAt, events_of, noted, sight_of, tally}
 use Rattle.book_desk.proofs.Counting.{none_counted}
 use Rattle.book_desk.proofs.Histories.{at_before, events-push, history_next, length-events, made}
 use Rattle.book_desk.proofs.Lists.{each_at, each_map, none_of, tally_some}
@@ -41,17 +41,6 @@ use Rattle.book_desk.proofs.Pool.{fewer_records, place_below, places_confirm, pl
 use Rattle.book_desk.proofs.Positions.{find_passes}
 use Rattle.book_desk.proofs.References.{refs_confirm, refs_grow, refs_remove, refs_set}
 use Rattle.book_desk.proofs.Steps.{apart_of, confirmed_record}
-
--- what the code does with the fields at an event
-pub record Adds (old new : Book) (e : Event) : Type 0 where
-  pub notes : new.notes.items ≡ old.notes.items ++ noted old.notes.items e ∷ []
-  pub notes_room : new.notes.room ≡ old.notes.room
-  pub spare : old.spare ≡ new.spare + 1
-  pub sizes : new.sizes ≡ old.sizes
-  pub free : new.free ≡ old.free
-  pub owed : new.owed ≡ old.owed
-  pub records_room : new.records.room ≡ old.records.room
-  pub holds_room : new.holds.room ≡ old.holds.room
 
 module _ (follow : StatesFollow) (goes_on : LegalHistoriesGoOn) where
   -- a book is right after an event that may happen, if its places and references are

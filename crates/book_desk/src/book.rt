@@ -1,18 +1,13 @@
 //! The fields of the desk.
 
-ghost use Rattle.std.specs.Prelude.{◌≡◌, ◌+◌, ◌<◌, ◌≤◌, ◌^◌, [], length, IfOk, OnErr, OnOk};
-ghost use Rattle.history_book.specs.Desk.{IsReady};
-ghost use Rattle.history_book.specs.Sizes.{AreWithinLimits};
-ghost use Rattle.book_desk.specs.Internal.Book.{AreBelow, IsBook, sight_of};
-ghost use Rattle.book_desk.specs.Fresh.{IsFresh};
+ghost use Rattle.std.specs.Prelude.{◌≡◌, ◌<◌, ◌≤◌, [], ◌∷◌, Some, length, slice_get};
+ghost use Rattle.book_desk.specs.Internal.Book.{AreBelow};
 
 use history_book::desk::Hold;
 use history_book::record::Record;
 use history_book::report::Notes;
 use history_book::sizes::Sizes;
 use room_list::RoomList;
-use std::alloc::Global;
-use tuple_core::NoMemory;
 
 /// A list of live records, and the events that led to it.
 #[derive(Drop)]
@@ -31,7 +26,7 @@ pub struct Book {
 }
 
 /// Puts each place below `entries` into the list, the first one last.
-fn fill(free: &mut RoomList<u32>, entries: u32)
+pub fn fill(free: &mut RoomList<u32>, entries: u32)
     requires empty { free.old.items ≡ [] }
     requires room { entries ≤ free.old.room }
     ensures each { AreBelow entries 0 free.new.items }
@@ -43,47 +38,28 @@ fn fill(free: &mut RoomList<u32>, entries: u32)
 }
 
 impl Book {
-    /// A book with no event and no entry.
-    pub fn new(alloc: Global, sizes: Sizes) -> Result<Book, NoMemory>
-        requires { AreWithinLimits sizes }
-        ensures book { IfOk result IsBook }
-        ensures fresh { IfOk result (λ b. IsFresh sizes (sight_of b)) }
-    {
-        let entries = sizes.entries as usize;
-        let mut free = RoomList::new(alloc, entries)?;
-        fill(&mut free, sizes.entries);
-        Ok(Book {
-            sizes,
-            records: RoomList::new(alloc, entries)?,
-            free,
-            notes: RoomList::new(alloc, 0)?,
-            spare: 0,
-            holds: RoomList::new(alloc, 4)?,
-            owed: RoomList::new(alloc, 4)?,
-        })
-    }
-
-    /// Makes room for `more` further events.
-    pub fn ready(&mut self, more: u64) -> Result<(), NoMemory>
-        requires book { IsBook self.old }
-        requires few { length self.old.notes.items + more ≤ 2 ^ 30 }
-        ensures ready { OnOk result (IsReady more (sight_of self.old) (sight_of self.new)) }
-        ensures short { OnErr result (self.old.spare < more) }
-        ensures same { OnErr result (sight_of self.new ≡ sight_of self.old) }
-        ensures book { IsBook self.new }
-    {
-        if self.spare >= more {
-            return Ok(());
-        }
-        self.notes.reserve(more as usize)?;
-        self.spare = more;
-        Ok(())
-    }
-
     /// The point that the history has reached.
     pub fn point(&self) -> u64
         ensures { result ≡ length self.now.notes.items }
     {
         self.notes.len() as u64
+    }
+
+    /// Holds the place of the record at `index` for it.
+    pub fn hold_record(&mut self, index: usize) -> Record
+        requires room { length self.old.holds.items < self.old.holds.room }
+        requires index { index < length self.old.records.items }
+        ensures subject { slice_get self.old.records.items index ≡ Some result }
+        ensures holds { self.new.holds.items
+            ≡ record { place = result.place; id = Some result.id } ∷ self.old.holds.items }
+        ensures room { self.new.holds.room ≡ self.old.holds.room }
+        ensures rest { self.new ≡ record self.old { holds = self.new.holds } }
+    {
+        let subject = *self.records.at(index);
+        self.holds.put_first(Hold {
+            place: subject.place,
+            id: Some(subject.id),
+        });
+        subject
     }
 }

@@ -7,16 +7,28 @@ ghost use Rattle.history_book.specs.Sizes.{AreWithinLimits};
 ghost use Rattle.book_desk.specs.Fresh.{IsFresh};
 ghost use Rattle.book_desk.specs.Closed.{Closes};
 
-use crate::book::Book;
-use history_book::desk::Desk;
+use crate::book::{Book, fill};
+use crate::entries::{is_same_flow, winner};
+use crate::holds::{give_up, held_id, is_in_use, pay, place_index};
+use history_book::desk::{Desk, Hold};
 use history_book::event::Why;
+use history_book::find::{find, find_id};
+use history_book::laws::{
+    destroys_take_one, entries_keep_their_protocol, free_is_absent, ids_name_records,
+    legal_histories_go_on, live_records_are_confirmed, records_are_apart, states_follow,
+    states_stay, touches_change_one,
+};
+use history_book::legality::is_reason_for;
 use history_book::outcome::{
     ConfirmOutcome, FindOutcome, HoldOutcome, KillOutcome, LiveCount, PeekOutcome, ReleaseOutcome,
     TakeOutcome, TouchOutcome,
 };
-use history_book::record::Flow;
+use history_book::record::{Flow, Record};
 use history_book::report::Closed;
 use history_book::sizes::Sizes;
+use proto_rules::laws::same_part_is_equality;
+use proto_rules::{Outcome, step};
+use room_list::RoomList;
 use std::alloc::Global;
 use std::marker::Model;
 use std::sync::Wait;
@@ -48,7 +60,18 @@ impl PlainDesk {
         ensures knows { IfOk result IsKnown }
         ensures fresh { IfOk result (IsFresh (record sizes { passes = 1 })) }
     {
-        let book = Book::new(alloc, Sizes { passes: 1, ..sizes })?;
+        let entries = sizes.entries as usize;
+        let mut free = RoomList::new(alloc, entries)?;
+        fill(&mut free, sizes.entries);
+        let book = Book {
+            sizes: Sizes { passes: 1, ..sizes },
+            records: RoomList::new(alloc, entries)?,
+            free,
+            notes: RoomList::new(alloc, 0)?,
+            spare: 0,
+            holds: RoomList::new(alloc, 4)?,
+            owed: RoomList::new(alloc, 4)?,
+        };
         Ok(PlainDesk { book })
     }
 
@@ -59,7 +82,7 @@ impl PlainDesk {
         let PlainDesk { book } = self;
         Closed {
             events: book.point(),
-            live: book.count().live,
+            live: book.records.len() as u32,
             notes: book.notes,
         }
     }
@@ -77,23 +100,65 @@ impl Desk for PlainDesk {
     }
 
     fn ready(&mut self, k: u64) -> Result<(), NoMemory> {
-        self.book.ready(k)
+        if self.book.spare >= k {
+            return Ok(());
+        }
+        self.book.notes.reserve(k as usize)?;
+        self.book.spare = k;
+        Ok(())
     }
 
     fn find<R: Wait>(&mut self, _rt: &R, t: &Tuple) -> FindOutcome {
-        self.book.find(t)
+        live_records_are_confirmed();
+        let at = self.book.point();
+        let Some(found) = find(self.book.records.as_slice(), t) else {
+            return FindOutcome::Absent { at };
+        };
+        let Record { id, place, .. } = self.book.hold_record(found.index);
+        FindOutcome::Found {
+            place,
+            id,
+            direction: found.direction,
+            at,
+        }
     }
 
     fn count<R: Wait>(&mut self, _rt: &R) -> LiveCount {
-        self.book.count()
+        LiveCount {
+            live: self.book.records.len() as u32,
+            at: self.book.point(),
+        }
     }
 
     fn take<R: Wait>(&mut self, _rt: &R) -> TakeOutcome {
-        self.book.take()
+        let count = self.book.free.len();
+        if count == 0 {
+            let at = self.book.point();
+            return TakeOutcome::Full { at };
+        }
+        // The place that was freed last.
+        let place = self.book.free.remove(count - 1);
+        self.book.holds.put_first(Hold { place, id: None });
+        TakeOutcome::Taken { place }
     }
 
     fn confirm<R: Wait>(&mut self, _rt: &R, place: u32, flow: &Flow) -> ConfirmOutcome {
-        self.book.confirm(place, flow)
+        legal_histories_go_on();
+        states_follow();
+        free_is_absent();
+        let at = self.book.point();
+        let records = self.book.records.as_slice();
+        if let Some(found) = winner(records, &flow.original, &flow.reply) {
+            let subject = self.book.records.at(found.index);
+            return ConfirmOutcome::Clash {
+                id: subject.id,
+                direction: found.direction,
+                both: is_same_flow(subject, flow),
+                at,
+            };
+        }
+        self.book.enter(place, flow);
+        ConfirmOutcome::Confirmed { id: at }
     }
 
     fn touch<R: Wait>(
@@ -104,26 +169,97 @@ impl Desk for PlainDesk {
         segment: Segment,
         moment: u64,
     ) -> TouchOutcome {
-        self.book.touch(place, direction, segment, moment)
+        entries_keep_their_protocol();
+        legal_histories_go_on();
+        states_follow();
+        states_stay();
+        records_are_apart();
+        ids_name_records();
+        touches_change_one();
+        same_part_is_equality();
+        let at = self.book.point();
+        let id = held_id(self.book.holds.as_slice(), place);
+        let Some(index) = find_id(self.book.records.as_slice(), id) else {
+            return TouchOutcome::Gone { at };
+        };
+        let before = *self.book.records.at(index);
+        match step(&before.part, direction, segment, moment) {
+            Outcome::Accept(after) => {
+                self.book
+                    .refresh(index, &before, direction, segment, moment, after);
+                TouchOutcome::Touched { number: at, before }
+            }
+            Outcome::Ignore => TouchOutcome::Ignored { at },
+            Outcome::Invalid => TouchOutcome::Invalid { at },
+            Outcome::Reopen => TouchOutcome::Reopen { at },
+            Outcome::Reset => TouchOutcome::Reset { at },
+            Outcome::Expired => TouchOutcome::Expired { at },
+        }
     }
 
     fn peek<R: Wait>(&mut self, _rt: &R, place: u32) -> PeekOutcome {
-        self.book.peek(place)
+        let at = self.book.point();
+        let id = held_id(self.book.holds.as_slice(), place);
+        let Some(index) = find_id(self.book.records.as_slice(), id) else {
+            return PeekOutcome::Gone { at };
+        };
+        PeekOutcome::Seen {
+            subject: *self.book.records.at(index),
+            at,
+        }
     }
 
     fn kill<R: Wait>(&mut self, _rt: &R, place: u32, why: Why) -> KillOutcome {
-        self.book.kill(place, why)
+        live_records_are_confirmed();
+        legal_histories_go_on();
+        states_follow();
+        states_stay();
+        records_are_apart();
+        ids_name_records();
+        destroys_take_one();
+        let at = self.book.point();
+        let id = held_id(self.book.holds.as_slice(), place);
+        let Some(index) = find_id(self.book.records.as_slice(), id) else {
+            return KillOutcome::Gone { at };
+        };
+        let subject = *self.book.records.at(index);
+        if !is_reason_for(&why, &subject) {
+            return KillOutcome::Not { subject, at };
+        }
+        self.book.destroy(index, &subject, why);
+        KillOutcome::Killed {
+            number: at,
+            subject,
+        }
     }
 
     fn hold<R: Wait>(&mut self, _rt: &R, place: u32) -> HoldOutcome {
-        self.book.hold(place)
+        live_records_are_confirmed();
+        records_are_apart();
+        ids_name_records();
+        let at = self.book.point();
+        let Some(index) = place_index(self.book.records.as_slice(), place) else {
+            return HoldOutcome::Empty { at };
+        };
+        let subject = self.book.hold_record(index);
+        HoldOutcome::Held { id: subject.id, at }
     }
 
     fn release<R: Wait>(&mut self, _rt: &R, place: u32) -> ReleaseOutcome {
-        self.book.release(place)
+        give_up(&mut self.book.holds, place);
+        if is_in_use(
+            self.book.records.as_slice(),
+            self.book.holds.as_slice(),
+            place,
+        ) {
+            return ReleaseOutcome::Kept;
+        }
+        self.book.owed.put_first(place);
+        ReleaseOutcome::Last
     }
 
     fn recycle<R: Wait>(&mut self, _rt: &R, place: u32) {
-        self.book.recycle(place);
+        pay(&mut self.book.owed, place);
+        self.book.free.push(place);
     }
 }

@@ -5,6 +5,5 @@ mod book;
 pub mod desk;
 mod entries;
 mod holds;
-mod places;
 #[cfg(test)]
 mod tests;

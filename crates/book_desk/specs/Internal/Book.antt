@@ -1,5 +1,5 @@
 -- What the desk's fields say, and when they are right.
-use Rattle.std.specs.Prelude.{◌≡◌, ℕ, ◌+◌, ◌<◌, ◌≤◌, ◌^◌, min, Bool, true, ◌==◌, if◌then◌else◌, Some, List, [], ◌∷◌, length, map, slice_get}
+use Rattle.std.specs.Prelude.{◌≡◌, ℕ, ◌+◌, ◌<◌, ◌≤◌, ◌^◌, min, Bool, true, ◌==◌, if◌then◌else◌, Some, List, [], ◌∷◌, ◌++◌, length, map, slice_get}
 use Rattle.std.specs.List.{AllByRecursion}
 use Rattle.history_book.specs.declared.desk.Hold.{Hold}
 use Rattle.history_book.specs.declared.event.Event.{Event}
@@ -23,6 +23,17 @@ events_of notes = map (λ (n : Note). n.event) notes
 -- an event with the number that comes next
 abbrev pub noted : List Note → Event → Note
 noted notes e = record { number = length notes; event = e }
+
+-- what the fields are after an event, but for the records and the references
+pub record Adds (old new : Book) (e : Event) : Type 0 where
+  pub notes : new.notes.items ≡ old.notes.items ++ noted old.notes.items e ∷ []
+  pub notes_room : new.notes.room ≡ old.notes.room
+  pub spare : old.spare ≡ new.spare + 1
+  pub sizes : new.sizes ≡ old.sizes
+  pub free : new.free ≡ old.free
+  pub owed : new.owed ≡ old.owed
+  pub records_room : new.records.room ≡ old.records.room
+  pub holds_room : new.holds.room ≡ old.holds.room
 
 -- the record at this index is the one that a new flow with these tuples meets, by this direction
 pub record WinsAt (original reply : Tuple) (s : State) (found : FoundAt) : Type 0 where
