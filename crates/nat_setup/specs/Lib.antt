@@ -1,4 +1,5 @@
 pub mod Rule
 pub mod RuleFile
+pub mod RuleLaws
 pub mod RuleText
 pub mod Text

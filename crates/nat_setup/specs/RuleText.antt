@@ -122,10 +122,11 @@ rule_from rule (name ∷ value ∷ words) =
 abbrev pub new_rule : Side → Rule
 new_rule side = record { side = side; proto = None; src = None; dst = None; sport = None; dport = None; target = 0; ports = None }
 
+-- a rule is its side, and the words behind
+abbrev pub rule_of : List ℕ → List (List ℕ) → Result (Option Rule) RuleKind
+rule_of word words = required Word (side_of word) >>= λ side. rule_from (new_rule side) words >>= λ rule. Ok (Some rule)
+
 -- a line without words and a comment say nothing, others a rule; where the file is full, none may follow
 unfoldable pub line_of : Bool → List (List ℕ) → Result (Option Rule) RuleKind
 line_of full [] = Ok None
-line_of full (word ∷ words) =
-    if get_or word 0 0 == 35 then Ok None else
-    (if full then Err TooMany else
-    (required Word (side_of word) >>= λ side. rule_from (new_rule side) words >>= λ rule. Ok (Some rule)))
+line_of full (word ∷ words) = if get_or word 0 0 == 35 then Ok None else (if full then Err TooMany else rule_of word words)
