@@ -1,4 +1,5 @@
 pub mod Digits
+pub mod FileLaws
 pub mod Parts
 pub mod RuleLines
 pub mod RuleWords

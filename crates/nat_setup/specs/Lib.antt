@@ -2,6 +2,7 @@ pub mod Rule
 pub mod Text
 pub mod RuleText
 pub mod RuleFile
+pub mod RuleLaws
 pub mod Reply
 pub mod Translation
 pub mod Internal

@@ -23,6 +23,14 @@ abbrev pub required : {A : Type 0} → RuleKind → Option A → Result A RuleKi
 required kind None = Err kind
 required kind (Some x) = Ok x
 
+-- the kinds of faults in order, from 1
+abbrev pub number_of_kind : RuleKind → ℕ
+number_of_kind Word = 1
+number_of_kind Address = 2
+number_of_kind Prefix = 3
+number_of_kind Range = 4
+number_of_kind TooMany = 5
+
 -- `snat` changes the source, `dnat` the destination
 unfoldable pub side_of : List ℕ → Option Side
 side_of word = if bytes_eq word (codes "snat") then Some Source else (if bytes_eq word (codes "dnat") then Some Destination else None)
@@ -114,10 +122,11 @@ rule_from rule (name ∷ value ∷ words) =
 abbrev pub new_rule : Side → Rule
 new_rule side = record { side = side; proto = None; src = None; dst = None; sport = None; dport = None; target = 0; ports = None }
 
+-- a rule is its side, and the words behind
+abbrev pub rule_of : List ℕ → List (List ℕ) → Result (Option Rule) RuleKind
+rule_of word words = required Word (side_of word) >>= λ side. rule_from (new_rule side) words >>= λ rule. Ok (Some rule)
+
 -- a line without words and a comment say nothing, others a rule; where the file is full, none may follow
 unfoldable pub line_of : Bool → List (List ℕ) → Result (Option Rule) RuleKind
 line_of full [] = Ok None
-line_of full (word ∷ words) =
-    if get_or word 0 0 == 35 then Ok None else
-    (if full then Err TooMany else
-    (required Word (side_of word) >>= λ side. rule_from (new_rule side) words >>= λ rule. Ok (Some rule)))
+line_of full (word ∷ words) = if get_or word 0 0 == 35 then Ok None else (if full then Err TooMany else rule_of word words)

@@ -2,6 +2,7 @@
 //! that a flow gets by them.
 #![tactic(auto)]
 
+pub mod laws;
 pub mod read;
 mod reply;
 pub mod rule;

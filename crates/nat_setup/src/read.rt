@@ -6,7 +6,7 @@ ghost use Rattle.nat_setup.specs.Rule.{has_ports, is_portless, IsBlock, IsLawful
 ghost use Rattle.nat_setup.specs.Text.{address_of, length_of, port_of, without_return, words_of};
 ghost use Rattle.nat_setup.specs.declared.read.RuleKind.TheVariants.{Word, Address, Prefix, Range, TooMany};
 ghost use Rattle.nat_setup.specs.RuleFile.{IsReason, IsRulesFile};
-ghost use Rattle.nat_setup.specs.RuleText.{block_of, ended, required, IsUnaimed, line_of, new_rule, once, ports_of, proto_of, rule_from, side_of, with_dport, with_dst, with_option, with_proto, with_sport, with_src, with_target};
+ghost use Rattle.nat_setup.specs.RuleText.{block_of, ended, required, IsUnaimed, line_of, new_rule, number_of_kind, once, ports_of, proto_of, rule_from, side_of, with_dport, with_dst, with_option, with_proto, with_sport, with_src, with_target};
 
 use crate::rule::{Block, PortRange, Rule, Rules, Side};
 use crate::text::{
@@ -31,6 +31,19 @@ pub enum RuleKind {
     Range,
     /// It is the 257th rule.
     TooMany,
+}
+
+/// The number of a kind, from 1 in the order of the variants.
+pub fn kind_number(kind: RuleKind) -> u8
+    ensures { result ≡ number_of_kind kind }
+{
+    match kind {
+        RuleKind::Word => 1,
+        RuleKind::Address => 2,
+        RuleKind::Prefix => 3,
+        RuleKind::Range => 4,
+        RuleKind::TooMany => 5,
+    }
 }
 
 /// The first fault of a file: on which line, from 1, and what it is.
@@ -410,3 +423,6 @@ pub fn read_rules(alloc: Global, bytes: &[u8]) -> Result<Rules, RuleError>
     }
     Ok(rules)
 }
+
+#[cfg(test)]
+mod tests;

@@ -1,0 +1,223 @@
+use super::*;
+use room_list::Bytes;
+use std::test::Fail;
+
+/// The fault's line and the number of its kind. Where there is none: 0 and the number of rules.
+fn answer(alloc: Global, bytes: &[u8]) -> Result<(u32, usize), NoMemory>
+    requires { length bytes.now < 2 ^ 32 }
+{
+    match read_rules(alloc, bytes) {
+        Ok(rules) => Ok((0, rules.len())),
+        Err(RuleError::NoMemory) => Err(NoMemory),
+        Err(RuleError::Fault(fault)) => Ok((fault.line, usize::from(kind_number(fault.kind)))),
+    }
+}
+
+#[test]
+fn faulty_lines(rt: HostRuntime) -> Result<(), Fail> {
+    let cases = [
+        // Words.
+        ("snat\n", (1, 1)),
+        ("snat to", (1, 1)),
+        ("snat to\r\n", (1, 1)),
+        ("snat 1.2.3.4", (1, 1)),
+        ("route to 1.2.3.4", (1, 1)),
+        ("Snat to 1.2.3.4", (1, 1)),
+        ("snat  -p tcp -p tcp to 1.2.3.4", (1, 1)),
+        ("snat -s 1.2.3.4 -s x to 1.2.3.4", (1, 1)),
+        ("dnat -d 1.2.3.4 -d 1.2.3.4 to 1.2.3.4", (1, 1)),
+        ("dnat -p tcp --sport 1 --sport 1 to 1.2.3.4", (1, 1)),
+        ("dnat -p udp --dport 1 --dport 0 to 1.2.3.4", (1, 1)),
+        ("snat -p sctp to 1.2.3.4", (1, 1)),
+        ("snat -p TCP to 1.2.3.4", (1, 1)),
+        ("snat -p tcp -s", (1, 1)),
+        ("snat -p tcp", (1, 1)),
+        ("snat to 1.2.3.4 -p tcp", (1, 1)),
+        ("snat to 1.2.3.4 #", (1, 1)),
+        ("snat to 1.2.3.4:5", (1, 1)),
+        ("dnat -p icmp to 1.2.3.4:5-6", (1, 1)),
+        ("snat --sport 5 to 1.2.3.4", (1, 1)),
+        ("snat -p icmp --dport 5 to 1.2.3.4", (1, 1)),
+        ("snat\x0bto 1.2.3.4", (1, 1)),
+        ("snat to 1.2.3.4 \r\r\n", (1, 1)),
+        // Addresses.
+        ("snat to 256.0.0.1", (1, 2)),
+        ("snat to 1.2.3", (1, 2)),
+        ("snat to 1.2.3.4.5", (1, 2)),
+        ("snat to 01.2.3.4", (1, 2)),
+        ("snat to 1.2.3.00", (1, 2)),
+        ("snat to 1..3.4", (1, 2)),
+        ("snat to 1.2.3.", (1, 2)),
+        ("snat to 1.2.3.+4", (1, 2)),
+        ("snat to 1.2.3.4/8", (1, 2)),
+        ("snat to :5", (1, 2)),
+        ("snat to 1.2.3.4\r\r\n", (1, 2)),
+        ("snat -s 1.2.3.4:5 to 1.2.3.4", (1, 2)),
+        ("snat -s 1.2.3/33 to 1.2.3.4", (1, 2)),
+        ("dnat -d x to 1.2.3.4", (1, 2)),
+        ("dnat -d x -d", (1, 2)),
+        ("snat to 1.2.3.4x y", (1, 2)),
+        // Lengths.
+        ("snat -s 1.2.3.4/33 to 1.2.3.4", (1, 3)),
+        ("snat -s 1.2.3.4/008 to 1.2.3.4", (1, 3)),
+        ("snat -s 1.2.3.4/ to 1.2.3.4", (1, 3)),
+        ("snat -d 1.2.3.4/8/9 to 1.2.3.4", (1, 3)),
+        ("snat -d 1.2.3.4/x to 1.2.3.4", (1, 3)),
+        ("snat -d 1.2.3.4/-1 to x", (1, 3)),
+        // Ports.
+        ("snat --sport 0 to 1.2.3.4", (1, 4)),
+        ("snat --dport 65536 to 1.2.3.4", (1, 4)),
+        ("snat -p tcp --dport 000080 to 1.2.3.4", (1, 4)),
+        ("snat -p tcp --sport 5- to 1.2.3.4", (1, 4)),
+        ("snat -p tcp to 1.2.3.4:", (1, 4)),
+        ("snat -p tcp to 1.2.3.4:9-8", (1, 4)),
+        ("snat to 1.2.3.4:9-8 x", (1, 4)),
+        ("snat -p tcp to 1.2.3.4:0-8", (1, 4)),
+        ("snat -p tcp to 1.2.3.4:1-2-3", (1, 4)),
+        ("snat -p tcp to 1.2.3.4:99999", (1, 4)),
+        // The number of the line, and the first of several faults.
+        ("\n \t\r\n# snat\nsnat to 1.2.3.4\ndnat\nsnat to x", (5, 1)),
+        ("snat to 1.2.3.4\r\n\r\nsnat to x\nfoo\n", (3, 2)),
+        ("#\nsnat -s 1.2.3.4/99 -p x to y", (2, 3)),
+    ];
+    for (text, want) in cases {
+        assert_eq!(rt; answer(rt.alloc(), text.as_bytes())?, want, "{text}");
+    }
+    Ok(())
+}
+
+/// A rule as numbers. Where there is no protocol or no port, 0; where there is no block, a length of 99.
+fn numbers(rule: &Rule) -> [u32; 11] {
+    let side = match rule.side {
+        Side::Source => 1,
+        Side::Destination => 2,
+    };
+    let proto = match rule.proto {
+        None => 0,
+        Some(Proto::Icmp) => 1,
+        Some(Proto::Tcp) => 6,
+        Some(Proto::Udp) => 17,
+    };
+    let (src, src_length) = block_numbers(rule.src);
+    let (dst, dst_length) = block_numbers(rule.dst);
+    let (low, high) = match rule.ports {
+        Some(range) => (u32::from(range.low), u32::from(range.high)),
+        None => (0, 0),
+    };
+    let sport = u32::from(rule.sport.unwrap_or(0));
+    let dport = u32::from(rule.dport.unwrap_or(0));
+    [
+        side,
+        proto,
+        src,
+        src_length,
+        dst,
+        dst_length,
+        sport,
+        dport,
+        rule.target,
+        low,
+        high,
+    ]
+}
+
+fn block_numbers(block: Option<Block>) -> (u32, u32) {
+    match block {
+        Some(block) => (block.address, u32::from(block.length)),
+        None => (0, 99),
+    }
+}
+
+#[test]
+fn good_lines(rt: HostRuntime) -> Result<(), Fail> {
+    const TARGET: u32 = 0x0102_0304;
+    let cases = [
+        ("snat to 1.2.3.4", [1, 0, 0, 99, 0, 99, 0, 0, TARGET, 0, 0]),
+        (
+            "dnat to 255.0.10.100\n",
+            [2, 0, 0, 99, 0, 99, 0, 0, 0xff00_0a64, 0, 0],
+        ),
+        (
+            "# a comment\n\n \t#\n\t snat\t to  1.2.3.4 \r\n",
+            [1, 0, 0, 99, 0, 99, 0, 0, TARGET, 0, 0],
+        ),
+        (
+            "snat to 1.2.3.4\r",
+            [1, 0, 0, 99, 0, 99, 0, 0, TARGET, 0, 0],
+        ),
+        (
+            "snat -p icmp to 1.2.3.4",
+            [1, 1, 0, 99, 0, 99, 0, 0, TARGET, 0, 0],
+        ),
+        (
+            "snat -p tcp -s 10.0.0.1/08 -d 10.0.0.2 --sport 00080 --dport 65535 to 1.2.3.4:1-65535",
+            [
+                1,
+                6,
+                0x0a00_0001,
+                8,
+                0x0a00_0002,
+                32,
+                80,
+                65535,
+                TARGET,
+                1,
+                65535,
+            ],
+        ),
+        (
+            "dnat --dport 53 --sport 1 -d 0.0.0.0/0 -s 0.0.0.0/32 -p udp to 1.2.3.4:7",
+            [2, 17, 0, 32, 0, 0, 1, 53, TARGET, 7, 7],
+        ),
+        (
+            "dnat -p tcp to 1.2.3.4:8-8\n\n",
+            [2, 6, 0, 99, 0, 99, 0, 0, TARGET, 8, 8],
+        ),
+    ];
+    for (text, want) in cases {
+        match read_rules(rt.alloc(), text.as_bytes()) {
+            Ok(rules) => {
+                assert_eq!(rt; rules.len(), 1, "{text}");
+                for rule in rules.as_slice() {
+                    assert_eq!(rt; numbers(rule), want, "{text}");
+                }
+            }
+            Err(_) => assert!(rt; false, "{text}"),
+        }
+    }
+    Ok(())
+}
+
+/// So many rules, one on each line, and a text behind them.
+fn file(alloc: Global, count: usize, tail: &[u8]) -> Result<Bytes, NoMemory> {
+    let mut text = Bytes::new(alloc, 0)?;
+    for _ in 0..count {
+        text.append(b"snat to 1.2.3.4\n")?;
+    }
+    text.append(tail)?;
+    Ok(text)
+}
+
+#[test]
+fn full_files(rt: HostRuntime) -> Result<(), Fail> {
+    let cases = [
+        (0, b"".as_slice(), (0, 0)),
+        (255, b"dnat to 1.2.3.4".as_slice(), (0, 256)),
+        (256, b"".as_slice(), (0, 256)),
+        (256, b"\n# the last was the last\n".as_slice(), (0, 256)),
+        (257, b"".as_slice(), (257, 5)),
+        (256, b"dnat to 1.2.3.4".as_slice(), (257, 5)),
+        (256, b"x".as_slice(), (257, 5)),
+        (256, b"\n#\nsnat to y\n".as_slice(), (259, 5)),
+        (300, b"snat".as_slice(), (257, 5)),
+        (255, b"snat".as_slice(), (256, 1)),
+    ];
+    for (count, tail, want) in cases {
+        let text = file(rt.alloc(), count, tail)?;
+        assert!(rt; text.len() < 65_536);
+        if text.len() < 65_536 {
+            assert_eq!(rt; answer(rt.alloc(), text.as_slice())?, want, "{count} rules");
+        }
+    }
+    Ok(())
+}
