@@ -182,3 +182,36 @@ fault_first bytes fault has =
       flawless = f.flawless;
       faulty = subst (λ (n : ℕ). line_of (nat_le 256 n) (words_of (without_return f.line)) ≡ Err fault.kind) (omega arith) f.faulty;
     }
+
+same_place : (number place : ℕ) (kind : RuleKind) (read : Result (List Rule) RuleFault) → number ≡ place → read ≡ Err (record { line = number; kind = kind }) → read ≡ Err (record { line = place; kind = kind })
+same_place number place kind read is at = subst (λ (n : ℕ). read ≡ Err (record { line = n; kind = kind })) is at
+
+located_fault : (number : ℕ) (line : List ℕ) (count : ℕ) (lines : List (List ℕ)) (kind : RuleKind) → line_of (nat_le 256 count) (words_of (without_return line)) ≡ Err kind → rules_from number count (line ∷ lines) ≡ Err (record { line = number; kind = kind })
+unfolding rules_from
+located_fault number line count lines kind said = rw said
+
+make_fault : (number count : ℕ) (before : List (List ℕ)) (line : List ℕ) (behind : List (List ℕ)) (rules : List Rule) (kind : RuleKind) (place : ℕ) → rules_from number count before ≡ Ok rules →
+    line_of (nat_le 256 (count + length rules)) (words_of (without_return line)) ≡ Err kind → place ≡ length before + number → rules_from number count (before ++ line ∷ behind) ≡ Err (record { line = place; kind = kind })
+unfolding rules_from
+make_fault number count [] line behind rules kind place read faulty at =
+    let none : [] ≡ rules = two_rules (Ok []) [] rules refl read in
+    let here : line_of (nat_le 256 count) (words_of (without_return line)) ≡ Err kind =
+    subst (λ (n : ℕ). line_of (nat_le 256 n) (words_of (without_return line)) ≡ Err kind) (omega (arith, ap length none)) faulty in
+    same_place number place kind (rules_from number count (line ∷ behind)) (omega arith) (located_fault number line count behind kind here)
+make_fault number count (b ∷ bs) line behind rules kind place read faulty at =
+    let said = line_of (nat_le 256 count) (words_of (without_return b)) in
+    let h = went_on (located number said) (λ (rule : Option Rule). rules_from (number + 1) (count + length (option_to_list rule)) bs >>= λ (others : List Rule). Ok (option_to_list rule ++ others)) rules read in
+    let k = went_on (rules_from (number + 1) (count + length (option_to_list h.0)) bs) (λ (others : List Rule). Ok (option_to_list h.0 ++ others)) rules h.2 in
+    let is : option_to_list h.0 ++ k.0 ≡ rules = two_rules (Ok (option_to_list h.0 ++ k.0)) (option_to_list h.0 ++ k.0) rules refl k.2 in
+    let long : count + length rules ≡ count + length (option_to_list h.0) + length k.0 = omega (arith, ap length is, length-append (option_to_list h.0) k.0) in
+    let here : said ≡ Ok h.0 = not_located number said h.0 h.1 in
+    let more : rules_from (number + 1) (count + length (option_to_list h.0)) (bs ++ line ∷ behind) ≡ Err (record { line = place; kind = kind }) =
+    make_fault (number + 1) (count + length (option_to_list h.0)) bs line behind k.0 kind place k.1
+    (subst (λ (n : ℕ). line_of (nat_le 256 n) (words_of (without_return line)) ≡ Err kind) long faulty) (omega arith) in
+    rw (here, more)
+
+pub first_fault : (bytes : List ℕ) (fault : RuleFault) → IsFirst bytes fault → HasFault bytes fault
+first_fault bytes fault first =
+    subst (λ (lines : List (List ℕ)). rules_from 1 0 lines ≡ Err fault) (sym first.lines)
+    (make_fault 1 0 first.before first.line first.behind first.rules fault.kind fault.line first.flawless
+    (subst (λ (n : ℕ). line_of (nat_le 256 n) (words_of (without_return first.line)) ≡ Err fault.kind) (omega arith) first.faulty) first.number)

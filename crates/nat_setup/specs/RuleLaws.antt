@@ -50,3 +50,7 @@ pub record IsFirst (bytes : List ℕ) (fault : RuleFault) : Type 0 where
 -- a fault is that of the first faulty line
 abbrev pub FaultsAreFirst : Type 0
 FaultsAreFirst = (bytes : List ℕ) (fault : RuleFault) → HasFault bytes fault → IsFirst bytes fault
+
+-- the fault of the first faulty line is the file's
+abbrev pub FirstAreFaults : Type 0
+FirstAreFaults = (bytes : List ℕ) (fault : RuleFault) → IsFirst bytes fault → HasFault bytes fault

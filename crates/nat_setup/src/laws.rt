@@ -1,6 +1,6 @@
 //! What holds of all bytes as files of rules: each law is the contract of a function that does nothing.
 
-ghost use Rattle.nat_setup.specs.RuleLaws.{BytesHaveRulesOrFault, FaultsAreFirst, FaultsAreUnique, FilesHaveNoFault, FilesSayTheirRules, LinesMakeFiles, RulesAreUnique};
+ghost use Rattle.nat_setup.specs.RuleLaws.{BytesHaveRulesOrFault, FaultsAreFirst, FaultsAreUnique, FilesHaveNoFault, FilesSayTheirRules, FirstAreFaults, LinesMakeFiles, RulesAreUnique};
 
 /// Bytes are a file of one list of rules at most.
 pub fn rules_are_unique()
@@ -35,4 +35,9 @@ pub fn lines_make_files()
 /// A fault is that of the first faulty line.
 pub fn faults_are_first()
     ensures { FaultsAreFirst }
+{}
+
+/// The fault of the first faulty line is the file's.
+pub fn first_are_faults()
+    ensures { FirstAreFaults }
 {}
