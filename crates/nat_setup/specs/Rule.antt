@@ -17,9 +17,9 @@ abbrev pub is_from : Option Block → ℕ → Bool
 is_from None address = true
 is_from (Some block) address = is_in_block block address
 
-abbrev pub is_number : Option ℕ → ℕ → Bool
-is_number None number = true
-is_number (Some wanted) number = wanted == number
+abbrev pub is_port : Option ℕ → ℕ → Bool
+is_port None number = true
+is_port (Some wanted) number = wanted == number
 
 abbrev pub is_proto : Option Proto → Proto → Bool
 is_proto None proto = true
@@ -29,7 +29,7 @@ is_proto (Some wanted) proto = number_of wanted == number_of proto
 abbrev pub matches : Tuple → Rule → Bool
 matches t rule =
     is_proto rule.proto t.proto && is_from rule.src t.src && is_from rule.dst t.dst
-    && is_number rule.sport t.a && is_number rule.dport t.b
+    && is_port rule.sport t.a && is_port rule.dport t.b
 
 -- a block has a length of at most 32
 abbrev pub IsBlock : Option Block → Type 0

@@ -46,12 +46,12 @@ abbrev pub halves_at : ℕ → List ℕ → Option (List ℕ × List ℕ)
 halves_at sign text = option_map (λ at. (take at text, drop (at + 1) text)) (position (λ b. b == sign) text)
 
 -- the text is a decimal number of one to `most` digits
-abbrev pub is_number : ℕ → List ℕ → Bool
-is_number most text = nat_lt 0 (length text) && nat_le (length text) most && all_ascii_digits text
+abbrev pub is_decimal : ℕ → List ℕ → Bool
+is_decimal most text = nat_lt 0 (length text) && nat_le (length text) most && all_ascii_digits text
 
 -- the number that the text writes with at most `most` digits
-abbrev pub number_of : ℕ → List ℕ → Option ℕ
-number_of most text = if is_number most text then Some (digits_value 10 text) else None
+abbrev pub decimal_of : ℕ → List ℕ → Option ℕ
+decimal_of most text = if is_decimal most text then Some (digits_value 10 text) else None
 
 -- the number is one from `low` to `high`
 abbrev pub within : ℕ → ℕ → Option ℕ → Option ℕ
@@ -60,7 +60,7 @@ within low high (Some n) = if nat_le low n && nat_le n high then Some n else Non
 
 -- the number from `low` to `high` that the text writes with at most `most` digits
 abbrev pub number_in : ℕ → ℕ → ℕ → List ℕ → Option ℕ
-number_in most low high text = within low high (number_of most text)
+number_in most low high text = within low high (decimal_of most text)
 
 -- a port is a number from 1 to 65535
 unfoldable pub port_of : List ℕ → Option ℕ

@@ -2,7 +2,7 @@
 
 ghost use Rattle.std.specs.Prelude.{◌≡◌, ◌≤◌, find};
 ghost use Rattle.std.specs.List.{AllByRecursion};
-ghost use Rattle.nat_setup.specs.Rule.{IsBlock, is_from, is_in_block, is_number, is_proto, IsLawfulRule, matches};
+ghost use Rattle.nat_setup.specs.Rule.{IsBlock, is_from, is_in_block, is_port, is_proto, IsLawfulRule, matches};
 
 use room_list::RoomList;
 use tuple_core::{Proto, Tuple};
@@ -71,9 +71,9 @@ fn is_from(block: &Option<Block>, address: u32) -> bool
     }
 }
 
-/// Whether the number, where there is one, is this.
-fn is_number(option: Option<u16>, number: u16) -> bool
-    ensures { result ≡ is_number option number }
+/// Whether the port, where there is one, is this.
+fn is_port(option: Option<u16>, number: u16) -> bool
+    ensures { result ≡ is_port option number }
 {
     match option {
         Some(wanted) => wanted == number,
@@ -92,19 +92,19 @@ fn is_proto(option: Option<Proto>, proto: Proto) -> bool
 }
 
 /// Whether the rule is for flows with this original tuple.
-pub fn matches(rule: &Rule, t: &Tuple) -> bool
+pub(crate) fn matches(rule: &Rule, t: &Tuple) -> bool
     requires { IsLawfulRule rule.now }
     ensures { result ≡ matches t.now rule.now }
 {
     is_proto(rule.proto, t.proto)
         && is_from(&rule.src, t.src)
         && is_from(&rule.dst, t.dst)
-        && is_number(rule.sport, t.a)
-        && is_number(rule.dport, t.b)
+        && is_port(rule.sport, t.a)
+        && is_port(rule.dport, t.b)
 }
 
 /// The first of the rules that is for flows with this original tuple.
-pub fn rule_for(rules: &[Rule], t: &Tuple) -> Option<Rule>
+pub(crate) fn rule_for(rules: &[Rule], t: &Tuple) -> Option<Rule>
     requires { AllByRecursion IsLawfulRule rules.now }
     ensures { result ≡ find (matches t.now) rules.now }
 {

@@ -1,7 +1,7 @@
 //! Text of a rules file: lines, words, numbers and addresses.
 
 ghost use Rattle.std.specs.Prelude.{◌≡◌, ◌==◌, ◌+◌, ◌∷◌, ◌<◌, ◌≤◌, [], length, position, take, drop, IfSome, MatchOption, None, Some};
-ghost use Rattle.nat_setup.specs.Text.{address_of, address_of_octets, halves_at, is_blank, length_of, lines_of, number_in, number_of, octet_of, parts_at, port_of, with_word, without_return, words_of};
+ghost use Rattle.nat_setup.specs.Text.{address_of, address_of_octets, halves_at, is_blank, length_of, lines_of, number_in, decimal_of, octet_of, parts_at, port_of, with_word, without_return, words_of};
 
 /// The first place with this byte.
 fn place_of(text: &[u8], sign: u8) -> Option<usize>
@@ -45,7 +45,7 @@ pub(crate) fn split_once(text: &[u8], sign: u8) -> Option<(&[u8], &[u8])>
 /// The number that the text writes with at most `most` digits.
 pub(crate) fn digits(text: &[u8], most: usize) -> Option<u32>
     requires { most ≤ 5 }
-    ensures { result ≡ number_of most text.now }
+    ensures { result ≡ decimal_of most text.now }
 {
     if text.is_empty() || text.len() > most {
         return None;

@@ -139,7 +139,6 @@ pub fn translate<R: Wait, D: Desk>(
     requires lawful { AllByRecursion IsLawfulRule rules.now.items }
     requires valid { is_valid t.now ≡ true }
     requires room { length (D.sight desk.old).held + length (D.sight desk.old).owed ≤ 3 }
-    requires knows { IsKnown (D.sight desk.old) }
     ensures says { TranslateSays (find (matches t.now) rules.now.items) t.now
         (D.sight desk.old) (D.sight desk.new) result }
     ensures saw { Saw (D.sight desk.old) (D.sight desk.new) }
@@ -148,6 +147,10 @@ pub fn translate<R: Wait, D: Desk>(
 {
     match rule_for(rules.as_slice(), t) {
         Some(rule) => translate_by(rt, desk, &rule, t),
-        None => TranslateOutcome::Plain,
+        None => {
+            // A desk says what it knows with each answer: here the number of places, which is of no use.
+            desk.places();
+            TranslateOutcome::Plain
+        }
     }
 }
