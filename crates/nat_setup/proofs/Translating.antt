@@ -67,35 +67,36 @@ pub has_it : (low high own number : ℕ) (keeps has : Bool) → has ≡ (is_betw
 has_it low high own number keeps has same is = subst (λ n. has ≡ (is_between low high n || keeps)) is same
 
 -- the first number that is tried
-pub record IsFirst (rule : Rule) (t : Tuple) (low : ℕ) (has : Bool) (number : ℕ) : Type 0 where
+pub record IsFirst (rule : Rule) (t : Tuple) (low high : ℕ) (has : Bool) (number : ℕ) : Type 0 where
   pub own : has ≡ true → number ≡ own_number rule t
-  pub other : has ≡ false → number ≡ low
+  pub above : has ≡ false → low ≤ number
+  pub below : has ≡ false → number ≤ high
 
-first_kept : (rule : Rule) (t : Tuple) (low number : ℕ) (has : Bool) → IsFirst rule t low has number
+first_kept : (rule : Rule) (t : Tuple) (low high number : ℕ) (has : Bool) → IsFirst rule t low high has number
     → (number ≡ own_number rule t) ⊎ (has ≡ false)
-first_kept rule t low number true is = inl (is.own refl)
-first_kept rule t low number false is = inr refl
+first_kept rule t low high number true is = inl (is.own refl)
+first_kept rule t low high number false is = inr refl
 
-first_allowed : (rule : Rule) (t : Tuple) (low high number : ℕ) (keeps has : Bool) → IsChoice rule t low high keeps → low ≤ high
-    → has ≡ (is_between low high (own_number rule t) || keeps) → IsFirst rule t low has number
+first_allowed : (rule : Rule) (t : Tuple) (low high number : ℕ) (keeps has : Bool) → IsChoice rule t low high keeps
+    → has ≡ (is_between low high (own_number rule t) || keeps) → IsFirst rule t low high has number
     → is_allowed rule t number ≡ true
-first_allowed rule t low high number keeps true choice up same is =
+first_allowed rule t low high number keeps true choice same is =
     ap (is_allowed rule t) (is.own refl) ∙ own_allowed rule t low high keeps choice ∙ sym same
-first_allowed rule t low high number keeps false choice up same is =
-    choice number ∙ left_or _ _ (between_of low high number (omega (arith, is.other refl)) (omega (arith, up, is.other refl)))
+first_allowed rule t low high number keeps false choice same is =
+    choice number ∙ left_or _ _ (between_of low high number (is.above refl) (is.below refl))
 
 -- the first number was free
 pub chooses_first : (rule : Rule) (t reply : Tuple) (old new : Sight) (low high number at : ℕ) (keeps has : Bool)
-    → IsChoice rule t low high keeps → low ≤ high → has ≡ (is_between low high (own_number rule t) || keeps)
-    → IsFirst rule t low has number → reply ≡ reply_with rule t number → Looked old new at (IsFree reply)
+    → IsChoice rule t low high keeps → has ≡ (is_between low high (own_number rule t) || keeps)
+    → IsFirst rule t low high has number → reply ≡ reply_with rule t number → Looked old new at (IsFree reply)
     → Chooses rule t old new reply None
-chooses_first rule t reply old new low high number at keeps has choice up same is gives looked = record {
+chooses_first rule t reply old new low high number at keeps has choice same is gives looked = record {
   lawful = record {
     number = number;
-    allowed = first_allowed rule t low high number keeps has choice up same is;
+    allowed = first_allowed rule t low high number keeps has choice same is;
     gives = gives;
     own = keeps_it rule t low high keeps number choice
-        (⊎_elim (λ e. inl e) (λ e. inr (sym same ∙ e)) (first_kept rule t low number has is));
+        (⊎_elim (λ e. inl e) (λ e. inr (sym same ∙ e)) (first_kept rule t low high number has is));
   };
   tried = tt;
   free = record { point = at; low = looked.low; high = looked.fact.within; fact = looked.fact };
@@ -157,7 +158,7 @@ module _ (stay : StatesStay) where
   -- no number was free
   pub no_port : (rule : Rule) (t first : Tuple) (old mid new : Sight) (low high number from to : ℕ) (keeps has : Bool)
       → IsChoice rule t low high keeps → has ≡ (is_between low high (own_number rule t) || keeps)
-      → IsFirst rule t low has number → first ≡ reply_with rule t number → Looked old mid from (IsLive first)
+      → IsFirst rule t low high has number → first ≡ reply_with rule t number → Looked old mid from (IsLive first)
       → IsSearching rule t mid new low (high + 1) from from to → FindsNoPort rule t old new from to
   no_port rule t first old mid new low high number from to keeps has choice same is gives looked searched = record {
     low = looked.low;

@@ -44,22 +44,25 @@ fn has_own(choice: &Choice, own: u16) -> bool
     choice.keeps_own || (choice.low <= own && own <= choice.high)
 }
 
-/// The number that is tried first: the flow's own one, where the choice has it.
-fn first_number(choice: &Choice, own: u16, has_own: bool) -> u16
-    ensures own { has_own ≡ true → result ≡ own }
-    ensures other { has_own ≡ false → result ≡ choice.now.low }
-{
-    if has_own { own } else { choice.low }
-}
-
 /// From where on the numbers of a choice are tried: flows that share their own number begin at others.
-fn first_tried(choice: &Choice, t: &Tuple) -> u32
+fn first_tried(choice: &Choice, t: &Tuple) -> u16
     requires { choice.now.low ≤ choice.now.high }
     ensures low { choice.now.low ≤ result }
     ensures high { result ≤ choice.now.high }
 {
     let size = (choice.high - choice.low) as u32 + 1;
-    choice.low as u32 + bucket_of(t, 0, 65_536) % size
+    (choice.low as u32 + bucket_of(t, 0, 65_536) % size) as u16
+}
+
+/// The number that is tried first: the flow's own one, where the choice has it, else that from which the
+/// others are tried.
+fn first_number(choice: &Choice, t: &Tuple, own: u16, has_own: bool) -> u16
+    requires { choice.now.low ≤ choice.now.high }
+    ensures own { has_own ≡ true → result ≡ own }
+    ensures above { has_own ≡ false → choice.now.low ≤ result }
+    ensures below { has_own ≡ false → result ≤ choice.now.high }
+{
+    if has_own { own } else { first_tried(choice, t) }
 }
 
 /// Looks for a free number in the whole choice, where the flow's own one was taken or is not to be kept.
@@ -83,7 +86,7 @@ fn search_choice<R: Wait, D: Desk>(
     ensures knows { IsKnown (D.sight desk.new) }
 {
     states_stay();
-    let middle = first_tried(choice, t);
+    let middle = first_tried(choice, t) as u32;
     let end = choice.high as u32 + 1;
     match search_between(rt, desk, rule, t, middle, end, from, from) {
         Search::Found { number, reply } => Search::Found { number, reply },
@@ -108,7 +111,7 @@ fn translate_by<R: Wait, D: Desk>(rt: &R, desk: &mut D, rule: &Rule, t: &Tuple) 
     let own = own_number(rule, t);
     let choice = choice_for(rule, t);
     let has_own = has_own(&choice, own);
-    let reply = reply_with(rule, t, first_number(&choice, own, has_own));
+    let reply = reply_with(rule, t, first_number(&choice, t, own, has_own));
     match look(rt, desk, &reply) {
         Probe::Free { .. } => TranslateOutcome::Chosen {
             reply,

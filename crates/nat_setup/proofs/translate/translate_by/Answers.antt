@@ -8,10 +8,10 @@ pub returns-in-Free-clause-says : goal.returns-in-Free-clause-says
 returns-in-Free-clause-says g c =
     chooses_first c.args.rule.now c.args.t.now c.reply_with-reply.result (g.D.Desk.sight c.args.desk.now)
     (g.D.Desk.sight c.look.new.desk) c.choice_for-choice.result.low c.choice_for-choice.result.high c.first_number.result c.in-Free.at c.choice_for-choice.result.keeps_own
-    c.has_own-has_own.result c.choice_for-choice.ensures.exact c.choice_for-choice.ensures.up
+    c.has_own-has_own.result c.choice_for-choice.ensures.exact
     (has_it c.choice_for-choice.result.low c.choice_for-choice.result.high c.own_number-own.result _ c.choice_for-choice.result.keeps_own c.has_own-has_own.result
     c.has_own-has_own.ensures c.own_number-own.ensures)
-    (record { own = λ h. c.first_number.ensures.own h ∙ c.own_number-own.ensures; other = c.first_number.ensures.other })
+    (record { own = λ h. c.first_number.ensures.own h ∙ c.own_number-own.ensures; above = c.first_number.ensures.above; below = c.first_number.ensures.below })
     c.reply_with-reply.ensures.exact c.in-Free.ensures.says
 
 pub returns-then-number-own-clause-says : goal.returns-then-number-own-clause-says
@@ -47,5 +47,5 @@ returns-in-AllTaken-clause-says g c =
     c.choice_for-choice.ensures.exact
     (has_it c.choice_for-choice.result.low c.choice_for-choice.result.high c.own_number-own.result _ c.choice_for-choice.result.keeps_own c.has_own-has_own.result
     c.has_own-has_own.ensures c.own_number-own.ensures)
-    (record { own = λ h. c.first_number.ensures.own h ∙ c.own_number-own.ensures; other = c.first_number.ensures.other })
+    (record { own = λ h. c.first_number.ensures.own h ∙ c.own_number-own.ensures; above = c.first_number.ensures.above; below = c.first_number.ensures.below })
     c.reply_with-reply.ensures.exact c.in-Taken.ensures.says c.in-AllTaken.ensures.says
