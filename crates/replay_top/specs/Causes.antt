@@ -1,5 +1,5 @@
 -- Why a run is refused, and which status the inputs call for.
-use Rattle.std.specs.Prelude.{All, unwrap_or, false, [], ◌≡◌, ℕ, ◌<◌, ◌⊎◌, None, List, length, IfSome}
+use Rattle.std.specs.Prelude.{All, false, ◌≡◌, ℕ, ◌<◌, ◌⊎◌, None, List, length, IfSome}
 use Rattle.ct_io.specs.Counts.{Rose}
 use Rattle.ct_io.specs.Source.{Source}
 use Rattle.ct_io.specs.Tape.{Tape}
@@ -8,24 +8,28 @@ use Rattle.replay_top.specs.declared.flaw.Refusal.TheVariants.{Flawed, Misused, 
 use Rattle.replay_top.specs.ErrorLine.{line_of, Tells}
 use Rattle.replay_top.specs.Flaw.{flaw_status}
 use Rattle.replay_top.specs.Inputs.{clean, Finding, FirstFlaw, flawed, misused, Reaches}
-use Rattle.replay_top.specs.Words.{files_named, name_at, Named}
+use Rattle.replay_top.specs.Words.{command_of, file_at, files_named, files_of, InputFile, Named}
 
--- a file was reached, and its opening failed
-pub record FailsToOpen (files files' : Source) (names : List (List ℕ)) (file : ℕ) : Type 0 where
-  pub reached : Reaches IfSome files names file
-  pub rose : Rose (files.open_faults (name_at names file)) (files'.open_faults (name_at names file))
+-- opening the file failed
+abbrev pub FailedToOpen : Source → Source → InputFile → Type 0
+FailedToOpen files files' input = Rose (files.open_faults input.name) (files'.open_faults input.name)
 
--- a file was reached, and a read of it failed
-pub record FailsToRead (files files' : Source) (names : List (List ℕ)) (file : ℕ) : Type 0 where
-  pub reached : Reaches IfSome files names file
+-- one of the files was reached, and its opening failed
+pub record FailsToOpen (files files' : Source) (inputs : List InputFile) (file : ℕ) : Type 0 where
+  pub reached : Reaches IfSome files inputs file
+  pub rose : FailedToOpen files files' (file_at inputs file)
+
+-- one of the files was reached, and a read of it failed
+pub record FailsToRead (files files' : Source) (inputs : List InputFile) (file : ℕ) : Type 0 where
+  pub reached : Reaches IfSome files inputs file
   pub rose : Rose files.read_faults files'.read_faults
 
 -- the cause of a refusal, of a run that began with these files and left them so
 abbrev pub HasCause : List (List ℕ) → Source → Source → Refusal → Type 0
-HasCause words files files' Misused = files_named words ≡ None
-HasCause words files files' (Flawed file flaw) = Named words (λ names. FirstFlaw IfSome files names file flaw)
-HasCause words files files' (NotOpened file) = Named words (λ names. FailsToOpen files files' names file)
-HasCause words files files' (NotRead file) = Named words (λ names. FailsToRead files files' names file)
+HasCause words files files' Misused = command_of words ≡ None
+HasCause words files files' (Flawed file flaw) = Named words (λ command. FirstFlaw IfSome files (files_of command) file flaw)
+HasCause words files files' (NotOpened file) = Named words (λ command. FailsToOpen files files' (files_of command) file)
+HasCause words files files' (NotRead file) = Named words (λ command. FailsToRead files files' (files_of command) file)
 HasCause words files files' NoMemory = Unit {0}
 
 -- the status of a refusal
@@ -46,8 +50,7 @@ pub record IsRefused (words : List (List ℕ)) (files files' : Source) (err err'
 -- opening a file that the words name failed, or a read did
 abbrev pub FilesFailed : List (List ℕ) → Source → Source → Type 0
 FilesFailed words files files' =
-    Named words (λ names. (file : ℕ) × (file < length names)
-    × Rose (files.open_faults (name_at names file)) (files'.open_faults (name_at names file)))
+    Named words (λ command. (file : ℕ) × (file < length (files_of command)) × FailedToOpen files files' (file_at (files_of command) file))
     ⊎ Rose files.read_faults files'.read_faults
 
 -- this status, or that of want of memory
@@ -63,9 +66,12 @@ Answers words files files' out out' status (flawed file flaw) =
 Answers words files files' out out' status clean =
     IsOrMemory status 0 ⊎ (status ≡ 3) × FilesFailed words files files' ⊎ (status ≡ 4) × Rose out.faults out'.faults
 
--- The count of opening a name stands, unless a file that the words name shares it, or reads are counted
--- in it too.
-abbrev pub OthersStand : List (List ℕ) → Source → Source → Type 0
-OthersStand words files files' =
-    (other : List ℕ) → All (λ name. files.shares name other ≡ false) (unwrap_or (files_named words) [])
+-- the count of opening a name stands, unless one of these files shares it, or reads are counted in it too
+abbrev pub OthersStandBeside : List InputFile → Source → Source → Type 0
+OthersStandBeside inputs files files' =
+    (other : List ℕ) → All (λ (input : InputFile). files.shares input.name other ≡ false) inputs
     → files.counts_reads other ≡ false → files'.open_faults other ≡ files.open_faults other
+
+-- the count of opening a name that the words do not give stands, unless it is shared in such a way
+abbrev pub OthersStand : List (List ℕ) → Source → Source → Type 0
+OthersStand words files files' = OthersStandBeside (files_named words) files files'

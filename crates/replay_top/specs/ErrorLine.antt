@@ -2,8 +2,13 @@
 use Rattle.std.specs.Prelude.{decimal, ◌≡◌, ℕ, ◌⊎◌, List, [], ◌++◌, codes}
 use Rattle.ct_io.specs.Counts.{Rose}
 use Rattle.ct_io.specs.Tape.{Tape}
+use Rattle.nat_setup.specs.declared.read.RuleFault.{RuleFault}
+use Rattle.nat_setup.specs.declared.read.RuleKind.{RuleKind}
+use Rattle.nat_setup.specs.declared.read.RuleKind.TheVariants as wrong
 use Rattle.packet_headers.specs.declared.capture.CaptureFault.{CaptureFault}
 use Rattle.packet_headers.specs.declared.capture.CaptureFault.TheVariants as fault
+use Rattle.replay_top.specs.declared.flaw.FileKind.{FileKind}
+use Rattle.replay_top.specs.declared.flaw.FileKind.TheVariants as kind
 use Rattle.replay_top.specs.declared.flaw.Flaw.{Flaw}
 use Rattle.replay_top.specs.declared.flaw.Flaw.TheVariants as flaw
 use Rattle.replay_top.specs.declared.flaw.Refusal.{Refusal}
@@ -26,10 +31,28 @@ fault_text (fault.CutRecord index offset) =
 fault_text (fault.TooLong index) = codes ": record " ++ decimal index ++ codes " too long\n"
 fault_text (fault.Fraction index) = codes ": record " ++ decimal index ++ codes " fraction\n"
 
+-- what is wrong with a line of a file of rules
+abbrev pub rule_kind_text : RuleKind → List ℕ
+rule_kind_text wrong.Word = codes ": word\n"
+rule_kind_text wrong.Address = codes ": address\n"
+rule_kind_text wrong.Prefix = codes ": prefix\n"
+rule_kind_text wrong.Range = codes ": range\n"
+rule_kind_text wrong.TooMany = codes ": too many\n"
+
+-- a fault of a file of rules, in words
+abbrev pub rule_fault_text : RuleFault → List ℕ
+rule_fault_text fault = codes ": line " ++ decimal fault.line ++ rule_kind_text fault.kind
+
+-- a limit of a kind of file, in words
+abbrev pub limit_text : FileKind → List ℕ
+limit_text kind.Rules = codes "limit: rules bytes\n"
+limit_text kind.Capture = codes "limit: capture bytes\n"
+
 -- the line of a flaw of the file of this name; a limit names no file
 abbrev pub flaw_line : List ℕ → Flaw → List ℕ
-flaw_line name flaw.TooLong = error_line [] (codes "limit: capture bytes\n")
-flaw_line name (flaw.Fault fault) = error_line name (fault_text fault)
+flaw_line name (flaw.TooLong kind) = error_line [] (limit_text kind)
+flaw_line name (flaw.Rules fault) = error_line name (rule_fault_text fault)
+flaw_line name (flaw.Capture fault) = error_line name (fault_text fault)
 
 -- the line of a refusal of a run with these words
 abbrev pub line_of : List (List ℕ) → Refusal → List ℕ

@@ -1,21 +1,29 @@
 -- What is wrong with a file that is not read.
-use Rattle.std.specs.Prelude.{ℕ, ◌<◌, ◌≤◌, List, length}
+use Rattle.std.specs.Prelude.{◌≡◌, ℕ, ◌<◌, ◌≤◌, List, length}
+use Rattle.nat_setup.specs.declared.rule.Rule.{Rule}
+use Rattle.nat_setup.specs.RuleFile as rules
 use Rattle.packet_headers.specs.declared.frame.Frame.{Frame}
-use Rattle.packet_headers.specs.Capture.{HasFault}
+use Rattle.packet_headers.specs.Capture as capture
+use Rattle.replay_top.specs.declared.flaw.FileKind.{FileKind}
+use Rattle.replay_top.specs.declared.flaw.FileKind.TheVariants as kind
 use Rattle.replay_top.specs.declared.flaw.Flaw.{Flaw}
-use Rattle.replay_top.specs.declared.flaw.Flaw.TheVariants.{Fault, TooLong}
-use Rattle.replay_top.specs.Capture.{IsReadable, most_bytes}
+use Rattle.replay_top.specs.declared.flaw.Flaw.TheVariants.{Capture, Rules, TooLong}
+use Rattle.replay_top.specs.Readable.{IsReadable, IsReadableRules, most_bytes}
 
--- the bytes are a capture that is read, and nothing is wrong with them
-abbrev pub IsRead : List ℕ → Type 0
-IsRead bytes = (frames : List Frame) × IsReadable bytes frames
+-- the bytes are a file of this kind that is read, and nothing is wrong with them
+abbrev pub IsRead : FileKind → List ℕ → Type 0
+IsRead kind.Rules bytes = (rules : List Rule) × IsReadableRules bytes rules
+IsRead kind.Capture bytes = (frames : List Frame) × IsReadable bytes frames
 
--- the bytes have this flaw; only where there are not too many is one looked for in them
-abbrev pub HasFlaw : List ℕ → Flaw → Type 0
-HasFlaw bytes TooLong = most_bytes < length bytes
-HasFlaw bytes (Fault fault) = (length bytes ≤ most_bytes) × HasFault bytes fault
+-- a file of this kind with these bytes has this flaw; only where there are not too many bytes is one
+-- looked for in them
+abbrev pub HasFlaw : FileKind → List ℕ → Flaw → Type 0
+HasFlaw of bytes (TooLong kind) = (of ≡ kind) × (most_bytes kind < length bytes)
+HasFlaw of bytes (Rules fault) = (of ≡ kind.Rules) × (length bytes ≤ most_bytes kind.Rules) × rules.HasFault bytes fault
+HasFlaw of bytes (Capture fault) = (of ≡ kind.Capture) × (length bytes ≤ most_bytes kind.Capture) × capture.HasFault bytes fault
 
 -- the status of a run that ends with the flaw
 abbrev pub flaw_status : Flaw → ℕ
-flaw_status TooLong = 5
-flaw_status (Fault fault) = 2
+flaw_status (TooLong kind) = 5
+flaw_status (Rules fault) = 2
+flaw_status (Capture fault) = 2

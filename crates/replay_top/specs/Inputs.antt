@@ -1,28 +1,37 @@
--- What the inputs of a run are. Files are read in the order of their names, and the first flaw decides.
+-- What the inputs of a run are. Files are read in the order in which the words name them, those of rules
+-- first, and the first flaw decides.
 use Rattle.std.specs.Prelude.{◌≡◌, ℕ, ◌<◌, Option, None, List, length}
 use Rattle.ct_io.specs.Source.{Source}
 use Rattle.replay_top.specs.declared.flaw.Flaw.{Flaw}
 use Rattle.replay_top.specs.Flaw.{HasFlaw, IsRead}
-use Rattle.replay_top.specs.Words.{files_named, name_at, Named}
+use Rattle.replay_top.specs.Words.{command_of, file_at, files_of, InputFile, Named}
 
 -- How contents that may not be told have a fact: where they are told (`IfSome`), or they are told and
 -- have it (`IsSomeAnd`).
 abbrev pub Telling : Type 1
 Telling = Option (List ℕ) → (List ℕ → Type 0) → Type 0
 
--- a file of these names is reached: each one before it is read
-pub record Reaches (of : Telling) (files : Source) (names : List (List ℕ)) (file : ℕ) : Type 0 where
-  pub within : file < length names
-  pub before : (k : ℕ) → k < file → of (files.contents (name_at names k)) IsRead
+-- the file is one that is read
+abbrev pub ReadsWell : Telling → Source → InputFile → Type 0
+ReadsWell of files input = of (files.contents input.name) (IsRead input.kind)
+
+-- the file has this flaw
+abbrev pub IsFlawed : Telling → Source → InputFile → Flaw → Type 0
+IsFlawed of files input flaw = of (files.contents input.name) (λ bytes. HasFlaw input.kind bytes flaw)
+
+-- this one of the files is reached: each one before it is read
+pub record Reaches (of : Telling) (files : Source) (inputs : List InputFile) (file : ℕ) : Type 0 where
+  pub within : file < length inputs
+  pub before : (k : ℕ) → k < file → ReadsWell of files (file_at inputs k)
 
 -- it is the first of them that has a flaw, and has this one
-pub record FirstFlaw (of : Telling) (files : Source) (names : List (List ℕ)) (file : ℕ) (flaw : Flaw) : Type 0 where
-  pub reached : Reaches of files names file
-  pub has : of (files.contents (name_at names file)) (λ bytes. HasFlaw bytes flaw)
+pub record FirstFlaw (of : Telling) (files : Source) (inputs : List InputFile) (file : ℕ) (flaw : Flaw) : Type 0 where
+  pub reached : Reaches of files inputs file
+  pub has : IsFlawed of files (file_at inputs file) flaw
 
 -- all of them are read
-abbrev pub AreAllRead : Telling → Source → List (List ℕ) → Type 0
-AreAllRead of files names = (k : ℕ) → k < length names → of (files.contents (name_at names k)) IsRead
+abbrev pub AreAllRead : Telling → Source → List InputFile → Type 0
+AreAllRead of files inputs = (k : ℕ) → k < length inputs → ReadsWell of files (file_at inputs k)
 
 -- what the inputs are: the words are misused; or a file is the first with a flaw; or nothing is wrong
 pub data Finding : Type 0 where
@@ -32,6 +41,6 @@ pub data Finding : Type 0 where
 
 -- the words and the files are what the finding says
 abbrev pub Finds : Telling → List (List ℕ) → Source → Finding → Type 0
-Finds of words files misused = files_named words ≡ None
-Finds of words files (flawed file flaw) = Named words (λ names. FirstFlaw of files names file flaw)
-Finds of words files clean = Named words (λ names. AreAllRead of files names)
+Finds of words files misused = command_of words ≡ None
+Finds of words files (flawed file flaw) = Named words (λ command. FirstFlaw of files (files_of command) file flaw)
+Finds of words files clean = Named words (λ command. AreAllRead of files (files_of command))

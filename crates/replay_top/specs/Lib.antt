@@ -1,4 +1,3 @@
-pub mod Capture
 pub mod Causes
 pub mod ErrorLine
 pub mod Flaw
@@ -6,6 +5,7 @@ pub mod Inputs
 pub mod Internal
 pub mod Laws
 pub mod Process
+pub mod Readable
 pub mod Replay
 pub mod Report
 pub mod Sizes

@@ -1,19 +1,21 @@
 -- What a run of the program reports and prints.
-use Rattle.std.specs.Prelude.{◌≡◌, ℕ, List, [], ◌∷◌, map, IfSome, Result, Ok, Err}
+use Rattle.std.specs.Prelude.{◌≡◌, ℕ, Option, Some, None, List, [], ◌∷◌, map, IfSome, Result, Ok, Err}
 use Rattle.ct_io.specs.Counts.{Rose}
 use Rattle.ct_io.specs.Source.{Source}
 use Rattle.ct_io.specs.Tape.{Tape}
+use Rattle.nat_setup.specs.declared.rule.Rule.{Rule}
 use Rattle.packet_headers.specs.declared.frame.Frame.{Frame}
 use Rattle.packet_path.specs.Packet.{Given, given_of}
 use Rattle.history_book.specs.declared.report.Report.{Report}
+use Rattle.replay_top.specs.declared.flaw.FileKind.TheVariants.{Capture}
 use Rattle.replay_top.specs.declared.flaw.ReplayError.{ReplayError}
 use Rattle.replay_top.specs.declared.flaw.ReplayError.TheVariants.{Flawed, NoMemory}
-use Rattle.replay_top.specs.Capture.{IsReadable}
 use Rattle.replay_top.specs.Flaw.{HasFlaw}
+use Rattle.replay_top.specs.Readable.{IsReadable, IsReadableRules}
 use Rattle.replay_top.specs.Report.{IsWellFormed}
 use Rattle.replay_top.specs.Sizes.{program_sizes}
 use Rattle.report_text.specs.Report.{report_text}
-use Rattle.replay_top.specs.Words.{Named}
+use Rattle.replay_top.specs.Words.{Command, Named}
 use Rattle.report_text.specs.Wrote.{followed_by, WroteFront}
 
 -- the report is well formed for the frames of the capture that the bytes are
@@ -25,8 +27,20 @@ pub record IsReportOf (bytes : List ℕ) (report : Report) : Type 0 where
 -- what replaying these bytes gives: their report, or the flaw that they have; memory may be wanting
 abbrev pub ReplaysAs : List ℕ → Result Report ReplayError → Type 0
 ReplaysAs bytes (Ok report) = IsReportOf bytes report
-ReplaysAs bytes (Err (Flawed flaw)) = HasFlaw bytes flaw
+ReplaysAs bytes (Err (Flawed flaw)) = HasFlaw Capture bytes flaw
 ReplaysAs bytes (Err NoMemory) = Unit {0}
+
+-- A file of this name gave these rules. Where its contents are told, they are its bytes; else no more is
+-- said of them.
+pub record GaveRulesOf (files : Source) (name : List ℕ) (rules : List Rule) : Type 0 where
+  pub bytes : List ℕ
+  pub told : IfSome (files.contents name) (λ contents. bytes ≡ contents)
+  pub file : IsReadableRules bytes rules
+
+-- without a file of rules there are none
+abbrev pub GaveRules : Source → Option (List ℕ) → List Rule → Type 0
+GaveRules files None rules = rules ≡ []
+GaveRules files (Some name) rules = GaveRulesOf files name rules
 
 -- A file of this name gave the frames of a capture. Where its contents are told, the capture's bytes
 -- are these; else no more is said of them.
@@ -44,15 +58,17 @@ GaveEach files [] (given ∷ more) = ⊥
 GaveEach files (name ∷ names) [] = ⊥
 GaveEach files (name ∷ names) (given ∷ more) = Gave files name given × GaveEach files names more
 
--- the report is that of the captures of these names
-pub record IsReplayOf (files : Source) (names : List (List ℕ)) (report : Report) : Type 0 where
+-- the report is that of the command's captures, with its rules
+pub record IsReplayOf (files : Source) (command : Command) (report : Report) : Type 0 where
+  pub rules : List Rule
+  pub gave_rules : GaveRules files command.rules rules
   pub captures : List (List Given)
-  pub gave : GaveEach files names captures
+  pub gave : GaveEach files command.captures captures
   pub well_formed : IsWellFormed program_sizes captures report
 
--- the report is that of the captures that the words name
+-- the report is that of the command that the words ask for
 abbrev pub IsReplay : List (List ℕ) → Source → Report → Type 0
-IsReplay words files report = Named words (λ names. IsReplayOf files names report)
+IsReplay words files report = Named words (λ command. IsReplayOf files command report)
 
 -- the same, and what was written is followed by exactly the report's text
 pub record IsPrinted (words : List (List ℕ)) (files : Source) (before after : Tape) (report : Report) : Type 0 where

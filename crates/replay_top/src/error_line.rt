@@ -1,14 +1,15 @@
 //! The one line on the error output.
 
-ghost use Rattle.std.specs.Prelude.{◌++◌, codes, decimal, map};
+ghost use Rattle.std.specs.Prelude.{◌≡◌, ◌++◌, codes, decimal, map};
 ghost use Rattle.std.specs.String.{string_bytes};
 ghost use Rattle.report_text.specs.Page.{Adds, HasRoom};
 ghost use Rattle.report_text.specs.Wrote.{Wrote};
-ghost use Rattle.replay_top.specs.ErrorLine.{error_line, fault_text, flaw_line, line_of, Tells, write_failed};
+ghost use Rattle.replay_top.specs.ErrorLine.{error_line, fault_text, flaw_line, limit_text, line_of, rule_fault_text, rule_kind_text, Tells, write_failed};
 
 use crate::command_line::file_name;
-use crate::flaw::{Flaw, Refusal};
+use crate::flaw::{FileKind, Flaw, Refusal};
 use ct_io::Sink;
+use nat_setup::read::{RuleFault, RuleKind};
 use packet_headers::capture::CaptureFault;
 use report_text::page::{LONGEST_LINE, Page};
 use report_text::write::{WriteFault, write_each};
@@ -70,13 +71,50 @@ fn write_fault<K: Sink>(name: &str, fault: CaptureFault, err: &mut K) -> Result<
     write_line(name, page.held(), err)
 }
 
+/// What is wrong with a line of a file of rules, in words.
+fn rule_kind_text(kind: RuleKind) -> &'static [u8]
+    ensures { result.now ≡ rule_kind_text kind }
+{
+    match kind {
+        RuleKind::Word => b": word\n",
+        RuleKind::Address => b": address\n",
+        RuleKind::Prefix => b": prefix\n",
+        RuleKind::Range => b": range\n",
+        RuleKind::TooMany => b": too many\n",
+    }
+}
+
+/// Writes the line of a fault of the file of rules of this name.
+fn write_rule_fault<K: Sink>(name: &str, fault: RuleFault, err: &mut K) -> Result<(), WriteFault>
+    ensures { Wrote (error_line name.now (rule_fault_text fault))
+        (K.tape err.old) (K.tape err.new) result }
+{
+    let mut buffer = [0; LONGEST_LINE];
+    let mut page = Page::new(&mut buffer);
+    page.text(b": line ");
+    page.number(fault.line);
+    page.text(rule_kind_text(fault.kind));
+    write_line(name, page.held(), err)
+}
+
+/// A limit of a kind of file, in words.
+fn limit_text(kind: FileKind) -> &'static [u8]
+    ensures { result.now ≡ limit_text kind }
+{
+    match kind {
+        FileKind::Rules => b"limit: rules bytes\n",
+        FileKind::Capture => b"limit: capture bytes\n",
+    }
+}
+
 /// Writes the line of a flaw of the file of this name.
 fn write_flaw<K: Sink>(name: &str, flaw: Flaw, err: &mut K) -> Result<(), WriteFault>
     ensures { Wrote (flaw_line name.now flaw) (K.tape err.old) (K.tape err.new) result }
 {
     match flaw {
-        Flaw::TooLong => write_line("", b"limit: capture bytes\n", err),
-        Flaw::Fault(fault) => write_fault(name, fault, err),
+        Flaw::TooLong(kind) => write_line("", limit_text(kind), err),
+        Flaw::Rules(fault) => write_rule_fault(name, fault, err),
+        Flaw::Capture(fault) => write_fault(name, fault, err),
     }
 }
 

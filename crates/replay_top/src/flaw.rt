@@ -4,15 +4,25 @@ ghost use Rattle.std.specs.Prelude.{◌≡◌};
 ghost use Rattle.replay_top.specs.Causes;
 ghost use Rattle.replay_top.specs.Flaw.{flaw_status};
 
+use nat_setup::read::RuleFault;
 use packet_headers::capture::CaptureFault;
+
+/// A kind of file that the words name.
+#[derive(Clone, Copy)]
+pub enum FileKind {
+    Rules,
+    Capture,
+}
 
 /// What is wrong with a file.
 #[derive(Clone, Copy)]
 pub enum Flaw {
-    /// It has more bytes than are read.
-    TooLong,
+    /// It has more bytes than are read of a file of this kind.
+    TooLong(FileKind),
+    /// It is no file of rules: its first fault.
+    Rules(RuleFault),
     /// It is no capture: its first fault.
-    Fault(CaptureFault),
+    Capture(CaptureFault),
 }
 
 /// Why bytes were not replayed.
@@ -41,8 +51,8 @@ fn status_of(flaw: Flaw) -> u8
     ensures { result ≡ flaw_status flaw }
 {
     match flaw {
-        Flaw::TooLong => 5,
-        Flaw::Fault(_) => 2,
+        Flaw::TooLong(_) => 5,
+        Flaw::Rules(_) | Flaw::Capture(_) => 2,
     }
 }
 

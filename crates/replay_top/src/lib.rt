@@ -17,7 +17,7 @@ mod replay;
 mod sizes;
 
 pub use ending::Run;
-pub use flaw::{Flaw, Refusal, ReplayError};
+pub use flaw::{FileKind, Flaw, Refusal, ReplayError};
 pub use input::replay_bytes;
 pub use process::{collect_words, exit_code, run_without_words};
 pub use program::top;

@@ -9,11 +9,11 @@ ghost use Rattle.replay_top.specs.Inputs.{Finding, Finds};
 ghost use Rattle.replay_top.specs.Internal.Ending.{Ends};
 ghost use Rattle.replay_top.specs.Replay.{IsCutShort, IsPrinted};
 
-use crate::command_line::capture_name;
+use crate::command_line::read_words;
 use crate::ending::{Ending, Run};
 use crate::error_line::{tell_not_written, tell_refusal};
 use crate::flaw::{Refusal, refusal_status};
-use crate::input::replay_file;
+use crate::input::replay_asked;
 use crate::laws::{flaws_are_unique, read_files_have_no_flaw};
 use ct_io::{Files, Gate, Sink};
 use report_text::write::write_report;
@@ -24,7 +24,9 @@ use std::thread::Threads;
 /// Bytes of the buffer in which the report's text is gathered.
 const BUFFER: usize = 65_536;
 
-/// Replays the capture that the words name, and writes the report's text to `out`.
+/// Replays the capture that the words name, with the rules that they name, and writes the report's text to
+/// `out`.
+#[tactic(auto, using(crate::proofs::Findings::others_named))]
 fn run<R: Wait, F: Files, K: Sink>(
     rt: &R,
     alloc: Global,
@@ -38,10 +40,10 @@ fn run<R: Wait, F: Files, K: Sink>(
         (F.source files.old) (F.source files.new) }
     ensures stays { Stays (F.source files.old) (F.source files.new) }
 {
-    let Some(name) = capture_name(words) else {
+    let Some(asked) = read_words(words) else {
         return Ending::Refused(Refusal::Misused);
     };
-    let report = match replay_file(rt, alloc, files, name) {
+    let report = match replay_asked(rt, alloc, files, asked) {
         Ok(report) => report,
         Err(why) => return Ending::Refused(why),
     };
@@ -55,14 +57,15 @@ fn run<R: Wait, F: Files, K: Sink>(
     }
 }
 
-/// The whole program: reads the words, replays the capture that they name, and writes the report's text
-/// to `out`, or one line to `err`.
+/// The whole program: reads the words, then the file of rules and the capture that they name, replays the
+/// capture, and writes the report's text to `out`, or one line to `err`.
 ///
-/// `words` are the program's name and one capture's name, which does not begin with `-`. The statuses
-/// are 0 (all was written), 1 (the words are not of that form), 2 (the file is no capture), 3 (it could
-/// not be opened or read), 4 (the output could not be written), 5 (the file has too many bytes) and 6
-/// (memory was wanted). The report is there with 0 and 4. No thread
-/// is started and the gate is not called.
+/// `words` are `ctreplay CAPTURE` or `ctreplay --rules FILE CAPTURE`; no name begins with `-`. The rules are
+/// read, and do not translate yet. The statuses are 0 (all was written), 1 (the words are not of that
+/// form), 2 (a file is no file of rules, or no capture), 3 (one could not be opened or read), 4 (the output
+/// could not be written), 5 (a file has too many bytes: of rules 1,048,576 are read, of a capture
+/// 268,435,456) and 6 (memory was wanted). The report is there with 0 and 4. No thread is started and the
+/// gate is not called.
 pub fn top<R: Threads + Wait + Sync, F: Files, K: Sink, G: Gate + Sync>(
     rt: &R,
     alloc: Global,

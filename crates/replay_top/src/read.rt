@@ -3,7 +3,7 @@
 ghost use Rattle.std.specs.Prelude.{◌≡◌, ◌≢◌, ◌<◌, ◌≤◌, Err, length, vec_len, IfOk, IfSome};
 ghost use Rattle.ct_io.specs.Counts.{Rose};
 ghost use Rattle.ct_io.specs.Source.{SameFaults, Stays};
-ghost use Rattle.replay_top.specs.Internal.Ending.{OthersStandBeside};
+ghost use Rattle.replay_top.specs.Internal.Ending.{OthersStandBesideName};
 
 use ct_io::Files;
 use room_list::Bytes;
@@ -63,7 +63,7 @@ pub fn read_file<F: Files>(
         Rose (F.source files.old).read_faults (F.source files.new).read_faults }
     ensures same_faults { result ≢ Err ReadError.Open → result ≢ Err ReadError.Read →
         SameFaults (F.source files.old) (F.source files.new) }
-    ensures others { OthersStandBeside name.now (F.source files.old) (F.source files.new) }
+    ensures others { OthersStandBesideName name.now (F.source files.old) (F.source files.new) }
     ensures stays { Stays (F.source files.old) (F.source files.new) }
 {
     let mut piece = new_piece(alloc)?;

@@ -1,8 +1,10 @@
 //! Replays the frames of one capture.
 
 ghost use Rattle.std.specs.Prelude.{◌≡◌, ◌+◌, ◌*◌, ◌<◌, ◌≤◌, ◌^◌, [], ◌∷◌, length, map, IfOk, OnOk};
+ghost use Rattle.std.specs.List.{AllByRecursion};
 ghost use Rattle.history_book.specs.Sight.{IsKnown};
 ghost use Rattle.history_book.specs.Sizes.{AreWithinLimits};
+ghost use Rattle.nat_setup.specs.Rule.{IsLawfulRule};
 ghost use Rattle.packet_headers.specs.Capture.{AreInside, AreTimely};
 ghost use Rattle.packet_path.specs.Packet.{given_of};
 ghost use Rattle.replay_top.specs.Internal.Naming.{IsToldBy, made_in};
@@ -14,6 +16,7 @@ use book_desk::desk::PlainDesk;
 use history_book::desk::Desk;
 use history_book::report::{Closed, Report, ThreadVerdicts, Verdicts};
 use history_book::sizes::Sizes;
+use nat_setup::rule::Rules;
 use packet_headers::frame::Frame;
 use packet_path::handle::handle;
 use packet_path::laws::{lower_marks_fit, verdicts_still_fit};
@@ -78,12 +81,14 @@ pub fn replay<R: Wait>(
     sizes: &Sizes,
     bytes: &[u8],
     frames: &[Frame],
+    _rules: &Rules,
 ) -> Result<Report, NoMemory>
     requires limits { AreWithinLimits sizes.now }
     requires one_pass { sizes.now.passes ≡ 1 }
     requires inside { AreInside bytes.now frames.now }
     requires timely { AreTimely frames.now }
     requires few { 8 * length frames.now + 8 ≤ 2 ^ 30 }
+    requires lawful { AllByRecursion IsLawfulRule _rules.now.items }
     ensures { IfOk result (IsWellFormed sizes.now (map (given_of bytes.now) frames.now ∷ [])) }
 {
     let mut desk = PlainDesk::new(alloc, *sizes)?;

@@ -5,6 +5,7 @@ use crate::flaw::{Flaw, ReplayError};
 use crate::input::replay_bytes;
 use builder::{Capture, PLAIN, QUERY, query_twice};
 use ct_io::{MemFiles, MemSink, NoGate};
+use nat_setup::rule::Rules;
 use packet_headers::capture::CaptureFault;
 use std::alloc::{AllocError, Global};
 use std::sync::Wait;
@@ -88,13 +89,26 @@ fn run<R: Threads + Wait + Sync + AllocGlobal>(
     room: usize,
     faults: &Faults,
 ) -> Result<Left, Fail> {
+    run_on(rt, words, &[(NAME, bytes)], room, faults)
+}
+
+/// Runs the program on these words, where files of these names have these bytes.
+fn run_on<R: Threads + Wait + Sync + AllocGlobal>(
+    rt: &R,
+    words: &[&str],
+    given: &[(&str, &[u8])],
+    room: usize,
+    faults: &Faults,
+) -> Result<Left, Fail> {
     let alloc = rt.alloc();
     let mut all = Vec::new(alloc);
     for word in words {
         all.push(String::from_str(alloc, word)?)?;
     }
     let mut files = MemFiles::new(alloc, &[faults.files])?;
-    files.add(NAME, bytes)?;
+    for (name, bytes) in given {
+        files.add(name, bytes)?;
+    }
     let mut out = MemSink::new(alloc, room, &[faults.out])?;
     let mut err = MemSink::new(alloc, 100, &[faults.err])?;
     let run = top(
@@ -208,14 +222,17 @@ fn the_first_write_fails(rt: HostRuntime) -> Result<(), Fail> {
 #[test]
 fn bytes_are_replayed(rt: HostRuntime) -> Result<(), Fail> {
     let alloc = rt.alloc();
-    let report = replay_bytes(&rt, alloc, &CAPTURE).ok().ok_or("no report")?;
+    let rules = Rules::new(alloc, 0)?;
+    let report = replay_bytes(&rt, alloc, &CAPTURE, &rules)
+        .ok()
+        .ok_or("no report")?;
     assert_eq!(rt; report.history.len(), 2);
     assert_eq!(rt; report.live, 1);
-    let cut = replay_bytes(&rt, alloc, &CAPTURE[..119]);
+    let cut = replay_bytes(&rt, alloc, &CAPTURE[..119], &rules);
     assert!(rt;
         matches!(
             cut,
-            Err(ReplayError::Flawed(Flaw::Fault(CaptureFault::CutRecord {
+            Err(ReplayError::Flawed(Flaw::Capture(CaptureFault::CutRecord {
                 index: 1,
                 offset: 72
             })))

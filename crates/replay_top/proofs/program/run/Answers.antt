@@ -3,7 +3,7 @@ use Rattle.replay_top.proofs.program.run.Goals as goal
 pub returns-clause-ends : goal.returns-clause-ends
 returns-clause-ends g c = (
   record {
-    replay = record { names = _; named = c.in-Some.ensures; holds = c.in-Ok.ensures.replays.0 };
+    replay = record { command = _; asked = c.in-Some.ensures; holds = c.in-Ok.ensures.replays.0 };
     failed = c.in-Err-write_report.ensures.wrote.0;
     text = c.in-Err-write_report.ensures.wrote.1;
   },
