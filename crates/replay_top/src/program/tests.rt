@@ -313,3 +313,4 @@ mod builder;
 mod captures;
 mod desk;
 mod flows;
+mod rules;
