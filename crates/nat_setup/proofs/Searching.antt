@@ -1,6 +1,7 @@
 -- A search goes on: what was taken stays so.
-use Rattle.std.proofs.Common.{◌≡◌, ℕ, ◌+◌, ◌<◌, ◌≤◌, List, [], ◌++◌, length, refl, ap, subst, sym, ◌∙◌, append-nil, append_assoc, length-append, arith, ⊎_elim}
+use Rattle.std.proofs.Common.{◌≡◌, true, ℕ, ◌+◌, ◌<◌, ◌≤◌, List, [], ◌++◌, length, refl, ap, subst, sym, ◌∙◌, append-nil, append_assoc, length-append, arith, ⊎_elim}
 use Rattle.std.proofs.lemmas.Bool.{cases_eq, cases_lt}
+use Rattle.tuple_core.specs.Tuple.{is_valid}
 use Rattle.tuple_core.specs.declared.Tuple.{Tuple}
 use Rattle.history_book.specs.Desk.{Looked, SamePlaces, Saw}
 use Rattle.history_book.specs.declared.event.Event.{Event}
@@ -88,17 +89,14 @@ module _ (stay : StatesStay) where
   -- a number was free
   pub finds : (rule : Rule) (t reply : Tuple) (old mid new : Sight) (lowest end number from since to at : ℕ)
       → IsSearching rule t old mid lowest number from since to → lowest ≤ number → number < end → reply ≡ reply_with rule t number
-      → Looked mid new at (IsFree reply) → FindsFree rule t old new lowest end number reply
-  finds rule t reply old mid new lowest end number from since to at is low high gives looked = record {
+      → is_valid reply ≡ true → Looked mid new at (IsFree reply) → FindsFree rule t old new lowest end number reply at
+  finds rule t reply old mid new lowest end number from since to at is low high gives valid looked = record {
     low = low;
     high = high;
     gives = gives;
-    free = record {
-      point = at;
-      low = omega (arith, looked.low, starts_longer mid.front old.front is.saw.front);
-      high = looked.fact.within;
-      fact = looked.fact;
-    };
+    valid = valid;
+    later = omega (arith, looked.low, starts_longer mid.front old.front is.saw.front);
+    free = looked.fact;
   }
 
 -- all numbers up to the end were taken
@@ -117,16 +115,13 @@ ends rule t old new lowest end number from since to is past = record {
 pub both : StatesStay → (rule : Rule) (t : Tuple) (old mid new : Sight) (lowest middle end from since to : ℕ) (result : Search) → lowest ≤ middle
     → middle ≤ end → IsSearching rule t old mid middle end from since to → Saw mid new → SamePlaces mid new
     → SearchSays rule t lowest middle from to mid new result → SearchSays rule t lowest end from since old new result
-both stay rule t old mid new lowest middle end from since to (search.Found number reply) above up is saw same f = record {
+both stay rule t old mid new lowest middle end from since to (search.Found number reply at) above up is saw same f = record {
   low = f.low;
   high = omega (arith, f.high, up);
   gives = f.gives;
-  free = record {
-    point = f.free.point;
-    low = omega (arith, f.free.low, starts_longer mid.front old.front is.saw.front);
-    high = f.free.high;
-    fact = f.free.fact;
-  };
+  valid = f.valid;
+  later = omega (arith, f.later, starts_longer mid.front old.front is.saw.front);
+  free = f.free;
 }
 both stay rule t old mid new lowest middle end from since to (search.AllTaken later) above up is saw same f = record {
   saw = saw_trans old mid new is.saw saw;

@@ -89,7 +89,7 @@ first_allowed rule t low high number keeps false choice same is =
 pub chooses_first : (rule : Rule) (t reply : Tuple) (old new : Sight) (low high number at : ℕ) (keeps has : Bool)
     → IsChoice rule t low high keeps → has ≡ (is_between low high (own_number rule t) || keeps)
     → IsFirst rule t low high has number → reply ≡ reply_with rule t number → Looked old new at (IsFree reply)
-    → Chooses rule t old new reply None
+    → Chooses rule t old new reply None at
 chooses_first rule t reply old new low high number at keeps has choice same is gives looked = record {
   lawful = record {
     number = number;
@@ -99,7 +99,8 @@ chooses_first rule t reply old new low high number at keeps has choice same is g
         (⊎_elim (λ e. inl e) (λ e. inr (sym same ∙ e)) (first_kept rule t low high number has is));
   };
   tried = tt;
-  free = record { point = at; low = looked.low; high = looked.fact.within; fact = looked.fact };
+  low = looked.low;
+  free = looked.fact;
 }
 
 found_allowed : (rule : Rule) (t : Tuple) (low high number : ℕ) (keeps : Bool) → IsChoice rule t low high keeps
@@ -109,12 +110,12 @@ found_allowed rule t low high number keeps choice above below =
 
 module _ (stay : StatesStay) where
   -- another number than the own one was free, which was taken
-  pub chooses_other : (rule : Rule) (t first : Tuple) (old mid new : Sight) (low high number p : ℕ) (keeps : Bool) (reply : Tuple)
+  pub chooses_other : (rule : Rule) (t first : Tuple) (old mid new : Sight) (low high number p at : ℕ) (keeps : Bool) (reply : Tuple)
       → IsChoice rule t low high keeps → (is_between low high (own_number rule t) || keeps) ≡ true
       → first ≡ reply_with rule t (own_number rule t) → Looked old mid p (IsLive first) → Saw mid new
-      → FindsFree rule t mid new low (high + 1) number reply → number ≢ own_number rule t
-      → Chooses rule t old new reply (Some p)
-  chooses_other rule t first old mid new low high number p keeps reply choice has is looked saw finds other = record {
+      → FindsFree rule t mid new low (high + 1) number reply at → number ≢ own_number rule t
+      → Chooses rule t old new reply (Some p) at
+  chooses_other rule t first old mid new low high number p at keeps reply choice has is looked saw finds other = record {
     lawful = record {
       number = number;
       allowed = found_allowed rule t low high number keeps choice finds.low finds.high;
@@ -125,21 +126,17 @@ module _ (stay : StatesStay) where
             (subst (λ u. At mid.front p (IsLive u)) is looked.fact),
       );
     };
-    tried = (looked.low, omega (arith, looked.fact.within, starts_longer new.front mid.front saw.front));
-    free = record {
-      point = finds.free.point;
-      low = omega (arith, finds.free.low, starts_longer mid.front old.front looked.saw.front);
-      high = finds.free.high;
-      fact = finds.free.fact;
-    };
+    tried = (looked.low, omega (arith, looked.fact.within, finds.later));
+    low = omega (arith, finds.later, starts_longer mid.front old.front looked.saw.front);
+    free = finds.free;
   }
 
   -- a number was found that is the own one, or the rule does not allow that
-  pub chooses_free : (rule : Rule) (t : Tuple) (old mid new : Sight) (low high number : ℕ) (keeps : Bool) (reply : Tuple)
+  pub chooses_free : (rule : Rule) (t : Tuple) (old mid new : Sight) (low high number at : ℕ) (keeps : Bool) (reply : Tuple)
       → IsChoice rule t low high keeps
       → (number ≡ own_number rule t) ⊎ ((is_between low high (own_number rule t) || keeps) ≡ false)
-      → Saw old mid → FindsFree rule t mid new low (high + 1) number reply → Chooses rule t old new reply None
-  chooses_free rule t old mid new low high number keeps reply choice kept saw finds = record {
+      → Saw old mid → FindsFree rule t mid new low (high + 1) number reply at → Chooses rule t old new reply None at
+  chooses_free rule t old mid new low high number at keeps reply choice kept saw finds = record {
     lawful = record {
       number = number;
       allowed = found_allowed rule t low high number keeps choice finds.low finds.high;
@@ -147,12 +144,8 @@ module _ (stay : StatesStay) where
       own = keeps_it rule t low high keeps number choice kept;
     };
     tried = tt;
-    free = record {
-      point = finds.free.point;
-      low = omega (arith, finds.free.low, starts_longer mid.front old.front saw.front);
-      high = finds.free.high;
-      fact = finds.free.fact;
-    };
+    low = omega (arith, finds.later, starts_longer mid.front old.front saw.front);
+    free = finds.free;
   }
 
   -- no number was free

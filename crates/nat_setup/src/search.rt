@@ -25,8 +25,8 @@ pub enum Probe {
 /// What a search among numbers says.
 #[derive(Clone, Copy)]
 pub enum Search {
-    /// This number was free, and gives this reply tuple.
-    Found { number: u16, reply: Tuple },
+    /// This number gives this reply tuple, and was free at this point.
+    Found { number: u16, reply: Tuple, at: u64 },
     /// Each was taken, the last one at this point.
     AllTaken { to: u64 },
 }
@@ -91,9 +91,10 @@ pub fn search_between<R: Wait, D: Desk>(
         let port = number as u16;
         let reply = reply_with(rule, t, port);
         match look(rt, desk, &reply) {
-            Probe::Free { .. } => return Search::Found {
+            Probe::Free { at } => return Search::Found {
                 number: port,
                 reply,
+                at,
             },
             Probe::Taken { at } => to = at,
         }

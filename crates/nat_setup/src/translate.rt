@@ -8,7 +8,7 @@ ghost use Rattle.history_book.specs.Sight.{IsKnown};
 ghost use Rattle.nat_setup.specs.Reply.{is_between};
 ghost use Rattle.nat_setup.specs.Rule.{IsLawfulRule, matches};
 ghost use Rattle.nat_setup.specs.Internal.Search.{SearchSays};
-ghost use Rattle.nat_setup.specs.Translation.{TranslateSays};
+ghost use Rattle.nat_setup.specs.Translation.{IsOfProtocol, TranslateSays};
 
 use crate::reply::{Choice, choice_for, own_number, reply_with};
 use crate::rule::{Rule, Rules, rule_for};
@@ -23,12 +23,13 @@ use tuple_core::{Tuple, bucket_of};
 pub enum TranslateOutcome {
     /// No rule is for the flow.
     Plain,
-    /// The first rule that is for the flow allows this reply tuple, and nothing was live under it.
-    /// `kept_taken_at` is the point at which the flow's own number was taken; none where the flow keeps
-    /// it, or the rule does not allow it.
+    /// The first rule that is for the flow allows this reply tuple, and nothing was live under it at the
+    /// point `free_at`. `kept_taken_at` is the point at which the flow's own number was taken; none where
+    /// the flow keeps it, or the rule does not allow it.
     Chosen {
         reply: Tuple,
         kept_taken_at: Option<u64>,
+        free_at: u64,
     },
     /// Each number that the rule allows was taken at a point between these two.
     NoPort {
@@ -89,7 +90,7 @@ fn search_choice<R: Wait, D: Desk>(
     let middle = first_tried(choice, t) as u32;
     let end = choice.high as u32 + 1;
     match search_between(rt, desk, rule, t, middle, end, from, from) {
-        Search::Found { number, reply } => Search::Found { number, reply },
+        Search::Found { number, reply, at } => Search::Found { number, reply, at },
         Search::AllTaken { to } => {
             search_between(rt, desk, rule, t, choice.low as u32, middle, from, to)
         }
@@ -103,6 +104,7 @@ fn translate_by<R: Wait, D: Desk>(rt: &R, desk: &mut D, rule: &Rule, t: &Tuple) 
     requires valid { is_valid t.now ≡ true }
     requires room { length (D.sight desk.old).held + length (D.sight desk.old).owed ≤ 3 }
     ensures says { TranslateSays (Some rule.now) t.now (D.sight desk.old) (D.sight desk.new) result }
+    ensures protocol { IsOfProtocol t.now result }
     ensures saw { Saw (D.sight desk.old) (D.sight desk.new) }
     ensures same { SamePlaces (D.sight desk.old) (D.sight desk.new) }
     ensures knows { IsKnown (D.sight desk.new) }
@@ -113,18 +115,24 @@ fn translate_by<R: Wait, D: Desk>(rt: &R, desk: &mut D, rule: &Rule, t: &Tuple) 
     let has_own = has_own(&choice, own);
     let reply = reply_with(rule, t, first_number(&choice, t, own, has_own));
     match look(rt, desk, &reply) {
-        Probe::Free { .. } => TranslateOutcome::Chosen {
+        Probe::Free { at } => TranslateOutcome::Chosen {
             reply,
             kept_taken_at: None,
+            free_at: at,
         },
         Probe::Taken { at } => match search_choice(rt, desk, rule, t, &choice, at) {
-            Search::Found { number, reply } => TranslateOutcome::Chosen {
+            Search::Found {
+                number,
+                reply,
+                at: free_at,
+            } => TranslateOutcome::Chosen {
                 reply,
                 kept_taken_at: if has_own && number != own {
                     Some(at)
                 } else {
                     None
                 },
+                free_at,
             },
             Search::AllTaken { to } => TranslateOutcome::NoPort { from: at, to },
         },
@@ -144,6 +152,7 @@ pub fn translate<R: Wait, D: Desk>(
     requires room { length (D.sight desk.old).held + length (D.sight desk.old).owed ≤ 3 }
     ensures says { TranslateSays (find (matches t.now) rules.now.items) t.now
         (D.sight desk.old) (D.sight desk.new) result }
+    ensures protocol { IsOfProtocol t.now result }
     ensures saw { Saw (D.sight desk.old) (D.sight desk.new) }
     ensures same { SamePlaces (D.sight desk.old) (D.sight desk.new) }
     ensures knows { IsKnown (D.sight desk.new) }

@@ -1,8 +1,10 @@
 -- The search for a free number.
-use Rattle.std.specs.Prelude.{◌≡◌, ℕ, ◌<◌, ◌≤◌, List, length}
+use Rattle.std.specs.Prelude.{◌≡◌, ℕ, ◌<◌, ◌≤◌, true, List, length}
+use Rattle.tuple_core.specs.Tuple.{is_valid}
 use Rattle.tuple_core.specs.declared.Tuple.{Tuple}
 use Rattle.history_book.specs.declared.event.Event.{Event}
 use Rattle.history_book.specs.Desk.{Looked, SamePlaces, Saw}
+use Rattle.history_book.specs.Point.{At}
 use Rattle.history_book.specs.Sight.{Sight}
 use Rattle.nat_setup.specs.declared.rule.Rule.{Rule}
 use Rattle.nat_setup.specs.declared.search.Probe.{Probe}
@@ -32,13 +34,15 @@ pub record IsSearching (rule : Rule) (t : Tuple) (old now : Sight) (lowest end f
   pub seen : to ≤ length now.front
   pub taken : AreTaken now.front from to rule t lowest end
 
--- a number was found that was free
-pub record FindsFree (rule : Rule) (t : Tuple) (old new : Sight) (lowest end number : ℕ) (reply : Tuple) : Type 0 where
+-- a number was found that was free at this point
+pub record FindsFree (rule : Rule) (t : Tuple) (old new : Sight) (lowest end number : ℕ) (reply : Tuple) (at : ℕ) : Type 0 where
   pub low : lowest ≤ number
   pub high : number < end
   pub gives : reply ≡ reply_with rule t number
-  pub free : Between new.front (length old.front) (length new.front) (IsFree reply)
+  pub valid : is_valid reply ≡ true
+  pub later : length old.front ≤ at
+  pub free : At new.front at (IsFree reply)
 
 abbrev pub SearchSays : Rule → Tuple → ℕ → ℕ → ℕ → ℕ → Sight → Sight → Search → Type 0
-SearchSays rule t lowest end from since old new (search.Found number reply) = FindsFree rule t old new lowest end number reply
+SearchSays rule t lowest end from since old new (search.Found number reply at) = FindsFree rule t old new lowest end number reply at
 SearchSays rule t lowest end from since old new (search.AllTaken to) = IsSearching rule t old new lowest end from since to

@@ -18,7 +18,7 @@ pub returns-then-number-own-clause-says : goal.returns-then-number-own-clause-sa
 returns-then-number-own-clause-says g c =
     chooses_other c.states_stay.ensures c.args.rule.now c.args.t.now c.reply_with-reply.result
     (g.D.Desk.sight c.args.desk.now) (g.D.Desk.sight c.look.new.desk) (g.D.Desk.sight c.search_choice.new.desk)
-    c.choice_for-choice.result.low c.choice_for-choice.result.high c.in-Found.number c.in-Taken.at c.choice_for-choice.result.keeps_own c.in-Found.reply
+    c.choice_for-choice.result.low c.choice_for-choice.result.high c.in-Found.number c.in-Taken.at c.in-Found.free_at c.choice_for-choice.result.keeps_own c.in-Found.reply
     c.choice_for-choice.ensures.exact (sym (has_it c.choice_for-choice.result.low c.choice_for-choice.result.high c.own_number-own.result _ c.choice_for-choice.result.keeps_own c.has_own-has_own.result
     c.has_own-has_own.ensures c.own_number-own.ensures) ∙ c.if-has_own.true)
     (c.reply_with-reply.ensures.exact
@@ -31,7 +31,7 @@ pub returns-else-has_own-clause-says : goal.returns-else-has_own-clause-says
 returns-else-has_own-clause-says g c =
     chooses_free c.states_stay.ensures c.args.rule.now c.args.t.now (g.D.Desk.sight c.args.desk.now)
     (g.D.Desk.sight c.look.new.desk) (g.D.Desk.sight c.search_choice.new.desk) c.choice_for-choice.result.low c.choice_for-choice.result.high c.in-Found.number
-    c.choice_for-choice.result.keeps_own c.in-Found.reply c.choice_for-choice.ensures.exact
+    c.in-Found.free_at c.choice_for-choice.result.keeps_own c.in-Found.reply c.choice_for-choice.ensures.exact
     (elim c.else-has_own.branch [
       | else-has_own-via-then-has_own+else-number-own w ↦ inl (w.if-number-own.false ∙ c.own_number-own.ensures)
       | else-has_own-via-else-has_own w ↦ inr (sym (has_it c.choice_for-choice.result.low c.choice_for-choice.result.high c.own_number-own.result _ c.choice_for-choice.result.keeps_own c.has_own-has_own.result
