@@ -1,5 +1,5 @@
 -- What a line of a rules file says, word by word.
-use Rattle.std.specs.Prelude.{◌≡◌, ℕ, ◌==◌, ◌||◌, Bool, nat_le, if◌then◌else◌, List, [], ◌∷◌, get_or, Option, Some, None, Result, Ok, Err, codes, bytes_eq}
+use Rattle.std.specs.Prelude.{ℕ, ◌==◌, ◌||◌, Bool, nat_le, if◌then◌else◌, List, [], ◌∷◌, get_or, Option, Some, None, Result, Ok, Err, codes, bytes_eq}
 use Rattle.tuple_core.specs.declared.Proto.{Proto}
 use Rattle.tuple_core.specs.declared.Proto.TheVariants.{Icmp, Tcp, Udp}
 use Rattle.nat_setup.specs.declared.rule.Side.{Side}
@@ -9,7 +9,7 @@ use Rattle.nat_setup.specs.declared.rule.PortRange.{PortRange}
 use Rattle.nat_setup.specs.declared.rule.Rule.{Rule}
 use Rattle.nat_setup.specs.declared.read.RuleKind.{RuleKind}
 use Rattle.nat_setup.specs.declared.read.RuleKind.TheVariants.{Word, Address, Prefix, Range, TooMany}
-use Rattle.nat_setup.specs.Rule.{has_ports, is_portless, IsBlock}
+use Rattle.nat_setup.specs.Rule.{has_ports, is_portless}
 use Rattle.nat_setup.specs.Text.{address_of, halves_at, length_of, port_of}
 
 -- go on with what was read; a fault stays
@@ -98,12 +98,6 @@ with_option rule name value =
     (if bytes_eq name (codes "-d") then with_dst rule value else
     (if bytes_eq name (codes "--sport") then with_sport rule value else
     (if bytes_eq name (codes "--dport") then with_dport rule value else Err Word))))
-
--- a rule whose target is not read yet
-pub record IsUnaimed (rule : Rule) : Type 0 where
-  pub src : IsBlock rule.src
-  pub dst : IsBlock rule.dst
-  pub ports : rule.ports ≡ None
 
 -- no word stands behind the target, and ports stand beside TCP or UDP
 abbrev pub ended : Rule → List (List ℕ) → Result Rule RuleKind

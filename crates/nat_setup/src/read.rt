@@ -5,8 +5,9 @@ ghost use Rattle.std.specs.List.{AllByRecursion};
 ghost use Rattle.nat_setup.specs.Rule.{has_ports, is_portless, IsBlock, IsLawfulRule, IsRange};
 ghost use Rattle.nat_setup.specs.Text.{address_of, length_of, port_of, without_return, words_of};
 ghost use Rattle.nat_setup.specs.declared.read.RuleKind.TheVariants.{Word, Address, Prefix, Range, TooMany};
+ghost use Rattle.nat_setup.specs.Internal.Reading.{IsUnaimed};
 ghost use Rattle.nat_setup.specs.RuleFile.{IsReason, IsRulesFile};
-ghost use Rattle.nat_setup.specs.RuleText.{block_of, ended, required, IsUnaimed, line_of, new_rule, number_of_kind, once, ports_of, proto_of, rule_from, side_of, with_dport, with_dst, with_option, with_proto, with_sport, with_src, with_target};
+ghost use Rattle.nat_setup.specs.RuleText.{block_of, ended, required, line_of, new_rule, number_of_kind, once, ports_of, proto_of, rule_from, side_of, with_dport, with_dst, with_option, with_proto, with_sport, with_src, with_target};
 
 use crate::rule::{Block, PortRange, Rule, Rules, Side};
 use crate::text::{
