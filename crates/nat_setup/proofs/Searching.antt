@@ -1,7 +1,6 @@
 -- A search goes on: what was taken stays so.
-use Rattle.std.proofs.Common.{◌≡◌, true, ℕ, ◌+◌, ◌<◌, ◌≤◌, List, [], ◌++◌, length, refl, ap, subst, sym, ◌∙◌, append-nil, append_assoc, length-append, arith, ⊎_elim}
+use Rattle.std.proofs.Common.{◌≡◌, ℕ, ◌+◌, ◌≤◌, List, ◌++◌, length, ap, subst, sym, ◌∙◌, append_assoc, length-append, arith, ⊎_elim}
 use Rattle.std.proofs.lemmas.Bool.{cases_eq, cases_lt}
-use Rattle.tuple_core.specs.Tuple.{is_valid}
 use Rattle.tuple_core.specs.declared.Tuple.{Tuple}
 use Rattle.history_book.specs.Desk.{Looked, SamePlaces, Saw}
 use Rattle.history_book.specs.declared.event.Event.{Event}
@@ -12,9 +11,10 @@ use Rattle.history_book.specs.State.{State}
 use Rattle.nat_setup.specs.declared.rule.Rule.{Rule}
 use Rattle.nat_setup.specs.declared.search.Search.{Search}
 use Rattle.nat_setup.specs.declared.search.Search.TheVariants as search
-use Rattle.nat_setup.specs.Internal.Search.{FindsFree, IsSearching, SearchSays}
+use Rattle.nat_setup.specs.declared.search.Stretch.{Stretch}
+use Rattle.nat_setup.specs.Internal.Search.{IsSearching, SearchSays}
 use Rattle.nat_setup.specs.Reply.{reply_with}
-use Rattle.nat_setup.specs.Translation.{Between, IsFree, IsLive}
+use Rattle.nat_setup.specs.Translation.{Between, IsLive}
 
 -- a fact at a point stays as the history goes on
 pub at_grows : StatesStay → (longer log : List Event) (p : ℕ) (F : State → Type 0) → StartsWith longer log
@@ -22,18 +22,6 @@ pub at_grows : StatesStay → (longer log : List Event) (p : ℕ) (F : State →
 at_grows stay longer log p F starts fact =
     let same = stay longer log p starts fact.within in
     record { within = same.0; fact = subst F (sym same.1) fact.fact }
-
--- nothing is searched yet
-pub not_begun : (rule : Rule) (t : Tuple) (s : Sight) (lowest from since : ℕ) → from ≤ since → since ≤ length s.front
-    → IsSearching rule t s s lowest lowest from since since
-not_begun rule t s lowest from since ordered seen = record {
-  saw = record { front = ([], sym (append-nil _)); own = refl; spare = refl; sizes = refl };
-  same = record { held = refl; owed = refl };
-  ordered = ordered;
-  later = omega arith;
-  seen = seen;
-  taken = λ number low high. absurd (omega (arith, low, high));
-}
 
 starts_trans : (c b a : List Event) → StartsWith c b → StartsWith b a → StartsWith c a
 starts_trans c b a (r, e) (q, f) = (q ++ r, e ∙ ap (λ (l : List Event). l ++ r) f ∙ append_assoc a q r)
@@ -64,74 +52,52 @@ module _ (stay : StatesStay) where
   }
 
   -- one number more was taken
-  pub goes_on : (rule : Rule) (t reply : Tuple) (old mid new : Sight) (lowest number from since to at : ℕ)
-      → IsSearching rule t old mid lowest number from since to → SamePlaces mid new → reply ≡ reply_with rule t number
-      → Looked mid new at (IsLive reply) → IsSearching rule t old new lowest (number + 1) from since at
-  goes_on rule t reply old mid new lowest number from since to at is same gives looked = record {
+  pub goes_on : (rule : Rule) (t reply : Tuple) (stretch : Stretch) (old mid new : Sight) (to at : ℕ)
+      → IsSearching rule t stretch old mid to → SamePlaces mid new → reply ≡ reply_with rule t stretch.end
+      → Looked mid new at (IsLive reply) → IsSearching rule t (record stretch { end = stretch.end + 1 }) old new at
+  goes_on rule t reply stretch old mid new to at is same gives looked = record {
     saw = saw_trans old mid new is.saw looked.saw;
     same = same_trans old mid new is.same same;
     ordered = omega (arith, is.ordered, is.seen, looked.low);
     later = omega (arith, is.later, is.seen, looked.low);
     seen = looked.fact.within;
-    taken = λ n low high. ⊎_elim
-        (λ e. subst (λ m. Between new.front from at (IsLive (reply_with rule t m))) (sym e)
-        (subst (λ u. Between new.front from at (IsLive u)) gives (record {
+    taken = λ n low high untried. ⊎_elim
+        (λ e. subst (λ m. Between new.front stretch.from at (IsLive (reply_with rule t m))) (sym e)
+        (subst (λ u. Between new.front stretch.from at (IsLive u)) gives (record {
           point = at;
           low = omega (arith, is.ordered, is.seen, looked.low);
           high = omega arith;
           fact = looked.fact;
         })))
-        (λ other. between_grows new.front mid.front from to at (IsLive (reply_with rule t n)) looked.saw.front
-        (omega (arith, is.seen, looked.low)) (is.taken n low (omega (arith, high, other))))
-        (cases_eq n number);
+        (λ other. between_grows new.front mid.front stretch.from to at (IsLive (reply_with rule t n)) looked.saw.front
+        (omega (arith, is.seen, looked.low)) (is.taken n low (omega (arith, high, other)) untried))
+        (cases_eq n stretch.end);
   }
-
-  -- a number was free
-  pub finds : (rule : Rule) (t reply : Tuple) (old mid new : Sight) (lowest end number from since to at : ℕ)
-      → IsSearching rule t old mid lowest number from since to → lowest ≤ number → number < end → reply ≡ reply_with rule t number
-      → is_valid reply ≡ true → Looked mid new at (IsFree reply) → FindsFree rule t old new lowest end number reply at
-  finds rule t reply old mid new lowest end number from since to at is low high gives valid looked = record {
-    low = low;
-    high = high;
-    gives = gives;
-    valid = valid;
-    later = omega (arith, looked.low, starts_longer mid.front old.front is.saw.front);
-    free = looked.fact;
-  }
-
--- all numbers up to the end were taken
-pub ends : (rule : Rule) (t : Tuple) (old new : Sight) (lowest end number from since to : ℕ)
-    → IsSearching rule t old new lowest number from since to → end ≤ number → IsSearching rule t old new lowest end from since to
-ends rule t old new lowest end number from since to is past = record {
-  saw = is.saw;
-  same = is.same;
-  ordered = is.ordered;
-  later = is.later;
-  seen = is.seen;
-  taken = λ n low high. is.taken n low (omega (arith, high, past));
-}
 
 -- two searches, the second one below the first, are one
-pub both : StatesStay → (rule : Rule) (t : Tuple) (old mid new : Sight) (lowest middle end from since to : ℕ) (result : Search) → lowest ≤ middle
-    → middle ≤ end → IsSearching rule t old mid middle end from since to → Saw mid new → SamePlaces mid new
-    → SearchSays rule t lowest middle from to mid new result → SearchSays rule t lowest end from since old new result
-both stay rule t old mid new lowest middle end from since to (search.Found number reply at) above up is saw same f = record {
+pub both : StatesStay → (rule : Rule) (t : Tuple) (stretch : Stretch) (old mid new : Sight) (middle to : ℕ) (result : Search)
+    → stretch.lowest ≤ middle → middle ≤ stretch.end → IsSearching rule t (record stretch { lowest = middle }) old mid to
+    → Saw mid new → SamePlaces mid new → SearchSays rule t (record stretch { end = middle; since = to }) mid new result
+    → SearchSays rule t stretch old new result
+both stay rule t stretch old mid new middle to (search.Found reply at) above up is saw same f = record {
+  number = f.number;
   low = f.low;
   high = omega (arith, f.high, up);
+  other = f.other;
   gives = f.gives;
   valid = f.valid;
   later = omega (arith, f.later, starts_longer mid.front old.front is.saw.front);
   free = f.free;
 }
-both stay rule t old mid new lowest middle end from since to (search.AllTaken later) above up is saw same f = record {
+both stay rule t stretch old mid new middle to (search.AllTaken later) above up is saw same f = record {
   saw = saw_trans old mid new is.saw saw;
   same = same_trans old mid new is.same same;
   ordered = f.ordered;
   later = omega (arith, is.later, f.later);
   seen = f.seen;
-  taken = λ n low high. ⊎_elim
-      (λ below. f.taken n low below)
-      (λ past. between_grows stay new.front mid.front from to later (IsLive (reply_with rule t n)) saw.front f.later
-      (is.taken n past high))
+  taken = λ n low high untried. ⊎_elim
+      (λ below. f.taken n low below untried)
+      (λ past. between_grows stay new.front mid.front stretch.from to later (IsLive (reply_with rule t n)) saw.front f.later
+      (is.taken n past high untried))
       (cases_lt n middle);
 }

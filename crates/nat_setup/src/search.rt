@@ -22,12 +22,23 @@ pub enum Probe {
     Taken { at: u64 },
 }
 
-/// What a search among numbers says.
+/// Numbers to be tried: those from the lowest to below the end, but for one that was tried before, at the
+/// point `from`. The desk has seen that point, and `since`, which is no earlier.
+#[derive(Clone, Copy)]
+pub struct Stretch {
+    pub lowest: u32,
+    pub end: u32,
+    pub tried: u16,
+    pub from: u64,
+    pub since: u64,
+}
+
+/// What a search of a stretch says.
 #[derive(Clone, Copy)]
 pub enum Search {
-    /// This number gives this reply tuple, and was free at this point.
-    Found { number: u16, reply: Tuple, at: u64 },
-    /// Each was taken, the last one at this point.
+    /// The reply tuple of one of its numbers, which was free at this point.
+    Found { reply: Tuple, at: u64 },
+    /// Each was taken, and none after this point.
     AllTaken { to: u64 },
 }
 
@@ -62,40 +73,35 @@ pub fn look<R: Wait, D: Desk>(rt: &R, desk: &mut D, t: &Tuple) -> Probe
     }
 }
 
-/// Looks for a free number among those from the lowest to below the end. `from` and `since` are points that
-/// the desk has seen.
+/// Looks for a free number in a stretch.
 pub fn search_between<R: Wait, D: Desk>(
     rt: &R,
     desk: &mut D,
     rule: &Rule,
     t: &Tuple,
-    lowest: u32,
-    end: u32,
-    from: u64,
-    since: u64,
+    stretch: Stretch,
 ) -> Search
     requires valid { is_valid t.now ≡ true }
-    requires below { end ≤ 65536 }
-    requires ordered { from ≤ since }
-    requires seen { since ≤ length (D.sight desk.old).front }
+    requires below { stretch.end ≤ 65536 }
+    requires ordered { stretch.from ≤ stretch.since }
+    requires seen { stretch.since ≤ length (D.sight desk.old).front }
     requires room { length (D.sight desk.old).held + length (D.sight desk.old).owed ≤ 3 }
     requires knows { IsKnown (D.sight desk.old) }
-    ensures says { SearchSays rule.now t.now lowest end from since (D.sight desk.old) (D.sight desk.new) result }
+    ensures says { SearchSays rule.now t.now stretch (D.sight desk.old) (D.sight desk.new) result }
     ensures saw { Saw (D.sight desk.old) (D.sight desk.new) }
     ensures same { SamePlaces (D.sight desk.old) (D.sight desk.new) }
     ensures knows { IsKnown (D.sight desk.new) }
 {
     states_stay();
-    let mut to = since;
-    for number in lowest..end {
+    let mut to = stretch.since;
+    for number in stretch.lowest..stretch.end {
         let port = number as u16;
+        if port == stretch.tried {
+            continue;
+        }
         let reply = reply_with(rule, t, port);
         match look(rt, desk, &reply) {
-            Probe::Free { at } => return Search::Found {
-                number: port,
-                reply,
-                at,
-            },
+            Probe::Free { at } => return Search::Found { reply, at },
             Probe::Taken { at } => to = at,
         }
     }

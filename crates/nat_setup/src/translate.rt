@@ -7,12 +7,12 @@ ghost use Rattle.history_book.specs.Desk.{SamePlaces, Saw};
 ghost use Rattle.history_book.specs.Sight.{IsKnown};
 ghost use Rattle.nat_setup.specs.Reply.{is_between};
 ghost use Rattle.nat_setup.specs.Rule.{IsLawfulRule, matches};
-ghost use Rattle.nat_setup.specs.Internal.Search.{SearchSays};
+ghost use Rattle.nat_setup.specs.Internal.Search.{SearchSays, others_of};
 ghost use Rattle.nat_setup.specs.Translation.{IsOfProtocol, TranslateSays};
 
 use crate::reply::{Choice, choice_for, own_number, reply_with};
 use crate::rule::{Rule, Rules, rule_for};
-use crate::search::{Probe, Search, look, search_between};
+use crate::search::{Probe, Search, Stretch, look, search_between};
 use history_book::desk::Desk;
 use history_book::laws::states_stay;
 use std::sync::Wait;
@@ -66,13 +66,14 @@ fn first_number(choice: &Choice, t: &Tuple, own: u16, has_own: bool) -> u16
     if has_own { own } else { first_tried(choice, t) }
 }
 
-/// Looks for a free number in the whole choice, where the flow's own one was taken or is not to be kept.
+/// Looks for a free number in the whole choice but for the number that was tried first, at the point `from`.
 fn search_choice<R: Wait, D: Desk>(
     rt: &R,
     desk: &mut D,
     rule: &Rule,
     t: &Tuple,
     choice: &Choice,
+    tried: u16,
     from: u64,
 ) -> Search
     requires valid { is_valid t.now ≡ true }
@@ -80,7 +81,7 @@ fn search_choice<R: Wait, D: Desk>(
     requires seen { from ≤ length (D.sight desk.old).front }
     requires room { length (D.sight desk.old).held + length (D.sight desk.old).owed ≤ 3 }
     requires knows { IsKnown (D.sight desk.old) }
-    ensures says { SearchSays rule.now t.now choice.now.low (choice.now.high + 1) from from
+    ensures says { SearchSays rule.now t.now (others_of choice.now tried from)
         (D.sight desk.old) (D.sight desk.new) result }
     ensures saw { Saw (D.sight desk.old) (D.sight desk.new) }
     ensures same { SamePlaces (D.sight desk.old) (D.sight desk.new) }
@@ -88,11 +89,23 @@ fn search_choice<R: Wait, D: Desk>(
 {
     states_stay();
     let middle = first_tried(choice, t) as u32;
-    let end = choice.high as u32 + 1;
-    match search_between(rt, desk, rule, t, middle, end, from, from) {
-        Search::Found { number, reply, at } => Search::Found { number, reply, at },
+    let upper = Stretch {
+        lowest: middle,
+        end: choice.high as u32 + 1,
+        tried,
+        from,
+        since: from,
+    };
+    match search_between(rt, desk, rule, t, upper) {
+        Search::Found { reply, at } => Search::Found { reply, at },
         Search::AllTaken { to } => {
-            search_between(rt, desk, rule, t, choice.low as u32, middle, from, to)
+            let lower = Stretch {
+                lowest: choice.low as u32,
+                end: middle,
+                since: to,
+                ..upper
+            };
+            search_between(rt, desk, rule, t, lower)
         }
     }
 }
@@ -113,25 +126,18 @@ fn translate_by<R: Wait, D: Desk>(rt: &R, desk: &mut D, rule: &Rule, t: &Tuple) 
     let own = own_number(rule, t);
     let choice = choice_for(rule, t);
     let has_own = has_own(&choice, own);
-    let reply = reply_with(rule, t, first_number(&choice, t, own, has_own));
+    let tried = first_number(&choice, t, own, has_own);
+    let reply = reply_with(rule, t, tried);
     match look(rt, desk, &reply) {
         Probe::Free { at } => TranslateOutcome::Chosen {
             reply,
             kept_taken_at: None,
             free_at: at,
         },
-        Probe::Taken { at } => match search_choice(rt, desk, rule, t, &choice, at) {
-            Search::Found {
-                number,
+        Probe::Taken { at } => match search_choice(rt, desk, rule, t, &choice, tried, at) {
+            Search::Found { reply, at: free_at } => TranslateOutcome::Chosen {
                 reply,
-                at: free_at,
-            } => TranslateOutcome::Chosen {
-                reply,
-                kept_taken_at: if has_own && number != own {
-                    Some(at)
-                } else {
-                    None
-                },
+                kept_taken_at: if has_own { Some(at) } else { None },
                 free_at,
             },
             Search::AllTaken { to } => TranslateOutcome::NoPort { from: at, to },

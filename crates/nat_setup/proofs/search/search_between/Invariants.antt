@@ -4,5 +4,5 @@ use Rattle.nat_setup.proofs.search.search_between.Given as goal
 
 abbrev pub invariant-loop-number : goal.invariant-loop-number
 invariant-loop-number g l =
-    IsSearching l.rule l.t (g.D.Desk.sight l.fn.desk) (g.D.Desk.sight l.desk) l.lowest l.number l.from l.since l.to
+    IsSearching l.rule l.t (record l.stretch { end = l.number }) (g.D.Desk.sight l.fn.desk) (g.D.Desk.sight l.desk) l.to
     × IsKnown (g.D.Desk.sight l.desk)
