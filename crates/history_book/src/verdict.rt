@@ -109,6 +109,11 @@ pub enum Class {
         at: u64,
         translated: Translated,
     },
+    /// It would begin a flow, and each number that its rule allows was taken at a point from `from` to `to`.
+    NoPort {
+        from: u64,
+        to: u64,
+    },
     /// It would begin a flow, and the table has no room.
     Full {
         at: u64,

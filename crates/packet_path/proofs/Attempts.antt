@@ -19,6 +19,7 @@ use Rattle.packet_path.specs.declared.packet.FlowPacket.{FlowPacket}
 use Rattle.packet_path.specs.Absent.{WasAbsent}
 use Rattle.packet_path.specs.Internal.Attempt.{Answers, AttemptSays, KilledOne}
 use Rattle.packet_path.specs.Packet.{Given, IsFlow}
+use Rattle.packet_path.specs.declared.setup.Setup.{Setup}
 use Rattle.packet_path.specs.Verdict.{AnswersFlow, FitsFrame, KillsAll, points_of}
 use Rattle.packet_path.proofs.Growth.{at_grows, frame_grows, kills_all_grows, kills_grows}
 use Rattle.packet_path.proofs.Marks.{happened_lower}
@@ -39,9 +40,9 @@ points_more m n (p ∷ ps) le (h, hs) = (omega (arith, h), points_more m n ps le
 
 module _ (states : StatesStay) (events : EventsStay) where
   -- an answer of a desk that had seen more is one of a desk that had seen less
-  pub answers_after : (a b c : Sight) (packet : FlowPacket) (n from : ℕ) (k : Class) → Saw a b → Answers b c packet n from k
-      → Answers a c packet n from k
-  answers_after a b c packet n from k saw ans = record {
+  pub answers_after : (setup : Setup) (a b c : Sight) (packet : FlowPacket) (n from : ℕ) (k : Class) → Saw a b → Answers setup b c packet n from k
+      → Answers setup a c packet n from k
+  answers_after setup a b c packet n from k saw ans = record {
     front = starts_trans c.front b.front a.front ans.front saw.front;
     sizes = ans.sizes ∙ saw.sizes;
     rest = ans.rest;
@@ -50,14 +51,14 @@ module _ (states : StatesStay) (events : EventsStay) where
     spare = omega (arith, ans.spare, saw.spare);
     points = ans.points;
     fits = λ given mark kills flow count killed le.
-        subst (λ (z : Sizes). FitsFrame z c.front mark given (kills ++ ans.rest) k) saw.sizes
+        subst (λ (z : Sizes). FitsFrame setup z c.front mark given (kills ++ ans.rest) k) saw.sizes
         (ans.fits given mark kills flow count (kills_all_grows events states b.front a.front saw.front mark packet kills killed) le);
   }
 
   -- an answer stays when the desk sees more
-  pub answers_before : (a b c : Sight) (packet : FlowPacket) (n from : ℕ) (k : Class) → Answers a b packet n from k → Saw b c
-      → Answers a c packet n from k
-  answers_before a b c packet n from k ans saw = record {
+  pub answers_before : (setup : Setup) (a b c : Sight) (packet : FlowPacket) (n from : ℕ) (k : Class) → Answers setup a b packet n from k → Saw b c
+      → Answers setup a c packet n from k
+  answers_before setup a b c packet n from k ans saw = record {
     front = starts_trans c.front b.front a.front saw.front ans.front;
     sizes = saw.sizes ∙ ans.sizes;
     rest = ans.rest;
@@ -66,7 +67,7 @@ module _ (states : StatesStay) (events : EventsStay) where
     spare = omega (arith, ans.spare, saw.spare);
     points = points_more (length b.front) (length c.front) (points_of k) (starts_longer c.front b.front saw.front) ans.points;
     fits = λ given mark kills flow count killed le.
-        frame_grows events states c.front b.front saw.front a.sizes mark given (kills ++ ans.rest) k
+        frame_grows events states c.front b.front saw.front setup a.sizes mark given (kills ++ ans.rest) k
         (ans.fits given mark kills flow count killed le);
   }
 
@@ -102,22 +103,22 @@ module _ (states : StatesStay) (events : EventsStay) where
     sizes = t.sizes ∙ s.sizes;
   }
 
-  pub attempt_after : (a b c : Sight) (packet : FlowPacket) (n from : ℕ) (r : Attempt) → Saw a b → AttemptSays b c packet n from r
-      → AttemptSays a c packet n from r
-  attempt_after a b c packet n from (Done k) saw h = answers_after a b c packet n from k saw h
-  attempt_after a b c packet n from Killed saw h = killed_after a b c packet n from saw h
-  attempt_after a b c packet n from Again saw h = saw_trans a b c saw h
+  pub attempt_after : (setup : Setup) (a b c : Sight) (packet : FlowPacket) (n from : ℕ) (r : Attempt) → Saw a b → AttemptSays setup b c packet n from r
+      → AttemptSays setup a c packet n from r
+  attempt_after setup a b c packet n from (Done k) saw h = answers_after setup a b c packet n from k saw h
+  attempt_after setup a b c packet n from Killed saw h = killed_after a b c packet n from saw h
+  attempt_after setup a b c packet n from Again saw h = saw_trans a b c saw h
 
-  pub attempt_before : (a b c : Sight) (packet : FlowPacket) (n from : ℕ) (r : Attempt) → AttemptSays a b packet n from r → Saw b c
-      → AttemptSays a c packet n from r
-  attempt_before a b c packet n from (Done k) h saw = answers_before a b c packet n from k h saw
-  attempt_before a b c packet n from Killed h saw = killed_before a b c packet n from h saw
-  attempt_before a b c packet n from Again h saw = saw_trans a b c h saw
+  pub attempt_before : (setup : Setup) (a b c : Sight) (packet : FlowPacket) (n from : ℕ) (r : Attempt) → AttemptSays setup a b packet n from r → Saw b c
+      → AttemptSays setup a c packet n from r
+  attempt_before setup a b c packet n from (Done k) h saw = answers_before setup a b c packet n from k h saw
+  attempt_before setup a b c packet n from Killed h saw = killed_before a b c packet n from h saw
+  attempt_before setup a b c packet n from Again h saw = saw_trans a b c h saw
 
   -- an attempt that answers from a point on answers from any earlier one on
-  pub answers_from : (a b : Sight) (packet : FlowPacket) (n f from : ℕ) (k : Class) → f ≤ from → Answers a b packet n from k
-      → Answers a b packet n f k
-  answers_from a b packet n f from k le ans = record {
+  pub answers_from : (setup : Setup) (a b : Sight) (packet : FlowPacket) (n f from : ℕ) (k : Class) → f ≤ from → Answers setup a b packet n from k
+      → Answers setup a b packet n f k
+  answers_from setup a b packet n f from k le ans = record {
     front = ans.front;
     sizes = ans.sizes;
     rest = ans.rest;
@@ -128,10 +129,10 @@ module _ (states : StatesStay) (events : EventsStay) where
     fits = λ given mark kills flow count killed h. ans.fits given mark kills flow count killed (omega (arith, h));
   }
 
-  pub attempt_from : (a b : Sight) (packet : FlowPacket) (n f from : ℕ) (r : Attempt) → f ≤ from → AttemptSays a b packet n from r
-      → AttemptSays a b packet n f r
-  attempt_from a b packet n f from (Done k) le h = answers_from a b packet n f from k le h
-  attempt_from a b packet n f from Killed le h = record {
+  pub attempt_from : (setup : Setup) (a b : Sight) (packet : FlowPacket) (n f from : ℕ) (r : Attempt) → f ≤ from → AttemptSays setup a b packet n from r
+      → AttemptSays setup a b packet n f r
+  attempt_from setup a b packet n f from (Done k) le h = answers_from setup a b packet n f from k le h
+  attempt_from setup a b packet n f from Killed le h = record {
     few = h.few;
     front = h.front;
     sizes = h.sizes;
@@ -146,7 +147,7 @@ module _ (states : StatesStay) (events : EventsStay) where
       kill = h.kill.kill;
     };
   }
-  attempt_from a b packet n f from Again le h = h
+  attempt_from setup a b packet n f from Again le h = h
 
   -- what is said of a packet after its kills
   pub flow_answer : (longer log : List Event) (starts : StartsWith longer log) (mark : ℕ) (given : Given) (packet : FlowPacket)
@@ -164,26 +165,36 @@ module _ (states : StatesStay) (events : EventsStay) where
     fits = fits;
   }
 
-  -- an answer without an event, at a point of what the desk sees
-  pub silent : (old new : Sight) (packet : FlowPacket) (n from at : ℕ) (k : Class) → Saw old new → at ≤ length new.front
-      → points_of k ≡ at ∷ []
+  -- an answer without an event
+  pub silent_answer : (setup : Setup) (old new : Sight) (packet : FlowPacket) (n from : ℕ) (k : Class) → Saw old new
+      → AllByRecursion (λ p. p ≤ length new.front) (points_of k)
       → ((given : Given) (mark : ℕ) (kills : List Note) → IsFlow given packet → length kills ≡ n
       → KillsAll old.front mark packet kills → mark_past mark kills ≤ from
-      → FitsFrame old.sizes new.front mark given (kills ++ []) k)
-      → Answers old new packet n from k
-  silent old new packet n from at k saw within points fits = record {
+      → FitsFrame setup old.sizes new.front mark given (kills ++ []) k)
+      → Answers setup old new packet n from k
+  silent_answer setup old new packet n from k saw points fits = record {
     front = saw.front;
     sizes = saw.sizes;
     rest = [];
     own = saw.own ∙ sym (append-nil old.own);
     few = omega arith;
     spare = omega (arith, saw.spare);
-    points = subst (AllByRecursion (λ p. p ≤ length new.front)) (sym points) (within, tt);
+    points = points;
     fits = fits;
   }
 
+  -- such an answer, at a point of what the desk sees
+  pub silent : (setup : Setup) (old new : Sight) (packet : FlowPacket) (n from at : ℕ) (k : Class) → Saw old new → at ≤ length new.front
+      → points_of k ≡ at ∷ []
+      → ((given : Given) (mark : ℕ) (kills : List Note) → IsFlow given packet → length kills ≡ n
+      → KillsAll old.front mark packet kills → mark_past mark kills ≤ from
+      → FitsFrame setup old.sizes new.front mark given (kills ++ []) k)
+      → Answers setup old new packet n from k
+  silent setup old new packet n from at k saw within points fits =
+      silent_answer setup old new packet n from k saw (subst (AllByRecursion (λ p. p ≤ length new.front)) (sym points) (within, tt)) fits
+
   -- what was absent at a point from `from` on was so from each earlier one on
-  pub absent_upto : (longer log : List Event) (k absent_at upto : ℕ) (t : Tuple) → StartsWith longer log → k ≤ absent_at
+  unfoldable pub absent_upto : (longer log : List Event) (k absent_at upto : ℕ) (t : Tuple) → StartsWith longer log → k ≤ absent_at
       → absent_at ≤ upto → At log absent_at (λ s. live_under t s ≡ None) → WasAbsent longer k t upto
   absent_upto longer log k absent_at upto t starts low high absent = record {
     at = absent_at;

@@ -1,5 +1,5 @@
 -- A verdict that fits still fits when the history goes on: one case for each class.
-use Rattle.std.proofs.Common.{ℕ, ◌+◌, Bool, true, false, List, [], ◌∷◌, Option, Some, None, inl, inr, subst, sym, ⊎_elim}
+use Rattle.std.proofs.Common.{ℕ, ◌+◌, ◌≤◌, length, List, [], ◌∷◌, Option, Some, None, inl, inr, subst, sym, ⊎_elim}
 use Rattle.tuple_core.specs.declared.Tuple.{Tuple}
 use Rattle.history_book.specs.Laws.{EventsStay, StatesStay}
 use Rattle.history_book.specs.Notes.{Happened}
@@ -13,11 +13,16 @@ use Rattle.history_book.specs.declared.verdict.Class.TheVariants as class
 use Rattle.proto_rules.specs.declared.Outcome.{Outcome}
 use Rattle.history_book.specs.declared.record.Record.{Record}
 use Rattle.history_book.specs.declared.verdict.Translated.{Translated}
+use Rattle.history_book.specs.declared.verdict.Translated.TheVariants.{Plain, Chosen}
+use Rattle.nat_setup.specs.declared.rule.Rule.{Rule}
+use Rattle.nat_setup.specs.Translation.{Between, GivesUpOwn}
 use Rattle.packet_path.specs.Absent.{WasAbsent}
+use Rattle.packet_path.specs.Begun.{rule_for, WasChosen, WasTranslated, WouldBegin}
 use Rattle.packet_path.specs.Made.{IsUnclaimed}
 use Rattle.packet_path.specs.declared.packet.FlowPacket.{FlowPacket}
 use Rattle.packet_path.specs.Packet.{Given}
-use Rattle.packet_path.specs.Winner.{MeetsWinner}
+use Rattle.packet_path.specs.declared.setup.Setup.{Setup}
+use Rattle.packet_path.specs.Winner.{Meeting, MeetsWinner}
 use Rattle.packet_path.specs.Unchanged.{LeavesEntry}
 use Rattle.packet_path.specs.Error.{AnswersError, LooksUp}
 use Rattle.packet_path.specs.Verdict.{AnswersFlow, FitsFrame, Kills, KillsAll}
@@ -41,6 +46,9 @@ error_still given own P Q then f = record {
 }
 
 module _ (events : EventsStay) (states : StatesStay) (longer log : List Event) (starts : StartsWith longer log) where
+  longer_within : (p : ℕ) → p ≤ length log → p ≤ length longer
+  longer_within p within = (states longer log p starts within).0
+
   pub happened_grows : (mark : ℕ) (note : Note) → Happened log mark note → Happened longer mark note
   happened_grows mark note h = record { event = events longer log _ _ starts h.event; later = h.later }
 
@@ -94,18 +102,59 @@ module _ (events : EventsStay) (states : StatesStay) (longer log : List Event) (
     absent = at_grows states longer log _ _ starts a.absent;
   }
 
-  unclaimed_grows : (k : ℕ) (unclaimed : Option ℕ) (r : Record) → IsUnclaimed log k unclaimed r → IsUnclaimed longer k unclaimed r
-  unclaimed_grows k None r h = h
-  unclaimed_grows k (Some p) r h = (h.0, absent_grows k r.original p h.1, h.2)
+  pub between_grows : (from to : ℕ) (F : State → Type 0) → Between log from to F → Between longer from to F
+  between_grows from to F b = record {
+    point = b.point;
+    low = b.low;
+    high = b.high;
+    fact = at_grows states longer log b.point F starts b.fact;
+  }
 
-  winner_grows : (k : ℕ) (packet : FlowPacket) (rest : List Note) (id at : ℕ) (translated : Translated) (merged : Bool)
-      → MeetsWinner log k packet rest id at translated merged → MeetsWinner longer k packet rest id at translated merged
-  winner_grows k packet rest id at translated merged m = record {
+  gives_up_grows : (rule : Rule) (t : Tuple) (number : ℕ) (taken_at : Option ℕ)
+      → GivesUpOwn log rule t number taken_at → GivesUpOwn longer rule t number taken_at
+  gives_up_grows rule t number None h = h
+  gives_up_grows rule t number (Some p) h = (h.0, at_grows states longer log p _ starts h.1)
+
+  chosen_grows : (rule : Rule) (t reply : Tuple) (taken_at : Option ℕ) (from upto : ℕ)
+      → WasChosen log rule t reply taken_at from upto → WasChosen longer rule t reply taken_at from upto
+  chosen_grows rule t reply taken_at from upto c = record {
+    lawful = record {
+      number = c.lawful.number;
+      allowed = c.lawful.allowed;
+      gives = c.lawful.gives;
+      own = gives_up_grows rule t c.lawful.number taken_at c.lawful.own;
+    };
+    tried = c.tried;
+    free = between_grows _ upto _ c.free;
+  }
+
+  pub translated_grows : (rule : Option Rule) (t : Tuple) (from upto : ℕ) (translated : Translated) (reply : Tuple)
+      → WasTranslated log rule t from upto translated reply → WasTranslated longer rule t from upto translated reply
+  translated_grows None t from upto Plain reply h = h
+  translated_grows None t from upto (Chosen chosen taken_at) reply h = h
+  translated_grows (Some rule) t from upto Plain reply h = h
+  translated_grows (Some rule) t from upto (Chosen chosen taken_at) reply h = (h.0, chosen_grows rule t chosen taken_at from upto h.1)
+
+  begun_grows : (setup : Setup) (k : ℕ) (packet : FlowPacket) (translated : Translated) (reply : Tuple) (upto : ℕ)
+      → WouldBegin setup log k packet translated reply upto → WouldBegin setup longer k packet translated reply upto
+  unfolding absent_grows
+  begun_grows setup k packet translated reply upto b = record {
+    starts = b.starts;
+    absent = absent_grows k packet.tuple upto b.absent;
+    found = translated_grows (rule_for setup packet.tuple) packet.tuple b.absent.at upto translated reply b.found;
+  }
+
+  unclaimed_grows : (setup : Setup) (k : ℕ) (packet : FlowPacket) (translated : Translated) (unclaimed : Option ℕ) (r : Record)
+      → IsUnclaimed setup log k packet translated unclaimed r → IsUnclaimed setup longer k packet translated unclaimed r
+  unclaimed_grows setup k packet translated None r h = h
+  unclaimed_grows setup k packet translated (Some p) r h = (h.0, begun_grows setup k packet translated r.reply p h.1, h.2)
+
+  winner_grows : (setup : Setup) (k : ℕ) (packet : FlowPacket) (rest : List Note) (said : Meeting)
+      → MeetsWinner setup log k packet rest said → MeetsWinner setup longer k packet rest said
+  winner_grows setup k packet rest said m = record {
     own = m.own;
-    starts = m.starts;
-    absent = absent_grows k packet.tuple at m.absent;
     reply = m.reply;
-    lawful = m.lawful;
+    begun = begun_grows setup k packet said.translated m.reply said.at m.begun;
     found = m.found;
     live = at_grows states longer log _ _ starts m.live;
     named = m.named;
@@ -113,11 +162,11 @@ module _ (events : EventsStay) (states : StatesStay) (longer log : List Event) (
     new = m.new;
   }
 
-  pub frame_grows : (sizes : Sizes) (mark : ℕ) (given : Given) (own : List Note) (verdict : Class)
-      → FitsFrame sizes log mark given own verdict → FitsFrame sizes longer mark given own verdict
-  frame_grows sizes mark given own (class.Untracked why) f = f
-  frame_grows sizes mark given own class.BadHeader f = f
-  frame_grows sizes mark given own (class.NoEntry at) f =
+  pub frame_grows : (setup : Setup) (sizes : Sizes) (mark : ℕ) (given : Given) (own : List Note) (verdict : Class)
+      → FitsFrame setup sizes log mark given own verdict → FitsFrame setup sizes longer mark given own verdict
+  frame_grows setup sizes mark given own (class.Untracked why) f = f
+  frame_grows setup sizes mark given own class.BadHeader f = f
+  frame_grows setup sizes mark given own (class.NoEntry at) f =
       flow_grows mark given own _ _
       (λ packet kills k rest b. record {
         own = b.own;
@@ -125,11 +174,11 @@ module _ (events : EventsStay) (states : StatesStay) (longer log : List Event) (
         absent = at_grows states longer log _ _ starts b.absent;
         starts = b.starts;
       }) f
-  frame_grows sizes mark given own (class.BadState id at) f =
+  frame_grows setup sizes mark given own (class.BadState id at) f =
       flow_grows mark given own _ _ (λ packet kills k rest l. leaves_grows k packet rest id at _ l) f
-  frame_grows sizes mark given own (class.ErrorLost at) f =
+  frame_grows setup sizes mark given own (class.ErrorLost at) f =
       error_still given own _ _ (λ inner outer l. looked_grows mark inner at _ l) f
-  frame_grows sizes mark given own (class.ErrorAddress id at) f =
+  frame_grows setup sizes mark given own (class.ErrorAddress id at) f =
       error_still given own _ _
       (λ inner outer l. record {
         found = l.found;
@@ -137,7 +186,7 @@ module _ (events : EventsStay) (states : StatesStay) (longer log : List Event) (
         named = l.named;
         address = l.address;
       }) f
-  frame_grows sizes mark given own (class.Error direction id at) f =
+  frame_grows setup sizes mark given own (class.Error direction id at) f =
       error_still given own _ _
       (λ inner outer l. record {
         found = l.found;
@@ -146,7 +195,7 @@ module _ (events : EventsStay) (states : StatesStay) (longer log : List Event) (
         directed = l.directed;
         address = l.address;
       }) f
-  frame_grows sizes mark given own (class.Made id at translated unclaimed) f =
+  frame_grows setup sizes mark given own (class.Made id at translated unclaimed) f =
       flow_grows mark given own _ _
       (λ packet kills k rest m. record {
         subject = m.subject;
@@ -154,10 +203,10 @@ module _ (events : EventsStay) (states : StatesStay) (longer log : List Event) (
         happened = happened_grows k _ m.happened;
         named = m.named;
         started = m.started;
-        alone = unclaimed_grows k unclaimed m.subject m.alone;
+        alone = unclaimed_grows setup k packet translated unclaimed m.subject m.alone;
         point = m.point;
       }) f
-  frame_grows sizes mark given own (class.Passed label id at ftp) f =
+  frame_grows setup sizes mark given own (class.Passed label id at ftp) f =
       flow_grows mark given own _ _
       (λ packet kills k rest m. record {
         note = m.note;
@@ -171,21 +220,34 @@ module _ (events : EventsStay) (states : StatesStay) (longer log : List Event) (
         payload = m.payload;
         point = m.point;
       }) f
-  frame_grows sizes mark given own (class.Ignored id at) f =
+  frame_grows setup sizes mark given own (class.Ignored id at) f =
       flow_grows mark given own _ _ (λ packet kills k rest l. leaves_grows k packet rest id at _ l) f
-  frame_grows sizes mark given own (class.Merged id at translated) f =
-      flow_grows mark given own _ _ (λ packet kills k rest m. winner_grows k packet rest id at translated true m) f
-  frame_grows sizes mark given own (class.Clash id at translated) f =
-      flow_grows mark given own _ _ (λ packet kills k rest m. winner_grows k packet rest id at translated false m) f
-  frame_grows sizes mark given own (class.Full at) f =
+  frame_grows setup sizes mark given own (class.Merged id at translated) f =
+      flow_grows mark given own _ _ (λ packet kills k rest m. winner_grows setup k packet rest _ m) f
+  frame_grows setup sizes mark given own (class.Clash id at translated) f =
+      flow_grows mark given own _ _ (λ packet kills k rest m. winner_grows setup k packet rest _ m) f
+  frame_grows setup sizes mark given own (class.NoPort from to) f =
       flow_grows mark given own _ _
       (λ packet kills k rest m. record {
         own = m.own;
         starts = m.starts;
-        absent = absent_grows k packet.tuple at m.absent;
+        absent = absent_grows k packet.tuple from m.absent;
+        rule = m.rule;
+        first = m.first;
+        ordered = m.ordered;
+        within = longer_within to m.within;
+        taken = λ number allowed. between_grows from to _ (m.taken number allowed);
+      }) f
+  frame_grows setup sizes mark given own (class.Full at) f =
+      flow_grows mark given own _ _
+      (λ packet kills k rest m. record {
+        own = m.own;
+        translated = m.translated;
+        reply = m.reply;
+        begun = begun_grows setup k packet m.translated m.reply at m.begun;
         full = at_grows states longer log _ _ starts m.full;
       }) f
-  frame_grows sizes mark given own (class.Contended id at) f =
+  frame_grows setup sizes mark given own (class.Contended id at) f =
       flow_grows mark given own _ _
       (λ packet kills k rest m. (
         m.0,

@@ -24,6 +24,7 @@ use Rattle.packet_headers.specs.declared.packet.Packet.TheVariants as packet
 use Rattle.packet_path.specs.Internal.Attempt.{Answers, HoldsNothing, IsKilling, KilledOne}
 use Rattle.packet_path.specs.Handled.{Handled}
 use Rattle.packet_path.specs.Packet.{Given, IsFlow}
+use Rattle.packet_path.specs.declared.setup.Setup.{Setup}
 use Rattle.packet_path.specs.Verdict.{FitsFrame, Kills, KillsAll, points_of}
 use Rattle.packet_path.proofs.Growth.{at_grows, kills_all_grows}
 use Rattle.packet_path.proofs.Marks.{happened_lower, mark_past-le}
@@ -86,10 +87,10 @@ module _ (states : StatesStay) (events : EventsStay) (old : Sight) (packet : Flo
   }
 
   -- an answer after the kills
-  pub killing_done : (now new : Sight) (n : ℕ) (verdict : Verdict) (given : Given) → IsFlow given packet → IsKilling old now packet n
-      → Answers now new packet n (length now.front) verdict.class → HoldsNothing new → verdict.first ≡ length old.own
-      → verdict.made ≡ length new.own - length old.own → Handled given old new verdict
-  killing_done now new n verdict given flow k a empty first made =
+  pub killing_done : (setup : Setup) (now new : Sight) (n : ℕ) (verdict : Verdict) (given : Given) → IsFlow given packet → IsKilling old now packet n
+      → Answers setup now new packet n (length now.front) verdict.class → HoldsNothing new → verdict.first ≡ length old.own
+      → verdict.made ≡ length new.own - length old.own → Handled setup given old new verdict
+  killing_done setup now new n verdict given flow k a empty first made =
       let own : new.own ≡ old.own ++ (k.kills ++ a.rest) =
       a.own ∙ ap (λ (l : List Note). l ++ a.rest) k.own ∙ append_assoc old.own k.kills a.rest in
       record {
@@ -101,7 +102,7 @@ module _ (states : StatesStay) (events : EventsStay) (old : Sight) (packet : Flo
         made = omega (arith, made, ap length own, length-append old.own (k.kills ++ a.rest));
         few = omega (arith, length-append k.kills a.rest, k.count, k.few, a.few);
         spare = omega (arith, length-append k.kills a.rest, k.count, k.spare, a.spare);
-        fits = subst (λ (z : Sizes). FitsFrame z new.front (length old.front) given (k.kills ++ a.rest) verdict.class) k.sizes
+        fits = subst (λ (z : Sizes). FitsFrame setup z new.front (length old.front) given (k.kills ++ a.rest) verdict.class) k.sizes
             (a.fits given (length old.front) k.kills flow k.count k.all k.mark);
         points = a.points;
         held = empty.held;
@@ -109,9 +110,9 @@ module _ (states : StatesStay) (events : EventsStay) (old : Sight) (packet : Flo
       }
 
 -- what is handled after making room is handled
-pub handled_ready : (k : ℕ) (old mid new : Sight) (given : Given) (verdict : Verdict) → IsReady k old mid → Handled given mid new verdict
-    → Handled given old new verdict
-handled_ready k old mid new given verdict ready h =
+pub handled_ready : (setup : Setup) (k : ℕ) (old mid new : Sight) (given : Given) (verdict : Verdict) → IsReady k old mid → Handled setup given mid new verdict
+    → Handled setup given old new verdict
+handled_ready setup k old mid new given verdict ready h =
     let front : mid.front ≡ old.front = ap (λ (s : Sight). s.front) ready.same in
     let own : mid.own ≡ old.own = ap (λ (s : Sight). s.own) ready.same in
     let sizes : mid.sizes ≡ old.sizes = ap (λ (s : Sight). s.sizes) ready.same in
@@ -124,19 +125,19 @@ handled_ready k old mid new given verdict ready h =
       made = h.made;
       few = h.few;
       spare = omega (arith, h.spare, ready.kept);
-      fits = subst (λ (l : List Event). FitsFrame old.sizes new.front (length l) given h.own verdict.class) front
-          (subst (λ (z : Sizes). FitsFrame z new.front (length mid.front) given h.own verdict.class) sizes h.fits);
+      fits = subst (λ (l : List Event). FitsFrame setup old.sizes new.front (length l) given h.own verdict.class) front
+          (subst (λ (z : Sizes). FitsFrame setup z new.front (length mid.front) given h.own verdict.class) sizes h.fits);
       points = h.points;
       held = h.held;
       owed = h.owed;
     }
 
 -- a frame that makes no event is handled
-pub handled_silent : (old new : Sight) (given : Given) (verdict : Verdict) → Saw old new → HoldsNothing new
+pub handled_silent : (setup : Setup) (old new : Sight) (given : Given) (verdict : Verdict) → Saw old new → HoldsNothing new
     → verdict.first ≡ length old.own → verdict.made ≡ 0
-    → FitsFrame old.sizes new.front (length old.front) given [] verdict.class
-    → AllByRecursion (λ p. p ≤ length new.front) (points_of verdict.class) → Handled given old new verdict
-handled_silent old new given verdict saw empty first made fits points = record {
+    → FitsFrame setup old.sizes new.front (length old.front) given [] verdict.class
+    → AllByRecursion (λ p. p ≤ length new.front) (points_of verdict.class) → Handled setup given old new verdict
+handled_silent setup old new given verdict saw empty first made fits points = record {
   front = saw.front;
   sizes = saw.sizes;
   own = [];

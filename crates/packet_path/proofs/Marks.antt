@@ -1,5 +1,5 @@
 -- A verdict that fits from a mark on fits from any lower one: one case for each class.
-use Rattle.std.proofs.Common.{ℕ, ◌+◌, ◌≤◌, Bool, true, false, List, [], ◌∷◌, max, arith, Option, Some, None, inl, inr, ⊎_elim}
+use Rattle.std.proofs.Common.{ℕ, ◌+◌, ◌≤◌, List, [], ◌∷◌, max, arith, Option, Some, None, inl, inr, ⊎_elim}
 use Rattle.tuple_core.specs.declared.Tuple.{Tuple}
 use Rattle.history_book.specs.Notes.{Happened, mark_past}
 use Rattle.history_book.specs.State.{Found}
@@ -16,7 +16,9 @@ use Rattle.packet_path.specs.Unchanged.{LeavesEntry}
 use Rattle.packet_path.specs.Error.{LooksUp}
 use Rattle.packet_path.specs.Absent.{WasAbsent}
 use Rattle.packet_path.specs.Made.{IsUnclaimed}
-use Rattle.packet_path.specs.Winner.{IsNewWinner, MeetsWinner}
+use Rattle.packet_path.specs.Begun.{WouldBegin}
+use Rattle.packet_path.specs.declared.setup.Setup.{Setup}
+use Rattle.packet_path.specs.Winner.{IsNewWinner, Meeting, MeetsWinner}
 use Rattle.history_book.specs.declared.verdict.Translated.{Translated}
 use Rattle.history_book.specs.declared.verdict.Translated.TheVariants.{Chosen, Plain}
 use Rattle.packet_path.specs.Verdict.{AnswersFlow, FitsFrame, KillsAll}
@@ -29,13 +31,22 @@ mark_past-le m n (x ∷ xs) le = mark_past-le (max m (x.number + 1)) (max n (x.n
 pub happened_lower : (log : List Event) (m n : ℕ) (note : Note) → m ≤ n → Happened log n note → Happened log m note
 happened_lower log m n note le h = record { event = h.event; later = omega (arith, h.later) }
 
-absent_lower : (log : List Event) (m n : ℕ) (t : Tuple) (upto : ℕ) → m ≤ n → WasAbsent log n t upto → WasAbsent log m t upto
+pub absent_lower : (log : List Event) (m n : ℕ) (t : Tuple) (upto : ℕ) → m ≤ n → WasAbsent log n t upto → WasAbsent log m t upto
 absent_lower log m n t upto le a = record { at = a.at; from = omega (arith, a.from); before = a.before; absent = a.absent }
 
-unclaimed_lower : (log : List Event) (m n : ℕ) (unclaimed : Option ℕ) (r : Record) → m ≤ n → IsUnclaimed log n unclaimed r
-    → IsUnclaimed log m unclaimed r
-unclaimed_lower log m n None r le h = h
-unclaimed_lower log m n (Some p) r le h = (h.0, absent_lower log m n r.original p le h.1, h.2)
+begun_lower : (setup : Setup) (log : List Event) (m n : ℕ) (packet : FlowPacket) (translated : Translated) (reply : Tuple) (upto : ℕ)
+    → m ≤ n → WouldBegin setup log n packet translated reply upto → WouldBegin setup log m packet translated reply upto
+unfolding absent_lower
+begun_lower setup log m n packet translated reply upto le b = record {
+  starts = b.starts;
+  absent = absent_lower log m n packet.tuple upto le b.absent;
+  found = b.found;
+}
+
+unclaimed_lower : (setup : Setup) (log : List Event) (m n : ℕ) (packet : FlowPacket) (translated : Translated) (unclaimed : Option ℕ)
+    (r : Record) → m ≤ n → IsUnclaimed setup log n packet translated unclaimed r → IsUnclaimed setup log m packet translated unclaimed r
+unclaimed_lower setup log m n packet translated None r le h = h
+unclaimed_lower setup log m n packet translated (Some p) r le h = (h.0, begun_lower setup log m n packet translated r.reply p le h.1, h.2)
 
 new_lower : (m n : ℕ) (translated : Translated) (t : Tuple) (r : Record) → m ≤ n → IsNewWinner n translated t r
     → IsNewWinner m translated t r
@@ -77,26 +88,24 @@ module _ (log : List Event) (m n : ℕ) (le : m ≤ n) where
     step = l.step;
   }
 
-  winner_lower : (j k : ℕ) (packet : FlowPacket) (rest : List Note) (id at : ℕ) (translated : Translated) (merged : Bool) → j ≤ k
-      → MeetsWinner log k packet rest id at translated merged → MeetsWinner log j packet rest id at translated merged
-  winner_lower j k packet rest id at translated merged lower h = record {
+  winner_lower : (setup : Setup) (j k : ℕ) (packet : FlowPacket) (rest : List Note) (said : Meeting) → j ≤ k
+      → MeetsWinner setup log k packet rest said → MeetsWinner setup log j packet rest said
+  winner_lower setup j k packet rest said lower h = record {
     own = h.own;
-    starts = h.starts;
-    absent = absent_lower log j k packet.tuple at lower h.absent;
     reply = h.reply;
-    lawful = h.lawful;
+    begun = begun_lower setup log j k packet said.translated h.reply said.at lower h.begun;
     found = h.found;
     live = h.live;
     named = h.named;
     merge = h.merge;
-    new = new_lower j k translated packet.tuple h.found.subject lower h.new;
+    new = new_lower j k said.translated packet.tuple h.found.subject lower h.new;
   }
 
-  pub frame_lower : (sizes : Sizes) (given : Given) (own : List Note) (verdict : Class)
-      → FitsFrame sizes log n given own verdict → FitsFrame sizes log m given own verdict
-  frame_lower sizes given own (class.Untracked why) f = f
-  frame_lower sizes given own class.BadHeader f = f
-  frame_lower sizes given own (class.NoEntry at) f =
+  pub frame_lower : (setup : Setup) (sizes : Sizes) (given : Given) (own : List Note) (verdict : Class)
+      → FitsFrame setup sizes log n given own verdict → FitsFrame setup sizes log m given own verdict
+  frame_lower setup sizes given own (class.Untracked why) f = f
+  frame_lower setup sizes given own class.BadHeader f = f
+  frame_lower setup sizes given own (class.NoEntry at) f =
       flow_lower given own _ _
       (λ packet kills j k rest lower b. record {
         own = b.own;
@@ -104,11 +113,11 @@ module _ (log : List Event) (m n : ℕ) (le : m ≤ n) where
         absent = b.absent;
         starts = b.starts;
       }) f
-  frame_lower sizes given own (class.BadState id at) f =
+  frame_lower setup sizes given own (class.BadState id at) f =
       flow_lower given own _ _ (λ packet kills j k rest lower l. leaves_lower j k packet rest id at _ lower l) f
-  frame_lower sizes given own (class.ErrorLost at) f =
+  frame_lower setup sizes given own (class.ErrorLost at) f =
       error_still given own _ _ (λ inner outer l. looked_lower inner at _ l) f
-  frame_lower sizes given own (class.ErrorAddress id at) f =
+  frame_lower setup sizes given own (class.ErrorAddress id at) f =
       error_still given own _ _
       (λ inner outer l. record {
         found = l.found;
@@ -116,7 +125,7 @@ module _ (log : List Event) (m n : ℕ) (le : m ≤ n) where
         named = l.named;
         address = l.address;
       }) f
-  frame_lower sizes given own (class.Error direction id at) f =
+  frame_lower setup sizes given own (class.Error direction id at) f =
       error_still given own _ _
       (λ inner outer l. record {
         found = l.found;
@@ -125,7 +134,7 @@ module _ (log : List Event) (m n : ℕ) (le : m ≤ n) where
         directed = l.directed;
         address = l.address;
       }) f
-  frame_lower sizes given own (class.Made id at translated unclaimed) f =
+  frame_lower setup sizes given own (class.Made id at translated unclaimed) f =
       flow_lower given own _ _
       (λ packet kills j k rest lower h. record {
         subject = h.subject;
@@ -133,10 +142,10 @@ module _ (log : List Event) (m n : ℕ) (le : m ≤ n) where
         happened = happened_lower log j k _ lower h.happened;
         named = h.named;
         started = h.started;
-        alone = unclaimed_lower log j k unclaimed h.subject lower h.alone;
+        alone = unclaimed_lower setup log j k packet translated unclaimed h.subject lower h.alone;
         point = h.point;
       }) f
-  frame_lower sizes given own (class.Passed label id at ftp) f =
+  frame_lower setup sizes given own (class.Passed label id at ftp) f =
       flow_lower given own _ _
       (λ packet kills j k rest lower h. record {
         note = h.note;
@@ -150,21 +159,34 @@ module _ (log : List Event) (m n : ℕ) (le : m ≤ n) where
         payload = h.payload;
         point = h.point;
       }) f
-  frame_lower sizes given own (class.Ignored id at) f =
+  frame_lower setup sizes given own (class.Ignored id at) f =
       flow_lower given own _ _ (λ packet kills j k rest lower l. leaves_lower j k packet rest id at _ lower l) f
-  frame_lower sizes given own (class.Merged id at translated) f =
-      flow_lower given own _ _ (λ packet kills j k rest lower h. winner_lower j k packet rest id at translated true lower h) f
-  frame_lower sizes given own (class.Clash id at translated) f =
-      flow_lower given own _ _ (λ packet kills j k rest lower h. winner_lower j k packet rest id at translated false lower h) f
-  frame_lower sizes given own (class.Full at) f =
+  frame_lower setup sizes given own (class.Merged id at translated) f =
+      flow_lower given own _ _ (λ packet kills j k rest lower h. winner_lower setup j k packet rest _ lower h) f
+  frame_lower setup sizes given own (class.Clash id at translated) f =
+      flow_lower given own _ _ (λ packet kills j k rest lower h. winner_lower setup j k packet rest _ lower h) f
+  frame_lower setup sizes given own (class.NoPort from to) f =
       flow_lower given own _ _
       (λ packet kills j k rest lower h. record {
         own = h.own;
         starts = h.starts;
-        absent = absent_lower log j k packet.tuple at lower h.absent;
+        absent = absent_lower log j k packet.tuple from lower h.absent;
+        rule = h.rule;
+        first = h.first;
+        ordered = h.ordered;
+        within = h.within;
+        taken = h.taken;
+      }) f
+  frame_lower setup sizes given own (class.Full at) f =
+      flow_lower given own _ _
+      (λ packet kills j k rest lower h. record {
+        own = h.own;
+        translated = h.translated;
+        reply = h.reply;
+        begun = begun_lower setup log j k packet h.translated h.reply at lower h.begun;
         full = h.full;
       }) f
-  frame_lower sizes given own (class.Contended id at) f =
+  frame_lower setup sizes given own (class.Contended id at) f =
       flow_lower given own _ _
       (λ packet kills j k rest lower h. (
         h.0,

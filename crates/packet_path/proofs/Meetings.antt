@@ -29,6 +29,7 @@ use Rattle.history_book.specs.State.{Found, State, live_under, record_of}
 use Rattle.history_book.specs.StateLaws.{LiveRecordsHaveTheProtocol}
 use Rattle.packet_path.specs.declared.attempt.Met.{Met}
 use Rattle.packet_path.specs.declared.packet.FlowPacket.{FlowPacket}
+use Rattle.packet_path.specs.declared.setup.Setup.{Setup}
 use Rattle.packet_path.specs.Internal.Attempt.{Answers, EndsEntry, HoldsNothing, IsClassified, IsMet, KilledOne}
 use Rattle.packet_path.specs.Laws.{SameProtocolIsEquality}
 use Rattle.packet_path.specs.Packet.{Given}
@@ -64,11 +65,11 @@ module _ (states : StatesStay) (events : EventsStay) where
   -- the packet's one event of the entry that it met
   module _ (again : FoundAreFoundAgain) (old new : Sight) (packet : FlowPacket) (met : Met) (known : IsKnown new) (is : IsMet packet met old) where
     -- it passes by an entry that was this record
-    pub passed_answer : (n from number : ℕ) (event : Event) (before : Record) → n ≤ 4 → from ≤ length old.front
+    pub passed_answer : (setup : Setup) (n from number : ℕ) (event : Event) (before : Record) → n ≤ 4 → from ≤ length old.front
         → MadeEvent old new number event → At new.front number (λ s. record_of met.id s ≡ Some before)
         → IsPassing packet (record { subject = before; direction = met.direction }) event
-        → Answers old new packet n from (class.Passed (label_of before met.direction) before.id (number + 1) Nothing)
-    passed_answer n from number event before few low made found passing = record {
+        → Answers setup old new packet n from (class.Passed (label_of before met.direction) before.id (number + 1) Nothing)
+    passed_answer setup n from number event before few low made found passing = record {
       front = made.front;
       sizes = made.sizes;
       rest = record { number = number; event = event } ∷ [];
@@ -178,10 +179,10 @@ is_kill (why.Reset segment moment) s packet met at subject ends = absurd ends
 
 module _ (states : StatesStay) (events : EventsStay) (again : FoundAreFoundAgain) where
   -- after four kills an entry that is to end stands
-  pub contended : (w : Why) (s : Sight) (packet : FlowPacket) (met : Met) (at from : ℕ) → IsKnown s → IsMet packet met s
-      → EndsEntry packet met at w s → from ≤ at → Answers s s packet 4 from (class.Contended met.id at)
-  contended w s packet met at from known is ends low =
-      silent states events s s packet 4 from at (class.Contended met.id at) (saw_refl states events s) (within w ends) refl
+  pub contended : (setup : Setup) (w : Why) (s : Sight) (packet : FlowPacket) (met : Met) (at from : ℕ) → IsKnown s → IsMet packet met s
+      → EndsEntry packet met at w s → from ≤ at → Answers setup s s packet 4 from (class.Contended met.id at)
+  contended setup w s packet met at from known is ends low =
+      silent states events setup s s packet 4 from at (class.Contended met.id at) (saw_refl states events s) (within w ends) refl
       (λ given mark kills flow count killed le.
       flow_answer states events s.front s.front (starts_refl s.front) mark given packet kills [] _ flow (omega (arith, count)) killed
       (count, to_end w ends mark kills le))
@@ -200,14 +201,14 @@ module _ (states : StatesStay) (events : EventsStay) (again : FoundAreFoundAgain
       to_end (why.Reset segment moment) e mark kills le = absurd e
 
   -- a packet leaves the entry that it met as it is, with a class that says just this of the step
-  pub left_as_it_is : (o : Outcome) (k : Class) (old new : Sight) (packet : FlowPacket) (met : Met) (n at : ℕ) → n ≤ 4 → IsKnown new
+  pub left_as_it_is : (setup : Setup) (o : Outcome) (k : Class) (old new : Sight) (packet : FlowPacket) (met : Met) (n at : ℕ) → n ≤ 4 → IsKnown new
       → IsMet packet met old → Leaves met.id met.direction packet.segment packet.moment o old new at → points_of k ≡ at ∷ []
       → ((given : Given) (mark : ℕ) (own : List Note)
       → AnswersFlow new.front mark given own (λ p killed from rest. LeavesEntry new.front from p rest met.id at o)
-      → FitsFrame old.sizes new.front mark given own k)
-      → Answers old new packet n (length old.front) k
-  left_as_it_is o k old new packet met n at few known is left points fits =
-      silent states events old new packet n (length old.front) at k left.0.saw left.0.fact.within points
+      → FitsFrame setup old.sizes new.front mark given own k)
+      → Answers setup old new packet n (length old.front) k
+  left_as_it_is setup o k old new packet met n at few known is left points fits =
+      silent states events setup old new packet n (length old.front) at k left.0.saw left.0.fact.within points
       (λ given mark kills flow count killed le.
       fits given mark (kills ++ [])
       (flow_answer states events new.front old.front left.0.saw.front mark given packet kills [] _ flow (omega (arith, count)) killed
@@ -215,11 +216,11 @@ module _ (states : StatesStay) (events : EventsStay) (again : FoundAreFoundAgain
       left.0.low)))
 
   -- a packet touched the entry that it met
-  pub touched : (old new : Sight) (packet : FlowPacket) (met : Met) (n number : ℕ) (before : Record) → n ≤ 4 → IsKnown new
+  pub touched : (setup : Setup) (old new : Sight) (packet : FlowPacket) (met : Met) (n number : ℕ) (before : Record) → n ≤ 4 → IsKnown new
       → IsMet packet met old → Touches met.id met.direction packet.segment packet.moment old new number before
-      → Answers old new packet n (length old.front) (class.Passed (label_of before met.direction) before.id (number + 1) Nothing)
-  touched old new packet met n number before few known is touches =
-      passed_answer states events again old new packet met known is n (length old.front) number _ before few (omega arith) touches.made
+      → Answers setup old new packet n (length old.front) (class.Passed (label_of before met.direction) before.id (number + 1) Nothing)
+  touched setup old new packet met n number before few known is touches =
+      passed_answer states events again old new packet met known is setup n (length old.front) number _ before few (omega arith) touches.made
       touches.found
       (inl (
         touches.after,
@@ -228,12 +229,12 @@ module _ (states : StatesStay) (events : EventsStay) (again : FoundAreFoundAgain
       ))
 
   -- a packet reset the entry that it met
-  pub was_reset : (old new : Sight) (packet : FlowPacket) (met : Met) (n from number : ℕ) (subject : Record) → n ≤ 4
+  pub was_reset : (setup : Setup) (old new : Sight) (packet : FlowPacket) (met : Met) (n from number : ℕ) (subject : Record) → n ≤ 4
       → from ≤ length old.front → IsKnown new → IsMet packet met old
       → Destroys met.id (why.Reset packet.segment packet.moment) old new number subject
-      → Answers old new packet n from (class.Passed (label_of subject met.direction) subject.id (number + 1) Nothing)
-  was_reset old new packet met n from number subject few low known is d =
-      passed_answer states events again old new packet met known is n from number _ subject few low d.made d.found
+      → Answers setup old new packet n from (class.Passed (label_of subject met.direction) subject.id (number + 1) Nothing)
+  was_reset setup old new packet met n from number subject few low known is d =
+      passed_answer states events again old new packet met known is setup n from number _ subject few low d.made d.found
       (inr (ap (λ i. Destroy i (why.Reset packet.segment packet.moment))
       (sym (has_id_of met.id (after new.front number) subject d.found.fact))))
 

@@ -10,6 +10,7 @@ use Rattle.history_book.specs.declared.verdict.UntrackedWhy.{UntrackedWhy}
 use Rattle.history_book.specs.declared.verdict.UntrackedWhy.TheVariants as why
 use Rattle.packet_headers.specs.declared.packet.Packet.TheVariants as packet
 use Rattle.packet_path.specs.Packet.{Given, cause_of}
+use Rattle.packet_path.specs.declared.setup.Setup.{Setup}
 use Rattle.packet_path.specs.Verdict.{FitsFrame}
 
 same_why : (v w : UntrackedWhy) → packet.Untracked (cause_of v) ≡ packet.Untracked (cause_of w) → v ≡ w
@@ -23,9 +24,9 @@ same_why why.Protocol why.Link e = cc
 same_why why.Protocol why.Fragment e = cc
 same_why why.Protocol why.Protocol e = refl
 
-module _ (sizes : Sizes) (log : List Event) (mark : ℕ) (given : Given) where
+module _ (setup : Setup) (sizes : Sizes) (log : List Event) (mark : ℕ) (given : Given) where
   pub untracked_only : (own : List Note) (answer : Class) (why : UntrackedWhy) → given.packet ≡ packet.Untracked (cause_of why)
-      → FitsFrame sizes log mark given own answer → (own ≡ []) × (answer ≡ class.Untracked why)
+      → FitsFrame setup sizes log mark given own answer → (own ≡ []) × (answer ≡ class.Untracked why)
   untracked_only own (class.Untracked w) why is f = (f.1, ap class.Untracked (same_why w why (sym f.0 ∙ is)))
   untracked_only own class.BadHeader why is f = let e = f.0 in cc
   untracked_only own (class.ErrorLost at) why is f = let e = f.error in cc
@@ -38,11 +39,12 @@ module _ (sizes : Sizes) (log : List Event) (mark : ℕ) (given : Given) where
   untracked_only own (class.Ignored id at) why is f = let e = f.flow.headers in cc
   untracked_only own (class.Merged id at translated) why is f = let e = f.flow.headers in cc
   untracked_only own (class.Clash id at translated) why is f = let e = f.flow.headers in cc
+  untracked_only own (class.NoPort from to) why is f = let e = f.flow.headers in cc
   untracked_only own (class.Full at) why is f = let e = f.flow.headers in cc
   untracked_only own (class.Contended id at) why is f = let e = f.flow.headers in cc
 
   pub invalid_only : (own : List Note) (answer : Class) → given.packet ≡ packet.Invalid
-      → FitsFrame sizes log mark given own answer → (own ≡ []) × (answer ≡ class.BadHeader)
+      → FitsFrame setup sizes log mark given own answer → (own ≡ []) × (answer ≡ class.BadHeader)
   invalid_only own (class.Untracked w) is f = let e = f.0 in cc
   invalid_only own class.BadHeader is f = (f.1, refl)
   invalid_only own (class.ErrorLost at) is f = let e = f.error in cc
@@ -55,11 +57,12 @@ module _ (sizes : Sizes) (log : List Event) (mark : ℕ) (given : Given) where
   invalid_only own (class.Ignored id at) is f = let e = f.flow.headers in cc
   invalid_only own (class.Merged id at translated) is f = let e = f.flow.headers in cc
   invalid_only own (class.Clash id at translated) is f = let e = f.flow.headers in cc
+  invalid_only own (class.NoPort from to) is f = let e = f.flow.headers in cc
   invalid_only own (class.Full at) is f = let e = f.flow.headers in cc
   invalid_only own (class.Contended id at) is f = let e = f.flow.headers in cc
 
   pub error_silent : (inner : Tuple) (outer : ℕ) (own : List Note) (answer : Class) → given.packet ≡ packet.Error inner outer
-      → FitsFrame sizes log mark given own answer → own ≡ []
+      → FitsFrame setup sizes log mark given own answer → own ≡ []
   error_silent inner outer own (class.Untracked w) is f = let e = f.0 in cc
   error_silent inner outer own class.BadHeader is f = let e = f.0 in cc
   error_silent inner outer own (class.ErrorLost at) is f = f.none
@@ -72,5 +75,6 @@ module _ (sizes : Sizes) (log : List Event) (mark : ℕ) (given : Given) where
   error_silent inner outer own (class.Ignored id at) is f = let e = f.flow.headers in cc
   error_silent inner outer own (class.Merged id at translated) is f = let e = f.flow.headers in cc
   error_silent inner outer own (class.Clash id at translated) is f = let e = f.flow.headers in cc
+  error_silent inner outer own (class.NoPort from to) is f = let e = f.flow.headers in cc
   error_silent inner outer own (class.Full at) is f = let e = f.flow.headers in cc
   error_silent inner outer own (class.Contended id at) is f = let e = f.flow.headers in cc

@@ -6,12 +6,13 @@ use Rattle.history_book.specs.declared.verdict.Verdict.{Verdict}
 use Rattle.history_book.specs.Point.{StartsWith}
 use Rattle.history_book.specs.Sight.{Sight}
 use Rattle.packet_path.specs.Packet.{Given}
+use Rattle.packet_path.specs.declared.setup.Setup.{Setup}
 use Rattle.packet_path.specs.Verdict.{FitsFrame, points_of}
 
--- The desk saw no less than before. Its further own events are those of the verdict, for which it had room,
+-- Of a tracker that is set up so: the desk saw no less than before. Its further own events are those of the verdict, for which it had room,
 -- and the verdict fits the frame on the new front: nothing of it is older than what the desk had seen, nor
 -- later than what it sees now. No place is held or owed.
-pub record Handled (given : Given) (old new : Sight) (verdict : Verdict) : Type 0 where
+pub record Handled (setup : Setup) (given : Given) (old new : Sight) (verdict : Verdict) : Type 0 where
   pub front : StartsWith new.front old.front
   pub sizes : new.sizes ≡ old.sizes
   pub own : List Note
@@ -20,7 +21,7 @@ pub record Handled (given : Given) (old new : Sight) (verdict : Verdict) : Type 
   pub made : verdict.made ≡ length own
   pub few : length own ≤ 8
   pub spare : old.spare ≤ new.spare + length own
-  pub fits : FitsFrame old.sizes new.front (length old.front) given own verdict.class
+  pub fits : FitsFrame setup old.sizes new.front (length old.front) given own verdict.class
   pub points : AllByRecursion (λ p. p ≤ length new.front) (points_of verdict.class)
   pub held : new.held ≡ []
   pub owed : new.owed ≡ []

@@ -1,11 +1,13 @@
 pub mod Packet
 pub mod Error
 pub mod Absent
+pub mod Begun
 pub mod Made
 pub mod Winner
 pub mod Passed
 pub mod Unchanged
 pub mod Full
+pub mod NoPort
 pub mod Verdict
 pub mod Handled
 pub mod Internal

@@ -18,6 +18,8 @@ use Rattle.history_book.specs.declared.verdict.Translated.{Translated}
 use Rattle.history_book.specs.declared.verdict.Translated.TheVariants.{Chosen, Plain}
 use Rattle.packet_path.specs.Error.{AnswersError, IsMisdirected, IsRelated, LooksUp}
 use Rattle.packet_path.specs.Full.{FindsNoRoom}
+use Rattle.packet_path.specs.NoPort.{FindsNoNumber}
+use Rattle.packet_path.specs.declared.setup.Setup.{Setup}
 use Rattle.packet_path.specs.Made.{Makes}
 use Rattle.history_book.specs.Notes.{Happened, mark_past}
 use Rattle.packet_path.specs.Passed.{Passes}
@@ -59,33 +61,35 @@ pub record AnswersFlow (log : List Event) (mark : ℕ) (given : Given) (own : Li
 
 -- The class fits what the tracker was given of a frame and the events that the frame made. The headers
 -- alone decide where it is not tracked or a header is wrong. Before Contended exactly four kills stand.
-abbrev pub FitsFrame : Sizes → List Event → ℕ → Given → List Note → Class → Type 0
-FitsFrame sizes log mark given own (class.Untracked why) =
+abbrev pub FitsFrame : Setup → Sizes → List Event → ℕ → Given → List Note → Class → Type 0
+FitsFrame setup sizes log mark given own (class.Untracked why) =
     (given.packet ≡ packet.Untracked (cause_of why)) × (own ≡ [])
-FitsFrame sizes log mark given own class.BadHeader = (given.packet ≡ packet.Invalid) × (own ≡ [])
-FitsFrame sizes log mark given own (class.NoEntry at) =
+FitsFrame setup sizes log mark given own class.BadHeader = (given.packet ≡ packet.Invalid) × (own ≡ [])
+FitsFrame setup sizes log mark given own (class.NoEntry at) =
     AnswersFlow log mark given own (λ p killed k rest. BeginsNothing log k p rest at)
-FitsFrame sizes log mark given own (class.BadState id at) =
+FitsFrame setup sizes log mark given own (class.BadState id at) =
     AnswersFlow log mark given own (λ p killed k rest. LeavesEntry log k p rest id at outcome.Invalid)
-FitsFrame sizes log mark given own (class.ErrorLost at) =
+FitsFrame setup sizes log mark given own (class.ErrorLost at) =
     AnswersError given own (λ inner outer. LooksUp log mark inner at None)
-FitsFrame sizes log mark given own (class.ErrorAddress id at) =
+FitsFrame setup sizes log mark given own (class.ErrorAddress id at) =
     AnswersError given own (λ inner outer. IsMisdirected log mark inner outer id at)
-FitsFrame sizes log mark given own (class.Error direction id at) =
+FitsFrame setup sizes log mark given own (class.Error direction id at) =
     AnswersError given own (λ inner outer. IsRelated log mark inner outer direction id at)
-FitsFrame sizes log mark given own (class.Made id at translated unclaimed) =
-    AnswersFlow log mark given own (λ p killed k rest. Makes log k p rest id at translated unclaimed)
-FitsFrame sizes log mark given own (class.Passed label id at ftp) =
+FitsFrame setup sizes log mark given own (class.Made id at translated unclaimed) =
+    AnswersFlow log mark given own (λ p killed k rest. Makes setup log k p rest (record { id = id; at = at; translated = translated; unclaimed = unclaimed }))
+FitsFrame setup sizes log mark given own (class.Passed label id at ftp) =
     AnswersFlow log mark given own (λ p killed k rest. Passes log k p rest label id at ftp)
-FitsFrame sizes log mark given own (class.Ignored id at) =
+FitsFrame setup sizes log mark given own (class.Ignored id at) =
     AnswersFlow log mark given own (λ p killed k rest. LeavesEntry log k p rest id at outcome.Ignore)
-FitsFrame sizes log mark given own (class.Merged id at translated) =
-    AnswersFlow log mark given own (λ p killed k rest. MeetsWinner log k p rest id at translated true)
-FitsFrame sizes log mark given own (class.Clash id at translated) =
-    AnswersFlow log mark given own (λ p killed k rest. MeetsWinner log k p rest id at translated false)
-FitsFrame sizes log mark given own (class.Full at) =
-    AnswersFlow log mark given own (λ p killed k rest. FindsNoRoom sizes log k p rest at)
-FitsFrame sizes log mark given own (class.Contended id at) =
+FitsFrame setup sizes log mark given own (class.Merged id at translated) =
+    AnswersFlow log mark given own (λ p killed k rest. MeetsWinner setup log k p rest (record { id = id; at = at; translated = translated; merged = true }))
+FitsFrame setup sizes log mark given own (class.Clash id at translated) =
+    AnswersFlow log mark given own (λ p killed k rest. MeetsWinner setup log k p rest (record { id = id; at = at; translated = translated; merged = false }))
+FitsFrame setup sizes log mark given own (class.NoPort from to) =
+    AnswersFlow log mark given own (λ p killed k rest. FindsNoNumber setup log k p rest from to)
+FitsFrame setup sizes log mark given own (class.Full at) =
+    AnswersFlow log mark given own (λ p killed k rest. FindsNoRoom setup sizes log k p rest at)
+FitsFrame setup sizes log mark given own (class.Contended id at) =
     AnswersFlow log mark given own (λ p killed k rest. (killed ≡ 4) × IsToEnd log k p rest id at)
 
 -- the point that a translation names
@@ -116,5 +120,6 @@ points_of (class.Passed label id at payload) = at ∷ ftp_points payload
 points_of (class.Ignored id at) = at ∷ []
 points_of (class.Merged id at translated) = at ∷ translated_points translated
 points_of (class.Clash id at translated) = at ∷ translated_points translated
+points_of (class.NoPort from to) = from ∷ to ∷ []
 points_of (class.Full at) = at ∷ []
 points_of (class.Contended id at) = at ∷ []

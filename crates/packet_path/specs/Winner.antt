@@ -1,5 +1,5 @@
 -- A packet that would begin a flow, and meets an entry that has one of the flow's tuples.
-use Rattle.std.specs.Prelude.{◌≡◌, ℕ, ◌≤◌, Bool, true, ◌&&◌, Some, List, [], IsSome}
+use Rattle.std.specs.Prelude.{◌≡◌, ℕ, ◌≤◌, Bool, true, ◌&&◌, Some, List, []}
 use Rattle.tuple_core.specs.declared.Proto.TheVariants as proto
 use Rattle.tuple_core.specs.declared.Tuple.{Tuple}
 use Rattle.history_book.specs.declared.event.Event.{Event}
@@ -11,10 +11,9 @@ use Rattle.history_book.specs.Legality.{same_proto}
 use Rattle.history_book.specs.Point.{At}
 use Rattle.history_book.specs.Record.{has_original, has_reply, has_tuple}
 use Rattle.history_book.specs.State.{Found, winner}
-use Rattle.proto_rules.specs.Start.{start_of}
-use Rattle.packet_path.specs.Absent.{WasAbsent}
-use Rattle.packet_path.specs.Made.{IsLawfulReply}
+use Rattle.packet_path.specs.Begun.{WouldBegin}
 use Rattle.packet_path.specs.declared.packet.FlowPacket.{FlowPacket}
+use Rattle.packet_path.specs.declared.setup.Setup.{Setup}
 
 -- the flow is of UDP, and its two tuples are those of the entry, in this order: the packet is merged into it
 abbrev pub is_merged : Tuple → Tuple → Record → Bool
@@ -26,17 +25,23 @@ abbrev pub IsNewWinner : ℕ → Translated → Tuple → Record → Type 0
 IsNewWinner k Plain t r = has_tuple t r ≡ true → k ≤ r.id
 IsNewWinner k (Chosen chosen taken_at) t r = k ≤ r.id
 
--- no further event; an entry begins with the packet, nothing was live under its tuple, and later, at this
--- point, the entry is the one that has the packet's tuple, else the one that has the reply tuple
-pub record MeetsWinner (log : List Event) (k : ℕ) (packet : FlowPacket) (rest : List Note) (id at : ℕ)
-    (translated : Translated) (merged : Bool) : Type 0 where
+-- what a verdict says of the entry: its id, the point, how the flow's reply tuple was found, and whether the packet
+-- was merged into it
+pub record Meeting : Type 0 where
+  pub id : ℕ
+  pub at : ℕ
+  pub translated : Translated
+  pub merged : Bool
+
+-- no further event; a flow would begin with the packet, and later, at this point, the entry is the one that has
+-- the packet's tuple, else the one that has the reply tuple
+pub record MeetsWinner (setup : Setup) (log : List Event) (k : ℕ) (packet : FlowPacket) (rest : List Note)
+    (said : Meeting) : Type 0 where
   pub own : rest ≡ []
-  pub starts : IsSome (start_of packet.segment packet.moment)
-  pub absent : WasAbsent log k packet.tuple at
   pub reply : Tuple
-  pub lawful : IsLawfulReply packet.tuple translated reply
+  pub begun : WouldBegin setup log k packet said.translated reply said.at
   pub found : Found
-  pub live : At log at (λ s. winner packet.tuple reply s ≡ Some found)
-  pub named : found.subject.id ≡ id
-  pub merge : is_merged packet.tuple reply found.subject ≡ merged
-  pub new : IsNewWinner k translated packet.tuple found.subject
+  pub live : At log said.at (λ s. winner packet.tuple reply s ≡ Some found)
+  pub named : found.subject.id ≡ said.id
+  pub merge : is_merged packet.tuple reply found.subject ≡ said.merged
+  pub new : IsNewWinner k said.translated packet.tuple found.subject

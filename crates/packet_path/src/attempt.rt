@@ -2,23 +2,25 @@
 //! given to it, or begins a flow. Where another thread came between, the attempt is made again.
 
 ghost use Rattle.std.specs.Prelude.{◌≡◌, ℕ, ◌+◌, ◌<◌, ◌≤◌, ◌^◌, ◌&&◌, if◌then◌else◌, true, None, Some, [], length};
+ghost use Rattle.std.specs.List.{AllByRecursion};
 ghost use Rattle.tuple_core.specs.declared.Proto.TheVariants as proto;
 ghost use Rattle.history_book.specs.declared.verdict.Class.TheVariants.{Clash, Made, Merged, Passed};
 ghost use Rattle.history_book.specs.declared.verdict.Ftp.TheVariants.{Nothing};
 ghost use Rattle.history_book.specs.Desk.{SamePlaces, Saw};
 ghost use Rattle.history_book.specs.Held.{is_held};
-ghost use Rattle.history_book.specs.declared.verdict.Translated.TheVariants.{Plain};
 ghost use Rattle.history_book.specs.Label.{label_of};
 ghost use Rattle.history_book.specs.Legality.{same_proto};
 ghost use Rattle.history_book.specs.Point.{At};
 ghost use Rattle.history_book.specs.Sight.{IsKnown};
 ghost use Rattle.history_book.specs.State.{live_under};
-ghost use Rattle.packet_path.specs.Internal.Attempt.{Answers, AttemptSays, EndsEntry};
+ghost use Rattle.nat_setup.specs.Rule.{IsLawfulRule};
+ghost use Rattle.packet_path.specs.Internal.Attempt.{Answers, AttemptSays, EndsEntry, IsFoundFor, IsReplyOf};
 ghost use Rattle.packet_path.specs.Internal.Attempt.{HoldsNothing, HoldsOne, IsClassified, IsMet};
 ghost use Rattle.proto_rules.specs.Start.{start_of};
 
 use crate::laws::same_protocol_is_equality;
 use crate::packet::FlowPacket;
+use crate::setup::Setup;
 use history_book::desk::Desk;
 use history_book::event::Why;
 use history_book::find::label;
@@ -31,10 +33,11 @@ use history_book::outcome::{
 };
 use history_book::record::{Flow, Record};
 use history_book::verdict::{Class, Ftp, Translated};
+use nat_setup::translate::{TranslateOutcome, translate};
 use proto_rules::laws::entries_begin_fresh;
 use proto_rules::{Part, start};
 use std::sync::Wait;
-use tuple_core::{Direction, Proto, invert};
+use tuple_core::{Direction, Proto, Tuple, invert};
 
 /// How an attempt ended.
 #[derive(Clone, Copy)]
@@ -72,24 +75,33 @@ pub fn give_up<R: Wait, D: Desk>(rt: &R, desk: &mut D, place: u32)
     }
 }
 
-/// Confirms a new entry in the place that was taken for it; nothing was live under the packet's tuple at
-/// the point `absent_at`.
+/// The reply tuple that was found for a flow, how it was, and the last point on the way to it.
+#[derive(Clone, Copy)]
+pub struct NewReply {
+    pub reply: Tuple,
+    pub translated: Translated,
+    pub at: u64,
+}
+
+/// Confirms a new entry in the place that was taken for it. Nothing was live under the packet's tuple at
+/// the point `absent_at`, and the reply tuple was found from it on.
 fn confirm_flow<R: Wait, D: Desk>(
     rt: &R,
     desk: &mut D,
     packet: &FlowPacket,
     part: Part,
+    found: &NewReply,
     place: u32,
     absent_at: u64,
 ) -> Class
     requires classified { IsClassified packet.now }
     requires starts { start_of packet.now.segment packet.now.moment ≡ Some part }
-    requires absent { At (D.sight desk.old).front absent_at
-        (λ s. live_under packet.now.tuple s ≡ None) }
+    requires valid { IsReplyOf packet.now.tuple found.now.reply }
     requires holds { HoldsOne (record { place = place; id = None }) (D.sight desk.old) }
     requires spare { 1 ≤ (D.sight desk.old).spare }
-    ensures answers { (killed : ℕ) → killed ≤ 4 →
-        Answers (D.sight desk.old) (D.sight desk.new) packet.now killed absent_at result }
+    ensures answers { (setup : Setup) (killed : ℕ) → killed ≤ 4 →
+        IsFoundFor setup packet.now (D.sight desk.old).front absent_at found.now →
+        Answers setup (D.sight desk.old) (D.sight desk.new) packet.now killed absent_at result }
     ensures empty { HoldsNothing (D.sight desk.new) }
     ensures knows { IsKnown (D.sight desk.new) }
 {
@@ -101,7 +113,7 @@ fn confirm_flow<R: Wait, D: Desk>(
     states_stay();
     let flow = Flow {
         original: packet.tuple,
-        reply: invert(&packet.tuple),
+        reply: found.reply,
         part,
         helper: false,
         master: None,
@@ -109,34 +121,33 @@ fn confirm_flow<R: Wait, D: Desk>(
     match desk.confirm(rt, place, &flow) {
         ConfirmOutcome::Confirmed { id } => {
             give_up(rt, desk, place);
-            made(id, absent_at)
+            made(found, id)
         }
         ConfirmOutcome::Clash { id, both, at, .. } => {
             give_up(rt, desk, place);
-            met_winner(packet, id, both, at)
+            met_winner(packet, found.translated, id, both, at)
         }
     }
 }
 
-/// The class of a packet that made an entry of this id, after nothing was live under its tuple.
-fn made(id: u64, absent_at: u64) -> Class
+/// The class of a packet that made an entry of this id, with the reply tuple that was found.
+fn made(found: &NewReply, id: u64) -> Class
     requires { id < 2 ^ 40 }
-    ensures { result ≡ Made id (id + 1) Plain (Some absent_at) }
+    ensures { result ≡ Made id (id + 1) found.now.translated (Some found.now.at) }
 {
     Class::Made {
         id,
         at: id + 1,
-        translated: Translated::Plain,
-        unclaimed: Some(absent_at),
+        translated: found.translated,
+        unclaimed: Some(found.at),
     }
 }
 
 /// The class of a packet that would begin a flow, and met an entry that has one of the flow's tuples.
-fn met_winner(packet: &FlowPacket, id: u64, both: bool, at: u64) -> Class
+fn met_winner(packet: &FlowPacket, translated: Translated, id: u64, both: bool, at: u64) -> Class
     ensures { result ≡ (if same_proto packet.now.tuple.proto proto.Udp && both
-        then Merged id at Plain else Clash id at Plain) }
+        then Merged id at translated else Clash id at translated) }
 {
-    let translated = Translated::Plain;
     if packet.tuple.proto == Proto::Udp && both {
         Class::Merged { id, at, translated }
     } else {
@@ -144,17 +155,54 @@ fn met_winner(packet: &FlowPacket, id: u64, both: bool, at: u64) -> Class
     }
 }
 
+/// Takes a place for a new flow and confirms it there, if there is room.
+fn place_flow<R: Wait, D: Desk>(
+    rt: &R,
+    desk: &mut D,
+    packet: &FlowPacket,
+    part: Part,
+    found: &NewReply,
+    absent_at: u64,
+) -> Class
+    requires classified { IsClassified packet.now }
+    requires starts { start_of packet.now.segment packet.now.moment ≡ Some part }
+    requires valid { IsReplyOf packet.now.tuple found.now.reply }
+    requires empty { HoldsNothing (D.sight desk.old) }
+    requires spare { 1 ≤ (D.sight desk.old).spare }
+    ensures answers { (setup : Setup) (killed : ℕ) → killed ≤ 4 →
+        IsFoundFor setup packet.now (D.sight desk.old).front absent_at found.now →
+        Answers setup (D.sight desk.old) (D.sight desk.new) packet.now killed absent_at result }
+    ensures empty { HoldsNothing (D.sight desk.new) }
+    ensures knows { IsKnown (D.sight desk.new) }
+{
+    events_stay();
+    states_stay();
+    match desk.take(rt) {
+        TakeOutcome::Full { at } => Class::Full { at },
+        TakeOutcome::Taken { place } => {
+            confirm_flow(rt, desk, packet, part, found, place, absent_at)
+        }
+    }
+}
+
 /// Begins a flow for a packet under whose tuple nothing was live at the point `absent_at`, if one begins
-/// with it and there is room.
-fn begin_flow<R: Wait, D: Desk>(rt: &R, desk: &mut D, packet: &FlowPacket, absent_at: u64) -> Class
+/// with it, a reply tuple is found for it, and there is room.
+fn begin_flow<R: Wait, D: Desk>(
+    rt: &R,
+    desk: &mut D,
+    packet: &FlowPacket,
+    setup: &Setup,
+    absent_at: u64,
+) -> Class
+    requires lawful { AllByRecursion IsLawfulRule setup.now.rules.items }
     requires classified { IsClassified packet.now }
     requires absent { At (D.sight desk.old).front absent_at
         (λ s. live_under packet.now.tuple s ≡ None) }
     requires empty { HoldsNothing (D.sight desk.old) }
     requires spare { 1 ≤ (D.sight desk.old).spare }
     requires knows { IsKnown (D.sight desk.old) }
-    ensures answers { (killed : ℕ) → killed ≤ 4 →
-        Answers (D.sight desk.old) (D.sight desk.new) packet.now killed absent_at result }
+    ensures answers { (killed : ℕ) → killed ≤ 4 → Answers setup.now
+        (D.sight desk.old) (D.sight desk.new) packet.now killed absent_at result }
     ensures empty { HoldsNothing (D.sight desk.new) }
     ensures knows { IsKnown (D.sight desk.new) }
 {
@@ -163,9 +211,31 @@ fn begin_flow<R: Wait, D: Desk>(rt: &R, desk: &mut D, packet: &FlowPacket, absen
     let Some(part) = start(packet.segment, packet.moment) else {
         return Class::NoEntry { at: absent_at };
     };
-    match desk.take(rt) {
-        TakeOutcome::Full { at } => Class::Full { at },
-        TakeOutcome::Taken { place } => confirm_flow(rt, desk, packet, part, place, absent_at),
+    match translate(rt, desk, &setup.rules, &packet.tuple) {
+        TranslateOutcome::Plain => {
+            let found = NewReply {
+                reply: invert(&packet.tuple),
+                translated: Translated::Plain,
+                at: absent_at,
+            };
+            place_flow(rt, desk, packet, part, &found, absent_at)
+        }
+        TranslateOutcome::Chosen {
+            reply,
+            kept_taken_at,
+            free_at,
+        } => {
+            let found = NewReply {
+                reply,
+                translated: Translated::Chosen {
+                    reply,
+                    kept_taken_at,
+                },
+                at: free_at,
+            };
+            place_flow(rt, desk, packet, part, &found, absent_at)
+        }
+        TranslateOutcome::NoPort { from, to } => Class::NoPort { from, to },
     }
 }
 
@@ -189,8 +259,8 @@ fn reset_entry<R: Wait, D: Desk>(rt: &R, desk: &mut D, packet: &FlowPacket, met:
     requires met { IsMet packet.now met.now (D.sight desk.old) }
     requires spare { 1 ≤ (D.sight desk.old).spare }
     requires knows { IsKnown (D.sight desk.old) }
-    ensures says { (killed from : ℕ) → killed ≤ 4 → from ≤ length (D.sight desk.old).front →
-        AttemptSays (D.sight desk.old) (D.sight desk.new) packet.now killed from result }
+    ensures says { (setup : Setup) (killed from : ℕ) → killed ≤ 4 → from ≤ length (D.sight desk.old).front →
+        AttemptSays setup (D.sight desk.old) (D.sight desk.new) packet.now killed from result }
     ensures places { SamePlaces (D.sight desk.old) (D.sight desk.new) }
     ensures knows { IsKnown (D.sight desk.new) }
 {
@@ -230,8 +300,8 @@ fn end_entry<R: Wait, D: Desk>(
     requires ends { EndsEntry packet.now met.now at why (D.sight desk.old) }
     requires spare { 5 ≤ (D.sight desk.old).spare + kills }
     requires knows { IsKnown (D.sight desk.old) }
-    ensures says { (from : ℕ) → from ≤ at → from ≤ length (D.sight desk.old).front →
-        AttemptSays (D.sight desk.old) (D.sight desk.new) packet.now kills from result }
+    ensures says { (setup : Setup) (from : ℕ) → from ≤ at → from ≤ length (D.sight desk.old).front →
+        AttemptSays setup (D.sight desk.old) (D.sight desk.new) packet.now kills from result }
     ensures places { SamePlaces (D.sight desk.old) (D.sight desk.new) }
     ensures knows { IsKnown (D.sight desk.new) }
 {
@@ -266,7 +336,7 @@ fn meet_entry<R: Wait, D: Desk>(
     requires few { kills ≤ 4 }
     requires spare { 5 ≤ (D.sight desk.old).spare + kills }
     requires knows { IsKnown (D.sight desk.old) }
-    ensures says { AttemptSays (D.sight desk.old) (D.sight desk.new)
+    ensures says { (setup : Setup) → AttemptSays setup (D.sight desk.old) (D.sight desk.new)
         packet.now kills (length (D.sight desk.old).front) result }
     ensures places { SamePlaces (D.sight desk.old) (D.sight desk.new) }
     ensures knows { IsKnown (D.sight desk.new) }
@@ -314,12 +384,19 @@ fn meet_entry<R: Wait, D: Desk>(
 
 /// Looks up what is live under a packet's tuple, and gives the packet to it or begins a flow; so many
 /// entries were destroyed for the packet before.
-pub fn try_packet<R: Wait, D: Desk>(rt: &R, desk: &mut D, packet: &FlowPacket, kills: u8) -> Attempt
+pub fn try_packet<R: Wait, D: Desk>(
+    rt: &R,
+    desk: &mut D,
+    packet: &FlowPacket,
+    setup: &Setup,
+    kills: u8,
+) -> Attempt
+    requires lawful { AllByRecursion IsLawfulRule setup.now.rules.items }
     requires classified { IsClassified packet.now }
     requires empty { HoldsNothing (D.sight desk.old) }
     requires few { kills ≤ 4 }
     requires spare { 5 ≤ (D.sight desk.old).spare + kills }
-    ensures says { AttemptSays (D.sight desk.old) (D.sight desk.new)
+    ensures says { AttemptSays setup.now (D.sight desk.old) (D.sight desk.new)
         packet.now kills (length (D.sight desk.old).front) result }
     ensures empty { HoldsNothing (D.sight desk.new) }
     ensures knows { IsKnown (D.sight desk.new) }
@@ -327,7 +404,7 @@ pub fn try_packet<R: Wait, D: Desk>(rt: &R, desk: &mut D, packet: &FlowPacket, k
     events_stay();
     states_stay();
     match desk.find(rt, &packet.tuple) {
-        FindOutcome::Absent { at } => Attempt::Done(begin_flow(rt, desk, packet, at)),
+        FindOutcome::Absent { at } => Attempt::Done(begin_flow(rt, desk, packet, setup, at)),
         FindOutcome::Found {
             place,
             id,

@@ -5,6 +5,7 @@ ghost use Rattle.std.specs.List.{AllByRecursion};
 ghost use Rattle.tuple_core.specs.Tuple.{is_valid};
 ghost use Rattle.history_book.specs.Desk.{Saw};
 ghost use Rattle.history_book.specs.Sight.{IsKnown};
+ghost use Rattle.nat_setup.specs.Rule.{IsLawfulRule};
 ghost use Rattle.packet_headers.specs.ClassifySound.{has_valid_tuple, HasItsProtocol};
 ghost use Rattle.packet_headers.specs.declared.packet.Packet.TheVariants.{Error};
 ghost use Rattle.packet_path.specs.Handled.{Handled};
@@ -14,6 +15,7 @@ ghost use Rattle.packet_path.specs.Verdict.{FitsFrame, points_of};
 
 use crate::attempt::{Attempt, give_up, try_packet};
 use crate::packet::FlowPacket;
+use crate::setup::Setup;
 use history_book::desk::Desk;
 use history_book::laws::{events_stay, states_stay};
 use history_book::outcome::FindOutcome;
@@ -25,13 +27,19 @@ use std::sync::Wait;
 use tuple_core::{NoMemory, Tuple, invert};
 
 /// Handles a packet of a flow: attempts are made until one says what became of it.
-fn handle_flow<R: Wait, D: Desk>(rt: &R, desk: &mut D, packet: &FlowPacket) -> Verdict
+fn handle_flow<R: Wait, D: Desk>(
+    rt: &R,
+    desk: &mut D,
+    packet: &FlowPacket,
+    setup: &Setup,
+) -> Verdict
+    requires lawful { AllByRecursion IsLawfulRule setup.now.rules.items }
     requires classified { IsClassified packet.now }
     requires empty { HoldsNothing (D.sight desk.old) }
     requires spare { 5 ≤ (D.sight desk.old).spare }
     requires knows { IsKnown (D.sight desk.old) }
     ensures handled { (given : Given) → IsFlow given packet.now →
-        Handled given (D.sight desk.old) (D.sight desk.new) result }
+        Handled setup.now given (D.sight desk.old) (D.sight desk.new) result }
     ensures knows { IsKnown (D.sight desk.new) }
 {
     events_stay();
@@ -39,7 +47,7 @@ fn handle_flow<R: Wait, D: Desk>(rt: &R, desk: &mut D, packet: &FlowPacket) -> V
     let first = desk.made();
     let mut kills = 0;
     'attempts: for _ in rt.forever() {
-        match try_packet(rt, desk, packet, kills) {
+        match try_packet(rt, desk, packet, setup, kills) {
             Attempt::Done(class) => {
                 let made = (desk.made() - first) as u8;
                 return Verdict { class, first, made };
@@ -61,7 +69,7 @@ fn error_class<R: Wait, D: Desk>(
     requires valid { is_valid inner.now ≡ true }
     requires empty { HoldsNothing (D.sight desk.old) }
     ensures saw { Saw (D.sight desk.old) (D.sight desk.new) }
-    ensures fits { (moment : ℕ) → FitsFrame (D.sight desk.old).sizes (D.sight desk.new).front
+    ensures fits { (setup : Setup) (moment : ℕ) → FitsFrame setup (D.sight desk.old).sizes (D.sight desk.new).front
         (length (D.sight desk.old).front)
         (record { packet = Error inner.now outer_destination; moment = moment }) [] result }
     ensures points { AllByRecursion (λ p. p ≤ length (D.sight desk.new).front) (points_of result) }
@@ -100,14 +108,21 @@ fn untracked_why(cause: Untracked) -> UntrackedWhy
 }
 
 /// Handles one packet, by what its headers say. Only a packet of a flow makes events.
-fn handle_packet<R: Wait, D: Desk>(rt: &R, desk: &mut D, packet: &Packet, moment: u64) -> Verdict
+fn handle_packet<R: Wait, D: Desk>(
+    rt: &R,
+    desk: &mut D,
+    packet: &Packet,
+    moment: u64,
+    setup: &Setup,
+) -> Verdict
+    requires lawful { AllByRecursion IsLawfulRule setup.now.rules.items }
     requires valid { has_valid_tuple packet.now ≡ true }
     requires protocol { HasItsProtocol packet.now }
     requires timely { moment ≤ 10 ^ 16 }
     requires empty { HoldsNothing (D.sight desk.old) }
     requires spare { 5 ≤ (D.sight desk.old).spare }
     requires knows { IsKnown (D.sight desk.old) }
-    ensures handled { Handled (record { packet = packet.now; moment = moment })
+    ensures handled { Handled setup.now (record { packet = packet.now; moment = moment })
         (D.sight desk.old) (D.sight desk.new) result }
     ensures knows { IsKnown (D.sight desk.new) }
 {
@@ -119,7 +134,7 @@ fn handle_packet<R: Wait, D: Desk>(rt: &R, desk: &mut D, packet: &Packet, moment
                 segment: *segment,
                 moment,
             };
-            return handle_flow(rt, desk, &packet);
+            return handle_flow(rt, desk, &packet, setup);
         }
         Packet::Untracked(cause) => Class::Untracked(untracked_why(*cause)),
         Packet::Invalid => Class::BadHeader,
@@ -136,26 +151,28 @@ fn handle_packet<R: Wait, D: Desk>(rt: &R, desk: &mut D, packet: &Packet, moment
 }
 
 /// Handles one frame of a file with these bytes, with a desk that holds and owes nothing, and says what
-/// became of it. Takes its memory first: `NoMemory` comes only where the desk had room for fewer than eight
+/// became of it. New flows are translated by the rules of the setup. Takes its memory first: `NoMemory` comes only where the desk had room for fewer than eight
 /// events, and then none was made, and the desk is as it was.
 pub fn handle<R: Wait, D: Desk>(
     rt: &R,
     desk: &mut D,
     bytes: &[u8],
     frame: &Frame,
+    setup: &Setup,
 ) -> Result<Verdict, NoMemory>
+    requires lawful { AllByRecursion IsLawfulRule setup.now.rules.items }
     requires inside { frame.now.start + frame.now.captured ≤ length bytes.now }
     requires timely { frame.now.moment ≤ 10 ^ 16 }
     requires few { length (D.sight desk.old).own + 8 ≤ 2 ^ 30 }
     requires nothing_held { (D.sight desk.old).held ≡ [] }
     requires nothing_owed { (D.sight desk.old).owed ≡ [] }
     ensures handled { IfOk result
-        (Handled (given_of bytes.now frame.now) (D.sight desk.old) (D.sight desk.new)) }
+        (Handled setup.now (given_of bytes.now frame.now) (D.sight desk.old) (D.sight desk.new)) }
     ensures short { OnErr result ((D.sight desk.old).spare < 8) }
     ensures same { OnErr result (D.sight desk.new ≡ D.sight desk.old) }
     ensures knows { IsKnown (D.sight desk.new) }
 {
     desk.ready(8)?;
     let packet = classify(bytes, frame);
-    Ok(handle_packet(rt, desk, &packet, frame.moment))
+    Ok(handle_packet(rt, desk, &packet, frame.moment, setup))
 }

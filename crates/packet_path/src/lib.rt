@@ -5,3 +5,4 @@ mod attempt;
 pub mod handle;
 pub mod laws;
 pub mod packet;
+pub mod setup;

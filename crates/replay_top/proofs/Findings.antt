@@ -138,7 +138,7 @@ module _ (clean_files : ReadFilesHaveNoFlaw) (unique : FlawsAreUnique) (words : 
   read_all report of = record {
     command = of.command;
     asked = of.asked;
-    holds = each_read files of.command.rules of.holds.rules of.command.captures of.holds.captures of.holds.gave_rules of.holds.gave;
+    holds = each_read files of.command.rules of.holds.setup.rules.items of.command.captures of.holds.captures of.holds.gave_rules of.holds.gave;
   }
 
   -- where a report was made, the inputs have no flaw

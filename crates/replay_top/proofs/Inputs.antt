@@ -7,6 +7,7 @@ use Rattle.ct_io.specs.Source.{SameFaults, Source, Stays}
 use Rattle.history_book.specs.declared.report.Report.{Report}
 use Rattle.nat_setup.specs.declared.rule.Rule.{Rule}
 use Rattle.packet_path.specs.Packet.{Given}
+use Rattle.packet_path.specs.declared.setup.Setup.{Setup}
 use Rattle.replay_top.specs.declared.flaw.FileKind.TheVariants as kind
 use Rattle.replay_top.specs.declared.flaw.Refusal.{Refusal}
 use Rattle.replay_top.specs.declared.flaw.Refusal.TheVariants.{Flawed, Misused, NoMemory, NotOpened, NotRead}
@@ -96,25 +97,25 @@ this_capture None capture = refl
 this_capture (Some name) capture = refl
 
 -- what the capture gives once the rules were read is what the command gives
-pub replays : (name : Option (List ℕ)) (rules : List Rule) (capture : List ℕ) (at : ℕ) (files between files' : Source) (result : Result Report Refusal)
-    → at ≡ first_capture name → Stays files between → SameFaults files between → GaveRules files name rules
-    → CaptureReplaysAs capture at between files' result
+pub replays : (name : Option (List ℕ)) (setup : Setup) (capture : List ℕ) (at : ℕ) (files between files' : Source) (result : Result Report Refusal)
+    → at ≡ first_capture name → Stays files between → SameFaults files between → GaveRules files name setup.rules.items
+    → CaptureReplaysAs setup capture at between files' result
     → Replays (record { rules = name; captures = capture ∷ [] }) files files' result
-replays name rules capture at files between files' (Ok report) numbered stays same gave (read, later) =
+replays name setup capture at files between files' (Ok report) numbered stays same gave (read, later) =
     let whole : IsReplayOf files (record { rules = name; captures = capture ∷ [] }) report = record {
-      rules = rules;
+      setup = setup;
       gave_rules = gave;
       captures = read.given ∷ [];
       gave = (gave_later files between files' stays capture read.given read.gave, tt);
       well_formed = read.well_formed;
     } in
     (whole, same_faults files between files' same later)
-replays name rules capture at files between files' (Err why) numbered stays same gave (cause, later) =
+replays name setup capture at files between files' (Err why) numbered stays same gave (cause, later) =
     let found : HasCauseIn (record { kind = kind.Capture; name = capture }) (first_capture name) files files' why =
     subst (λ k. HasCauseIn (record { kind = kind.Capture; name = capture }) k files files' why) numbered
     (cause_later files between files' stays (record { kind = kind.Capture; name = capture }) at why cause) in (
       cause_at (record { rules = name; captures = capture ∷ [] }) files files' (record { kind = kind.Capture; name = capture })
-          (first_capture name) why (reached name rules capture files gave) (this_capture name capture) found,
+          (first_capture name) why (reached name setup.rules.items capture files gave) (this_capture name capture) found,
       λ other. same_faults files between files' same (later other),
     )
 

@@ -6,14 +6,13 @@ use Rattle.std.proofs.Math.Seq.{drop-append_seam, take-append_seam}
 use Rattle.history_book.specs.declared.event.Event.{Event}
 use Rattle.history_book.specs.declared.event.Note.{Note}
 use Rattle.history_book.specs.declared.event.Numbered.{Numbered}
-use Rattle.history_book.specs.declared.sizes.Sizes.{Sizes}
 use Rattle.history_book.specs.declared.verdict.Verdict.{Verdict}
 use Rattle.history_book.specs.Numbered.{notes_of}
 use Rattle.packet_path.specs.Packet.{Given}
 use Rattle.packet_path.specs.Verdict.{FitsFrame}
 use Rattle.replay_top.specs.Internal.Naming.{all_named, made_in, named}
 use Rattle.replay_top.specs.Internal.Replayed.{mark_beyond, NoteFits, NotesFit}
-use Rattle.replay_top.specs.Report.{mark_after, VerdictFits, VerdictsFit}
+use Rattle.replay_top.specs.Report.{Tracker, mark_after, VerdictFits, VerdictsFit}
 
 -- naming leaves the events as they are
 named_notes : (index : ℕ) (notes : List Note) → notes_of (named index notes) ≡ notes
@@ -44,10 +43,10 @@ named_length index k mine le =
     length-map (take k mine) (λ (n : Note). record { number = n.number; thread = 0; index = index; event = n.event })
     ∙ length-take-le k mine le
 
-module _ (sizes : Sizes) (log : List Event) where
+module _ (tracker : Tracker) (log : List Event) where
   -- verdicts that fit a thread's events made all of them
   pub made_all : (mine : List Note) (first mark : ℕ) (ps : List Given) (vs : List Verdict)
-      → NotesFit sizes log mine first mark ps vs → made_in vs ≡ length mine
+      → NotesFit tracker log mine first mark ps vs → made_in vs ≡ length mine
   made_all mine first mark [] [] fit = sym (ap length fit)
   made_all mine first mark [] (w ∷ vs) fit = absurd fit
   made_all mine first mark (q ∷ ps) [] fit = absurd fit
@@ -61,7 +60,7 @@ module _ (sizes : Sizes) (log : List Event) where
 
   -- and naming keeps all of them
   pub notes_named : (mine : List Note) (first index mark : ℕ) (ps : List Given) (vs : List Verdict)
-      → NotesFit sizes log mine first mark ps vs → notes_of (all_named index mine vs) ≡ mine
+      → NotesFit tracker log mine first mark ps vs → notes_of (all_named index mine vs) ≡ mine
   notes_named mine first index mark [] [] fit = sym fit
   notes_named mine first index mark [] (w ∷ vs) fit = absurd fit
   notes_named mine first index mark (q ∷ ps) [] fit = absurd fit
@@ -75,19 +74,19 @@ module _ (sizes : Sizes) (log : List Event) where
 
   -- a verdict fits its named events, whatever comes after them
   verdict_named : (mine : List Note) (first index mark : ℕ) (p : Given) (v : Verdict) (events rest : List Numbered)
-      → NoteFits sizes log mine first mark p v → events ≡ named index (take v.made mine) → take v.made (events ++ rest) ≡ events
-      → v.made ≤ length (events ++ rest) → VerdictFits sizes log (events ++ rest) first index mark p v
+      → NoteFits tracker log mine first mark p v → events ≡ named index (take v.made mine) → take v.made (events ++ rest) ≡ events
+      → v.made ≤ length (events ++ rest) → VerdictFits tracker log (events ++ rest) first index mark p v
   verdict_named mine first index mark p v events rest f same taken within = record {
     starts = f.starts;
     within = within;
     named = subst (λ xs. AllByRecursion (λ (n : Numbered). n.index ≡ index) xs) (sym (taken ∙ same)) (named_each index (take v.made mine));
-    fits = subst (λ xs. FitsFrame sizes log mark p xs v.class)
+    fits = subst (λ xs. FitsFrame tracker.setup tracker.sizes log mark p xs v.class)
         (sym (ap notes_of (taken ∙ same) ∙ named_notes index (take v.made mine))) f.fits;
   }
 
   -- the verdicts fit the named events
   pub verdicts_named : (mine : List Note) (first index mark : ℕ) (ps : List Given) (vs : List Verdict)
-      → NotesFit sizes log mine first mark ps vs → VerdictsFit sizes log (all_named index mine vs) first index mark ps vs
+      → NotesFit tracker log mine first mark ps vs → VerdictsFit tracker log (all_named index mine vs) first index mark ps vs
   verdicts_named mine first index mark [] [] fit = refl
   verdicts_named mine first index mark [] (w ∷ vs) fit = absurd fit
   verdicts_named mine first index mark (q ∷ ps) [] fit = absurd fit
@@ -99,9 +98,9 @@ module _ (sizes : Sizes) (log : List Event) where
       let dropped : drop w.made (events ++ rest) ≡ rest = ap (λ k. drop k (events ++ rest)) (sym long) ∙ drop-append_seam events rest in
       let own : notes_of (take w.made (events ++ rest)) ≡ take w.made mine = ap notes_of taken ∙ named_notes index (take w.made mine) in (
         verdict_named mine first index mark q w events rest f refl taken (omega (arith, long, length-append events rest)),
-        subst (λ xs. VerdictsFit sizes log xs (first + w.made) (index + 1) (mark_after mark (take w.made (events ++ rest)) w.class) ps vs)
+        subst (λ xs. VerdictsFit tracker log xs (first + w.made) (index + 1) (mark_after mark (take w.made (events ++ rest)) w.class) ps vs)
             (sym dropped)
-            (subst (λ m. VerdictsFit sizes log rest (first + w.made) (index + 1) m ps vs)
+            (subst (λ m. VerdictsFit tracker log rest (first + w.made) (index + 1) m ps vs)
             (ap (λ xs. mark_beyond mark xs w.class) (sym own))
             (verdicts_named (drop w.made mine) (first + w.made) (index + 1) (mark_beyond mark (take w.made mine) w.class) ps vs fs)),
       )

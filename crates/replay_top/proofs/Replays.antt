@@ -9,6 +9,8 @@ use Rattle.room_list.specs.Roomed.{Roomed}
 use Rattle.history_book.specs.declared.event.Event.{Event}
 use Rattle.history_book.specs.declared.event.Note.{Note}
 use Rattle.history_book.specs.declared.sizes.Sizes.{Sizes}
+use Rattle.packet_path.specs.declared.setup.Setup.{Setup}
+use Rattle.replay_top.specs.Report.{Tracker}
 use Rattle.history_book.specs.declared.verdict.Verdict.{Verdict}
 use Rattle.history_book.specs.Notes.{mark_at, mark_past}
 use Rattle.history_book.specs.Point.{StartsWith}
@@ -18,7 +20,7 @@ use Rattle.packet_path.specs.Handled.{Handled}
 use Rattle.packet_path.specs.Laws.{LowerMarksFit, VerdictsStillFit}
 use Rattle.packet_path.specs.Packet.{Given, given_of}
 use Rattle.packet_path.specs.Verdict.{FitsFrame, points_of}
-use Rattle.replay_top.specs.Internal.Replayed.{mark_beyond, NoteFits, NotesFit, Replayed}
+use Rattle.replay_top.specs.Internal.Replayed.{mark_beyond, NoteFits, NotesFit, Replayed, tracker_with}
 
 -- the mark after all verdicts
 abbrev pub marks_beyond : ℕ → List Note → List Verdict → ℕ
@@ -26,13 +28,13 @@ marks_beyond mark mine [] = mark
 marks_beyond mark mine (v ∷ vs) = marks_beyond (mark_beyond mark (take v.made mine) v.class) (drop v.made mine) vs
 
 -- so many of the packets were handled
-pub record IsReplayed (packets : List Given) (index : ℕ) (old new : Sight) (verdicts : Roomed Verdict) : Type 0 where
+pub record IsReplayed (setup : Setup) (packets : List Given) (index : ℕ) (old new : Sight) (verdicts : Roomed Verdict) : Type 0 where
   pub front : StartsWith new.front old.front
   pub sizes : new.sizes ≡ old.sizes
   pub own : List Note
   pub added : new.own ≡ old.own ++ own
   pub few : length own ≤ 8 * index
-  pub fit : NotesFit old.sizes new.front own (length old.own) (length old.front) (take index packets) verdicts.items
+  pub fit : NotesFit (tracker_with setup old) new.front own (length old.own) (length old.front) (take index packets) verdicts.items
   pub mark : marks_beyond (length old.front) own verdicts.items ≤ length new.front
   pub counted : length verdicts.items ≡ index
   pub room : length packets ≤ verdicts.room
@@ -55,72 +57,72 @@ mark_at-le n mark [] le h = le
 mark_at-le n mark (p ∷ ps) le (h, hs) = mark_at-le n (max mark p) ps (omega arith) hs
 
 -- what a verdict more needs
-pub record NewVerdict (sizes : Sizes) (log : List Event) (own : List Note) (first mark : ℕ) (packet : Given) (v : Verdict) : Type 0 where
+pub record NewVerdict (tracker : Tracker) (log : List Event) (own : List Note) (first mark : ℕ) (packet : Given) (v : Verdict) : Type 0 where
   pub starts : v.first ≡ first
   pub made : v.made ≡ length own
-  pub fits : FitsFrame sizes log mark packet own v.class
+  pub fits : FitsFrame tracker.setup tracker.sizes log mark packet own v.class
 
 -- the same, counted from an equal number
-new_at : (sizes : Sizes) (log : List Event) (own : List Note) (first first' mark : ℕ) (p : Given) (v : Verdict)
-    → first ≡ first' → NewVerdict sizes log own first mark p v → NewVerdict sizes log own first' mark p v
-new_at sizes log own first first' mark p v same new =
+new_at : (tracker : Tracker) (log : List Event) (own : List Note) (first first' mark : ℕ) (p : Given) (v : Verdict)
+    → first ≡ first' → NewVerdict tracker log own first mark p v → NewVerdict tracker log own first' mark p v
+new_at tracker log own first first' mark p v same new =
     record { starts = new.starts ∙ same; made = new.made; fits = new.fits }
 
 -- the verdict that made all that is left
-last_verdict : (sizes : Sizes) (log : List Event) (own : List Note) (first mark : ℕ) (p : Given) (v : Verdict)
-    → NewVerdict sizes log own first mark p v → NoteFits sizes log own first mark p v × (drop v.made own ≡ [])
-last_verdict sizes log own first mark p v new =
+last_verdict : (tracker : Tracker) (log : List Event) (own : List Note) (first mark : ℕ) (p : Given) (v : Verdict)
+    → NewVerdict tracker log own first mark p v → NoteFits tracker log own first mark p v × (drop v.made own ≡ [])
+last_verdict tracker log own first mark p v new =
     let same : own ≡ take v.made own = sym (ap (λ n. take n own) new.made ∙ take-length own) in (
       record {
         starts = new.starts;
         within = omega (arith, new.made);
-        fits = subst (λ xs. FitsFrame sizes log mark p xs v.class) same new.fits;
+        fits = subst (λ xs. FitsFrame tracker.setup tracker.sizes log mark p xs v.class) same new.fits;
       },
       ap (λ n. drop n own) new.made ∙ drop-length own,
     )
 
-module _ (still : VerdictsStillFit) (sizes : Sizes) (longer log : List Event) (starts : StartsWith longer log) where
+module _ (still : VerdictsStillFit) (tracker : Tracker) (longer log : List Event) (starts : StartsWith longer log) where
   -- a verdict fits when the history goes on and its thread makes more events
   verdict_grows : (mine own : List Note) (first mark : ℕ) (p : Given) (v : Verdict)
-      → NoteFits sizes log mine first mark p v → NoteFits sizes longer (mine ++ own) first mark p v
+      → NoteFits tracker log mine first mark p v → NoteFits tracker longer (mine ++ own) first mark p v
   verdict_grows mine own first mark p v f =
       let same : take v.made mine ≡ take v.made (mine ++ own) = sym (take-append-le v.made mine own f.within) in
       record {
         starts = f.starts;
         within = omega (arith, f.within, length-append mine own);
-        fits = subst (λ xs. FitsFrame sizes longer mark p xs v.class) same
-            (still sizes log longer mark p (take v.made mine) v.class starts f.fits);
+        fits = subst (λ xs. FitsFrame tracker.setup tracker.sizes longer mark p xs v.class) same
+            (still tracker.setup tracker.sizes log longer mark p (take v.made mine) v.class starts f.fits);
       }
 
   -- one verdict more
   verdicts_push : (mine own : List Note) (first mark : ℕ) (ps : List Given) (vs : List Verdict)
-      (p : Given) (v : Verdict) → NotesFit sizes log mine first mark ps vs
-      → NewVerdict sizes longer own (first + length mine) (marks_beyond mark mine vs) p v
-      → NotesFit sizes longer (mine ++ own) first mark (ps ++ p ∷ []) (vs ++ v ∷ [])
+      (p : Given) (v : Verdict) → NotesFit tracker log mine first mark ps vs
+      → NewVerdict tracker longer own (first + length mine) (marks_beyond mark mine vs) p v
+      → NotesFit tracker longer (mine ++ own) first mark (ps ++ p ∷ []) (vs ++ v ∷ [])
   verdicts_push mine own first mark [] [] p v fit new =
-      subst (λ xs. NotesFit sizes longer (xs ++ own) first mark (p ∷ []) (v ∷ [])) (sym fit)
-      (last_verdict sizes longer own first mark p v
-      (new_at sizes longer own (first + length mine) first mark p v (omega (arith, ap length fit)) new))
+      subst (λ xs. NotesFit tracker longer (xs ++ own) first mark (p ∷ []) (v ∷ [])) (sym fit)
+      (last_verdict tracker longer own first mark p v
+      (new_at tracker longer own (first + length mine) first mark p v (omega (arith, ap length fit)) new))
   verdicts_push mine own first mark [] (w ∷ vs) p v fit new = absurd fit
   verdicts_push mine own first mark (q ∷ ps) [] p v fit new = absurd fit
   verdicts_push mine own first mark (q ∷ ps) (w ∷ vs) p v (f, fs) new =
       let fewer : length (drop w.made mine) ≡ length mine - w.made = length-drop w.made mine in
       let rest = verdicts_push (drop w.made mine) own (first + w.made) (mark_beyond mark (take w.made mine) w.class)
       ps vs p v fs
-      (new_at sizes longer own (first + length mine) (first + w.made + length (drop w.made mine))
+      (new_at tracker longer own (first + length mine) (first + w.made + length (drop w.made mine))
       _ p v (omega (arith, fewer, f.within)) new) in
       let taken : take w.made mine ≡ take w.made (mine ++ own) = sym (take-append-le w.made mine own f.within) in
       let dropped : drop w.made mine ++ own ≡ drop w.made (mine ++ own) = sym (drop-append-le w.made mine own f.within) in (
         verdict_grows mine own first mark q w f,
-        subst (λ xs. NotesFit sizes longer xs (first + w.made) (mark_beyond mark (take w.made (mine ++ own)) w.class)
+        subst (λ xs. NotesFit tracker longer xs (first + w.made) (mark_beyond mark (take w.made (mine ++ own)) w.class)
             (ps ++ p ∷ []) (vs ++ v ∷ [])) dropped
-            (subst (λ ys. NotesFit sizes longer (drop w.made mine ++ own) (first + w.made) (mark_beyond mark ys w.class)
+            (subst (λ ys. NotesFit tracker longer (drop w.made mine ++ own) (first + w.made) (mark_beyond mark ys w.class)
             (ps ++ p ∷ []) (vs ++ v ∷ [])) taken rest),
       )
 
 -- the mark after one verdict more
-marks_push : (sizes : Sizes) (log : List Event) (mine own : List Note) (first mark : ℕ) (ps : List Given) (vs : List Verdict)
-    (v : Verdict) → NotesFit sizes log mine first mark ps vs → v.made ≡ length own
+marks_push : (tracker : Tracker) (log : List Event) (mine own : List Note) (first mark : ℕ) (ps : List Given) (vs : List Verdict)
+    (v : Verdict) → NotesFit tracker log mine first mark ps vs → v.made ≡ length own
     → marks_beyond mark (mine ++ own) (vs ++ v ∷ []) ≡ mark_beyond (marks_beyond mark mine vs) own v.class
 marks_push sizes log mine own first mark [] [] v fit made =
     let same : take v.made (mine ++ own) ≡ own =
@@ -157,15 +159,15 @@ starts_on longest longer log (more, later) (rest, first) =
     (rest ++ more, later ∙ ap (λ l. l ++ more) first ∙ append_assoc log rest more)
 
 -- no packet was handled yet
-pub replayed_start : (packets : List Given) (old : Sight) (verdicts : Roomed Verdict) → IsKnown old → verdicts.items ≡ []
-    → length packets ≤ verdicts.room → old.held ≡ [] → old.owed ≡ [] → IsReplayed packets 0 old old verdicts
-replayed_start packets old verdicts known none room held owed = record {
+pub replayed_start : (setup : Setup) (packets : List Given) (old : Sight) (verdicts : Roomed Verdict) → IsKnown old → verdicts.items ≡ []
+    → length packets ≤ verdicts.room → old.held ≡ [] → old.owed ≡ [] → IsReplayed setup packets 0 old old verdicts
+replayed_start setup packets old verdicts known none room held owed = record {
   front = ([], sym (append-nil old.front));
   sizes = refl;
   own = [];
   added = sym (append-nil old.own);
   few = omega arith;
-  fit = subst (λ vs. NotesFit old.sizes old.front [] (length old.own) (length old.front) [] vs) (sym none) refl;
+  fit = subst (λ vs. NotesFit (tracker_with setup old) old.front [] (length old.own) (length old.front) [] vs) (sym none) refl;
   mark = subst (λ vs. marks_beyond (length old.front) [] vs ≤ length old.front) (sym none) (omega arith);
   counted = ap length none;
   room = room;
@@ -174,9 +176,9 @@ replayed_start packets old verdicts known none room held owed = record {
   known = known;
 }
 
-module _ (still : VerdictsStillFit) (lower : LowerMarksFit) (packets : List Given) (d : Given) (index : ℕ) (old mid new : Sight)
-    (verdicts more : Roomed Verdict) (v : Verdict) (so_far : IsReplayed packets index old mid verdicts)
-    (handled : Handled (get_or packets index d) mid new v) (known : IsKnown new) where
+module _ (still : VerdictsStillFit) (lower : LowerMarksFit) (setup : Setup) (packets : List Given) (d : Given) (index : ℕ) (old mid new : Sight)
+    (verdicts more : Roomed Verdict) (v : Verdict) (so_far : IsReplayed setup packets index old mid verdicts)
+    (handled : Handled setup (get_or packets index d) mid new v) (known : IsKnown new) where
   next_added : new.own ≡ old.own ++ (so_far.own ++ handled.own)
   next_added = handled.added ∙ ap (λ xs. xs ++ handled.own) so_far.added ∙ append_assoc old.own so_far.own handled.own
 
@@ -187,38 +189,38 @@ module _ (still : VerdictsStillFit) (lower : LowerMarksFit) (packets : List Give
   next_mark =
       let end : ℕ = length new.front in
       let mark : ℕ = marks_beyond (length old.front) so_far.own verdicts.items in
-      rw (marks_push old.sizes mid.front so_far.own handled.own (length old.own) (length old.front) (take index packets)
+      rw (marks_push (tracker_with setup old) mid.front so_far.own handled.own (length old.own) (length old.front) (take index packets)
       verdicts.items v so_far.fit handled.made)
       (mark_at-le end (mark_past mark handled.own) (points_of v.class)
       (mark_past-le end mark handled.own (omega (arith, so_far.mark, longer)) (own_below new mid.own handled.own known handled.added))
       handled.points)
 
-  next_fit : index < length packets → NotesFit old.sizes new.front (so_far.own ++ handled.own) (length old.own) (length old.front)
+  next_fit : index < length packets → NotesFit (tracker_with setup old) new.front (so_far.own ++ handled.own) (length old.own) (length old.front)
       (take (index + 1) packets) (verdicts.items ++ v ∷ [])
   next_fit below =
       let packet : Given = get_or packets index d in
       let mark : ℕ = marks_beyond (length old.front) so_far.own verdicts.items in
-      subst (λ ps. NotesFit old.sizes new.front (so_far.own ++ handled.own) (length old.own) (length old.front) ps (verdicts.items ++ v ∷ []))
+      subst (λ ps. NotesFit (tracker_with setup old) new.front (so_far.own ++ handled.own) (length old.own) (length old.front) ps (verdicts.items ++ v ∷ []))
       (sym (take_more packets index d below))
-      (verdicts_push still old.sizes new.front mid.front handled.front so_far.own handled.own (length old.own) (length old.front)
+      (verdicts_push still (tracker_with setup old) new.front mid.front handled.front so_far.own handled.own (length old.own) (length old.front)
       (take index packets) verdicts.items packet v so_far.fit
       (record {
         starts = handled.first ∙ ap length so_far.added ∙ length-append old.own so_far.own;
         made = handled.made;
-        fits = lower old.sizes new.front mark (length mid.front) packet handled.own v.class so_far.mark
-            (subst (λ (z : Sizes). FitsFrame z new.front (length mid.front) packet handled.own v.class) so_far.sizes handled.fits);
+        fits = lower setup old.sizes new.front mark (length mid.front) packet handled.own v.class so_far.mark
+            (subst (λ (z : Sizes). FitsFrame setup z new.front (length mid.front) packet handled.own v.class) so_far.sizes handled.fits);
       }))
 
   -- one packet more was handled
   pub replayed_next : index < length packets → more.items ≡ verdicts.items ++ v ∷ [] → more.room ≡ verdicts.room
-      → IsReplayed packets (index + 1) old new more
+      → IsReplayed setup packets (index + 1) old new more
   replayed_next below items room = record {
     front = starts_on new.front mid.front old.front handled.front so_far.front;
     sizes = handled.sizes ∙ so_far.sizes;
     own = so_far.own ++ handled.own;
     added = next_added;
     few = omega (arith, so_far.few, handled.few, length-append so_far.own handled.own);
-    fit = subst (λ vs. NotesFit old.sizes new.front (so_far.own ++ handled.own) (length old.own) (length old.front) (take (index + 1) packets) vs)
+    fit = subst (λ vs. NotesFit (tracker_with setup old) new.front (so_far.own ++ handled.own) (length old.own) (length old.front) (take (index + 1) packets) vs)
         (sym items) (next_fit below);
     mark = subst (λ vs. marks_beyond (length old.front) (so_far.own ++ handled.own) vs ≤ length new.front) (sym items) next_mark;
     counted = ap length items ∙ length-append verdicts.items (v ∷ []) ∙ ap (λ n. n + 1) so_far.counted;
@@ -229,21 +231,21 @@ module _ (still : VerdictsStillFit) (lower : LowerMarksFit) (packets : List Give
   }
 
 -- what is handled of a frame is handled of what was given of it
-pub handled_at : (old new : Sight) (index : ℕ) (bytes : List ℕ) (frames : List Frame) (d : Frame) (e : Given) (v : Verdict)
-    → index < length frames → Handled (given_of bytes (get_or frames index d)) old new v
-    → Handled (get_or (map (given_of bytes) frames) index e) old new v
-handled_at old new index bytes frames d e v below handled =
-    subst (λ g. Handled g old new v) (sym (get_or-map (given_of bytes) frames index d e below)) handled
+pub handled_at : (setup : Setup) (old new : Sight) (index : ℕ) (bytes : List ℕ) (frames : List Frame) (d : Frame) (e : Given) (v : Verdict)
+    → index < length frames → Handled setup (given_of bytes (get_or frames index d)) old new v
+    → Handled setup (get_or (map (given_of bytes) frames) index e) old new v
+handled_at setup old new index bytes frames d e v below handled =
+    subst (λ g. Handled setup g old new v) (sym (get_or-map (given_of bytes) frames index d e below)) handled
 
 -- all packets were handled
-pub replayed_all : (packets : List Given) (index : ℕ) (old new : Sight) (verdicts : Roomed Verdict)
-    → IsReplayed packets index old new verdicts → index ≡ length packets → Replayed packets old new verdicts.items
-replayed_all packets index old new verdicts done all = record {
+pub replayed_all : (setup : Setup) (packets : List Given) (index : ℕ) (old new : Sight) (verdicts : Roomed Verdict)
+    → IsReplayed setup packets index old new verdicts → index ≡ length packets → Replayed setup packets old new verdicts.items
+replayed_all setup packets index old new verdicts done all = record {
   front = done.front;
   sizes = done.sizes;
   own = done.own;
   added = done.added;
-  fit = subst (λ ps. NotesFit old.sizes new.front done.own (length old.own) (length old.front) ps verdicts.items)
+  fit = subst (λ ps. NotesFit (tracker_with setup old) new.front done.own (length old.own) (length old.front) ps verdicts.items)
       (ap (λ n. take n packets) all ∙ take-length packets) done.fit;
   held = done.held;
   owed = done.owed;

@@ -6,29 +6,34 @@ use Rattle.ct_io.specs.Tape.{Tape}
 use Rattle.nat_setup.specs.declared.rule.Rule.{Rule}
 use Rattle.packet_headers.specs.declared.frame.Frame.{Frame}
 use Rattle.packet_path.specs.Packet.{Given, given_of}
+use Rattle.packet_path.specs.declared.setup.Setup.{Setup}
 use Rattle.history_book.specs.declared.report.Report.{Report}
 use Rattle.replay_top.specs.declared.flaw.FileKind.TheVariants.{Capture}
 use Rattle.replay_top.specs.declared.flaw.ReplayError.{ReplayError}
 use Rattle.replay_top.specs.declared.flaw.ReplayError.TheVariants.{Flawed, NoMemory}
 use Rattle.replay_top.specs.Flaw.{HasFlaw}
 use Rattle.replay_top.specs.Readable.{IsReadable, IsReadableRules}
-use Rattle.replay_top.specs.Report.{IsWellFormed}
+use Rattle.replay_top.specs.Report.{IsWellFormed, Tracker}
 use Rattle.replay_top.specs.Sizes.{program_sizes}
 use Rattle.report_text.specs.Report.{report_text}
 use Rattle.replay_top.specs.Words.{Command, Named}
 use Rattle.report_text.specs.Wrote.{followed_by, WroteFront}
 
--- the report is well formed for the frames of the capture that the bytes are
-pub record IsReportOf (bytes : List ℕ) (report : Report) : Type 0 where
+-- the program's tracker, set up so
+abbrev pub program_tracker : Setup → Tracker
+program_tracker setup = record { setup = setup; sizes = program_sizes }
+
+-- the report is well formed for the frames of the capture that the bytes are, with a tracker that is set up so
+pub record IsReportOf (setup : Setup) (bytes : List ℕ) (report : Report) : Type 0 where
   pub frames : List Frame
   pub capture : IsReadable bytes frames
-  pub well_formed : IsWellFormed program_sizes (map (given_of bytes) frames ∷ []) report
+  pub well_formed : IsWellFormed (program_tracker setup) (map (given_of bytes) frames ∷ []) report
 
 -- what replaying these bytes gives: their report, or the flaw that they have; memory may be wanting
-abbrev pub ReplaysAs : List ℕ → Result Report ReplayError → Type 0
-ReplaysAs bytes (Ok report) = IsReportOf bytes report
-ReplaysAs bytes (Err (Flawed flaw)) = HasFlaw Capture bytes flaw
-ReplaysAs bytes (Err NoMemory) = Unit {0}
+abbrev pub ReplaysAs : Setup → List ℕ → Result Report ReplayError → Type 0
+ReplaysAs setup bytes (Ok report) = IsReportOf setup bytes report
+ReplaysAs setup bytes (Err (Flawed flaw)) = HasFlaw Capture bytes flaw
+ReplaysAs setup bytes (Err NoMemory) = Unit {0}
 
 -- A file of this name gave these rules. Where its contents are told, they are its bytes; else no more is
 -- said of them.
@@ -58,13 +63,13 @@ GaveEach files [] (given ∷ more) = ⊥
 GaveEach files (name ∷ names) [] = ⊥
 GaveEach files (name ∷ names) (given ∷ more) = Gave files name given × GaveEach files names more
 
--- the report is that of the command's captures, with its rules
+-- the report is that of the command's captures, with a tracker that has its rules
 pub record IsReplayOf (files : Source) (command : Command) (report : Report) : Type 0 where
-  pub rules : List Rule
-  pub gave_rules : GaveRules files command.rules rules
+  pub setup : Setup
+  pub gave_rules : GaveRules files command.rules setup.rules.items
   pub captures : List (List Given)
   pub gave : GaveEach files command.captures captures
-  pub well_formed : IsWellFormed program_sizes captures report
+  pub well_formed : IsWellFormed (program_tracker setup) captures report
 
 -- the report is that of the command that the words ask for
 abbrev pub IsReplay : List (List ℕ) → Source → Report → Type 0

@@ -21,6 +21,7 @@ use history_book::report::Report;
 use nat_setup::read::{RuleError, read_rules};
 use nat_setup::rule::Rules;
 use packet_headers::capture::{CaptureError, read_capture};
+use packet_path::setup::Setup;
 use room_list::Bytes;
 use std::alloc::Global;
 use std::sync::Wait;
@@ -35,16 +36,16 @@ fn most_bytes(kind: FileKind) -> usize
     }
 }
 
-/// Replays the capture that these bytes are, with these rules. An `Err` says what is wrong with the bytes,
+/// Replays the capture that these bytes are, by a tracker that is set up so. An `Err` says what is wrong with the bytes,
 /// or that memory was wanting.
 pub fn replay_bytes<R: Wait>(
     rt: &R,
     alloc: Global,
     bytes: &[u8],
-    rules: &Rules,
+    setup: &Setup,
 ) -> Result<Report, ReplayError>
-    requires { AllByRecursion IsLawfulRule rules.now.items }
-    ensures { ReplaysAs bytes.now result }
+    requires { AllByRecursion IsLawfulRule setup.now.rules.items }
+    ensures { ReplaysAs setup.now bytes.now result }
 {
     if bytes.len() > most_bytes(FileKind::Capture) {
         return Err(ReplayError::Flawed(Flaw::TooLong(FileKind::Capture)));
@@ -54,7 +55,7 @@ pub fn replay_bytes<R: Wait>(
         Err(CaptureError::Fault(fault)) => return Err(ReplayError::Flawed(Flaw::Capture(fault))),
         Err(CaptureError::NoMemory) => return Err(ReplayError::NoMemory),
     };
-    match replay(rt, alloc, &program_sizes(), bytes, frames.as_slice(), rules) {
+    match replay(rt, alloc, &program_sizes(), bytes, frames.as_slice(), setup) {
         Ok(report) => Ok(report),
         Err(_) => Err(ReplayError::NoMemory),
     }
@@ -86,8 +87,9 @@ fn read_input<F: Files>(
     }
 }
 
-/// Reads the rules of the file of this name, the first of the run. Without a name there are none.
-fn read_setup<F: Files>(alloc: Global, files: &mut F, name: Option<&str>) -> Result<Rules, Refusal>
+/// Sets a tracker up with the rules of the file of this name, the first of the run; without a name there are
+/// none.
+fn read_setup<F: Files>(alloc: Global, files: &mut F, name: Option<&str>) -> Result<Setup, Refusal>
     ensures reads { RulesReadAs (option_map (λ n. n.now) name.entry) (F.source files.old) (F.source files.new) result }
     ensures others { OthersStandBeside (files_of_kind FileKind.Rules (option_to_list (option_map (λ n. n.now) name.entry)))
         (F.source files.old) (F.source files.new) }
@@ -95,7 +97,7 @@ fn read_setup<F: Files>(alloc: Global, files: &mut F, name: Option<&str>) -> Res
 {
     let Some(name) = name else {
         return match Rules::new(alloc, 0) {
-            Ok(rules) => Ok(rules),
+            Ok(rules) => Ok(Setup { rules }),
             Err(_) => Err(Refusal::NoMemory),
         };
     };
@@ -104,7 +106,7 @@ fn read_setup<F: Files>(alloc: Global, files: &mut F, name: Option<&str>) -> Res
         Err(why) => return Err(why),
     };
     match read_rules(alloc, bytes.as_slice()) {
-        Ok(rules) => Ok(rules),
+        Ok(rules) => Ok(Setup { rules }),
         Err(RuleError::Fault(fault)) => Err(Refusal::Flawed {
             file: 0,
             flaw: Flaw::Rules(fault),
@@ -113,17 +115,18 @@ fn read_setup<F: Files>(alloc: Global, files: &mut F, name: Option<&str>) -> Res
     }
 }
 
-/// Reads the capture of this name, which has this number in the run, and replays it with these rules.
+/// Reads the capture of this name, which has this number in the run, and replays it by a tracker
+/// that is set up so.
 fn replay_file<R: Wait, F: Files>(
     rt: &R,
     alloc: Global,
     files: &mut F,
     name: &str,
     file: usize,
-    rules: &Rules,
+    setup: &Setup,
 ) -> Result<Report, Refusal>
-    requires { AllByRecursion IsLawfulRule rules.now.items }
-    ensures replays { CaptureReplaysAs name.now file (F.source files.old) (F.source files.new) result }
+    requires { AllByRecursion IsLawfulRule setup.now.rules.items }
+    ensures replays { CaptureReplaysAs setup.now name.now file (F.source files.old) (F.source files.new) result }
     ensures others { OthersStandBeside (record { kind = FileKind.Capture; name = name.now } ∷ [])
         (F.source files.old) (F.source files.new) }
     ensures stays { Stays (F.source files.old) (F.source files.new) }
@@ -132,7 +135,7 @@ fn replay_file<R: Wait, F: Files>(
         Ok(bytes) => bytes,
         Err(why) => return Err(why),
     };
-    match replay_bytes(rt, alloc, bytes.as_slice(), rules) {
+    match replay_bytes(rt, alloc, bytes.as_slice(), setup) {
         Ok(report) => Ok(report),
         Err(ReplayError::Flawed(flaw)) => Err(Refusal::Flawed { file, flaw }),
         Err(ReplayError::NoMemory) => Err(Refusal::NoMemory),
@@ -152,10 +155,10 @@ pub fn replay_asked<R: Wait, F: Files>(
         (F.source files.old) (F.source files.new) }
     ensures stays { Stays (F.source files.old) (F.source files.new) }
 {
-    let rules = match read_setup(alloc, files, asked.rules) {
-        Ok(rules) => rules,
+    let setup = match read_setup(alloc, files, asked.rules) {
+        Ok(setup) => setup,
         Err(why) => return Err(why),
     };
     let file = if asked.rules.is_some() { 1 } else { 0 };
-    replay_file(rt, alloc, files, asked.capture, file, &rules)
+    replay_file(rt, alloc, files, asked.capture, file, &setup)
 }

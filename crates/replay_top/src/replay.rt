@@ -16,10 +16,10 @@ use book_desk::desk::PlainDesk;
 use history_book::desk::Desk;
 use history_book::report::{Closed, Report, ThreadVerdicts, Verdicts};
 use history_book::sizes::Sizes;
-use nat_setup::rule::Rules;
 use packet_headers::frame::Frame;
 use packet_path::handle::handle;
 use packet_path::laws::{lower_marks_fit, verdicts_still_fit};
+use packet_path::setup::Setup;
 use std::alloc::Global;
 use std::sync::Wait;
 use tuple_core::NoMemory;
@@ -31,8 +31,10 @@ fn replay_frames<R: Wait, D: Desk>(
     desk: &mut D,
     bytes: &[u8],
     frames: &[Frame],
+    setup: &Setup,
     verdicts: &mut Verdicts,
 ) -> Result<(), NoMemory>
+    requires lawful { AllByRecursion IsLawfulRule setup.now.rules.items }
     requires inside { AreInside bytes.now frames.now }
     requires timely { AreTimely frames.now }
     requires few { length (D.sight desk.old).own + 8 * length frames.now + 8 ≤ 2 ^ 30 }
@@ -41,14 +43,14 @@ fn replay_frames<R: Wait, D: Desk>(
     requires nothing_held { (D.sight desk.old).held ≡ [] }
     requires nothing_owed { (D.sight desk.old).owed ≡ [] }
     requires knows { IsKnown (D.sight desk.old) }
-    ensures replayed { OnOk result (Replayed (map (given_of bytes.now) frames.now)
+    ensures replayed { OnOk result (Replayed setup.now (map (given_of bytes.now) frames.now)
         (D.sight desk.old) (D.sight desk.new) verdicts.new.items) }
     ensures known { IsKnown (D.sight desk.new) }
 {
     lower_marks_fit();
     verdicts_still_fit();
     'frames: for frame in frames {
-        let verdict = match handle(rt, desk, bytes, frame) {
+        let verdict = match handle(rt, desk, bytes, frame, setup) {
             Ok(verdict) => verdict,
             Err(error) => return Err(error),
         };
@@ -81,19 +83,20 @@ pub fn replay<R: Wait>(
     sizes: &Sizes,
     bytes: &[u8],
     frames: &[Frame],
-    _rules: &Rules,
+    setup: &Setup,
 ) -> Result<Report, NoMemory>
     requires limits { AreWithinLimits sizes.now }
     requires one_pass { sizes.now.passes ≡ 1 }
     requires inside { AreInside bytes.now frames.now }
     requires timely { AreTimely frames.now }
     requires few { 8 * length frames.now + 8 ≤ 2 ^ 30 }
-    requires lawful { AllByRecursion IsLawfulRule _rules.now.items }
-    ensures { IfOk result (IsWellFormed sizes.now (map (given_of bytes.now) frames.now ∷ [])) }
+    requires lawful { AllByRecursion IsLawfulRule setup.now.rules.items }
+    ensures { IfOk result (IsWellFormed
+        (record { setup = setup.now; sizes = sizes.now }) (map (given_of bytes.now) frames.now ∷ [])) }
 {
     let mut desk = PlainDesk::new(alloc, *sizes)?;
     let mut verdicts = Verdicts::new(alloc, frames.len())?;
-    replay_frames(rt, &mut desk, bytes, frames, &mut verdicts)?;
+    replay_frames(rt, &mut desk, bytes, frames, setup, &mut verdicts)?;
     let closed = desk.finish();
     report(alloc, closed, verdicts)
 }

@@ -162,5 +162,6 @@ class_text (class.Passed label id at ftp) = label_word label ++ entry_text id at
 class_text (class.Ignored id at) = codes "IGNORED" ++ entry_text id at
 class_text (class.Merged id at translated) = codes "MERGED" ++ entry_text id at
 class_text (class.Clash id at translated) = codes "CLASH" ++ entry_text id at
+class_text (class.NoPort from to) = codes "NOPORT" ++ point_text from ++ point_text to
 class_text (class.Full at) = codes "FULL" ++ point_text at
 class_text (class.Contended id at) = codes "CONTENDED" ++ entry_text id at

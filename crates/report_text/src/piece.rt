@@ -1,5 +1,6 @@
 //! The pieces of a line, each written on a page that has room for it.
 
+ghost use Rattle.std.specs.Prelude.{◌≤◌, ◌++◌, length};
 ghost use Rattle.report_text.specs.Page.{Adds, HasRoom};
 ghost use Rattle.report_text.specs.Piece.{address_text, class_text, direction_word, ends_text, entry_text, error_word, event_text, flow_text, ftp_text, label_word, made_word, master_text, point_text, proto_word, record_text, state_text, state_word, tuple_text, untracked_word, who_text, why_text};
 
@@ -317,6 +318,26 @@ impl<'b> Page<'b> {
         }
     }
 
+    /// Writes these words, and a point of the history.
+    fn words_at(&mut self, words: &[u8], point: u64)
+        requires few { length words.now ≤ 16 }
+        requires room { HasRoom 38 self.old }
+        ensures { Adds 38 (words.now ++ point_text point) self.old self.new }
+    {
+        self.text(words);
+        self.point(point);
+    }
+
+    /// Writes these words, the entry of a packet, and a point of the history.
+    fn words_of(&mut self, words: &[u8], id: u64, point: u64)
+        requires few { length words.now ≤ 16 }
+        requires room { HasRoom 62 self.old }
+        ensures { Adds 62 (words.now ++ entry_text id point) self.old self.new }
+    {
+        self.text(words);
+        self.entry(id, point);
+    }
+
     /// Writes what became of a packet.
     pub(crate) fn class(&mut self, class: Class)
         requires { HasRoom 116 self.old }
@@ -328,22 +349,10 @@ impl<'b> Page<'b> {
                 self.untracked(why);
             }
             Class::BadHeader => self.text(b"INVALID header"),
-            Class::NoEntry { at } => {
-                self.text(b"INVALID new");
-                self.point(at);
-            }
-            Class::BadState { id, at } => {
-                self.text(b"INVALID state");
-                self.entry(id, at);
-            }
-            Class::ErrorLost { at } => {
-                self.text(b"INVALID error");
-                self.point(at);
-            }
-            Class::ErrorAddress { id, at } => {
-                self.text(b"INVALID address");
-                self.entry(id, at);
-            }
+            Class::NoEntry { at } => self.words_at(b"INVALID new", at),
+            Class::BadState { id, at } => self.words_of(b"INVALID state", id, at),
+            Class::ErrorLost { at } => self.words_at(b"INVALID error", at),
+            Class::ErrorAddress { id, at } => self.words_of(b"INVALID address", id, at),
             Class::Error { direction, id, at } => {
                 self.error(direction);
                 self.entry(id, at);
@@ -351,8 +360,8 @@ impl<'b> Page<'b> {
             Class::Made {
                 id,
                 at,
-                translated: _,
                 unclaimed,
+                ..
             } => {
                 self.made(unclaimed);
                 self.entry(id, at);
@@ -362,34 +371,15 @@ impl<'b> Page<'b> {
                 self.entry(id, at);
                 self.ftp(ftp);
             }
-            Class::Ignored { id, at } => {
-                self.text(b"IGNORED");
-                self.entry(id, at);
+            Class::Ignored { id, at } => self.words_of(b"IGNORED", id, at),
+            Class::Merged { id, at, .. } => self.words_of(b"MERGED", id, at),
+            Class::Clash { id, at, .. } => self.words_of(b"CLASH", id, at),
+            Class::NoPort { from, to } => {
+                self.words_at(b"NOPORT", from);
+                self.point(to);
             }
-            Class::Merged {
-                id,
-                at,
-                translated: _,
-            } => {
-                self.text(b"MERGED");
-                self.entry(id, at);
-            }
-            Class::Clash {
-                id,
-                at,
-                translated: _,
-            } => {
-                self.text(b"CLASH");
-                self.entry(id, at);
-            }
-            Class::Full { at } => {
-                self.text(b"FULL");
-                self.point(at);
-            }
-            Class::Contended { id, at } => {
-                self.text(b"CONTENDED");
-                self.entry(id, at);
-            }
+            Class::Full { at } => self.words_at(b"FULL", at),
+            Class::Contended { id, at } => self.words_of(b"CONTENDED", id, at),
         }
     }
 }

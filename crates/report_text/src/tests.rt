@@ -334,7 +334,7 @@ script 0
 }
 
 /// A verdict of each class, with each label and each word of a payload.
-fn every_verdict() -> [Verdict; 23] {
+fn every_verdict() -> [Verdict; 24] {
     [
         made(4, 5),
         verdict(Class::Made {
@@ -372,6 +372,7 @@ fn every_verdict() -> [Verdict; 23] {
             translated: Translated::Plain,
         }),
         verdict(Class::Contended { id: 27, at: 28 }),
+        verdict(Class::NoPort { from: 29, to: 30 }),
     ]
 }
 
@@ -442,7 +443,7 @@ events 3
 1 touch 0.1 id=0 reply until=1 replied assured
 2 confirm 1.3 tcp src=203.0.113.5 dst=198.51.100.21 sport=65535 dport=21 src=203.0.113.5 dst=198.51.100.21 sport=65535 dport=21 until=31000000 state=SYN_SENT2 master=20 helper
 thread 0 packets 0
-thread 1 packets 23
+thread 1 packets 24
 0 NEW id=4 @5
 1 RELATED id=6 @8
 2 NEW id=0 @1
@@ -466,6 +467,7 @@ thread 1 packets 23
 20 MERGED id=23 @24
 21 CLASH id=25 @26
 22 CONTENDED id=27 @28
+23 NOPORT @29 @30
 script 0
 ";
 

@@ -1,7 +1,12 @@
 -- One attempt to handle a packet of a flow with a desk.
-use Rattle.std.specs.Prelude.{◌≡◌, ℕ, ◌+◌, ◌<◌, ◌≤◌, ◌^◌, true, Some, List, [], ◌∷◌, ◌++◌, length}
+use Rattle.std.specs.Prelude.{◌≡◌, ℕ, ◌+◌, ◌<◌, ◌≤◌, ◌^◌, true, None, Some, List, [], ◌∷◌, ◌++◌, length}
 use Rattle.std.specs.List.{AllByRecursion}
 use Rattle.tuple_core.specs.Tuple.{is_valid}
+use Rattle.tuple_core.specs.declared.Tuple.{Tuple}
+use Rattle.history_book.specs.declared.event.Event.{Event}
+use Rattle.history_book.specs.State.{live_under}
+use Rattle.packet_path.specs.Begun.{rule_for, WasTranslated}
+use Rattle.packet_path.specs.declared.attempt.NewReply.{NewReply}
 use Rattle.history_book.specs.declared.desk.Hold.{Hold}
 use Rattle.history_book.specs.declared.event.Note.{Note}
 use Rattle.history_book.specs.declared.event.Why.{Why}
@@ -18,6 +23,7 @@ use Rattle.packet_path.specs.declared.attempt.Attempt.TheVariants.{Done, Killed,
 use Rattle.packet_path.specs.declared.attempt.Met.{Met}
 use Rattle.packet_path.specs.declared.packet.FlowPacket.{FlowPacket}
 use Rattle.packet_path.specs.Packet.{Given, IsFlow}
+use Rattle.packet_path.specs.declared.setup.Setup.{Setup}
 use Rattle.packet_path.specs.Verdict.{FitsFrame, Kills, KillsAll, points_of}
 
 -- the tuple is valid and of the segment's protocol, and the moment is one that a capture can name
@@ -41,6 +47,18 @@ pub record IsMet (packet : FlowPacket) (met : Met) (s : Sight) : Type 0 where
   pub live : At s.front met.at (IsLiveUnder packet.tuple met.place met.id met.direction)
   pub holds : HoldsOne (record { place = met.place; id = Some met.id }) s
 
+-- the tuple may be the reply tuple of a flow with this original one
+pub record IsReplyOf (t reply : Tuple) : Type 0 where
+  pub valid : is_valid reply ≡ true
+  pub protocol : reply.proto ≡ t.proto
+
+-- nothing was live under the packet's tuple at this point, and the reply tuple was found for it from there on
+pub record IsFoundFor (setup : Setup) (packet : FlowPacket) (log : List Event) (absent_at : ℕ) (found : NewReply) : Type 0 where
+  pub absent : At log absent_at (λ s. live_under packet.tuple s ≡ None)
+  pub ordered : absent_at ≤ found.at
+  pub within : found.at ≤ length log
+  pub translation : WasTranslated log (rule_for setup packet.tuple) packet.tuple absent_at found.at found.translated found.reply
+
 -- the entry that was met is to end for this reason, since the step said so at the point
 abbrev pub EndsEntry : FlowPacket → Met → ℕ → Why → Sight → Type 0
 EndsEntry packet met at (why.Expired moment) s =
@@ -53,7 +71,7 @@ EndsEntry packet met at (why.Reset segment moment) s = ⊥
 
 -- The packet's class, which fits whatever kills of this number came before, none of them later than this
 -- point.
-pub record Answers (old new : Sight) (packet : FlowPacket) (killed from : ℕ) (answer : Class) : Type 0 where
+pub record Answers (setup : Setup) (old new : Sight) (packet : FlowPacket) (killed from : ℕ) (answer : Class) : Type 0 where
   pub front : StartsWith new.front old.front
   pub sizes : new.sizes ≡ old.sizes
   pub rest : List Note
@@ -63,7 +81,7 @@ pub record Answers (old new : Sight) (packet : FlowPacket) (killed from : ℕ) (
   pub points : AllByRecursion (λ p. p ≤ length new.front) (points_of answer)
   pub fits : (given : Given) (mark : ℕ) (kills : List Note) → IsFlow given packet → length kills ≡ killed
       → KillsAll old.front mark packet kills → mark_past mark kills ≤ from
-      → FitsFrame old.sizes new.front mark given (kills ++ rest) answer
+      → FitsFrame setup old.sizes new.front mark given (kills ++ rest) answer
 
 -- the packet killed the entry that it met, and fewer than four before
 pub record KilledOne (old new : Sight) (packet : FlowPacket) (killed from : ℕ) : Type 0 where
@@ -77,10 +95,10 @@ pub record KilledOne (old new : Sight) (packet : FlowPacket) (killed from : ℕ)
   pub kill : Kills new.front from packet note
 
 -- what an attempt says, after so many kills
-abbrev pub AttemptSays : Sight → Sight → FlowPacket → ℕ → ℕ → Attempt → Type 0
-AttemptSays old new packet killed from (Done answer) = Answers old new packet killed from answer
-AttemptSays old new packet killed from Killed = KilledOne old new packet killed from
-AttemptSays old new packet killed from Again = Saw old new
+abbrev pub AttemptSays : Setup → Sight → Sight → FlowPacket → ℕ → ℕ → Attempt → Type 0
+AttemptSays setup old new packet killed from (Done answer) = Answers setup old new packet killed from answer
+AttemptSays setup old new packet killed from Killed = KilledOne old new packet killed from
+AttemptSays setup old new packet killed from Again = Saw old new
 
 -- what was done with a packet so far: so many kills, and nothing is held
 pub record IsKilling (old now : Sight) (packet : FlowPacket) (killed : ℕ) : Type 0 where

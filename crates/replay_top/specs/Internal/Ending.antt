@@ -5,9 +5,9 @@ use Rattle.ct_io.specs.Counts.{Rose}
 use Rattle.ct_io.specs.Source.{SameFaults, Source}
 use Rattle.ct_io.specs.Tape.{Tape}
 use Rattle.history_book.specs.declared.report.Report.{Report}
-use Rattle.nat_setup.specs.declared.rule.Rule.{Rule}
 use Rattle.nat_setup.specs.Rule.{IsLawfulRule}
 use Rattle.packet_path.specs.Packet.{Given}
+use Rattle.packet_path.specs.declared.setup.Setup.{Setup}
 use Rattle.room_list.specs.Roomed.{Roomed}
 use Rattle.replay_top.specs.declared.ending.Ending.{Ending}
 use Rattle.replay_top.specs.declared.ending.Ending.TheVariants.{Done, NotWritten, Refused}
@@ -17,9 +17,8 @@ use Rattle.replay_top.specs.declared.flaw.Refusal.TheVariants.{Flawed, Misused, 
 use Rattle.replay_top.specs.Causes.{FailedToOpen, FailsToOpen, FailsToRead, HasCause, refusal_status}
 use Rattle.replay_top.specs.Inputs.{FirstFlaw, IsFlawed}
 use Rattle.replay_top.specs.Readable.{most_bytes}
-use Rattle.replay_top.specs.Replay.{Gave, GaveRules, IsCutShort, IsPrinted, IsReplayOf}
+use Rattle.replay_top.specs.Replay.{Gave, GaveRules, IsCutShort, IsPrinted, IsReplayOf, program_tracker}
 use Rattle.replay_top.specs.Report.{IsWellFormed}
-use Rattle.replay_top.specs.Sizes.{program_sizes}
 use Rattle.replay_top.specs.Words.{Command, files_of, InputFile}
 
 -- why the file of this number was not read, of which alone this says something
@@ -47,21 +46,21 @@ HasCauseOfRules None files files' why = why ≡ NoMemory
 HasCauseOfRules (Some name) files files' why = HasCauseIn (record { kind = Rules; name = name }) 0 files files' why
 
 -- what reading the rules of a run gives: they are lawful, too
-abbrev pub RulesReadAs : Option (List ℕ) → Source → Source → Result (Roomed Rule) Refusal → Type 0
-RulesReadAs name files files' (Ok rules) =
-    GaveRules files name rules.items × AllByRecursion IsLawfulRule rules.items × SameFaults files files'
+abbrev pub RulesReadAs : Option (List ℕ) → Source → Source → Result Setup Refusal → Type 0
+RulesReadAs name files files' (Ok setup) =
+    GaveRules files name setup.rules.items × AllByRecursion IsLawfulRule setup.rules.items × SameFaults files files'
 RulesReadAs name files files' (Err why) = HasCauseOfRules name files files' why × SameFaultsBut why files files'
 
 -- a file of this name gave the frames of a capture, and the report is that of it alone
-pub record GaveReport (files : Source) (name : List ℕ) (report : Report) : Type 0 where
+pub record GaveReport (setup : Setup) (files : Source) (name : List ℕ) (report : Report) : Type 0 where
   pub given : List Given
   pub gave : Gave files name given
-  pub well_formed : IsWellFormed program_sizes (given ∷ []) report
+  pub well_formed : IsWellFormed (program_tracker setup) (given ∷ []) report
 
 -- what reading and replaying the capture of this name gives, the file of this number
-abbrev pub CaptureReplaysAs : List ℕ → ℕ → Source → Source → Result Report Refusal → Type 0
-CaptureReplaysAs name at files files' (Ok report) = GaveReport files name report × SameFaults files files'
-CaptureReplaysAs name at files files' (Err why) =
+abbrev pub CaptureReplaysAs : Setup → List ℕ → ℕ → Source → Source → Result Report Refusal → Type 0
+CaptureReplaysAs setup name at files files' (Ok report) = GaveReport setup files name report × SameFaults files files'
+CaptureReplaysAs setup name at files files' (Err why) =
     HasCauseIn (record { kind = Capture; name = name }) at files files' why × SameFaultsBut why files files'
 
 -- the cause of a refusal of a command

@@ -1,14 +1,19 @@
 //! What becomes of a packet where another pass comes between the calls of its own.
 
 ghost use Rattle.std.specs.Prelude.{◌≡◌, [], IfOk};
+ghost use Rattle.std.specs.List.{AllByRecursion};
+ghost use Rattle.nat_setup.specs.Rule.{IsLawfulRule};
 
 use super::BusyDesk;
 use super::stage::{Act, Call, Script, Turn};
 use history_book::desk::Desk;
 use history_book::record::Flow;
-use history_book::verdict::{Class, Label, Verdict};
+use history_book::verdict::{Class, Label, Translated, Verdict};
+use nat_setup::read::read_rules;
+use nat_setup::rule::Rules;
 use packet_headers::frame::{Frame, Link};
 use packet_path::handle::handle;
+use packet_path::setup::Setup;
 use proto_rules::{Part, PartKind, TcpState};
 use std::alloc::Global;
 use std::process::Abort;
@@ -108,13 +113,33 @@ fn desk(alloc: Global, turns: &[Turn]) -> Result<BusyDesk, NoMemory>
     BusyDesk::new(alloc, script, 100)
 }
 
-/// What becomes of a packet at this moment.
-fn handled<R: Wait + Abort>(
+/// What becomes of a packet at this moment, without rules.
+fn handled<R: Wait + Abort + AllocGlobal>(
     rt: &R,
     desk: &mut BusyDesk,
     packet: &[u8],
     moment: u64,
 ) -> Result<Verdict, NoMemory>
+    requires held { desk.old.held ≡ [] }
+    requires owed { desk.old.owed ≡ [] }
+    ensures held { desk.new.held ≡ [] }
+    ensures owed { desk.new.owed ≡ [] }
+{
+    let setup = Setup {
+        rules: Rules::new(rt.alloc(), 0)?,
+    };
+    handled_by(rt, desk, packet, moment, &setup)
+}
+
+/// What becomes of a packet at this moment, by a tracker that is set up so.
+fn handled_by<R: Wait + Abort>(
+    rt: &R,
+    desk: &mut BusyDesk,
+    packet: &[u8],
+    moment: u64,
+    setup: &Setup,
+) -> Result<Verdict, NoMemory>
+    requires lawful { AllByRecursion IsLawfulRule setup.now.rules.items }
     requires held { desk.old.held ≡ [] }
     requires owed { desk.old.owed ≡ [] }
     ensures held { desk.new.held ≡ [] }
@@ -131,7 +156,7 @@ fn handled<R: Wait + Abort>(
         original: length,
         link: Link::Raw,
     };
-    handle(rt, desk, packet, &frame)
+    handle(rt, desk, packet, &frame, setup)
 }
 
 #[test]
@@ -470,5 +495,117 @@ fn a_reset_connection_goes_before_it_is_destroyed(rt: HostRuntime) -> Result<(),
             }
         )
     );
+    Ok(())
+}
+
+/// The query's answer, sent to this port of 192.0.2.1.
+fn answers_to(port: u16) -> Tuple {
+    Tuple {
+        dst: 0xc000_0201,
+        b: port,
+        ..ANSWERS
+    }
+}
+
+/// A tracker that is set up with these rules.
+fn set_up<R: Abort + AllocGlobal>(rt: &R, rules: &str) -> Result<Setup, Fail>
+    ensures { IfOk result (λ setup. AllByRecursion IsLawfulRule setup.rules.items) }
+{
+    assert!(rt; rules.len() < 1000);
+    match read_rules(rt.alloc(), rules.as_bytes()) {
+        Ok(rules) => Ok(Setup { rules }),
+        Err(_) => Err(Fail::from("no rules")),
+    }
+}
+
+#[test]
+fn the_chosen_reply_tuple_is_taken_first(rt: HostRuntime) -> Result<(), Fail> {
+    let other = Flow {
+        original: Tuple {
+            src: 0x0a00_0003,
+            ..ASKS
+        },
+        reply: answers_to(7000),
+        ..ASKED
+    };
+    let setup = set_up(&rt, "snat -p udp to 192.0.2.1:7000")?;
+    let mut desk = overtaken(rt.alloc(), other)?;
+    let clash = handled_by(&rt, &mut desk, &QUERY, SECOND, &setup)?;
+    let after = handled_by(&rt, &mut desk, &QUERY, 2 * SECOND, &setup)?;
+    let Class::Clash {
+        id: 0,
+        at: 1,
+        translated,
+    } = clash.class
+    else {
+        panic!(rt; "no clash");
+    };
+    let Translated::Chosen {
+        reply,
+        kept_taken_at: None,
+    } = translated
+    else {
+        panic!(rt; "not translated");
+    };
+    assert!(rt; reply == answers_to(7000));
+    assert!(rt; matches!(after.class, Class::NoPort { from: 1, to: 1 }));
+    Ok(())
+}
+
+#[test]
+fn the_translated_flow_is_confirmed_first(rt: HostRuntime) -> Result<(), Fail> {
+    let same = Flow {
+        reply: answers_to(7000),
+        ..ASKED
+    };
+    let setup = set_up(&rt, "snat -p udp to 192.0.2.1:7000")?;
+    let mut desk = overtaken(rt.alloc(), same)?;
+    let merged = handled_by(&rt, &mut desk, &QUERY, SECOND, &setup)?;
+    assert!(rt; matches!(merged.class, Class::Merged { id: 0, at: 1, .. }));
+    Ok(())
+}
+
+#[test]
+fn the_flows_own_port_is_taken_after_its_tuple_was_looked_up(rt: HostRuntime) -> Result<(), Fail> {
+    let other = Flow {
+        original: Tuple {
+            src: 0x0a00_0003,
+            ..ASKS
+        },
+        reply: answers_to(5000),
+        ..ASKED
+    };
+    let setup = set_up(&rt, "snat to 192.0.2.1")?;
+    let mut desk = desk(
+        rt.alloc(),
+        &[
+            Turn {
+                before: Call::Find,
+                act: Act::Nothing,
+            },
+            Turn {
+                before: Call::Find,
+                act: Act::Confirm(other),
+            },
+        ],
+    )?;
+    let made = handled_by(&rt, &mut desk, &QUERY, SECOND, &setup)?;
+    let Class::Made {
+        id: 1,
+        at: 2,
+        translated,
+        unclaimed: Some(1),
+    } = made.class
+    else {
+        panic!(rt; "not made");
+    };
+    let Translated::Chosen {
+        reply,
+        kept_taken_at: Some(1),
+    } = translated
+    else {
+        panic!(rt; "not translated");
+    };
+    assert!(rt; 1024 <= reply.b && reply.b != 5000);
     Ok(())
 }

@@ -7,6 +7,7 @@ use builder::{Capture, PLAIN, QUERY, query_twice};
 use ct_io::{MemFiles, MemSink, NoGate};
 use nat_setup::rule::Rules;
 use packet_headers::capture::CaptureFault;
+use packet_path::setup::Setup;
 use std::alloc::{AllocError, Global};
 use std::sync::Wait;
 use std::test::Fail;
@@ -222,13 +223,15 @@ fn the_first_write_fails(rt: HostRuntime) -> Result<(), Fail> {
 #[test]
 fn bytes_are_replayed(rt: HostRuntime) -> Result<(), Fail> {
     let alloc = rt.alloc();
-    let rules = Rules::new(alloc, 0)?;
-    let report = replay_bytes(&rt, alloc, &CAPTURE, &rules)
+    let setup = Setup {
+        rules: Rules::new(alloc, 0)?,
+    };
+    let report = replay_bytes(&rt, alloc, &CAPTURE, &setup)
         .ok()
         .ok_or("no report")?;
     assert_eq!(rt; report.history.len(), 2);
     assert_eq!(rt; report.live, 1);
-    let cut = replay_bytes(&rt, alloc, &CAPTURE[..119], &rules);
+    let cut = replay_bytes(&rt, alloc, &CAPTURE[..119], &setup);
     assert!(rt;
         matches!(
             cut,
@@ -314,3 +317,4 @@ mod captures;
 mod desk;
 mod flows;
 mod rules;
+mod translated;

@@ -1,21 +1,38 @@
-use Rattle.std.proofs.Common.{rules}
+use Rattle.std.proofs.Common.{refl, rules}
+use Rattle.packet_path.specs.Begun.{rule_for}
 use Rattle.packet_path.proofs.Attempts.{answers_after}
-use Rattle.packet_path.proofs.Beginnings.{full, no_entry}
+use Rattle.packet_path.proofs.Beginnings.{chosen_found, no_entry, no_port, plain_found}
 use Rattle.packet_path.proofs.attempt.begin_flow.Goals as goal
 
 pub returns-in_default-clause-answers : goal.returns-in_default-clause-answers
 returns-in_default-clause-answers g c = λ killed few.
-    no_entry c.states_stay.ensures c.events_stay.ensures (g.D.Desk.sight c.args.desk.now) c.args.packet.now killed c.args.absent_at few
-    c.requires.absent (search rules)
+    no_entry c.states_stay.ensures c.events_stay.ensures c.args.setup.now (g.D.Desk.sight c.args.desk.now) c.args.packet.now killed
+    c.args.absent_at few c.requires.absent (search rules)
 
-pub returns-in-Full-clause-answers : goal.returns-in-Full-clause-answers
-returns-in-Full-clause-answers g c = λ killed few.
-    full c.states_stay.ensures c.events_stay.ensures (g.D.Desk.sight c.args.desk.now) (g.D.Desk.sight c.take.new.self)
-    c.args.packet.now killed c.args.absent_at c.in-Full.at few c.requires.empty c.requires.absent (search rules)
-    c.in-Full.ensures.says
+pub returns-in-Plain-clause-answers : goal.returns-in-Plain-clause-answers
+returns-in-Plain-clause-answers g c = λ killed few.
+    let s = g.D.Desk.sight c.args.desk.now in
+    let mid = g.D.Desk.sight c.translate.new.desk in
+    answers_after c.states_stay.ensures c.events_stay.ensures c.args.setup.now s mid (g.D.Desk.sight c.place_flow.new.desk)
+    c.args.packet.now killed c.args.absent_at c.place_flow.result c.translate.ensures.saw
+    (c.place_flow.ensures.answers c.args.setup.now killed few
+    (plain_found c.states_stay.ensures c.events_stay.ensures c.args.setup.now (rule_for c.args.setup.now c.args.packet.now.tuple)
+    c.args.packet.now s mid c.args.absent_at c.invert.result refl c.invert.ensures.exact c.requires.absent c.translate.ensures.saw
+    c.in-Plain.ensures.says))
 
-pub returns-in-Taken-clause-answers : goal.returns-in-Taken-clause-answers
-returns-in-Taken-clause-answers g c = λ killed few.
-    answers_after c.states_stay.ensures c.events_stay.ensures (g.D.Desk.sight c.args.desk.now) (g.D.Desk.sight c.take.new.self)
-    (g.D.Desk.sight c.confirm_flow.new.desk) c.args.packet.now killed c.args.absent_at c.confirm_flow.result
-    c.in-Taken.ensures.says.saw (c.confirm_flow.ensures.answers killed few)
+pub returns-in-Chosen-clause-answers : goal.returns-in-Chosen-clause-answers
+returns-in-Chosen-clause-answers g c = λ killed few.
+    let s = g.D.Desk.sight c.args.desk.now in
+    let mid = g.D.Desk.sight c.translate.new.desk in
+    answers_after c.states_stay.ensures c.events_stay.ensures c.args.setup.now s mid (g.D.Desk.sight c.place_flow-in-Chosen.new.desk)
+    c.args.packet.now killed c.args.absent_at c.place_flow-in-Chosen.result c.translate.ensures.saw
+    (c.place_flow-in-Chosen.ensures.answers c.args.setup.now killed few
+    (chosen_found c.states_stay.ensures c.events_stay.ensures c.args.setup.now (rule_for c.args.setup.now c.args.packet.now.tuple)
+    c.args.packet.now s mid c.args.absent_at c.in-Chosen.free_at c.in-Chosen.reply c.in-Chosen.kept_taken_at refl c.requires.absent
+    c.translate.ensures.saw c.in-Chosen.ensures.says))
+
+pub returns-in-NoPort-clause-answers : goal.returns-in-NoPort-clause-answers
+returns-in-NoPort-clause-answers g c = λ killed few.
+    no_port c.states_stay.ensures c.events_stay.ensures c.args.setup.now (rule_for c.args.setup.now c.args.packet.now.tuple)
+    (g.D.Desk.sight c.args.desk.now) (g.D.Desk.sight c.translate.new.desk) c.args.packet.now killed c.args.absent_at c.in-NoPort.from
+    c.in-NoPort.to few c.requires.absent (search rules) refl c.translate.ensures.saw c.in-NoPort.ensures.says

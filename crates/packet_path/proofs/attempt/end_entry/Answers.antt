@@ -9,11 +9,11 @@ use Rattle.packet_path.proofs.Places.{only_id}
 use Rattle.packet_path.proofs.attempt.end_entry.Goals as goal
 
 pub returns-then-is_last-clause-says : goal.returns-then-is_last-clause-says
-returns-then-is_last-clause-says g c = λ from low within.
+returns-then-is_last-clause-says g c = λ setup from low within.
     let s = g.D.Desk.sight c.args.desk.now in
     let four : 4 ≡ c.args.kills = omega arith in
-    subst (λ n. AttemptSays s s c.args.packet.now n from (Done (Contended c.args.met.now.id c.args.at))) four
-    (contended c.states_stay.ensures c.events_stay.ensures c.found_are_found_again.ensures c.args.why s c.args.packet.now
+    subst (λ n. AttemptSays setup s s c.args.packet.now n from (Done (Contended c.args.met.now.id c.args.at))) four
+    (contended c.states_stay.ensures c.events_stay.ensures c.found_are_found_again.ensures setup c.args.why s c.args.packet.now
     c.args.met.now c.args.at from c.requires.knows c.requires.met c.requires.ends low)
 
 pub kill-requires-clause-protocol : goal.kill-requires-clause-protocol
@@ -26,7 +26,7 @@ kill-requires-clause-protocol g c =
     c.requires.classified c.requires.met)
 
 pub returns-in-Killed-clause-says : goal.returns-in-Killed-clause-says
-returns-in-Killed-clause-says g c = λ from low within.
+returns-in-Killed-clause-says g c = λ setup from low within.
     let s = g.D.Desk.sight c.args.desk.now in
     let new = g.D.Desk.sight c.kill.new.self in
     was_killed c.states_stay.ensures c.events_stay.ensures c.found_are_found_again.ensures c.args.why s s new c.args.packet.now

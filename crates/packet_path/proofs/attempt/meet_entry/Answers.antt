@@ -19,21 +19,21 @@ touch-requires-clause-protocol g c =
     c.requires.classified c.requires.met
 
 pub returns-in-Touched-clause-says : goal.returns-in-Touched-clause-says
-returns-in-Touched-clause-says g c =
+returns-in-Touched-clause-says g c = λ setup.
     let s = g.D.Desk.sight c.args.desk.now in
     let new = g.D.Desk.sight c.touch.new.self in
-    subst (λ (k : Class). Answers s new c.args.packet.now c.args.kills (length s.front) k) (sym c.passed.ensures)
-    (touched c.states_stay.ensures c.events_stay.ensures c.found_are_found_again.ensures s new c.args.packet.now c.args.met.now
+    subst (λ (k : Class). Answers setup s new c.args.packet.now c.args.kills (length s.front) k) (sym c.passed.ensures)
+    (touched c.states_stay.ensures c.events_stay.ensures c.found_are_found_again.ensures setup s new c.args.packet.now c.args.met.now
     c.args.kills c.in-Touched.number c.in-Touched.before c.requires.few c.touch.ensures.knows c.requires.met
     (subst (λ id. Touches id c.args.met.now.direction c.args.packet.now.segment c.args.packet.now.moment s new c.in-Touched.number
     c.in-Touched.before)
     (only_id c.args.met.now.place c.args.met.now.id s c.requires.met.holds) c.in-Touched.ensures.says))
 
 pub returns-in-Ignored-clause-says : goal.returns-in-Ignored-clause-says
-returns-in-Ignored-clause-says g c =
+returns-in-Ignored-clause-says g c = λ setup.
     let s = g.D.Desk.sight c.args.desk.now in
     let new = g.D.Desk.sight c.touch.new.self in
-    left_as_it_is c.states_stay.ensures c.events_stay.ensures c.found_are_found_again.ensures outcome.Ignore
+    left_as_it_is c.states_stay.ensures c.events_stay.ensures c.found_are_found_again.ensures setup outcome.Ignore
     (class.Ignored c.args.met.now.id c.in-Ignored.at) s new c.args.packet.now c.args.met.now
     c.args.kills c.in-Ignored.at c.requires.few c.touch.ensures.knows c.requires.met
     (subst (λ id. Leaves id c.args.met.now.direction c.args.packet.now.segment c.args.packet.now.moment outcome.Ignore s new c.in-Ignored.at)
@@ -41,10 +41,10 @@ returns-in-Ignored-clause-says g c =
     refl (λ given mark own h. h)
 
 pub returns-in-Invalid-clause-says : goal.returns-in-Invalid-clause-says
-returns-in-Invalid-clause-says g c =
+returns-in-Invalid-clause-says g c = λ setup.
     let s = g.D.Desk.sight c.args.desk.now in
     let new = g.D.Desk.sight c.touch.new.self in
-    left_as_it_is c.states_stay.ensures c.events_stay.ensures c.found_are_found_again.ensures outcome.Invalid
+    left_as_it_is c.states_stay.ensures c.events_stay.ensures c.found_are_found_again.ensures setup outcome.Invalid
     (class.BadState c.args.met.now.id c.in-Invalid.at) s new c.args.packet.now c.args.met.now
     c.args.kills c.in-Invalid.at c.requires.few c.touch.ensures.knows c.requires.met
     (subst (λ id. Leaves id c.args.met.now.direction c.args.packet.now.segment c.args.packet.now.moment outcome.Invalid s new c.in-Invalid.at)
@@ -52,28 +52,28 @@ returns-in-Invalid-clause-says g c =
     refl (λ given mark own h. h)
 
 pub returns-in-Reset-clause-says : goal.returns-in-Reset-clause-says
-returns-in-Reset-clause-says g c =
+returns-in-Reset-clause-says g c = λ setup.
     let s = g.D.Desk.sight c.args.desk.now in
     let mid = g.D.Desk.sight c.touch.new.self in
     let saw = c.in-Reset.ensures.says.0.saw in
-    attempt_after c.states_stay.ensures c.events_stay.ensures s mid (g.D.Desk.sight c.reset_entry.new.desk) c.args.packet.now
+    attempt_after c.states_stay.ensures c.events_stay.ensures setup s mid (g.D.Desk.sight c.reset_entry.new.desk) c.args.packet.now
     c.args.kills (length s.front) c.reset_entry.result saw
-    (c.reset_entry.ensures.says c.args.kills (length s.front) c.requires.few (starts_longer mid.front s.front saw.front))
+    (c.reset_entry.ensures.says setup c.args.kills (length s.front) c.requires.few (starts_longer mid.front s.front saw.front))
 
 pub returns-in-Expired-clause-says : goal.returns-in-Expired-clause-says
-returns-in-Expired-clause-says g c =
+returns-in-Expired-clause-says g c = λ setup.
     let s = g.D.Desk.sight c.args.desk.now in
     let mid = g.D.Desk.sight c.touch.new.self in
     let looked = c.in-Expired.ensures.says.0 in
-    attempt_after c.states_stay.ensures c.events_stay.ensures s mid (g.D.Desk.sight c.end_entry.new.desk) c.args.packet.now
+    attempt_after c.states_stay.ensures c.events_stay.ensures setup s mid (g.D.Desk.sight c.end_entry.new.desk) c.args.packet.now
     c.args.kills (length s.front) c.end_entry.result looked.saw
-    (c.end_entry.ensures.says (length s.front) looked.low (starts_longer mid.front s.front looked.saw.front))
+    (c.end_entry.ensures.says setup (length s.front) looked.low (starts_longer mid.front s.front looked.saw.front))
 
 pub returns-in-Reopen-clause-says : goal.returns-in-Reopen-clause-says
-returns-in-Reopen-clause-says g c =
+returns-in-Reopen-clause-says g c = λ setup.
     let s = g.D.Desk.sight c.args.desk.now in
     let mid = g.D.Desk.sight c.touch.new.self in
     let looked = c.in-Reopen.ensures.says.0 in
-    attempt_after c.states_stay.ensures c.events_stay.ensures s mid (g.D.Desk.sight c.end_entry-in-Reopen.new.desk) c.args.packet.now
+    attempt_after c.states_stay.ensures c.events_stay.ensures setup s mid (g.D.Desk.sight c.end_entry-in-Reopen.new.desk) c.args.packet.now
     c.args.kills (length s.front) c.end_entry-in-Reopen.result looked.saw
-    (c.end_entry-in-Reopen.ensures.says (length s.front) looked.low (starts_longer mid.front s.front looked.saw.front))
+    (c.end_entry-in-Reopen.ensures.says setup (length s.front) looked.low (starts_longer mid.front s.front looked.saw.front))

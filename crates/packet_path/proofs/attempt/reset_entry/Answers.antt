@@ -17,11 +17,11 @@ kill-requires-clause-protocol g c =
     c.requires.classified c.requires.met
 
 pub returns-in-Killed-clause-says : goal.returns-in-Killed-clause-says
-returns-in-Killed-clause-says g c = λ killed from few low.
+returns-in-Killed-clause-says g c = λ setup killed from few low.
     let s = g.D.Desk.sight c.args.desk.now in
     let new = g.D.Desk.sight c.kill.new.self in
-    subst (λ (k : Class). Answers s new c.args.packet.now killed from k) (sym c.passed.ensures)
-    (was_reset c.states_stay.ensures c.events_stay.ensures c.found_are_found_again.ensures s new c.args.packet.now c.args.met.now
+    subst (λ (k : Class). Answers setup s new c.args.packet.now killed from k) (sym c.passed.ensures)
+    (was_reset c.states_stay.ensures c.events_stay.ensures c.found_are_found_again.ensures setup s new c.args.packet.now c.args.met.now
     killed from c.in-Killed.number c.in-Killed.subject few low c.kill.ensures.knows c.requires.met
     (subst (λ id. Destroys id (Reset c.args.packet.now.segment c.args.packet.now.moment) s new c.in-Killed.number c.in-Killed.subject)
     (only_id c.args.met.now.place c.args.met.now.id s c.requires.met.holds) c.in-Killed.ensures.says))

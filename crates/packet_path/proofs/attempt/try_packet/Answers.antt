@@ -8,9 +8,9 @@ returns-in-Absent-clause-says g c =
     let mid = g.D.Desk.sight c.find.new.self in
     let new = g.D.Desk.sight c.begin_flow.new.desk in
     let looked = c.in-Absent.ensures.says.0 in
-    answers_from c.states_stay.ensures c.events_stay.ensures s new c.args.packet.now c.args.kills (length s.front) c.in-Absent.at
+    answers_from c.states_stay.ensures c.events_stay.ensures c.args.setup.now s new c.args.packet.now c.args.kills (length s.front) c.in-Absent.at
     c.begin_flow.result looked.low
-    (answers_after c.states_stay.ensures c.events_stay.ensures s mid new c.args.packet.now c.args.kills c.in-Absent.at
+    (answers_after c.states_stay.ensures c.events_stay.ensures c.args.setup.now s mid new c.args.packet.now c.args.kills c.in-Absent.at
     c.begin_flow.result looked.saw (c.begin_flow.ensures.answers c.args.kills c.requires.few))
 
 pub returns-in-Found-clause-says : goal.returns-in-Found-clause-says
@@ -20,10 +20,10 @@ returns-in-Found-clause-says g c =
     let met = g.D.Desk.sight c.meet_entry-attempt.new.desk in
     let new = g.D.Desk.sight c.give_up.new.desk in
     let saw = c.in-Found.ensures.says.0.saw in
-    attempt_before c.states_stay.ensures c.events_stay.ensures s met new c.args.packet.now c.args.kills (length s.front)
+    attempt_before c.states_stay.ensures c.events_stay.ensures c.args.setup.now s met new c.args.packet.now c.args.kills (length s.front)
     c.meet_entry-attempt.result
-    (attempt_after c.states_stay.ensures c.events_stay.ensures s mid met c.args.packet.now c.args.kills (length s.front)
+    (attempt_after c.states_stay.ensures c.events_stay.ensures c.args.setup.now s mid met c.args.packet.now c.args.kills (length s.front)
     c.meet_entry-attempt.result saw
-    (attempt_from c.states_stay.ensures c.events_stay.ensures mid met c.args.packet.now c.args.kills (length s.front)
-    (length mid.front) c.meet_entry-attempt.result (starts_longer mid.front s.front saw.front) c.meet_entry-attempt.ensures.says))
+    (attempt_from c.states_stay.ensures c.events_stay.ensures c.args.setup.now mid met c.args.packet.now c.args.kills (length s.front)
+    (length mid.front) c.meet_entry-attempt.result (starts_longer mid.front s.front saw.front) (c.meet_entry-attempt.ensures.says c.args.setup.now)))
     c.give_up.ensures.saw

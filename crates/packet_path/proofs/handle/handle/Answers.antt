@@ -11,6 +11,6 @@ returns-clause-handled g c =
     let s = g.D.Desk.sight c.args.desk.now in
     let ready = g.D.Desk.sight c.ready.new.self in
     let new = g.D.Desk.sight c.handle_packet.new.desk in
-    handled_ready 8 s ready new (given_of c.args.bytes.now c.args.frame.now) c.handle_packet.result c.in_ok-ready.ensures.ready
-    (subst (λ (p : Packet). Handled (record { packet = p; moment = c.args.frame.now.moment }) ready new c.handle_packet.result)
+    handled_ready c.args.setup.now 8 s ready new (given_of c.args.bytes.now c.args.frame.now) c.handle_packet.result c.in_ok-ready.ensures.ready
+    (subst (λ (p : Packet). Handled c.args.setup.now (record { packet = p; moment = c.args.frame.now.moment }) ready new c.handle_packet.result)
     c.classify-packet.ensures.exact c.handle_packet.ensures.handled)

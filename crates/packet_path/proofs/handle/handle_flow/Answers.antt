@@ -5,7 +5,7 @@ use Rattle.packet_path.proofs.handle.handle_flow.Goals as goal
 pub returns-in-Done-clause-handled : goal.returns-in-Done-clause-handled
 returns-in-Done-clause-handled g c = λ given flow.
     let s = g.D.Desk.sight c.args.desk.now in
-    killing_done c.states_stay.ensures c.events_stay.ensures s c.args.packet.now (g.D.Desk.sight c.attempts.desk)
+    killing_done c.states_stay.ensures c.events_stay.ensures s c.args.packet.now c.args.setup.now (g.D.Desk.sight c.attempts.desk)
     (g.D.Desk.sight c.try_packet.new.desk) c.attempts.kills _ given flow c.attempts.invariant.2 c.in-Done.ensures.says
     c.in-Done.ensures.empty c.made-first.ensures.exact (omega (arith, c.made-first.ensures.exact, c.made.ensures.exact))
 

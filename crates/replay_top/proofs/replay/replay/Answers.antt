@@ -17,11 +17,11 @@ report-requires g c =
     let none = c.in_ok-desk.ensures.fresh.own in
     let notes = c.finish-closed.ensures.notes in
     record {
-      covers = covered c.args.sizes.now given desk after c.replay_frames.new.verdicts c.finish-closed.result done none notes;
+      covers = covered c.args.setup.now c.args.sizes.now given desk after c.replay_frames.new.verdicts c.finish-closed.result done none notes;
       few = omega (
         arith,
         count,
-        so_many c.args.sizes.now given desk after c.replay_frames.new.verdicts c.finish-closed.result done none notes,
+        so_many c.args.setup.now c.args.sizes.now given desk after c.replay_frames.new.verdicts c.finish-closed.result done none notes,
         c.requires.few,
       );
     }
@@ -30,8 +30,8 @@ pub returns : goal.returns
 returns g c =
     let given = map (given_of c.args.bytes.now) c.args.frames.now in
     IfOk-weaker c.report.result (IsToldBy c.finish-closed.result c.replay_frames.new.verdicts)
-    (IsWellFormed c.args.sizes.now (given ∷ []))
-    (reported c.args.sizes.now given c.in_ok-desk.desk c.replay_frames.new.desk c.replay_frames.new.verdicts c.finish-closed.result
+    (IsWellFormed (record { setup = c.args.setup.now; sizes = c.args.sizes.now }) (given ∷ []))
+    (reported c.args.setup.now c.args.sizes.now given c.in_ok-desk.desk c.replay_frames.new.desk c.replay_frames.new.verdicts c.finish-closed.result
     c.in_ok-replay_frames.ensures.replayed c.in_ok-desk.ensures.fresh.own c.finish-closed.ensures.notes c.in_ok-replay_frames.ensures.known
     c.in_ok-desk.ensures.fresh.front _ c.in_ok-desk.ensures.fresh.sizes (omega (arith, c.requires.one_pass)) c.requires.one_pass c.finish-closed.ensures.live)
     c.report.ensures

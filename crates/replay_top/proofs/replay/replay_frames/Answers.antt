@@ -8,17 +8,17 @@ use Rattle.replay_top.proofs.replay.replay_frames.Goals as goal
 pub frames-init : goal.frames-init
 frames-init g c =
     let count = length-map c.args.frames.now (given_of c.args.bytes.now) in
-    replayed_start (map (given_of c.args.bytes.now) c.args.frames.now) (g.D.Desk.sight c.args.desk.now) c.args.verdicts.now
+    replayed_start c.args.setup.now (map (given_of c.args.bytes.now) c.args.frames.now) (g.D.Desk.sight c.args.desk.now) c.args.verdicts.now
     c.requires.knows c.requires.none (omega (arith, count, c.requires.room)) c.requires.nothing_held c.requires.nothing_owed
 
 pub frames-preserved : goal.frames-preserved
 frames-preserved g c =
     let below = c.frames-test.true in
-    replayed_next c.verdicts_still_fit.ensures c.lower_marks_fit.ensures
+    replayed_next c.verdicts_still_fit.ensures c.lower_marks_fit.ensures c.args.setup.now
     (map (given_of c.args.bytes.now) c.args.frames.now) (record { packet = Invalid; moment = 0 }) c.frames.frame-index
     (g.D.Desk.sight c.args.desk.now) (g.D.Desk.sight c.frames.desk) (g.D.Desk.sight c.handle.new.desk)
     c.frames.verdicts c.push.new.self c.in-Ok.verdict c.frames.invariant
-    (handled_at (g.D.Desk.sight c.frames.desk) (g.D.Desk.sight c.handle.new.desk) c.frames.frame-index c.args.bytes.now c.args.frames.now _
+    (handled_at c.args.setup.now (g.D.Desk.sight c.frames.desk) (g.D.Desk.sight c.handle.new.desk) c.frames.frame-index c.args.bytes.now c.args.frames.now _
     (record { packet = Invalid; moment = 0 }) c.in-Ok.verdict (omega (arith, below)) c.in-Ok.ensures.handled)
     c.in-Ok.ensures.knows (omega (arith, below, length-map c.args.frames.now (given_of c.args.bytes.now)))
     c.push.ensures.items c.push.ensures.room

@@ -5,4 +5,4 @@ use Rattle.replay_top.proofs.replay.replay_frames.Given as goal
 
 abbrev pub invariant-frames : goal.invariant-frames
 invariant-frames g l =
-    IsReplayed (map (given_of l.bytes) l.frames) l.frame-index (g.D.Desk.sight l.fn.desk) (g.D.Desk.sight l.desk) l.verdicts
+    IsReplayed l.setup (map (given_of l.bytes) l.frames) l.frame-index (g.D.Desk.sight l.fn.desk) (g.D.Desk.sight l.desk) l.verdicts

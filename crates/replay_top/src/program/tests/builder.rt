@@ -176,3 +176,61 @@ pub fn icmp(from: u8, to: u8, kind: u8, id: u8) -> [u8; 28] {
         id, 0, 0,
     ]
 }
+
+/// The ends of a flow between any two hosts, in host order.
+#[derive(Clone, Copy)]
+pub struct Ends {
+    pub src: u32,
+    pub sport: u16,
+    pub dst: u32,
+    pub dport: u16,
+}
+
+/// A packet of UDP between these ends, with four bytes of data.
+pub fn udp(ends: &Ends) -> [u8; 32] {
+    let [a, b, c, d] = ends.src.to_be_bytes();
+    let [e, f, g, h] = ends.dst.to_be_bytes();
+    let [i, j] = ends.sport.to_be_bytes();
+    let [k, l] = ends.dport.to_be_bytes();
+    [
+        0x45, 0, 0, 32, 0, 0, 0, 0, 0x40, 17, 0, 0, a, b, c, d, e, f, g, h, i, j, k, l, 0, 12, 0,
+        0, 0, 0, 0, 0,
+    ]
+}
+
+/// A segment of TCP with SYN between these ends.
+pub fn syn(ends: &Ends) -> [u8; 40] {
+    let [a, b, c, d] = ends.src.to_be_bytes();
+    let [e, f, g, h] = ends.dst.to_be_bytes();
+    let [i, j] = ends.sport.to_be_bytes();
+    let [k, l] = ends.dport.to_be_bytes();
+    [
+        0x45, 0, 0, 40, 0, 0, 0, 0, 0x40, 6, 0, 0, a, b, c, d, e, f, g, h, i, j, k, l, 0, 0, 0, 0,
+        0, 0, 0, 0, 0x50, SYN, 0, 0, 0, 0, 0, 0,
+    ]
+}
+
+/// An ICMP message of this type with the identifier 7, between any two hosts.
+pub fn echo(src: u32, dst: u32, kind: u8) -> [u8; 28] {
+    let [a, b, c, d] = src.to_be_bytes();
+    let [e, f, g, h] = dst.to_be_bytes();
+    [
+        0x45, 0, 0, 28, 0, 0, 0, 0, 0x40, 1, 0, 0, a, b, c, d, e, f, g, h, kind, 0, 0, 0, 0, 7, 0,
+        0,
+    ]
+}
+
+/// The word of the inner packet's destination to this host that the port is unreachable, with the packet of
+/// UDP in it.
+pub fn unreachable(to: u32, inner: &Ends) -> [u8; 56] {
+    let [a, b, c, d] = inner.src.to_be_bytes();
+    let [e, f, g, h] = inner.dst.to_be_bytes();
+    let [i, j] = inner.sport.to_be_bytes();
+    let [k, l] = inner.dport.to_be_bytes();
+    let [m, n, o, p] = to.to_be_bytes();
+    [
+        0x45, 0, 0, 56, 0, 0, 0, 0, 0x40, 1, 0, 0, e, f, g, h, m, n, o, p, 3, 3, 0, 0, 0, 0, 0, 0,
+        0x45, 0, 0, 32, 0, 0, 0, 0, 0x40, 17, 0, 0, a, b, c, d, e, f, g, h, i, j, k, l, 0, 12, 0,
+        0,
+    ]
+}

@@ -10,8 +10,10 @@ use history_book::event::Why;
 use history_book::outcome::{HoldOutcome, KillOutcome, ReleaseOutcome};
 use history_book::sizes::Sizes;
 use history_book::verdict::Class;
+use nat_setup::rule::Rules;
 use packet_headers::frame::{Frame, Link};
 use packet_path::handle::handle;
+use packet_path::setup::Setup;
 use std::test::Fail;
 
 /// A query of UDP from 10.0.0.3:5000 to 10.0.0.2:53.
@@ -51,9 +53,12 @@ fn frame(moment: u32) -> Frame
 fn an_entry_ended_by_hand_makes_room(rt: HostRuntime) -> Result<(), Fail> {
     let mut desk = PlainDesk::new(rt.alloc(), sizes())?;
     desk.ready(64)?;
-    let first = handle(&rt, &mut desk, &QUERY, &frame(1_000_000))?;
+    let setup = Setup {
+        rules: Rules::new(rt.alloc(), 0)?,
+    };
+    let first = handle(&rt, &mut desk, &QUERY, &frame(1_000_000), &setup)?;
     assert!(rt; matches!(first.class, Class::Made { id: 0, at: 1, .. }));
-    let full = handle(&rt, &mut desk, &ANOTHER, &frame(2_000_000))?;
+    let full = handle(&rt, &mut desk, &ANOTHER, &frame(2_000_000), &setup)?;
     assert!(rt; matches!(full.class, Class::Full { at: 1 }));
     let HoldOutcome::Held { id, at } = desk.hold(&rt, 0) else {
         panic!(rt; "the place is empty");
@@ -66,7 +71,7 @@ fn an_entry_ended_by_hand_makes_room(rt: HostRuntime) -> Result<(), Fail> {
         panic!(rt; "the place is kept");
     };
     desk.recycle(&rt, 0);
-    let again = handle(&rt, &mut desk, &ANOTHER, &frame(32_000_000))?;
+    let again = handle(&rt, &mut desk, &ANOTHER, &frame(32_000_000), &setup)?;
     assert!(rt; matches!(again.class, Class::Made { id: 2, at: 3, .. }));
     assert_eq!(rt; (again.first, again.made), (2, 1));
     Ok(())

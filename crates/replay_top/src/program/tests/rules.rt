@@ -7,7 +7,7 @@ use std::test::Fail;
 use std::thread::Threads;
 
 /// The name of each test's file of rules.
-const RULES: &str = "r.rules";
+pub const RULES: &str = "r.rules";
 
 /// Rules that are for no flow of the capture.
 const APART: &str = "\
@@ -20,7 +20,7 @@ dnat -d 203.0.113.1 to 192.168.0.2
 const MOST: usize = 1_048_576;
 
 /// A run with these rules and a capture of these bytes.
-fn run_ruled<R: Threads + Wait + Sync + AllocGlobal>(
+pub fn run_ruled<R: Threads + Wait + Sync + AllocGlobal>(
     rt: &R,
     words: &[&str],
     rules: &[u8],
