@@ -21,7 +21,7 @@ use Rattle.history_book.specs.declared.sizes.Sizes.{Sizes}
 use Rattle.nat_setup.specs.declared.rule.Rule.{Rule}
 use Rattle.nat_setup.specs.declared.translate.TranslateOutcome.TheVariants as translate
 use Rattle.nat_setup.specs.Translation.{IsBetween, TranslateSays}
-use Rattle.packet_path.specs.declared.attempt.NewReply.{NewReply}
+use Rattle.packet_path.specs.declared.begin.NewReply.{NewReply}
 use Rattle.packet_path.specs.declared.setup.Setup.{Setup}
 use Rattle.packet_path.specs.Begun.{rule_for, WasTranslated, WouldBegin}
 use Rattle.packet_path.specs.Verdict.{translated_points}

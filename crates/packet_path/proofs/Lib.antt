@@ -2,7 +2,7 @@ pub mod Growth
 pub mod Marks
 pub mod Silent
 pub mod Protocols
-pub mod Places
+pub mod HeldPlaces
 pub mod Attempts
 pub mod Beginnings
 pub mod Meetings

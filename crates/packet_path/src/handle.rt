@@ -13,8 +13,9 @@ ghost use Rattle.packet_path.specs.Internal.Attempt.{HoldsNothing, IsClassified}
 ghost use Rattle.packet_path.specs.Packet.{cause_of, given_of, Given, IsFlow};
 ghost use Rattle.packet_path.specs.Verdict.{FitsFrame, points_of};
 
-use crate::attempt::{Attempt, give_up, try_packet};
+use crate::attempt::{Attempt, try_packet};
 use crate::packet::FlowPacket;
+use crate::places::give_up;
 use crate::setup::Setup;
 use history_book::desk::Desk;
 use history_book::laws::{events_stay, states_stay};

@@ -2,7 +2,9 @@
 #![tactic(auto)]
 
 mod attempt;
+mod begin;
 pub mod handle;
 pub mod laws;
 pub mod packet;
+mod places;
 pub mod setup;

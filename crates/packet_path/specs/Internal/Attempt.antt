@@ -6,7 +6,7 @@ use Rattle.tuple_core.specs.declared.Tuple.{Tuple}
 use Rattle.history_book.specs.declared.event.Event.{Event}
 use Rattle.history_book.specs.State.{live_under}
 use Rattle.packet_path.specs.Begun.{rule_for, WasTranslated}
-use Rattle.packet_path.specs.declared.attempt.NewReply.{NewReply}
+use Rattle.packet_path.specs.declared.begin.NewReply.{NewReply}
 use Rattle.history_book.specs.declared.desk.Hold.{Hold}
 use Rattle.history_book.specs.declared.event.Note.{Note}
 use Rattle.history_book.specs.declared.event.Why.{Why}

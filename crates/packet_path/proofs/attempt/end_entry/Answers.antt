@@ -5,7 +5,7 @@ use Rattle.packet_path.specs.declared.attempt.Attempt.TheVariants.{Done}
 use Rattle.history_book.specs.declared.verdict.Class.TheVariants.{Contended}
 use Rattle.packet_path.specs.Internal.Attempt.{AttemptSays}
 use Rattle.packet_path.proofs.Meetings.{contended, met_protocol, suits, was_killed}
-use Rattle.packet_path.proofs.Places.{only_id}
+use Rattle.packet_path.proofs.HeldPlaces.{only_id}
 use Rattle.packet_path.proofs.attempt.end_entry.Goals as goal
 
 pub returns-then-is_last-clause-says : goal.returns-then-is_last-clause-says

@@ -7,7 +7,7 @@ use Rattle.proto_rules.specs.declared.Outcome.TheVariants as outcome
 use Rattle.packet_path.specs.Internal.Attempt.{Answers}
 use Rattle.packet_path.proofs.Attempts.{attempt_after, starts_longer}
 use Rattle.packet_path.proofs.Meetings.{left_as_it_is, met_protocol, touched}
-use Rattle.packet_path.proofs.Places.{only_id}
+use Rattle.packet_path.proofs.HeldPlaces.{only_id}
 use Rattle.packet_path.proofs.attempt.meet_entry.Goals as goal
 
 pub touch-requires-clause-protocol : goal.touch-requires-clause-protocol

@@ -5,7 +5,7 @@ use Rattle.history_book.specs.Desk.{Destroys}
 use Rattle.history_book.specs.Entry.{is_of_entry}
 use Rattle.packet_path.specs.Internal.Attempt.{Answers}
 use Rattle.packet_path.proofs.Meetings.{met_protocol, was_reset}
-use Rattle.packet_path.proofs.Places.{only_id}
+use Rattle.packet_path.proofs.HeldPlaces.{only_id}
 use Rattle.packet_path.proofs.attempt.reset_entry.Goals as goal
 
 pub kill-requires-clause-protocol : goal.kill-requires-clause-protocol

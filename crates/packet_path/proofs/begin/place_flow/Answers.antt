@@ -1,7 +1,7 @@
 use Rattle.std.proofs.Common.{rules}
 use Rattle.packet_path.proofs.Attempts.{answers_after}
 use Rattle.packet_path.proofs.Beginnings.{full, still_found}
-use Rattle.packet_path.proofs.attempt.place_flow.Goals as goal
+use Rattle.packet_path.proofs.begin.place_flow.Goals as goal
 
 pub returns-in-Full-clause-answers : goal.returns-in-Full-clause-answers
 returns-in-Full-clause-answers g c = λ setup killed few is.

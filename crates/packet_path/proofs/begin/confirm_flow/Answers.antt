@@ -6,7 +6,7 @@ use Rattle.history_book.specs.Legality.{same_proto}
 use Rattle.packet_path.specs.Internal.Attempt.{Answers}
 use Rattle.packet_path.proofs.Attempts.{answers_before}
 use Rattle.packet_path.proofs.Beginnings.{made_answer, winner_answer}
-use Rattle.packet_path.proofs.attempt.confirm_flow.Goals as goal
+use Rattle.packet_path.proofs.begin.confirm_flow.Goals as goal
 
 pub returns-in-Confirmed-clause-answers : goal.returns-in-Confirmed-clause-answers
 returns-in-Confirmed-clause-answers g c = λ setup killed few is.

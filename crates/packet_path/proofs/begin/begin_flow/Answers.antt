@@ -2,7 +2,7 @@ use Rattle.std.proofs.Common.{refl, rules}
 use Rattle.packet_path.specs.Begun.{rule_for}
 use Rattle.packet_path.proofs.Attempts.{answers_after}
 use Rattle.packet_path.proofs.Beginnings.{chosen_found, no_entry, no_port, plain_found}
-use Rattle.packet_path.proofs.attempt.begin_flow.Goals as goal
+use Rattle.packet_path.proofs.begin.begin_flow.Goals as goal
 
 pub returns-in_default-clause-answers : goal.returns-in_default-clause-answers
 returns-in_default-clause-answers g c = λ killed few.
