@@ -60,8 +60,8 @@ fn run<R: Wait, F: Files, K: Sink>(
 /// The whole program: reads the words, then the file of rules and the capture that they name, replays the
 /// capture, and writes the report's text to `out`, or one line to `err`.
 ///
-/// `words` are `ctreplay CAPTURE` or `ctreplay --rules FILE CAPTURE`; no name begins with `-`. The rules are
-/// read, and do not translate yet. The statuses are 0 (all was written), 1 (the words are not of that
+/// `words` are `ctreplay CAPTURE` or `ctreplay --rules FILE CAPTURE`; no name begins with `-`. New flows are
+/// translated by the rules. The statuses are 0 (all was written), 1 (the words are not of that
 /// form), 2 (a file is no file of rules, or no capture), 3 (one could not be opened or read), 4 (the output
 /// could not be written), 5 (a file has too many bytes: of rules 1,048,576 are read, of a capture
 /// 268,435,456) and 6 (memory was wanted). The report is there with 0 and 4. No thread is started and the
