@@ -1,5 +1,6 @@
 pub mod Digits
 pub mod FileLaws
+pub mod Lawful
 pub mod Parts
 pub mod RuleLines
 pub mod RuleWords

@@ -1,7 +1,9 @@
 -- What holds of all bytes as files of rules.
 use Rattle.std.specs.Prelude.{◌≡◌, ◌⊎◌, ◌≤◌, ◌+◌, ℕ, false, nat_le, List, [], ◌∷◌, ◌++◌, length, Option, Ok, Err, option_to_list}
+use Rattle.std.specs.List.{AllByRecursion}
 use Rattle.nat_setup.specs.declared.rule.Rule.{Rule}
 use Rattle.nat_setup.specs.declared.read.RuleFault.{RuleFault}
+use Rattle.nat_setup.specs.Rule.{IsLawfulRule}
 use Rattle.nat_setup.specs.Text.{lines_of, without_return, words_of}
 use Rattle.nat_setup.specs.RuleText.{line_of}
 use Rattle.nat_setup.specs.RuleFile.{IsRulesFile, HasFault, rules_from}
@@ -35,6 +37,10 @@ FilesSayTheirRules = (bytes : List ℕ) (rules : List Rule) → IsRulesFile byte
 -- bytes whose lines say at most 256 rules are a file of them
 abbrev pub LinesMakeFiles : Type 0
 LinesMakeFiles = (bytes : List ℕ) (rules : List Rule) → Say (lines_of bytes) rules → length rules ≤ 256 → IsRulesFile bytes rules
+
+-- the rules of a file are lawful, and at most 256
+abbrev pub RulesAreLawful : Type 0
+RulesAreLawful = (bytes : List ℕ) (rules : List Rule) → IsRulesFile bytes rules → AllByRecursion IsLawfulRule rules × (length rules ≤ 256)
 
 -- the lines before the fault's are a file's, and the fault is that of its line
 pub record IsFirst (bytes : List ℕ) (fault : RuleFault) : Type 0 where

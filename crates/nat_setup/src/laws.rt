@@ -1,6 +1,6 @@
 //! What holds of all bytes as files of rules: each law is the contract of a function that does nothing.
 
-ghost use Rattle.nat_setup.specs.RuleLaws.{BytesHaveRulesOrFault, FaultsAreFirst, FaultsAreUnique, FilesHaveNoFault, FilesSayTheirRules, FirstAreFaults, LinesMakeFiles, RulesAreUnique};
+ghost use Rattle.nat_setup.specs.RuleLaws.{BytesHaveRulesOrFault, FaultsAreFirst, FaultsAreUnique, FilesHaveNoFault, FilesSayTheirRules, FirstAreFaults, LinesMakeFiles, RulesAreLawful, RulesAreUnique};
 
 /// Bytes are a file of one list of rules at most.
 pub fn rules_are_unique()
@@ -30,6 +30,11 @@ pub fn files_say_their_rules()
 /// Bytes whose lines say at most 256 rules are a file of them.
 pub fn lines_make_files()
     ensures { LinesMakeFiles }
+{}
+
+/// The rules of a file are lawful, and there are at most 256.
+pub fn rules_are_lawful()
+    ensures { RulesAreLawful }
 {}
 
 /// A fault is that of the first faulty line.
