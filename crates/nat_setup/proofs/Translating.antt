@@ -12,7 +12,7 @@ use Rattle.nat_setup.specs.declared.rule.Rule.{Rule}
 use Rattle.nat_setup.specs.Internal.Search.{FindsFree, IsSearching, others_of}
 use Rattle.nat_setup.specs.Reply.{is_allowed, is_between, own_number, reply_with}
 use Rattle.nat_setup.specs.Rule.{IsLawfulRule, matches}
-use Rattle.nat_setup.specs.Translation.{Chooses, FindsNoPort, IsFree, IsLive, keeps_own}
+use Rattle.nat_setup.specs.Translation.{Chooses, FindsNoPort, IsFree, IsLive, gives_up_nothing}
 use Rattle.nat_setup.proofs.Searching.{at_grows, starts_longer}
 
 -- what a rule allows a flow: the numbers of a choice
@@ -60,13 +60,13 @@ right_or true b h = refl
 right_or false b h = h
 
 -- the flow keeps its own number
-keeps_same : (rule : Rule) (t : Tuple) (number : ℕ) → number ≡ own_number rule t → keeps_own rule t number ≡ true
-keeps_same rule t number same = left_or _ _ (eq-eqb number (own_number rule t) same)
+same_gives_up_nothing : (rule : Rule) (t : Tuple) (number : ℕ) → number ≡ own_number rule t → gives_up_nothing rule t number ≡ true
+same_gives_up_nothing rule t number same = left_or _ _ (eq-eqb number (own_number rule t) same)
 
 -- its own number is not allowed
-keeps_none : (rule : Rule) (t : Tuple) (choice : Choice) (number : ℕ) → IsChoice rule t choice
-    → has_own choice (own_number rule t) ≡ false → keeps_own rule t number ≡ true
-keeps_none rule t choice number is lacks =
+lacking_gives_up_nothing : (rule : Rule) (t : Tuple) (choice : Choice) (number : ℕ) → IsChoice rule t choice
+    → has_own choice (own_number rule t) ≡ false → gives_up_nothing rule t number ≡ true
+lacking_gives_up_nothing rule t choice number is lacks =
     right_or (number == own_number rule t) _ (ap not (own_allowed rule t choice is ∙ lacks))
 
 -- the first number that is tried
@@ -86,10 +86,10 @@ is_first rule t choice own number has is same kept above below = record {
   below = below;
 }
 
-first_keeps : (rule : Rule) (t : Tuple) (choice : Choice) (number : ℕ) (has : Bool) → IsChoice rule t choice
-    → IsFirst rule t choice has number → keeps_own rule t number ≡ true
-first_keeps rule t choice number true is first = keeps_same rule t number (first.own refl)
-first_keeps rule t choice number false is first = keeps_none rule t choice number is (sym first.has_own)
+first_gives_up_nothing : (rule : Rule) (t : Tuple) (choice : Choice) (number : ℕ) (has : Bool) → IsChoice rule t choice
+    → IsFirst rule t choice has number → gives_up_nothing rule t number ≡ true
+first_gives_up_nothing rule t choice number true is first = same_gives_up_nothing rule t number (first.own refl)
+first_gives_up_nothing rule t choice number false is first = lacking_gives_up_nothing rule t choice number is (sym first.has_own)
 
 first_allowed : (rule : Rule) (t : Tuple) (choice : Choice) (number : ℕ) (has : Bool) → IsChoice rule t choice
     → IsFirst rule t choice has number → is_allowed rule t number ≡ true
@@ -107,7 +107,7 @@ chooses_first rule t reply old new choice number at has is first gives looked = 
     number = number;
     allowed = first_allowed rule t choice number has is first;
     gives = gives;
-    own = first_keeps rule t choice number has is first;
+    own = first_gives_up_nothing rule t choice number has is first;
   };
   tried = tt;
   low = looked.low;
@@ -128,7 +128,7 @@ chooses_free rule t old mid new choice tried from reply at has is first lacks sa
     number = finds.number;
     allowed = found_allowed rule t choice finds.number is finds.low finds.high;
     gives = finds.gives;
-    own = keeps_none rule t choice finds.number is (sym first.has_own ∙ lacks);
+    own = lacking_gives_up_nothing rule t choice finds.number is (sym first.has_own ∙ lacks);
   };
   tried = tt;
   low = omega (arith, finds.later, starts_longer mid.front old.front saw.front);

@@ -26,15 +26,15 @@ pub record Between (log : List Event) (from to : ℕ) (F : State → Type 0) : T
   pub high : point ≤ to
   pub fact : At log point F
 
--- the number is the flow's own, or the rule does not allow that
-abbrev pub keeps_own : Rule → Tuple → ℕ → Bool
-keeps_own rule t number = number == own_number rule t || not (is_allowed rule t (own_number rule t))
+-- nothing is given up: the number is the flow's own, or the rule does not allow the own one
+abbrev pub gives_up_nothing : Rule → Tuple → ℕ → Bool
+gives_up_nothing rule t number = number == own_number rule t || not (is_allowed rule t (own_number rule t))
 
 -- The flow's own number is given up only where it was taken, and this is the point at which it was.
 abbrev pub GivesUpOwn : List Event → Rule → Tuple → ℕ → Option ℕ → Type 0
-GivesUpOwn log rule t number None = keeps_own rule t number ≡ true
+GivesUpOwn log rule t number None = gives_up_nothing rule t number ≡ true
 GivesUpOwn log rule t number (Some p) =
-    (keeps_own rule t number ≡ false) × At log p (IsLive (reply_with rule t (own_number rule t)))
+    (gives_up_nothing rule t number ≡ false) × At log p (IsLive (reply_with rule t (own_number rule t)))
 
 -- the reply tuple is that of a number that the rule allows, and the own number was given up only where it was
 -- taken
