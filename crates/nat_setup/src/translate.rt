@@ -110,8 +110,8 @@ fn search_choice<R: Wait, D: Desk>(
     }
 }
 
-/// Translates a flow by the first rule that is for it, where nothing is live under its tuple: it keeps its
-/// own number where the rule allows that and the reply tuple is free, and else has any other that is.
+/// Translates a flow by this rule: it keeps its own number where the rule allows that and the reply tuple is
+/// free, and else has any other that is.
 fn translate_by<R: Wait, D: Desk>(rt: &R, desk: &mut D, rule: &Rule, t: &Tuple) -> TranslateOutcome
     requires lawful { IsLawfulRule rule.now }
     requires valid { is_valid t.now ≡ true }
