@@ -78,7 +78,7 @@ TranslateSays (Some rule) t old new (Chosen reply kept_taken_at free_at) = Choos
 TranslateSays (Some rule) t old new (NoPort from to) = FindsNoPort rule t old new from to
 
 -- a reply tuple that is chosen is valid, and of the flow's protocol
-abbrev pub IsOfProtocol : Tuple → TranslateOutcome → Type 0
-IsOfProtocol t Plain = Unit {0}
-IsOfProtocol t (Chosen reply kept_taken_at free_at) = (is_valid reply ≡ true) × (reply.proto ≡ t.proto)
-IsOfProtocol t (NoPort from to) = Unit {0}
+abbrev pub IsValidFor : Tuple → TranslateOutcome → Type 0
+IsValidFor t Plain = Unit {0}
+IsValidFor t (Chosen reply kept_taken_at free_at) = (is_valid reply ≡ true) × (reply.proto ≡ t.proto)
+IsValidFor t (NoPort from to) = Unit {0}

@@ -8,7 +8,7 @@ ghost use Rattle.history_book.specs.Sight.{IsKnown};
 ghost use Rattle.nat_setup.specs.Reply.{is_between};
 ghost use Rattle.nat_setup.specs.Rule.{IsLawfulRule, matches};
 ghost use Rattle.nat_setup.specs.Internal.Search.{SearchSays, others_of};
-ghost use Rattle.nat_setup.specs.Translation.{IsOfProtocol, TranslateSays};
+ghost use Rattle.nat_setup.specs.Translation.{IsValidFor, TranslateSays};
 
 use crate::reply::{Choice, choice_for, own_number, reply_with};
 use crate::rule::{Rule, Rules, rule_for};
@@ -117,7 +117,7 @@ fn translate_by<R: Wait, D: Desk>(rt: &R, desk: &mut D, rule: &Rule, t: &Tuple) 
     requires valid { is_valid t.now ≡ true }
     requires room { length (D.sight desk.old).held + length (D.sight desk.old).owed ≤ 3 }
     ensures says { TranslateSays (Some rule.now) t.now (D.sight desk.old) (D.sight desk.new) result }
-    ensures protocol { IsOfProtocol t.now result }
+    ensures protocol { IsValidFor t.now result }
     ensures saw { Saw (D.sight desk.old) (D.sight desk.new) }
     ensures same { SamePlaces (D.sight desk.old) (D.sight desk.new) }
     ensures knows { IsKnown (D.sight desk.new) }
@@ -158,7 +158,7 @@ pub fn translate<R: Wait, D: Desk>(
     requires room { length (D.sight desk.old).held + length (D.sight desk.old).owed ≤ 3 }
     ensures says { TranslateSays (find (matches t.now) rules.now.items) t.now
         (D.sight desk.old) (D.sight desk.new) result }
-    ensures protocol { IsOfProtocol t.now result }
+    ensures protocol { IsValidFor t.now result }
     ensures saw { Saw (D.sight desk.old) (D.sight desk.new) }
     ensures same { SamePlaces (D.sight desk.old) (D.sight desk.new) }
     ensures knows { IsKnown (D.sight desk.new) }
