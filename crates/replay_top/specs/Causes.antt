@@ -19,7 +19,7 @@ pub record FailsToOpen (files files' : Source) (inputs : List InputFile) (file :
   pub reached : Reaches IfSome files inputs file
   pub rose : FailedToOpen files files' (file_at inputs file)
 
--- one of the files was reached, and a read of it failed
+-- one of the files was reached, and the one count of failed reads rose
 pub record FailsToRead (files files' : Source) (inputs : List InputFile) (file : ℕ) : Type 0 where
   pub reached : Reaches IfSome files inputs file
   pub rose : Rose files.read_faults files'.read_faults
