@@ -9,9 +9,9 @@ use Rattle.packet_path.specs.Packet.{Given}
 use Rattle.packet_path.specs.declared.setup.Setup.{Setup}
 use Rattle.packet_path.specs.Verdict.{FitsFrame, points_of}
 
--- Of a tracker that is set up so: the desk saw no less than before. Its further own events are those of the verdict, for which it had room,
--- and the verdict fits the frame on the new front: nothing of it is older than what the desk had seen, nor
--- later than what it sees now. No place is held or owed.
+-- Of a tracker that is set up so: the desk saw no less than before. Its further own events are those of the
+-- verdict, for which it had room, and the verdict fits the frame on the new front: nothing of it is older than
+-- what the desk had seen, nor later than what it sees now. No place is held or owed.
 pub record Handled (setup : Setup) (given : Given) (old new : Sight) (verdict : Verdict) : Type 0 where
   pub front : StartsWith new.front old.front
   pub sizes : new.sizes ≡ old.sizes

@@ -19,8 +19,8 @@ use Rattle.packet_path.specs.declared.setup.Setup.{Setup}
 abbrev pub is_merged : Tuple → Tuple → Record → Bool
 is_merged t reply r = same_proto t.proto proto.Udp && has_original t r && has_reply reply r
 
--- The entry was confirmed from k on. Only one may be older: one that has just the reply tuple, where no rule
--- chose it, since nothing looked that tuple up before.
+-- The entry was confirmed from k on, as its tuple was absent or its reply tuple free at a point from there on. Only
+-- one may be older: one that has just the reply tuple, where no rule chose it, since nothing looked it up before.
 abbrev pub IsNewWinner : ℕ → Translated → Tuple → Record → Type 0
 IsNewWinner k Plain t r = has_tuple t r ≡ true → k ≤ r.id
 IsNewWinner k (Chosen chosen taken_at) t r = k ≤ r.id

@@ -36,8 +36,8 @@ fn most_bytes(kind: FileKind) -> usize
     }
 }
 
-/// Replays the capture that these bytes are, by a tracker that is set up so. An `Err` says what is wrong with the bytes,
-/// or that memory was wanting.
+/// Replays the capture that these bytes are, by a tracker that is set up so. An `Err` says what is wrong with
+/// the bytes, or that memory was wanting.
 pub fn replay_bytes<R: Wait>(
     rt: &R,
     alloc: Global,
