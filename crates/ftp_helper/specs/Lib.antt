@@ -1,0 +1,4 @@
+pub mod Payload
+pub mod Want
+pub mod Laws
+pub mod Internal

@@ -1,0 +1,9 @@
+//! What holds of every payload: the law is the contract of a function that does nothing.
+
+ghost use Rattle.ftp_helper.specs.Laws.{NamedEndsAreUnique};
+
+/// A payload names one end at most.
+#[tactic(auto, using(crate::proofs::Naming::one_end))]
+pub fn named_ends_are_unique()
+    ensures { NamedEndsAreUnique }
+{}

@@ -1,0 +1,14 @@
+//! The helper of FTP: which end of a data connection a payload of the control connection names (RFC 959,
+//! RFC 2428), and what is expected of it.
+#![tactic(auto)]
+
+mod laws;
+mod payload;
+#[cfg(test)]
+mod tests;
+mod text;
+mod want;
+
+pub use laws::named_ends_are_unique;
+pub use payload::{NamedEnd, named_end};
+pub use want::want_of;
