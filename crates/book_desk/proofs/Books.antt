@@ -1,28 +1,32 @@
 -- The book of a desk that did nothing yet.
 use Rattle.std.proofs.Common.{◌≡◌, ℕ, ◌≤◌, List, [], refl, arith}
 use Rattle.room_list.specs.Roomed.{Roomed}
+use Rattle.expect_table.specs.declared.expectation.Expectation.{Expectation}
 use Rattle.history_book.specs.declared.desk.Hold.{Hold}
 use Rattle.history_book.specs.declared.event.Note.{Note}
 use Rattle.history_book.specs.declared.record.Record.{Record}
 use Rattle.history_book.specs.declared.sizes.Sizes.{Sizes}
 use Rattle.history_book.specs.History.{after, is_legal}
+use Rattle.history_book.specs.State.{empty_state}
 use Rattle.history_book.specs.Sizes.{AreWithinLimits}
 use Rattle.book_desk.specs.Internal.Book.{AreBelow, ArePlaces, IsBook, IsHistory}
 
 -- all lists are empty, but that of the free places, which has all
-pub record AreFresh (sizes : Sizes) (records : Roomed Record) (free : Roomed ℕ) (notes : Roomed Note) (holds : Roomed Hold) (owed : Roomed ℕ) : Type 0 where
+pub record AreFresh (sizes : Sizes) (records : Roomed Record) (free : Roomed ℕ) (notes : Roomed Note) (holds : Roomed Hold) (owed : Roomed ℕ) (expects : Roomed Expectation) : Type 0 where
   pub no_record : records.items ≡ []
   pub no_note : notes.items ≡ []
   pub no_hold : holds.items ≡ []
   pub none_owed : owed.items ≡ []
+  pub none_expected : expects.items ≡ []
   pub all_free : AreBelow sizes.entries 0 free.items
   pub records_room : sizes.entries ≤ records.room
   pub free_room : sizes.entries ≤ free.room
   pub holds_room : 4 ≤ holds.room
   pub owed_room : 4 ≤ owed.room
+  pub expects_room : expects.room ≡ sizes.expectations
 
 -- no events are a history
-no_history : (sizes : Sizes) → IsHistory sizes [] []
+no_history : (sizes : Sizes) → IsHistory sizes [] empty_state
 unfolding is_legal after
 no_history sizes = record { numbered = refl; legal = refl; state = refl }
 
@@ -36,10 +40,10 @@ fresh_places n free h = record {
 
 -- a book with nothing in it is right
 pub fresh_book : (sizes : Sizes) (records : Roomed Record) (free : Roomed ℕ) (notes : Roomed Note) (holds : Roomed Hold) (owed : Roomed ℕ)
-    → AreWithinLimits sizes → AreFresh sizes records free notes holds owed
-    → IsBook (record { sizes = sizes; records = records; free = free; notes = notes; spare = 0; holds = holds; owed = owed })
-fresh_book sizes records free notes holds owed limits h =
-    rw (h.no_record, h.no_note, h.no_hold, h.none_owed)
+    (expects : Roomed Expectation) → AreWithinLimits sizes → AreFresh sizes records free notes holds owed expects
+    → IsBook (record { sizes = sizes; records = records; free = free; notes = notes; spare = 0; holds = holds; owed = owed; expects = expects })
+fresh_book sizes records free notes holds owed expects limits h =
+    rw (h.no_record, h.no_note, h.no_hold, h.none_owed, h.none_expected)
     (record {
       limits = limits;
       history = no_history sizes;
@@ -51,6 +55,7 @@ fresh_book sizes records free notes holds owed limits h =
         free = h.free_room;
         holds = h.holds_room;
         owed = h.owed_room;
+        expects = h.expects_room;
         notes = omega arith;
         spared = omega arith;
       };

@@ -13,6 +13,8 @@ use Rattle.proto_rules.specs.declared.Part.{Part}
 use Rattle.proto_rules.specs.Laws.{SamePartIsEquality}
 use Rattle.proto_rules.specs.Protocol.{is_of_protocol}
 use Rattle.proto_rules.specs.Step.{step_of}
+use Rattle.expect_table.specs.Expectations.{without_master}
+use Rattle.expect_table.specs.declared.expectation.Expectation.{Expectation}
 use Rattle.history_book.specs.declared.desk.Hold.{Hold}
 use Rattle.history_book.specs.declared.event.Event.{Event}
 use Rattle.history_book.specs.declared.event.Event.TheVariants.{Confirm, Destroy, Touch}
@@ -33,7 +35,7 @@ use Rattle.history_book.specs.Sizes.{AreWithinLimits}
 use Rattle.history_book.specs.State.{State, live_under, next, record_of, state_of}
 use Rattle.history_book.specs.StateLaws.{DestroysTakeOne, FreeIsAbsent, IdsNameRecords, TouchesChangeOne}
 use Rattle.book_desk.specs.declared.book.Book.{Book}
-use Rattle.book_desk.specs.Internal.Book.{Adds, Agree, ArePlaces, AreReferences, IsBook, IsForRecord, IsHistory, WinsAt, events_of, noted, sight_of, tally}
+use Rattle.book_desk.specs.Internal.Book.{Adds, Agree, ArePlaces, AreReferences, IsBook, IsForRecord, IsHistory, WinsAt, events_of, noted, sight_of, state_in, tally}
 use Rattle.book_desk.proofs.Counting.{none_counted}
 use Rattle.book_desk.proofs.Histories.{at_before, events-push, history_next, length-events, made}
 use Rattle.book_desk.proofs.Lists.{each_at, each_map, none_of, tally_some}
@@ -42,11 +44,16 @@ use Rattle.book_desk.proofs.Positions.{find_passes}
 use Rattle.book_desk.proofs.References.{refs_confirm, refs_grow, refs_remove, refs_set}
 use Rattle.book_desk.proofs.Steps.{apart_of, confirmed_record}
 
+-- the state that the fields have, by its two parts
+pub same_state : (b : Book) (rs : List Record) (es : List Expectation) → b.records.items ≡ rs → b.expects.items ≡ es
+    → state_in b ≡ record { records = rs; expects = es }
+same_state b rs es records expects = λ i. record { records = records i; expects = expects i }
+
 module _ (follow : StatesFollow) (goes_on : LegalHistoriesGoOn) where
   -- a book is right after an event that may happen, if its places and references are
-  book_next : (old new : Book) (e : Event) → IsBook old → Adds old new e
-      → may_happen old.sizes (state_of old.records.items) (length old.notes.items) e ≡ true
-      → state_of new.records.items ≡ next (state_of old.records.items) e
+  pub book_next : (old new : Book) (e : Event) → IsBook old → Adds old new e
+      → may_happen old.sizes (state_in old) (length old.notes.items) e ≡ true
+      → state_in new ≡ next (state_in old) e
       → ArePlaces old.sizes.entries new.records.items new.holds.items old.free.items old.owed.items
       → AreReferences (events_of old.notes.items ++ e ∷ []) new.records.items new.holds.items
       → length new.holds.items ≡ length old.holds.items → IsBook new
@@ -56,8 +63,8 @@ module _ (follow : StatesFollow) (goes_on : LegalHistoriesGoOn) where
       ap length adds.notes ∙ length-append old.notes.items (noted old.notes.items e ∷ []) in
       record {
         limits = subst AreWithinLimits (sym adds.sizes) h.limits;
-        history = subst (λ (z : Sizes). IsHistory z new.notes.items new.records.items) (sym adds.sizes)
-            (history_next follow goes_on old.sizes old.notes.items new.notes.items old.records.items new.records.items e h.history
+        history = subst (λ (z : Sizes). IsHistory z new.notes.items (state_in new)) (sym adds.sizes)
+            (history_next follow goes_on old.sizes old.notes.items new.notes.items (state_in old) (state_in new) e h.history
             adds.notes may state);
         places = subst (λ (z : Sizes). ArePlaces z.entries new.records.items new.holds.items new.free.items new.owed.items) (sym adds.sizes)
             (subst (λ (f : Roomed ℕ). ArePlaces old.sizes.entries new.records.items new.holds.items f.items new.owed.items) (sym adds.free)
@@ -71,6 +78,7 @@ module _ (follow : StatesFollow) (goes_on : LegalHistoriesGoOn) where
           free = omega (arith, h.rooms.free, ap (λ (f : Roomed ℕ). f.room) adds.free, entries);
           holds = omega (arith, h.rooms.holds, adds.holds_room);
           owed = omega (arith, h.rooms.owed, ap (λ (o : Roomed ℕ). o.room) adds.owed);
+          expects = adds.expects_room ∙ h.rooms.expects ∙ sym (ap (λ (z : Sizes). z.expectations) adds.sizes);
           notes = omega (arith, h.rooms.notes, adds.notes_room, adds.spare, longer);
           spared = omega (arith, h.rooms.spared, adds.spare, longer);
         };
@@ -129,10 +137,11 @@ enter_room b p h taken =
 -- a book is right after a Confirm
 pub entered : StatesFollow → LegalHistoriesGoOn → FreeIsAbsent → (old new : Book) (r : Record) → IsBook old → Adds old new (Confirm r)
     → is_taken r.place old.holds.items ≡ true → r.id ≡ length old.notes.items → is_of_one_protocol r ≡ true
-    → live_under r.original (state_of old.records.items) ≡ None → live_under r.reply (state_of old.records.items) ≡ None
-    → new.records.items ≡ old.records.items ++ r ∷ [] → new.holds.items ≡ held_for r.place r.id old.holds.items → IsBook new
-entered follow goes_on free_absent old new r h adds taken id protocol original reply records holds =
-    let s : State = state_of old.records.items in
+    → live_under r.original (state_in old) ≡ None → live_under r.reply (state_in old) ≡ None
+    → new.records.items ≡ old.records.items ++ r ∷ [] → new.holds.items ≡ held_for r.place r.id old.holds.items → new.expects ≡ old.expects
+    → IsBook new
+entered follow goes_on free_absent old new r h adds taken id protocol original reply records holds expects =
+    let s : State = state_in old in
     let none : tally (has_place r.place) old.records.items ≡ 0 = nobodys old r.place h taken in
     let held : is_held r.place old.holds.items ≡ true = taken_held r.place old.holds.items taken in
     let front : r.id ≡ length (events_of old.notes.items) = id ∙ sym (length-events old.notes.items) in
@@ -144,7 +153,7 @@ entered follow goes_on free_absent old new r h adds taken id protocol original r
     (ap not (none_of (has_place r.place) old.records.items none))))
     ((free_absent r.original s).0 original))
     ((free_absent r.reply s).0 reply))
-    (ap state_of records)
+    (same_state new (old.records.items ++ r ∷ []) old.expects.items records (ap (λ (o : Roomed Expectation). o.items) expects))
     (subst (λ rs. ArePlaces old.sizes.entries rs new.holds.items old.free.items old.owed.items) (sym records)
     (subst (λ hs. ArePlaces old.sizes.entries (old.records.items ++ r ∷ []) hs old.free.items old.owed.items) (sym holds)
     (places_confirm old.sizes.entries old.records.items old.holds.items old.free.items old.owed.items h.places r held none)))
@@ -159,9 +168,10 @@ module _ (follow : StatesFollow) (goes_on : LegalHistoriesGoOn) (apart : Records
       (moment : ℕ) (after : Part) → IsBook old → Adds old new (Touch r.id direction segment moment after)
       → slice_get old.records.items i ≡ Some r → is_of_protocol segment r.part.kind ≡ true
       → step_of r.part direction segment moment ≡ Accept after
-      → new.records.items ≡ slice_set old.records.items i (record r { part = after }) → new.holds ≡ old.holds → IsBook new
-  refreshed changes same_part old new i r direction segment moment after h adds item protocol step written holds =
-      let s : State = state_of old.records.items in
+      → new.records.items ≡ slice_set old.records.items i (record r { part = after }) → new.holds ≡ old.holds → new.expects ≡ old.expects
+      → IsBook new
+  refreshed changes same_part old new i r direction segment moment after h adds item protocol step written holds expects =
+      let s : State = state_in old in
       let one : Record = record r { part = after } in
       let e : Event = Touch r.id direction segment moment after in
       let refs : AreReferences (events_of old.notes.items ++ e ∷ []) (slice_set old.records.items i one) old.holds.items =
@@ -172,7 +182,8 @@ module _ (follow : StatesFollow) (goes_on : LegalHistoriesGoOn) (apart : Records
       book_next follow goes_on old new e h adds
       (ap (λ o. may_touch o direction segment moment after) (ids s i r (apart_of apart old h) item)
       ∙ and_from _ _ protocol (ap (λ o. accepts o after) step ∙ (same_part after after).1 refl))
-      (ap state_of (written ∙ sym (changes s i r direction segment moment after (apart_of apart old h) item)))
+      (same_state new (next s e).records old.expects.items (written ∙ sym (changes s i r direction segment moment after (apart_of apart old h) item))
+      (ap (λ (o : Roomed Expectation). o.items) expects))
       (subst (λ rs. ArePlaces old.sizes.entries rs new.holds.items old.free.items old.owed.items) (sym written)
       (subst (λ (hs : Roomed Hold). ArePlaces old.sizes.entries (slice_set old.records.items i one) hs.items old.free.items old.owed.items) (sym holds)
       (places_touch old.sizes.entries old.records.items old.holds.items old.free.items old.owed.items h.places i r one item refl)))
@@ -182,16 +193,17 @@ module _ (follow : StatesFollow) (goes_on : LegalHistoriesGoOn) (apart : Records
 
   pub destroyed : DestroysTakeOne → (old new : Book) (i : ℕ) (r : Record) (why : Why) → IsBook old → Adds old new (Destroy r.id why)
       → slice_get old.records.items i ≡ Some r → is_held r.place old.holds.items ≡ true → is_reason why r ≡ true
-      → new.records.items ≡ remove old.records.items i → new.holds ≡ old.holds → IsBook new
-  destroyed takes old new i r why h adds item held reason removed holds =
-      let s : State = state_of old.records.items in
+      → new.records.items ≡ remove old.records.items i → new.holds ≡ old.holds
+      → new.expects.items ≡ without_master r.id old.expects.items → IsBook new
+  destroyed takes old new i r why h adds item held reason removed holds expects =
+      let s : State = state_in old in
       let e : Event = Destroy r.id why in
       let refs : AreReferences (events_of old.notes.items ++ e ∷ []) (remove old.records.items i) old.holds.items =
       refs_grow (events_of old.notes.items) (e ∷ []) (remove old.records.items i) old.holds.items
       (refs_remove (events_of old.notes.items) old.records.items old.holds.items i h.references) in
       book_next follow goes_on old new e h adds
       (ap (λ o. may_destroy o why) (ids s i r (apart_of apart old h) item) ∙ reason)
-      (ap state_of (removed ∙ sym (takes s i r why (apart_of apart old h) item)))
+      (same_state new (next s e).records (without_master r.id old.expects.items) (removed ∙ sym (takes s i r why (apart_of apart old h) item)) expects)
       (subst (λ rs. ArePlaces old.sizes.entries rs new.holds.items old.free.items old.owed.items) (sym removed)
       (subst (λ (hs : Roomed Hold). ArePlaces old.sizes.entries (remove old.records.items i) hs.items old.free.items old.owed.items) (sym holds)
       (places_kill old.sizes.entries old.records.items old.holds.items old.free.items old.owed.items h.places i r item held)))
@@ -212,7 +224,7 @@ module _ (stay : StatesStay) (apart : RecordsAreApart) (ids : IdsNameRecords) wh
         after = after;
         made = event;
         found = at_before stay old new (length old.notes.items) e (IsRecord r.id r) h refl event
-            (ids (state_of old.records.items) i r (apart_of apart old h) item);
+            (ids (state_in old) i r (apart_of apart old h) item);
         step = step;
         same = record { held = ap (λ (hs : Roomed Hold). hs.items) holds; owed = ap (λ (o : Roomed ℕ). o.items) adds.owed };
       }
@@ -227,7 +239,7 @@ module _ (stay : StatesStay) (apart : RecordsAreApart) (ids : IdsNameRecords) wh
       record {
         made = event;
         found = at_before stay old new (length old.notes.items) e (IsRecord r.id r) h refl event
-            (ids (state_of old.records.items) i r (apart_of apart old h) item);
+            (ids (state_in old) i r (apart_of apart old h) item);
         reason = reason;
         same = record { held = ap (λ (hs : Roomed Hold). hs.items) holds; owed = ap (λ (o : Roomed ℕ). o.items) adds.owed };
       }
@@ -308,15 +320,15 @@ held_place law b p i r h held item id =
 
 -- the record that was found by its id
 pub found_record : (b : Book) (id i : ℕ) (r : Record) → IsRecordAt id (state_of b.records.items) i → slice_get b.records.items i ≡ Some r
-    → (record_of id (state_of b.records.items) ≡ Some r) × (r.id ≡ id)
+    → (record_of id (state_in b) ≡ Some r) × (r.id ≡ id)
 found_record b id i r found item =
     let one : found.subject ≡ r = same_Some found.subject r (sym found.item ∙ item) in
-    let its : record_of id (state_of b.records.items) ≡ Some r = found.same ∙ ap Some one in
+    let its : record_of id (state_in b) ≡ Some r = found.same ∙ ap Some one in
     (its, eqb-true r.id id (find_passes (has_id id) b.records.items r its))
 
 -- a packet of the protocol of the Confirm is of that of the record
 pub keeps_protocol : EntriesKeepTheirProtocol → (b : Book) (id : ℕ) (r : Record) (segment : Segment) → IsBook b
-    → record_of id (state_of b.records.items) ≡ Some r → is_of_entry segment id (events_of b.notes.items) ≡ true
+    → record_of id (state_in b) ≡ Some r → is_of_entry segment id (events_of b.notes.items) ≡ true
     → is_of_protocol segment r.part.kind ≡ true
 keeps_protocol law b id r segment h its protocol =
     let log : List Event = events_of b.notes.items in
@@ -326,7 +338,7 @@ keeps_protocol law b id r segment h its protocol =
 pub winner_is : (b : Book) (flow : Flow) (found : FoundAt) (r : Record) (both : Bool)
     → WinsAt flow.original flow.reply (state_of b.records.items) found → slice_get b.records.items found.index ≡ Some r
     → both ≡ (has_original flow.original r && has_reply flow.reply r)
-    → IsWinner flow r.id found.direction both (state_of b.records.items)
+    → IsWinner flow r.id found.direction both (state_in b)
 winner_is b flow found r both w item same =
     let one : w.subject ≡ r = same_Some w.subject r (sym w.item ∙ item) in
     record {
@@ -340,7 +352,7 @@ winner_is b flow found r both w item same =
 -- the record is that of the entry for which the place is held
 pub record IsEntryOf (b : Book) (p id : ℕ) (r : Record) : Type 0 where
   pub given : id ≡ held_id p b.holds.items
-  pub its : record_of id (state_of b.records.items) ≡ Some r
+  pub its : record_of id (state_in b) ≡ Some r
   pub named : r.id ≡ id
 
 -- the record that was found for the reference

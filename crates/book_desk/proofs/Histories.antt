@@ -4,7 +4,6 @@ use Rattle.std.specs.List.{slice_get}
 use Rattle.std.proofs.lemmas.List.{length-map, map-append}
 use Rattle.history_book.specs.declared.event.Event.{Event}
 use Rattle.history_book.specs.declared.event.Note.{Note}
-use Rattle.history_book.specs.declared.record.Record.{Record}
 use Rattle.history_book.specs.declared.sizes.Sizes.{Sizes}
 use Rattle.history_book.specs.Desk.{Looked, MadeEvent}
 use Rattle.history_book.specs.History.{after, is_legal}
@@ -12,9 +11,9 @@ use Rattle.history_book.specs.Laws.{LegalHistoriesGoOn, StatesFollow, StatesStay
 use Rattle.history_book.specs.Legality.{may_happen}
 use Rattle.history_book.specs.Point.{At}
 use Rattle.history_book.specs.Sight.{notes_from}
-use Rattle.history_book.specs.State.{State, next, state_of}
+use Rattle.history_book.specs.State.{State, next}
 use Rattle.book_desk.specs.declared.book.Book.{Book}
-use Rattle.book_desk.specs.Internal.Book.{IsBook, IsHistory, events_of, noted, sight_of}
+use Rattle.book_desk.specs.Internal.Book.{IsBook, IsHistory, events_of, noted, sight_of, state_in}
 
 -- as many events as notes
 pub length-events : (notes : List Note) → length (events_of notes) ≡ length notes
@@ -33,17 +32,17 @@ notes_from-push k (x ∷ xs) e =
     ∙ ap (λ (n : ℕ). notes_from (k + 1) xs ++ record { number = n; event = e } ∷ []) (omega arith))
 
 -- the history goes on with an event that may happen
-pub history_next : StatesFollow → LegalHistoriesGoOn → (sizes : Sizes) (notes more : List Note) (rs rs' : List Record) (e : Event)
-    → IsHistory sizes notes rs → more ≡ notes ++ noted notes e ∷ []
-    → may_happen sizes (state_of rs) (length notes) e ≡ true → state_of rs' ≡ next (state_of rs) e → IsHistory sizes more rs'
-history_next follow goes_on sizes notes more rs rs' e h pushed may state =
+pub history_next : StatesFollow → LegalHistoriesGoOn → (sizes : Sizes) (notes more : List Note) (s s' : State) (e : Event)
+    → IsHistory sizes notes s → more ≡ notes ++ noted notes e ∷ []
+    → may_happen sizes s (length notes) e ≡ true → s' ≡ next s e → IsHistory sizes more s'
+history_next follow goes_on sizes notes more s s' e h pushed may state =
     let log : List Event = events_of notes in
     let same_length : length log ≡ length notes = length-events notes in
     let longer : events_of more ≡ log ++ e ∷ [] = ap events_of pushed ∙ events-push notes (noted notes e) in
     let one : length (log ++ e ∷ []) ≡ length log + 1 = length-append log (e ∷ []) in
     let may' : may_happen sizes (after log (length log)) (length log) e ≡ true =
     subst (λ (k : ℕ). may_happen sizes (after log (length log)) k e ≡ true) (sym same_length)
-    (subst (λ (s : State). may_happen sizes s (length notes) e ≡ true) h.state may) in
+    (subst (λ (t : State). may_happen sizes t (length notes) e ≡ true) h.state may) in
     let numbered : notes_from 0 (log ++ e ∷ []) ≡ notes ++ noted notes e ∷ [] =
     notes_from-push 0 log e
     ∙ ap (λ (n : ℕ). notes_from 0 log ++ record { number = n; event = e } ∷ []) (omega (arith, same_length))
@@ -51,7 +50,7 @@ history_next follow goes_on sizes notes more rs rs' e h pushed may state =
     record {
       numbered = pushed ∙ sym numbered ∙ ap (notes_from 0) (sym longer);
       legal = subst (λ (l : List Event). is_legal sizes l ≡ true) (sym longer) (goes_on sizes log e h.legal may');
-      state = state ∙ ap (λ (s : State). next s e) h.state ∙ sym (follow log e) ∙ ap (after (log ++ e ∷ [])) (sym one)
+      state = state ∙ ap (λ (t : State). next t e) h.state ∙ sym (follow log e) ∙ ap (after (log ++ e ∷ [])) (sym one)
           ∙ ap (λ l. after l (length l)) (sym longer);
     }
 
@@ -68,7 +67,7 @@ get_last (y ∷ ys) x = get_last ys x
 
 -- what a desk says that made no event
 pub looked : (old new : Book) (at : ℕ) (F : State → Type 0) → IsBook old → at ≡ length old.notes.items
-    → new.notes ≡ old.notes → new.spare ≡ old.spare → new.sizes ≡ old.sizes → F (state_of old.records.items)
+    → new.notes ≡ old.notes → new.spare ≡ old.spare → new.sizes ≡ old.sizes → F (state_in old)
     → Looked (sight_of old) (sight_of new) at F
 looked old new at F book here notes spare sizes fact =
     let log : List Event = events_of old.notes.items in
@@ -109,7 +108,7 @@ made old new at e here notes spare sizes =
 
 -- what was so of the records is so at the point before the event
 pub at_before : StatesStay → (old new : Book) (at : ℕ) (e : Event) (F : State → Type 0) → IsBook old → at ≡ length old.notes.items
-    → MadeEvent (sight_of old) (sight_of new) at e → F (state_of old.records.items) → At (events_of new.notes.items) at F
+    → MadeEvent (sight_of old) (sight_of new) at e → F (state_in old) → At (events_of new.notes.items) at F
 at_before stay old new at e F book here event fact =
     let log : List Event = events_of old.notes.items in
     let point : length log ≡ at = length-events old.notes.items ∙ sym here in

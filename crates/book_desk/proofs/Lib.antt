@@ -9,3 +9,5 @@ pub mod Books
 pub mod Known
 pub mod Steps
 pub mod Events
+pub mod Expectations
+pub mod Helped

@@ -17,9 +17,9 @@ use Rattle.history_book.specs.Sizes.{fewest_of_full}
 use Rattle.history_book.specs.StateLaws.{IdsNameRecords}
 use Rattle.history_book.specs.Record.{has_place}
 use Rattle.history_book.specs.Sight.{IsForOne, WasConfirmedIn}
-use Rattle.history_book.specs.State.{State, state_of}
+use Rattle.history_book.specs.State.{State}
 use Rattle.book_desk.specs.declared.book.Book.{Book}
-use Rattle.book_desk.specs.Internal.Book.{ArePlaces, AreReferences, IsBook, IsForRecord, bit, events_of, sight_of, tally, times, uses}
+use Rattle.book_desk.specs.Internal.Book.{ArePlaces, AreReferences, IsBook, IsForRecord, bit, events_of, sight_of, state_in, tally, times, uses}
 use Rattle.book_desk.proofs.Lists.{each_at, each_map, none_of, same_bit, tally-remove, tally_none, tally_some}
 use Rattle.book_desk.proofs.Pool.{few_free, full_pool, length-paid, length-without, place_below, places_hold, places_keep, places_owe, places_pay, places_take, same_paid, same_removed}
 use Rattle.book_desk.proofs.Counting.{none_has}
@@ -97,7 +97,7 @@ book_hold law b holds i r h few at items room =
           (refs_more (events_of b.notes.items) rs b.holds.items k h.references (confirmed_there law b i r h at)
           (only_one rs i r (h.places.single r.place) at) (all_for_one rs b.holds.items i r at h.references.current));
       few = omega (arith, few, ap length items);
-      rooms = record { records = h.rooms.records; free = h.rooms.free; holds = omega (arith, room, h.rooms.holds); owed = h.rooms.owed; notes = h.rooms.notes; spared = h.rooms.spared };
+      rooms = record { records = h.rooms.records; free = h.rooms.free; holds = omega (arith, room, h.rooms.holds); owed = h.rooms.owed; expects = h.rooms.expects; notes = h.rooms.notes; spared = h.rooms.spared };
     }
 
 -- the place of a free one is nobody's
@@ -144,7 +144,7 @@ book_take b holds free i p h few at items room rest free_room =
           (λ g apart. record { same = λ e. absurd (apart (sym e)); entry = λ e. absurd (apart (sym e)) })
           (none_has (λ (g : Hold). g.place) p b.holds.items nobody.holds)));
       few = omega (arith, few, ap length items);
-      rooms = record { records = h.rooms.records; free = omega (arith, free_room, h.rooms.free); holds = omega (arith, room, h.rooms.holds); owed = h.rooms.owed; notes = h.rooms.notes; spared = h.rooms.spared };
+      rooms = record { records = h.rooms.records; free = omega (arith, free_room, h.rooms.free); holds = omega (arith, room, h.rooms.holds); owed = h.rooms.owed; expects = h.rooms.expects; notes = h.rooms.notes; spared = h.rooms.spared };
     }
 
 -- a reference is given up, and others are left
@@ -162,7 +162,7 @@ book_keep b holds a h there items room used =
       references = subst (λ hs. AreReferences (events_of b.notes.items) rs hs) (sym items)
           (refs_without (events_of b.notes.items) rs b.holds.items a h.references);
       few = omega (arith, h.few, ap length items, length-without a b.holds.items there);
-      rooms = record { records = h.rooms.records; free = h.rooms.free; holds = omega (arith, room, h.rooms.holds); owed = h.rooms.owed; notes = h.rooms.notes; spared = h.rooms.spared };
+      rooms = record { records = h.rooms.records; free = h.rooms.free; holds = omega (arith, room, h.rooms.holds); owed = h.rooms.owed; expects = h.rooms.expects; notes = h.rooms.notes; spared = h.rooms.spared };
     }
 
 -- the last reference is given up
@@ -182,7 +182,7 @@ book_owe b holds owed a h there items room more owed_room unused =
       references = subst (λ hs. AreReferences (events_of b.notes.items) rs hs) (sym items)
           (refs_without (events_of b.notes.items) rs b.holds.items a h.references);
       few = omega (arith, h.few, ap length items, length-without a b.holds.items there, ap length more);
-      rooms = record { records = h.rooms.records; free = h.rooms.free; holds = omega (arith, room, h.rooms.holds); owed = omega (arith, owed_room, h.rooms.owed); notes = h.rooms.notes; spared = h.rooms.spared };
+      rooms = record { records = h.rooms.records; free = h.rooms.free; holds = omega (arith, room, h.rooms.holds); owed = omega (arith, owed_room, h.rooms.owed); expects = h.rooms.expects; notes = h.rooms.notes; spared = h.rooms.spared };
     }
 
 -- an owed place is free again
@@ -200,7 +200,7 @@ book_pay b free owed a h there items room more free_room =
           (places_pay b.sizes.entries rs b.holds.items b.free.items b.owed.items h.places a there));
       references = h.references;
       few = omega (arith, h.few, ap length items, length-paid a b.owed.items there);
-      rooms = record { records = h.rooms.records; free = omega (arith, free_room, h.rooms.free); holds = h.rooms.holds; owed = omega (arith, room, h.rooms.owed); notes = h.rooms.notes; spared = h.rooms.spared };
+      rooms = record { records = h.rooms.records; free = omega (arith, free_room, h.rooms.free); holds = h.rooms.holds; owed = omega (arith, room, h.rooms.owed); expects = h.rooms.expects; notes = h.rooms.notes; spared = h.rooms.spared };
     }
 
 -- there is room for an owed place among the free ones
@@ -324,9 +324,9 @@ apart_of apart b h =
 
 -- the entry in a place is live in it
 pub live_in : RecordsAreApart → IdsNameRecords → (b : Book) (p i : ℕ) (r : Record) → IsBook b → position (has_place p) b.records.items ≡ Some i
-    → slice_get b.records.items i ≡ Some r → IsLiveIn p r.id (state_of b.records.items)
+    → slice_get b.records.items i ≡ Some r → IsLiveIn p r.id (state_in b)
 live_in apart ids b p i r h found at = record {
   subject = r;
-  is = ids (state_of b.records.items) i r (apart_of apart b h) at;
+  is = ids (state_in b) i r (apart_of apart b h) at;
   placed = eqb-true r.place p (passes_at (has_place p) b.records.items i r found at);
 }

@@ -1,15 +1,17 @@
 //! The fields of the desk.
 
-ghost use Rattle.std.specs.Prelude.{◌≡◌, ◌<◌, ◌≤◌, [], ◌∷◌, Some, length, slice_get};
-ghost use Rattle.book_desk.specs.Internal.Book.{AreBelow};
+ghost use Rattle.std.specs.Prelude.{◌≡◌, ◌+◌, ◌<◌, ◌≤◌, [], ◌∷◌, ◌++◌, Some, length, slice_get};
+ghost use Rattle.book_desk.specs.Internal.Book.{AreBelow, noted};
 
+use expect_table::table::ExpectTable;
 use history_book::desk::Hold;
+use history_book::event::{Event, Note};
 use history_book::record::Record;
 use history_book::report::Notes;
 use history_book::sizes::Sizes;
 use room_list::RoomList;
 
-/// A list of live records, and the events that led to it.
+/// A list of live records and a table of what is expected, and the events that led to them.
 #[derive(Drop)]
 pub struct Book {
     pub sizes: Sizes,
@@ -23,6 +25,8 @@ pub struct Book {
     pub holds: RoomList<Hold>,
     /// The places of which the last reference was given up.
     pub owed: RoomList<u32>,
+    /// What the live entries expect.
+    pub expects: ExpectTable,
 }
 
 /// Puts each place below `entries` into the list, the first one last.
@@ -43,6 +47,20 @@ impl Book {
         ensures { result ≡ length self.now.notes.items }
     {
         self.notes.len() as u64
+    }
+
+    /// Notes an event.
+    pub fn note(&mut self, event: Event)
+        requires spare { 1 ≤ self.old.spare }
+        requires room { length self.old.notes.items < self.old.notes.room }
+        ensures noted { self.new.notes.items ≡ self.old.notes.items ++ noted self.old.notes.items event ∷ [] }
+        ensures room { self.new.notes.room ≡ self.old.notes.room }
+        ensures spare { self.old.spare ≡ self.new.spare + 1 }
+        ensures rest { self.new ≡ record self.old { notes = self.new.notes; spare = self.new.spare } }
+    {
+        let number = self.point();
+        self.notes.push(Note { number, event });
+        self.spare -= 1;
     }
 
     /// Holds the place of the record at `index` for it.

@@ -10,21 +10,23 @@ ghost use Rattle.book_desk.specs.Closed.{Closes};
 use crate::book::{Book, fill};
 use crate::entries::{is_same_flow, winner};
 use crate::holds::{give_up, held_id, is_in_use, pay, place_index};
+use expect_table::expectation::{Expectation, Want};
+use expect_table::table::{AddOutcome, ExpectTable};
 use history_book::desk::{Desk, Hold};
 use history_book::event::Why;
 use history_book::find::{find, find_id};
 use history_book::laws::{
-    destroys_take_one, entries_keep_their_protocol, free_is_absent, ids_name_records,
-    legal_histories_go_on, live_records_are_confirmed, records_are_apart, states_follow,
-    states_stay, touches_change_one,
+    destroys_take_one, entries_keep_their_helper, entries_keep_their_protocol,
+    expectations_are_in_order, free_is_absent, ids_name_records, legal_histories_go_on,
+    live_records_are_confirmed, records_are_apart, states_follow, states_stay, touches_change_one,
 };
-use history_book::legality::is_reason_for;
+use history_book::legality::{expectation_at, is_reason_for};
 use history_book::outcome::{
-    ConfirmOutcome, FindOutcome, HoldOutcome, KillOutcome, LiveCount, PeekOutcome, ReleaseOutcome,
-    TakeOutcome, TouchOutcome,
+    ClaimOutcome, ConfirmOutcome, ExpectOutcome, FindOutcome, HoldOutcome, KillOutcome, LiveCount,
+    PeekOutcome, ReleaseOutcome, TakeOutcome, TouchOutcome, UnexpectOutcome,
 };
 use history_book::record::{Flow, Record};
-use history_book::report::Closed;
+use history_book::report::{Closed, Expectations};
 use history_book::sizes::Sizes;
 use proto_rules::laws::same_part_is_equality;
 use proto_rules::{Outcome, step};
@@ -71,6 +73,7 @@ impl PlainDesk {
             spare: 0,
             holds: RoomList::new(alloc, 4)?,
             owed: RoomList::new(alloc, 4)?,
+            expects: ExpectTable::new(alloc, sizes.expectations)?,
         };
         Ok(PlainDesk { book })
     }
@@ -93,6 +96,10 @@ impl Desk for PlainDesk {
 
     fn places(&self) -> u32 {
         self.book.sizes.entries
+    }
+
+    fn expect_room(&self) -> u32 {
+        self.book.sizes.expectations
     }
 
     fn made(&self) -> u64 {
@@ -231,6 +238,61 @@ impl Desk for PlainDesk {
             number: at,
             subject,
         }
+    }
+
+    fn expect<R: Wait>(&mut self, _rt: &R, place: u32, want: Want, moment: u64) -> ExpectOutcome {
+        entries_keep_their_helper();
+        expectations_are_in_order();
+        legal_histories_go_on();
+        states_follow();
+        let at = self.book.point();
+        let id = held_id(self.book.holds.as_slice(), place);
+        let Some(_) = find_id(self.book.records.as_slice(), id) else {
+            return ExpectOutcome::MasterGone { at };
+        };
+        let e = expectation_at(at, id, want, moment);
+        match self.book.expects.outcome(&e, moment) {
+            AddOutcome::Added { replaced } => {
+                self.book.promise(e, replaced, moment);
+                ExpectOutcome::Expected { id: at, replaced }
+            }
+            AddOutcome::Clash { id } => ExpectOutcome::Clash { id, at },
+            AddOutcome::Full => ExpectOutcome::ExpectFull { at },
+        }
+    }
+
+    fn claim<R: Wait>(&mut self, _rt: &R, t: &Tuple, moment: u64) -> ClaimOutcome {
+        legal_histories_go_on();
+        states_follow();
+        let at = self.book.point();
+        let Some(met) = self.book.expects.matching(t, moment) else {
+            return ClaimOutcome::Unclaimed { at };
+        };
+        self.book.fulfil(&met, t, moment);
+        ClaimOutcome::Claimed {
+            number: at,
+            expectation: met.id,
+            master: met.master,
+        }
+    }
+
+    fn unexpect<R: Wait>(&mut self, _rt: &R, id: u64, moment: u64) -> UnexpectOutcome {
+        legal_histories_go_on();
+        states_follow();
+        let at = self.book.point();
+        let Some(Expectation { deadline, .. }) = self.book.expects.find(id) else {
+            return UnexpectOutcome::Gone { at };
+        };
+        if moment < deadline {
+            return UnexpectOutcome::Not { deadline, at };
+        }
+        self.book.drop_late(id, moment);
+        UnexpectOutcome::Removed { number: at }
+    }
+
+    fn expects<R: Wait>(&mut self, _rt: &R, listed: &mut Expectations) -> u64 {
+        self.book.expects.list(listed);
+        self.book.point()
     }
 
     fn hold<R: Wait>(&mut self, _rt: &R, place: u32) -> HoldOutcome {

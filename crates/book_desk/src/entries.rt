@@ -1,17 +1,18 @@
 //! Entries: the one that a new flow meets, and what confirming, touching and destroying one does to the fields.
 
-ghost use Rattle.std.specs.Prelude.{◌≡◌, ◌+◌, ◌<◌, ◌≤◌, ◌&&◌, [], ◌∷◌, ◌++◌, IfNone, IfSome, None, Some, length, remove, slice_get, slice_set};
+ghost use Rattle.std.specs.Prelude.{◌≡◌, ◌<◌, ◌≤◌, ◌&&◌, [], ◌∷◌, ◌++◌, IfNone, IfSome, None, Some, length, remove, slice_get, slice_set};
+ghost use Rattle.expect_table.specs.Expectations.{without_master};
 ghost use Rattle.history_book.specs.declared.event.Event.TheVariants.{Confirm, Destroy, Touch};
 ghost use Rattle.history_book.specs.Entry.{record_for};
 ghost use Rattle.history_book.specs.Held.{held_for};
 ghost use Rattle.history_book.specs.Record.{has_original, has_reply};
 ghost use Rattle.history_book.specs.State.{live_under, state_of};
-ghost use Rattle.book_desk.specs.Internal.Book.{Adds, WinsAt, noted};
+ghost use Rattle.book_desk.specs.Internal.Book.{Adds, WinsAt};
 ghost use Rattle.book_desk.specs.Internal.Winner.{best_of, first_of};
 
 use crate::book::Book;
 use crate::holds::name_holds;
-use history_book::event::{Event, Note, Why};
+use history_book::event::{Event, Why};
 use history_book::find::FoundAt;
 use history_book::record::{Flow, Record};
 use proto_rules::Part;
@@ -119,20 +120,6 @@ pub fn is_same_flow(r: &Record, flow: &Flow) -> bool
 }
 
 impl Book {
-    /// Notes an event.
-    fn note(&mut self, event: Event)
-        requires spare { 1 ≤ self.old.spare }
-        requires room { length self.old.notes.items < self.old.notes.room }
-        ensures noted { self.new.notes.items ≡ self.old.notes.items ++ noted self.old.notes.items event ∷ [] }
-        ensures room { self.new.notes.room ≡ self.old.notes.room }
-        ensures spare { self.old.spare ≡ self.new.spare + 1 }
-        ensures rest { self.new ≡ record self.old { notes = self.new.notes; spare = self.new.spare } }
-    {
-        let number = self.point();
-        self.notes.push(Note { number, event });
-        self.spare -= 1;
-    }
-
     /// Confirms a new entry of a flow, and makes the references to its place ones for it.
     pub fn enter(&mut self, place: u32, flow: &Flow)
         requires spare { 1 ≤ self.old.spare }
@@ -143,6 +130,7 @@ impl Book {
         ensures records { self.new.records.items
             ≡ self.old.records.items ++ record_for flow.now (length self.old.notes.items) place ∷ [] }
         ensures holds { self.new.holds.items ≡ held_for place (length self.old.notes.items) self.old.holds.items }
+        ensures expects { self.new.expects ≡ self.old.expects }
     {
         let id = self.point();
         let subject = Record {
@@ -176,6 +164,7 @@ impl Book {
         ensures records { self.new.records.items
             ≡ slice_set self.old.records.items index (record before.now { part = after }) }
         ensures holds { self.new.holds ≡ self.old.holds }
+        ensures expects { self.new.expects ≡ self.old.expects }
     {
         self.note(Event::Touch {
             id: before.id,
@@ -193,7 +182,7 @@ impl Book {
         );
     }
 
-    /// Destroys the record at `index`, which is `subject`.
+    /// Destroys the record at `index`, which is `subject`, and ends what was expected for it.
     pub fn destroy(&mut self, index: usize, subject: &Record, why: Why)
         requires spare { 1 ≤ self.old.spare }
         requires room { length self.old.notes.items < self.old.notes.room }
@@ -201,11 +190,13 @@ impl Book {
         ensures adds { Adds self.old self.new (Destroy subject.now.id why) }
         ensures records { self.new.records.items ≡ remove self.old.records.items index }
         ensures holds { self.new.holds ≡ self.old.holds }
+        ensures expects { self.new.expects.items ≡ without_master subject.now.id self.old.expects.items }
     {
         self.note(Event::Destroy {
             id: subject.id,
             why,
         });
         let _ = self.records.remove(index);
+        let _ = self.expects.remove_master(subject.id);
     }
 }

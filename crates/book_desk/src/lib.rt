@@ -4,6 +4,7 @@
 mod book;
 pub mod desk;
 mod entries;
+mod expecting;
 mod holds;
 #[cfg(test)]
 mod tests;

@@ -21,6 +21,8 @@ use std::sync::Wait;
 use std::test::Fail;
 use tuple_core::{Direction, NoMemory, Proto, Segment, Tuple};
 
+mod expects;
+
 /// A pool of two places.
 fn sizes() -> Sizes
     ensures limits { AreWithinLimits result }

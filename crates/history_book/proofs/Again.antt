@@ -1,5 +1,5 @@
 -- What is live at two points of a legal history.
-use Rattle.std.proofs.Common.{◌≡◌, ℕ, ◌+◌, ◌<◌, ◌≤◌, zero, suc, Bool, true, false, cond, List, [], ◌∷◌, take, refl, sym, ap, subst, ◌∙◌, ⊎_elim, Option, Some, None, arith}
+use Rattle.std.proofs.Common.{◌≡◌, ℕ, ◌+◌, ◌<◌, ◌≤◌, zero, suc, Bool, true, false, cond, List, [], ◌∷◌, take, refl, sym, ap, subst, ◌∙◌, Option, Some, None, arith}
 use Rattle.std.specs.List.{AllByRecursion, find, slice_get}
 use Rattle.std.specs.Prelude.{◌≢◌}
 use Rattle.std.proofs.lemmas.Bool.{and_parts, eqb-false, eqb-true, not-true, or_left, or_parts, or_right}
@@ -22,7 +22,7 @@ use Rattle.history_book.specs.declared.sizes.Sizes.{Sizes}
 use Rattle.history_book.specs.Entry.{confirmed_by, is_of_entry, is_of_record}
 use Rattle.history_book.specs.History.{after, is_legal, is_legal_from, run}
 use Rattle.history_book.specs.Laws.{AreApart, IsConfirmed}
-use Rattle.history_book.specs.Legality.{is_of_one_protocol, may_happen}
+use Rattle.history_book.specs.Legality.{may_happen}
 use Rattle.history_book.specs.Record.{has_id, has_original, has_reply, has_tuple}
 use Rattle.history_book.specs.State.{Found, State, empty_state, live_under, next, original_first, record_of}
 use Rattle.history_book.proofs.Entries.{each_fails}
@@ -143,7 +143,7 @@ again_by t s before id found r Reply is apart at one live by =
     (subst (λ (u : Tuple). has_reply t (record r { reply = u }) ≡ true) one.reply parts.1)
 
 -- a record found by its id is confirmed, and has the id
-found_confirmed : (sizes : Sizes) (log : List Event) (q id : ℕ) (r : Record) → is_legal sizes log ≡ true
+pub found_confirmed : (sizes : Sizes) (log : List Event) (q id : ℕ) (r : Record) → is_legal sizes log ≡ true
     → record_of id (after log q) ≡ Some r → IsConfirmed log r × (r.id ≡ id)
 found_confirmed sizes log q id r legal at = (
   found_holds (IsConfirmed log) (has_id id) (after log q).records r (confirmed_after sizes q log legal) at,

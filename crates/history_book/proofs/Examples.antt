@@ -1,6 +1,8 @@
 -- The definitions read against worked histories: of one flow of UDP, in which 10.0.0.1:5000 asks
--- 10.0.0.2:53, and of one connection, from 10.0.0.1:5000 to 10.0.0.2:80.
-use Rattle.std.proofs.Common.{◌≡◌, ℕ, ◌+◌, ◌*◌, Bool, true, false, None, List, [], ◌∷◌, ◌++◌, length, refl}
+-- 10.0.0.2:53; of one connection, from 10.0.0.1:5000 to 10.0.0.2:80; and of a control connection of FTP, from
+-- 10.0.0.1:5000 to 10.0.0.2:21, with its data connection in active mode.
+use Rattle.std.proofs.Common.{◌≡◌, ℕ, ◌+◌, ◌*◌, Bool, true, false, Option, None, Some, List, [], ◌∷◌, ◌++◌, length, refl}
+use Rattle.expect_table.specs.declared.expectation.Expectation.{Expectation}
 use Rattle.tuple_core.specs.declared.Direction.{Direction}
 use Rattle.tuple_core.specs.declared.Direction.TheVariants.{Original, Reply}
 use Rattle.tuple_core.specs.declared.Kind.{Kind}
@@ -9,7 +11,7 @@ use Rattle.tuple_core.specs.declared.Proto.TheVariants as proto
 use Rattle.tuple_core.specs.declared.Segment.TheVariants as segment
 use Rattle.tuple_core.specs.declared.Tuple.{Tuple}
 use Rattle.history_book.specs.declared.event.Event.{Event}
-use Rattle.history_book.specs.declared.event.Event.TheVariants.{Confirm, Touch, Destroy}
+use Rattle.history_book.specs.declared.event.Event.TheVariants.{Confirm, Touch, Destroy, Expect, Claim, Unexpect}
 use Rattle.history_book.specs.declared.event.Why.TheVariants.{Expired, Reopened, Reset}
 use Rattle.proto_rules.specs.declared.Part.{Part}
 use Rattle.proto_rules.specs.declared.PartKind.TheVariants as kind
@@ -192,3 +194,135 @@ an_open_connection_is_reopened = refl
 an_expired_connection_is_reopened : is_legal sizes (closed ++ reopens Original Syn 126 ∷ []) ≡ false
 unfolding is_legal original_cell reply_cell
 an_expired_connection_is_reopened = refl
+
+-- the control connection begins at 1 s, and its entry has the helper or not
+abbrev controls : Bool → Event
+controls helper = Confirm (record {
+  id = 0;
+  place = 0;
+  original = record { proto = proto.Tcp; src = 167772161; dst = 167772162; a = 5000; b = 21 };
+  reply = record { proto = proto.Tcp; src = 167772162; dst = 167772161; a = 21; b = 5000 };
+  part = stands SynSent false false 121;
+  helper = helper;
+  master = None;
+})
+
+-- what it expects from this second on: the data connection to this port, with this id
+abbrev wanted : ℕ → ℕ → ℕ → Expectation
+wanted id port second = record {
+  id = id;
+  master = 0;
+  want = record { src = 167772162; dst = 167772161; port = port };
+  deadline = (second + 300) * 1000000;
+}
+
+-- it expects that from this second on, in place of this older expectation
+abbrev expects : ℕ → ℕ → Option ℕ → ℕ → Event
+expects id port older second = Expect (wanted id port second) older (second * 1000000)
+
+-- the tuples of the data connection to this port
+abbrev data_tuple : ℕ → Tuple
+data_tuple port = record { proto = proto.Tcp; src = 167772162; dst = 167772161; a = 20; b = port }
+
+abbrev data_reply : ℕ → Tuple
+data_reply port = record { proto = proto.Tcp; src = 167772161; dst = 167772162; a = port; b = 20 }
+
+-- the data connection to this port meets the expectation of this id at this second
+abbrev claims : ℕ → ℕ → ℕ → Event
+claims id port second = Claim id 0 (data_tuple port) (second * 1000000)
+
+-- the data connection to this port begins at this second, with this id
+abbrev arrives : ℕ → ℕ → ℕ → Event
+arrives id port second = Confirm (record {
+  id = id;
+  place = 1;
+  original = data_tuple port;
+  reply = data_reply port;
+  part = stands SynSent false false (second + 120);
+  helper = false;
+  master = Some 0;
+})
+
+-- what is expected from 2 s on is met at this second
+abbrev claimed_at : ℕ → List Event
+claimed_at second = controls true ∷ expects 1 40001 None 2 ∷ claims 1 40001 second ∷ []
+
+-- what is expected from 2 s on is replaced at 3 s, by an event that names this older expectation
+abbrev replaced_as : Option ℕ → List Event
+replaced_as older = controls true ∷ expects 1 40001 None 2 ∷ expects 2 40002 older 3 ∷ []
+
+-- what is expected from 2 s on ends unmet at this second
+abbrev unmet_at : ℕ → List Event
+unmet_at second = controls true ∷ expects 1 40001 None 2 ∷ Unexpect 1 (second * 1000000) ∷ []
+
+-- the control connection is reset while it expects something
+abbrev reset_control : List Event
+reset_control = controls true ∷ expects 1 40001 None 2 ∷ resets Rst 3 ∷ []
+
+a_data_connection_arrives : is_legal sizes (claimed_at 3 ++ arrives 3 40001 3 ∷ []) ≡ true
+unfolding is_legal
+a_data_connection_arrives = refl
+
+a_claim_before_the_deadline : is_legal sizes (claimed_at 301) ≡ true
+unfolding is_legal
+a_claim_before_the_deadline = refl
+
+a_claim_at_the_deadline : is_legal sizes (claimed_at 302) ≡ false
+unfolding is_legal
+a_claim_at_the_deadline = refl
+
+an_expectation_is_claimed_twice : is_legal sizes (claimed_at 3 ++ claims 1 40001 4 ∷ []) ≡ false
+unfolding is_legal
+an_expectation_is_claimed_twice = refl
+
+an_expectation_without_the_helper : is_legal sizes (controls false ∷ expects 1 40001 None 2 ∷ []) ≡ false
+unfolding is_legal
+an_expectation_without_the_helper = refl
+
+an_expectation_is_replaced : is_legal sizes (replaced_as (Some 1) ++ claims 2 40002 4 ∷ []) ≡ true
+unfolding is_legal
+an_expectation_is_replaced = refl
+
+an_expectation_is_replaced_in_silence : is_legal sizes (replaced_as None) ≡ false
+unfolding is_legal
+an_expectation_is_replaced_in_silence = refl
+
+a_replaced_expectation_is_claimed : is_legal sizes (replaced_as (Some 1) ++ claims 1 40001 4 ∷ []) ≡ false
+unfolding is_legal
+a_replaced_expectation_is_claimed = refl
+
+an_expectation_ends_at_its_deadline : is_legal sizes (unmet_at 302) ≡ true
+unfolding is_legal
+an_expectation_ends_at_its_deadline = refl
+
+an_expectation_ends_before_its_deadline : is_legal sizes (unmet_at 301) ≡ false
+unfolding is_legal
+an_expectation_ends_before_its_deadline = refl
+
+a_control_connection_is_reset : is_legal sizes reset_control ≡ true
+unfolding is_legal original_cell reply_cell
+a_control_connection_is_reset = refl
+
+a_reset_control_connection_expects : is_legal sizes (reset_control ++ claims 1 40001 4 ∷ []) ≡ false
+unfolding is_legal original_cell reply_cell
+a_reset_control_connection_expects = refl
+
+one_is_expected_while_the_master_lives : length (after reset_control 2).expects ≡ 1
+unfolding after
+one_is_expected_while_the_master_lives = refl
+
+none_is_expected_once_the_master_ended : length (after reset_control 3).expects ≡ 0
+unfolding after
+none_is_expected_once_the_master_ended = refl
+
+one_is_expected_once_one_was_replaced : length (after (replaced_as (Some 1)) 3).expects ≡ 1
+unfolding after
+one_is_expected_once_one_was_replaced = refl
+
+none_is_expected_once_it_was_claimed : length (after (claimed_at 3) 3).expects ≡ 0
+unfolding after
+none_is_expected_once_it_was_claimed = refl
+
+none_is_expected_once_it_ended_unmet : length (after (unmet_at 302) 3).expects ≡ 0
+unfolding after
+none_is_expected_once_it_ended_unmet = refl

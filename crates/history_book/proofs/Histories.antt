@@ -1,5 +1,6 @@
 -- Histories, whatever the kinds of their events.
-use Rattle.std.proofs.Common.{◌≡◌, ℕ, ◌+◌, suc, true, List, [], ◌∷◌, ◌++◌, length, take, refl, sym, ap, subst, ◌∙◌, arith, length-append}
+use Rattle.std.proofs.Common.{◌≡◌, ℕ, ◌+◌, zero, suc, true, List, [], ◌∷◌, ◌++◌, length, take, refl, sym, ap, subst, ◌∙◌, arith, length-append, Some}
+use Rattle.std.specs.List.{slice_get}
 use Rattle.std.proofs.lemmas.Bool.{and_from, and_parts}
 use Rattle.history_book.specs.declared.event.Event.{Event}
 use Rattle.history_book.specs.declared.sizes.Sizes.{Sizes}
@@ -58,3 +59,23 @@ pub legal_front : (sizes : Sizes) (log front : List Event) → StartsWith log fr
 unfolding is_legal
 legal_front sizes log front (rest, e) legal =
     legal_from_front sizes 0 empty_state front rest (subst (λ (l : List Event). is_legal_from sizes empty_state 0 l ≡ true) e legal)
+
+may_from : (sizes : Sizes) (n k : ℕ) (s : State) (log : List Event) (e : Event) → is_legal_from sizes s n log ≡ true
+    → slice_get log k ≡ Some e → may_happen sizes (run s (take k log)) (n + k) e ≡ true
+may_from sizes n k s [] e legal at = cc
+may_from sizes n zero s (x ∷ xs) e legal at =
+    let parts = and_parts (may_happen sizes s n x) (is_legal_from sizes (next s x) (n + 1) xs) legal in
+    let same : x ≡ e = cc in
+    let here : n ≡ n + 0 = omega arith in
+    subst (λ k. may_happen sizes s k e ≡ true) here (subst (λ (y : Event). may_happen sizes s n y ≡ true) same parts.0)
+may_from sizes n (suc k) s (x ∷ xs) e legal at =
+    let parts = and_parts (may_happen sizes s n x) (is_legal_from sizes (next s x) (n + 1) xs) legal in
+    let here : n + 1 + k ≡ n + suc k = omega arith in
+    subst (λ m. may_happen sizes (run (next s x) (take k xs)) m e ≡ true) here (may_from sizes (n + 1) k (next s x) xs e parts.1 at)
+
+pub may_at : (sizes : Sizes) (log : List Event) (n : ℕ) (e : Event) → is_legal sizes log ≡ true → slice_get log n ≡ Some e
+    → may_happen sizes (after log n) n e ≡ true
+unfolding is_legal after
+may_at sizes log n e legal at =
+    let here : 0 + n ≡ n = omega arith in
+    subst (λ m. may_happen sizes (run empty_state (take n log)) m e ≡ true) here (may_from sizes 0 n empty_state log e legal at)

@@ -10,4 +10,5 @@ pub mod Records
 pub mod Live
 pub mod OneProtocol
 pub mod Again
+pub mod Expected
 pub mod Examples

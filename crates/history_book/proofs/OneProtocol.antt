@@ -15,7 +15,7 @@ use Rattle.proto_rules.specs.Laws.{AcceptedGoOn, SamePartIsEquality}
 use Rattle.proto_rules.specs.Protocol.{is_of_protocol, proto_of}
 use Rattle.proto_rules.specs.Step.{step_of}
 use Rattle.history_book.specs.declared.event.Event.{Event}
-use Rattle.history_book.specs.declared.event.Event.TheVariants.{Confirm, Touch, Destroy}
+use Rattle.history_book.specs.declared.event.Event.TheVariants.{Confirm, Touch, Destroy, Expect, Claim, Unexpect}
 use Rattle.history_book.specs.declared.record.Record.{Record}
 use Rattle.history_book.specs.declared.sizes.Sizes.{Sizes}
 use Rattle.history_book.specs.History.{after, is_legal, is_legal_from, run}
@@ -101,6 +101,9 @@ module _ (go_on : AcceptedGoOn) (equal : SamePartIsEquality) where
   protocol_next sizes n s (Touch id d segment moment part) may sound h =
       touched_all id d segment moment part s.records sound.apart may h
   protocol_next sizes n s (Destroy id why) may sound h = each_filter OneProtocol (λ r. not (has_id id r)) s.records h
+  protocol_next sizes n s (Expect expectation replaced moment) may sound h = h
+  protocol_next sizes n s (Claim expectation master tuple moment) may sound h = h
+  protocol_next sizes n s (Unexpect expectation moment) may sound h = h
 
   protocol_run : (sizes : Sizes) (n p : ℕ) (s : State) (log : List Event) → is_legal_from sizes s n log ≡ true → Sound n s
       → AllOneProtocol s.records → AllOneProtocol (run s (take p log)).records

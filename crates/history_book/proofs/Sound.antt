@@ -4,7 +4,7 @@ use Rattle.std.specs.List.{AllByRecursion, filter, find, slice_get}
 use Rattle.std.specs.Prelude.{map, ◌==◌, ◌≢◌}
 use Rattle.std.proofs.lemmas.Bool.{and_parts, eqb-false, eqb-true, not-true, false≢true}
 use Rattle.history_book.specs.declared.event.Event.{Event}
-use Rattle.history_book.specs.declared.event.Event.TheVariants.{Confirm, Touch, Destroy}
+use Rattle.history_book.specs.declared.event.Event.TheVariants.{Confirm, Touch, Destroy, Expect, Claim, Unexpect}
 use Rattle.history_book.specs.declared.event.Why.{Why}
 use Rattle.proto_rules.specs.declared.Part.{Part}
 use Rattle.history_book.specs.declared.record.Record.{Record}
@@ -62,6 +62,14 @@ older_touched n id part (r ∷ rs) (h, hs) =
 pub sound_more : (m n : ℕ) (s : State) → m ≤ n → Sound m s → Sound n s
 sound_more m n s le h = record { apart = h.apart; older = older_more m n s.records le h.older }
 
+-- an event that leaves the records
+sound_expects : (n : ℕ) (s t : State) → t.records ≡ s.records → Sound n s → Sound (n + 1) t
+sound_expects n s t same sound = record {
+  apart = subst Pairs (sym same) sound.apart;
+  older = subst (λ (rs : List Record). AllByRecursion (λ r. r.id < n + 1) rs) (sym same)
+      (older_more n (n + 1) s.records (omega arith) sound.older);
+}
+
 pub sound_next : (sizes : Sizes) (n : ℕ) (s : State) (e : Event) → may_happen sizes s n e ≡ true
     → Sound n s → Sound (n + 1) (next s e)
 sound_next sizes n s (Confirm r) may sound =
@@ -82,6 +90,9 @@ sound_next sizes n s (Destroy id why) may sound = record {
   older = each_filter (λ r. r.id < n + 1) (λ r. not (has_id id r)) s.records
       (older_more n (n + 1) s.records (omega arith) sound.older);
 }
+sound_next sizes n s (Expect expectation replaced moment) may sound = sound_expects n s (next s (Expect expectation replaced moment)) refl sound
+sound_next sizes n s (Claim expectation master tuple moment) may sound = sound_expects n s (next s (Claim expectation master tuple moment)) refl sound
+sound_next sizes n s (Unexpect expectation moment) may sound = sound_expects n s (next s (Unexpect expectation moment)) refl sound
 
 pub sound_run : (sizes : Sizes) (n m p : ℕ) (s : State) (log : List Event) → is_legal_from sizes s n log ≡ true
     → n + p ≤ m → Sound n s → Sound m (run s (take p log))
@@ -138,6 +149,9 @@ confirmed_next sizes n log s (Confirm r) may at h =
 confirmed_next sizes n log s (Touch id direction segment moment part) may at h = confirmed_map log id part s.records h
 confirmed_next sizes n log s (Destroy id why) may at h =
     each_filter (IsConfirmed log) (λ r. not (has_id id r)) s.records h
+confirmed_next sizes n log s (Expect expectation replaced moment) may at h = h
+confirmed_next sizes n log s (Claim expectation master tuple moment) may at h = h
+confirmed_next sizes n log s (Unexpect expectation moment) may at h = h
 
 pub confirmed_run : (sizes : Sizes) (n p : ℕ) (log : List Event) (s : State) (rest : List Event)
     → is_legal_from sizes s n rest ≡ true → IsRest log n rest → AllByRecursion (IsConfirmed log) s.records
@@ -178,6 +192,9 @@ dead_next sizes n id s (Confirm r) may old h =
 dead_next sizes n id s (Touch other direction segment moment part) may old h = dead_touched id other part s.records h
 dead_next sizes n id s (Destroy other why) may old h =
     each_filter (λ r. r.id ≢ id) (λ r. not (has_id other r)) s.records h
+dead_next sizes n id s (Expect expectation replaced moment) may old h = h
+dead_next sizes n id s (Claim expectation master tuple moment) may old h = h
+dead_next sizes n id s (Unexpect expectation moment) may old h = h
 
 pub dead_run : (sizes : Sizes) (n p id : ℕ) (s : State) (log : List Event) → is_legal_from sizes s n log ≡ true → id < n
     → IsDead id s → IsDead id (run s (take p log))

@@ -1,13 +1,13 @@
 -- The protocol of an entry, by the Confirm that made it, and that of a flow.
-use Rattle.std.specs.Prelude.{ℕ, Bool, true, false, ◌&&◌, Option, Some, None, List, slice_get}
+use Rattle.std.specs.Prelude.{ℕ, Bool, true, false, Option, Some, None, List, slice_get}
 use Rattle.tuple_core.specs.declared.Segment.{Segment}
 use Rattle.history_book.specs.declared.event.Event.{Event}
-use Rattle.history_book.specs.declared.event.Event.TheVariants.{Confirm, Touch, Destroy}
+use Rattle.history_book.specs.declared.event.Event.TheVariants.{Confirm, Touch, Destroy, Expect, Claim, Unexpect}
 use Rattle.history_book.specs.declared.event.Why.{Why}
 use Rattle.history_book.specs.declared.event.Why.TheVariants as why
 use Rattle.history_book.specs.declared.record.Flow.{Flow}
 use Rattle.history_book.specs.declared.record.Record.{Record}
-use Rattle.history_book.specs.Legality.{is_of_one_protocol}
+use Rattle.history_book.specs.Legality.{has_helper, is_of_one_protocol}
 use Rattle.proto_rules.specs.Protocol.{is_of_protocol}
 
 -- the record that a flow becomes
@@ -32,6 +32,13 @@ confirmed_by None = None
 confirmed_by (Some (Confirm r)) = Some r
 confirmed_by (Some (Touch id direction segment moment after)) = None
 confirmed_by (Some (Destroy id why)) = None
+confirmed_by (Some (Expect expectation replaced moment)) = None
+confirmed_by (Some (Claim expectation master tuple moment)) = None
+confirmed_by (Some (Unexpect expectation moment)) = None
+
+-- the entry of this id, which was confirmed in the history, has the helper
+abbrev pub is_helped_entry : ℕ → List Event → Bool
+is_helped_entry id log = has_helper (confirmed_by (slice_get log id))
 
 -- the segment is of the record's protocol
 abbrev pub is_of_record : Segment → Option Record → Bool

@@ -1,5 +1,5 @@
 -- The places to which a desk keeps references, and those that it owes.
-use Rattle.std.specs.Prelude.{ℕ, Bool, true, false, ◌==◌, ◌&&◌, if◌then◌else◌, Option, Some, None, List, [], ◌∷◌, find, map, is_none, is_some, unwrap_or}
+use Rattle.std.specs.Prelude.{ℕ, Bool, ◌==◌, ◌&&◌, if◌then◌else◌, Option, Some, None, List, [], ◌∷◌, find, map, is_none, is_some, unwrap_or}
 use Rattle.std.specs.List.{list_any}
 use Rattle.history_book.specs.declared.desk.Hold.{Hold}
 

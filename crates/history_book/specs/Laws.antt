@@ -5,8 +5,9 @@ use Rattle.history_book.specs.declared.event.Event.TheVariants.{Confirm, Destroy
 use Rattle.history_book.specs.declared.event.Why.{Why}
 use Rattle.history_book.specs.declared.record.Record.{Record}
 use Rattle.history_book.specs.declared.sizes.Sizes.{Sizes}
-use Rattle.history_book.specs.Entry.{is_of_entry}
-use Rattle.history_book.specs.Legality.{is_of_one_protocol, may_happen}
+use Rattle.expect_table.specs.Expectations.{AreInOrder}
+use Rattle.history_book.specs.Entry.{is_helped_entry, is_of_entry}
+use Rattle.history_book.specs.Legality.{has_helper, is_of_one_protocol, may_happen}
 use Rattle.history_book.specs.History.{after, is_legal}
 use Rattle.history_book.specs.Point.{StartsWith}
 use Rattle.history_book.specs.State.{Found, live_under, next, record_of}
@@ -19,6 +20,12 @@ abbrev pub LegalHistoriesGoOn : Type 0
 LegalHistoriesGoOn =
     (sizes : Sizes) (log : List Event) (e : Event) → is_legal sizes log ≡ true
     → may_happen sizes (after log (length log)) (length log) e ≡ true → is_legal sizes (log ++ e ∷ []) ≡ true
+
+-- each event of a legal history may happen in the state that those before it leave
+abbrev pub EventsMayHappen : Type 0
+EventsMayHappen =
+    (sizes : Sizes) (log : List Event) (n : ℕ) (e : Event) → is_legal sizes log ≡ true → slice_get log n ≡ Some e
+    → may_happen sizes (after log n) n e ≡ true
 
 -- the state after one event more is the next of the state before
 abbrev pub StatesFollow : Type 0
@@ -117,3 +124,22 @@ FoundKeepTheirProtocol =
     (sizes : Sizes) (log : List Event) (p : ℕ) (t : Tuple) (found : Found) (segment : Segment) → is_legal sizes log ≡ true
     → live_under t (after log p) ≡ Some found
     → is_of_entry segment found.subject.id log ≡ is_of_protocol segment found.subject.part.kind
+
+-- in every state of a legal history the master of each expectation is live and has the helper
+abbrev pub MastersHaveTheHelper : Type 0
+MastersHaveTheHelper =
+    (sizes : Sizes) (log : List Event) (p : ℕ) → is_legal sizes log ≡ true
+    → All (λ e. has_helper (record_of e.master (after log p)) ≡ true) (after log p).expects
+
+-- in every state of a legal history the ids of the expectations rise, no master has two, and each was an event
+-- before the point
+abbrev pub ExpectationsAreInOrder : Type 0
+ExpectationsAreInOrder =
+    (sizes : Sizes) (log : List Event) (p : ℕ) → is_legal sizes log ≡ true
+    → AreInOrder (after log p).expects × All (λ e. e.id < p) (after log p).expects
+
+-- a live record has the helper where the Confirm that made it gave it the helper, and only there
+abbrev pub EntriesKeepTheirHelper : Type 0
+EntriesKeepTheirHelper =
+    (sizes : Sizes) (log : List Event) (p : ℕ) (id : ℕ) (r : Record) → is_legal sizes log ≡ true
+    → record_of id (after log p) ≡ Some r → is_helped_entry id log ≡ r.helper

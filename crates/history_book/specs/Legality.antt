@@ -1,12 +1,17 @@
 -- Which events may happen in a state of the table, in a tracker of some sizes.
-use Rattle.std.specs.Prelude.{ℕ, Bool, true, false, ◌==◌, ◌&&◌, nat_lt, Option, Some, None}
+use Rattle.std.specs.Prelude.{ℕ, ◌+◌, Bool, true, false, not, ◌==◌, ◌&&◌, nat_lt, Option, Some, None, find}
+use Rattle.expect_table.specs.Expectations.{add_outcome, matching}
+use Rattle.expect_table.specs.Match.{has_id, is_due}
+use Rattle.expect_table.specs.declared.expectation.Expectation.{Expectation}
+use Rattle.expect_table.specs.declared.table.AddOutcome.{AddOutcome}
+use Rattle.expect_table.specs.declared.table.AddOutcome.TheVariants as add
 use Rattle.tuple_core.specs.Tuple.{is_valid, number_of}
 use Rattle.tuple_core.specs.declared.Direction.{Direction}
 use Rattle.tuple_core.specs.declared.Direction.TheVariants.{Original}
 use Rattle.tuple_core.specs.declared.Proto.{Proto}
 use Rattle.tuple_core.specs.declared.Segment.{Segment}
 use Rattle.history_book.specs.declared.event.Event.{Event}
-use Rattle.history_book.specs.declared.event.Event.TheVariants.{Confirm, Touch, Destroy}
+use Rattle.history_book.specs.declared.event.Event.TheVariants.{Confirm, Touch, Destroy, Expect, Claim, Unexpect}
 use Rattle.history_book.specs.declared.event.Why.{Why}
 use Rattle.history_book.specs.declared.event.Why.TheVariants as why
 use Rattle.proto_rules.specs.declared.Outcome.{Outcome}
@@ -86,12 +91,55 @@ abbrev pub may_destroy : Option Record → Why → Bool
 may_destroy None why = false
 may_destroy (Some r) why = is_reason why r
 
+-- an entry may expect something where it is live and has the helper
+abbrev pub has_helper : Option Record → Bool
+has_helper None = false
+has_helper (Some r) = r.helper
+
+-- how long a connection is expected, in microseconds: 300 s
+abbrev pub expected_for : ℕ
+expected_for = 300000000
+
+-- both are none, or both are one id
+abbrev pub same_id : Option ℕ → Option ℕ → Bool
+same_id None None = true
+same_id None (Some n) = false
+same_id (Some m) None = false
+same_id (Some m) (Some n) = m == n
+
+-- an expectation is added, in place of this older one
+abbrev pub is_added : AddOutcome → Option ℕ → Bool
+is_added (add.Added replaced) older = same_id replaced older
+is_added (add.Clash id) older = false
+is_added add.Full older = false
+
+-- an expectation may come as event n at a moment: its id is that number, it ends 300 s later, its master may
+-- expect something, and it is added
+abbrev pub may_expect : Sizes → State → ℕ → Expectation → Option ℕ → ℕ → Bool
+may_expect sizes s n e replaced moment =
+    e.id == n && e.deadline == moment + expected_for && has_helper (record_of e.master s)
+    && is_added (add_outcome sizes.expectations s.expects e moment) replaced
+
+-- an expectation may be claimed where it is the first that matches, and is of this master
+abbrev pub may_claim : Option Expectation → ℕ → ℕ → Bool
+may_claim None id master = false
+may_claim (Some e) id master = has_id id e && e.master == master
+
+-- an expectation may end where there is one that is due no longer
+abbrev pub may_unexpect : Option Expectation → ℕ → Bool
+may_unexpect None moment = false
+may_unexpect (Some e) moment = not (is_due moment e)
+
 -- event n may happen in this state of a tracker of these sizes
 abbrev pub may_happen : Sizes → State → ℕ → Event → Bool
 may_happen sizes s n (Confirm r) = may_confirm sizes s n r
 may_happen sizes s n (Touch id direction segment moment after) =
     may_touch (record_of id s) direction segment moment after
 may_happen sizes s n (Destroy id why) = may_destroy (record_of id s) why
+may_happen sizes s n (Expect expectation replaced moment) = may_expect sizes s n expectation replaced moment
+may_happen sizes s n (Claim expectation master tuple moment) =
+    may_claim (matching tuple moment s.expects) expectation master
+may_happen sizes s n (Unexpect expectation moment) = may_unexpect (find (has_id expectation) s.expects) moment
 
 -- the moment that a reason names, where the step reads it
 abbrev pub reason_moment_of : Why → ℕ
@@ -99,8 +147,11 @@ reason_moment_of (why.Expired moment) = 0
 reason_moment_of (why.Reopened direction segment moment) = moment
 reason_moment_of (why.Reset segment moment) = moment
 
--- the moment of the packet that an event was made by, where the step reads it
+-- the moment of the packet that an event was made by, where the step reads it or a deadline is reckoned by it
 abbrev pub step_moment_of : Event → ℕ
 step_moment_of (Confirm r) = 0
 step_moment_of (Touch id direction segment moment after) = moment
 step_moment_of (Destroy id why) = reason_moment_of why
+step_moment_of (Expect expectation replaced moment) = moment
+step_moment_of (Claim expectation master tuple moment) = 0
+step_moment_of (Unexpect expectation moment) = 0

@@ -14,3 +14,4 @@ pub mod StateLaws
 pub mod Held
 pub mod Sight
 pub mod Desk
+pub mod DeskExpectations

@@ -1,21 +1,25 @@
 -- A state of the table: what is found in it, and how an event changes it.
 use Rattle.std.specs.Prelude.{ℕ, Bool, not, if◌then◌else◌, Option, Some, None, List, [], ◌∷◌, ◌++◌, map, filter, find}
 use Rattle.std.specs.List.{list_any}
+use Rattle.expect_table.specs.Expectations.{with_one, without_id, without_master}
+use Rattle.expect_table.specs.declared.expectation.Expectation.{Expectation}
 use Rattle.tuple_core.specs.declared.Direction.{Direction}
 use Rattle.tuple_core.specs.declared.Direction.TheVariants.{Original, Reply}
 use Rattle.tuple_core.specs.declared.Tuple.{Tuple}
 use Rattle.history_book.specs.declared.event.Event.{Event}
-use Rattle.history_book.specs.declared.event.Event.TheVariants.{Confirm, Touch, Destroy}
+use Rattle.history_book.specs.declared.event.Event.TheVariants.{Confirm, Touch, Destroy, Expect, Claim, Unexpect}
 use Rattle.proto_rules.specs.declared.Part.{Part}
 use Rattle.history_book.specs.declared.record.Record.{Record}
 use Rattle.history_book.specs.Record.{has_id, has_original, has_place, has_reply, has_tuple}
 
--- a state has its live records
+-- a state has its live records, and what is expected, in order of id
 pub record State : Type 0 where
   pub records : List Record
+  pub expects : List Expectation
 
+-- these records are live, and nothing is expected
 abbrev pub state_of : List Record → State
-state_of rs = record { records = rs }
+state_of rs = record { records = rs; expects = [] }
 
 abbrev pub empty_state : State
 empty_state = state_of []
@@ -60,8 +64,12 @@ is_unused place s = not (list_any (has_place place) s.records)
 abbrev pub with_part : ℕ → Part → Record → Record
 with_part id part r = (if has_id id r then record r { part = part } else r)
 
--- the state after an event
+-- the state after an event: a Destroy also ends what was expected for the entry
 abbrev pub next : State → Event → State
 next s (Confirm r) = record s { records = s.records ++ r ∷ [] }
 next s (Touch id direction segment moment after) = record s { records = map (with_part id after) s.records }
-next s (Destroy id why) = record s { records = filter (λ r. not (has_id id r)) s.records }
+next s (Destroy id why) =
+    record { records = filter (λ r. not (has_id id r)) s.records; expects = without_master id s.expects }
+next s (Expect expectation replaced moment) = record s { expects = with_one s.expects expectation }
+next s (Claim expectation master tuple moment) = record s { expects = without_id expectation s.expects }
+next s (Unexpect expectation moment) = record s { expects = without_id expectation s.expects }

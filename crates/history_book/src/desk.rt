@@ -5,17 +5,20 @@ ghost use Rattle.std.specs.Prelude.{◌≡◌, ◌+◌, ◌<◌, ◌≤◌, ◌^
 ghost use Rattle.history_book.specs.Desk.{ConfirmSays, CountSays, FindSays, HoldSays, IsReady};
 ghost use Rattle.history_book.specs.Desk.{KillSays, PeekSays, RecycleSays, ReleaseSays};
 ghost use Rattle.history_book.specs.Desk.{TakeSays, TouchSays};
-ghost use Rattle.history_book.specs.Entry.{is_flow_of_one_protocol, is_of_entry, suits_entry};
+ghost use Rattle.history_book.specs.DeskExpectations.{ClaimSays, ExpectSays, ExpectsSays, UnexpectSays};
+ghost use Rattle.history_book.specs.Entry.{is_flow_of_one_protocol, is_helped_entry, is_of_entry, suits_entry};
 ghost use Rattle.history_book.specs.Held.{held_id, is_held, is_held_for_entry, is_owed, is_taken};
 ghost use Rattle.history_book.specs.Legality.{reason_moment_of};
 ghost use Rattle.history_book.specs.Sight.{IsKnown, Sight};
 
 use crate::event::Why;
 use crate::outcome::{
-    ConfirmOutcome, FindOutcome, HoldOutcome, KillOutcome, LiveCount, PeekOutcome, ReleaseOutcome,
-    TakeOutcome, TouchOutcome,
+    ClaimOutcome, ConfirmOutcome, ExpectOutcome, FindOutcome, HoldOutcome, KillOutcome, LiveCount,
+    PeekOutcome, ReleaseOutcome, TakeOutcome, TouchOutcome, UnexpectOutcome,
 };
 use crate::record::Flow;
+use crate::report::Expectations;
+use expect_table::expectation::Want;
 use std::sync::Wait;
 use tuple_core::{Direction, NoMemory, Segment, Tuple};
 
@@ -40,6 +43,11 @@ pub trait Desk {
     /// The places of the pool.
     fn places(&self) -> u32
         ensures exact { result ≡ (sight self.now).sizes.entries }
+        ensures knows { IsKnown (sight self.now) };
+
+    /// The room for expectations.
+    fn expect_room(&self) -> u32
+        ensures exact { result ≡ (sight self.now).sizes.expectations }
         ensures knows { IsKnown (sight self.now) };
 
     /// The number of own events.
@@ -113,6 +121,36 @@ pub trait Desk {
         requires timely { reason_moment_of why ≤ 10 ^ 16 }
         requires spare { 1 ≤ (sight self.old).spare }
         ensures says { KillSays place why (sight self.old) (sight self.new) result }
+        ensures knows { IsKnown (sight self.new) };
+
+    /// Makes the entry for which a place is held expect a connection, from a moment in microseconds on and for
+    /// 300 s. The entry has the helper.
+    fn expect<R: Wait>(&mut self, rt: &R, place: u32, want: Want, moment: u64) -> ExpectOutcome
+        requires held { is_held_for_entry place (sight self.old).held ≡ true }
+        requires helper { is_helped_entry (held_id place (sight self.old).held)
+            (sight self.old).front ≡ true }
+        requires timely { moment ≤ 10 ^ 16 }
+        requires spare { 1 ≤ (sight self.old).spare }
+        ensures says { ExpectSays place want moment (sight self.old) (sight self.new) result }
+        ensures knows { IsKnown (sight self.new) };
+
+    /// Ends the first expectation that a packet with this tuple matches at a moment in microseconds.
+    fn claim<R: Wait>(&mut self, rt: &R, t: &Tuple, moment: u64) -> ClaimOutcome
+        requires { 1 ≤ (sight self.old).spare }
+        ensures says { ClaimSays t.now moment (sight self.old) (sight self.new) result }
+        ensures knows { IsKnown (sight self.new) };
+
+    /// Ends the expectation of this id, where it is due no longer at a moment in microseconds.
+    fn unexpect<R: Wait>(&mut self, rt: &R, id: u64, moment: u64) -> UnexpectOutcome
+        requires { 1 ≤ (sight self.old).spare }
+        ensures says { UnexpectSays id moment (sight self.old) (sight self.new) result }
+        ensures knows { IsKnown (sight self.new) };
+
+    /// Lists the expectations in order of id, in place of what the list has, and answers their point.
+    fn expects<R: Wait>(&mut self, rt: &R, listed: &mut Expectations) -> u64
+        requires { (sight self.old).sizes.expectations ≤ listed.old.room }
+        ensures says { ExpectsSays listed.new.items (sight self.old) (sight self.new) result }
+        ensures room { listed.new.room ≡ listed.old.room }
         ensures knows { IsKnown (sight self.new) };
 
     /// Holds a place for the entry that is live in it.

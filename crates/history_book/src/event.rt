@@ -1,8 +1,9 @@
 //! The events of the tracker: each is one change of the table.
 
 use crate::record::Record;
+use expect_table::expectation::Expectation;
 use proto_rules::Part;
-use tuple_core::{Direction, Segment};
+use tuple_core::{Direction, Segment, Tuple};
 
 /// Why an entry was destroyed.
 #[derive(Clone, Copy)]
@@ -39,10 +40,29 @@ pub enum Event {
         moment: u64,
         after: Part,
     },
-    /// The end of an entry.
+    /// The end of an entry, and of what was expected for it.
     Destroy {
         id: u64,
         why: Why,
+    },
+    /// A connection is expected from then on, at a moment in microseconds; `replaced` is the older
+    /// expectation of the same master, which ends with that.
+    Expect {
+        expectation: Expectation,
+        replaced: Option<u64>,
+        moment: u64,
+    },
+    /// A packet with this tuple met an expectation of this master at a moment, which ends it.
+    Claim {
+        expectation: u64,
+        master: u64,
+        tuple: Tuple,
+        moment: u64,
+    },
+    /// The end of an expectation whose deadline was at most the moment.
+    Unexpect {
+        expectation: u64,
+        moment: u64,
     },
 }
 

@@ -2,22 +2,29 @@
 //! nothing but cite the laws of protocols that it follows from.
 
 ghost use Rattle.history_book.specs.Laws.{LegalHistoriesGoOn, StatesFollow, FirstEventsStay};
-ghost use Rattle.history_book.specs.Laws.{EventsStay, StatesStay, RecordsAreApart};
+ghost use Rattle.history_book.specs.Laws.{EventsMayHappen, EventsStay, StatesStay, RecordsAreApart};
 ghost use Rattle.history_book.specs.Laws.{LiveRecordsAreConfirmed, DestroyedIdsStayDead};
 ghost use Rattle.history_book.specs.Laws.{RecordsAreOfOneProtocol};
 ghost use Rattle.history_book.specs.Laws.{EntriesKeepTheirProtocol, FoundAreFoundAgain};
 ghost use Rattle.history_book.specs.Laws.{FoundKeepTheirProtocol, LateEntriesAreNew};
+ghost use Rattle.history_book.specs.Laws.{EntriesKeepTheirHelper, ExpectationsAreInOrder, MastersHaveTheHelper};
 ghost use Rattle.history_book.specs.StateLaws.{SameTupleIsEquality};
 ghost use Rattle.history_book.specs.StateLaws.{AbsentTuplesAreNobodys, FreeIsAbsent};
 ghost use Rattle.history_book.specs.StateLaws.{IdsNameRecords, TouchesChangeOne};
 ghost use Rattle.history_book.specs.StateLaws.{DestroysTakeOne, DestroysFree};
 ghost use Rattle.history_book.specs.StateLaws.{LiveRecordsHaveTheProtocol};
 
+use expect_table::laws::{adding_keeps_order, removing_keeps_order};
 use proto_rules::laws::{accepted_go_on, same_part_is_equality};
 
 /// A legal history goes on with any event that may happen in the state that it leaves.
 pub fn legal_histories_go_on()
     ensures { LegalHistoriesGoOn }
+{}
+
+/// Each event of a legal history may happen in the state that those before it leave.
+pub fn events_may_happen()
+    ensures { EventsMayHappen }
 {}
 
 /// The state after one event more follows from the state before.
@@ -93,6 +100,25 @@ pub fn found_keep_their_protocol()
     accepted_go_on();
     same_part_is_equality();
 }
+
+/// In every state of a legal history the master of each expectation is live and has the helper.
+pub fn masters_have_the_helper()
+    ensures { MastersHaveTheHelper }
+{}
+
+/// In every state of a legal history the ids of the expectations rise, no master has two, and each was an
+/// event before the point.
+pub fn expectations_are_in_order()
+    ensures { ExpectationsAreInOrder }
+{
+    adding_keeps_order();
+    removing_keeps_order();
+}
+
+/// A live record has the helper exactly where the Confirm that made it gave it the helper.
+pub fn entries_keep_their_helper()
+    ensures { EntriesKeepTheirHelper }
+{}
 
 /// The test of two tuples says exactly whether they are equal.
 pub fn same_tuple_is_equality()

@@ -1,19 +1,26 @@
 //! Which events may happen: the plain programs of the definitions.
 
-ghost use Rattle.std.specs.Prelude.{◌≡◌, ◌≤◌, ◌^◌, Some, true};
+ghost use Rattle.std.specs.Prelude.{◌≡◌, ◌≤◌, ◌^◌, Some, true, find};
 ghost use Rattle.std.specs.List.{list_any};
-ghost use Rattle.history_book.specs.Legality.{is_of_one_protocol, is_reason, is_reopen, is_reset};
-ghost use Rattle.history_book.specs.Legality.{may_confirm, may_happen, may_touch, reason_moment_of};
+ghost use Rattle.expect_table.specs.Expectations.{matching};
+ghost use Rattle.expect_table.specs.Match.{has_id};
+ghost use Rattle.history_book.specs.DeskExpectations.{expectation_at};
+ghost use Rattle.history_book.specs.Legality.{expected_for, has_helper, is_added, is_of_one_protocol};
+ghost use Rattle.history_book.specs.Legality.{is_reason, is_reopen, is_reset, same_id};
+ghost use Rattle.history_book.specs.Legality.{may_claim, may_confirm, may_expect, may_happen, may_touch};
+ghost use Rattle.history_book.specs.Legality.{may_unexpect, reason_moment_of};
 ghost use Rattle.history_book.specs.Legality.{step_moment_of};
 ghost use Rattle.proto_rules.specs.Protocol.{is_of_protocol};
 ghost use Rattle.proto_rules.specs.Step.{step_of};
 ghost use Rattle.history_book.specs.Record.{has_place, has_tuple};
-ghost use Rattle.history_book.specs.State.{state_of};
+ghost use Rattle.history_book.specs.State.{record_of, state_of};
 
 use crate::event::{Event, Why};
 use crate::find::find_id;
 use crate::record::Record;
 use crate::sizes::Sizes;
+use expect_table::expectation::{Expectation, Want};
+use expect_table::table::{AddOutcome, first_match, first_with, outcome_of};
 use proto_rules::{Outcome, Part, is_of_protocol, is_same_part, proto_of, step};
 use tuple_core::{Direction, Segment, Tuple, is_valid};
 
@@ -136,11 +143,106 @@ pub fn is_reason_for(why: &Why, r: &Record) -> bool
     }
 }
 
-/// Whether `event` may happen as event `number`, beside these records, in a tracker of these
+/// How long a connection is expected, in microseconds.
+pub const EXPECTED_FOR: u64 = 300_000_000;
+
+/// What an entry expects from a moment on, as event `number`.
+pub fn expectation_at(number: u64, master: u64, want: Want, moment: u64) -> Expectation
+    requires { moment ≤ 10 ^ 16 }
+    ensures { result ≡ expectation_at number master want moment }
+{
+    Expectation {
+        id: number,
+        master,
+        want,
+        deadline: moment + EXPECTED_FOR,
+    }
+}
+
+/// Whether the entry of this id is live and has the helper.
+fn is_helped(records: &[Record], id: u64) -> bool
+    ensures { result ≡ has_helper (record_of id (state_of records.now)) }
+{
+    match find_id(records, id) {
+        Some(index) => records[index].helper,
+        None => false,
+    }
+}
+
+/// Whether both are none, or both are one id.
+fn is_same_id(a: Option<u64>, b: Option<u64>) -> bool
+    ensures { result ≡ same_id a b }
+{
+    match (a, b) {
+        (None, None) => true,
+        (Some(m), Some(n)) => m == n,
+        (None, Some(_)) | (Some(_), None) => false,
+    }
+}
+
+/// Whether an expectation is added, in place of this older one.
+fn is_added(outcome: AddOutcome, older: Option<u64>) -> bool
+    ensures { result ≡ is_added outcome older }
+{
+    match outcome {
+        AddOutcome::Added { replaced } => is_same_id(replaced, older),
+        AddOutcome::Clash { .. } | AddOutcome::Full => false,
+    }
+}
+
+/// Whether this may be expected as event `number`, beside these records and expectations, in a tracker of these
 /// sizes.
-pub fn is_lawful(sizes: &Sizes, records: &[Record], number: u64, event: &Event) -> bool
+fn is_expectable(
+    sizes: &Sizes,
+    records: &[Record],
+    expects: &[Expectation],
+    number: u64,
+    e: &Expectation,
+    replaced: Option<u64>,
+    moment: u64,
+) -> bool
+    requires { moment ≤ 10 ^ 16 }
+    ensures { result ≡ may_expect sizes.now (record { records = records.now; expects = expects.now })
+        number e.now replaced moment }
+{
+    e.id == number
+        && e.deadline == moment + EXPECTED_FOR
+        && is_helped(records, e.master)
+        && is_added(outcome_of(expects, sizes.expectations, e, moment), replaced)
+}
+
+/// Whether the expectation of this id is the first that matches, and of this master.
+fn is_claimable(expects: &[Expectation], t: &Tuple, moment: u64, id: u64, master: u64) -> bool
+    ensures { result ≡ may_claim (matching t.now moment expects.now) id master }
+{
+    match first_match(expects, t, moment) {
+        Some(e) => e.id == id && e.master == master,
+        None => false,
+    }
+}
+
+/// Whether there is an expectation of this id that is due no longer.
+fn is_overdue(expects: &[Expectation], id: u64, moment: u64) -> bool
+    ensures { result ≡ may_unexpect (find (has_id id) expects.now) moment }
+{
+    match first_with(expects, id) {
+        Some(e) => moment >= e.deadline,
+        None => false,
+    }
+}
+
+/// Whether `event` may happen as event `number`, beside these records and expectations, in a tracker of these
+/// sizes.
+pub fn is_lawful(
+    sizes: &Sizes,
+    records: &[Record],
+    expects: &[Expectation],
+    number: u64,
+    event: &Event,
+) -> bool
     requires { step_moment_of event.now ≤ 10 ^ 16 }
-    ensures { result ≡ may_happen sizes.now (state_of records.now) number event.now }
+    ensures { result ≡ may_happen sizes.now (record { records = records.now; expects = expects.now })
+        number event.now }
 {
     match event {
         Event::Confirm { subject } => is_confirmable(sizes, records, number, subject),
@@ -158,5 +260,28 @@ pub fn is_lawful(sizes: &Sizes, records: &[Record], number: u64, event: &Event) 
             Some(index) => is_reason_for(why, &records[index]),
             None => false,
         },
+        Event::Expect {
+            expectation,
+            replaced,
+            moment,
+        } => is_expectable(
+            sizes,
+            records,
+            expects,
+            number,
+            expectation,
+            *replaced,
+            *moment,
+        ),
+        Event::Claim {
+            expectation,
+            master,
+            tuple,
+            moment,
+        } => is_claimable(expects, tuple, *moment, *expectation, *master),
+        Event::Unexpect {
+            expectation,
+            moment,
+        } => is_overdue(expects, *expectation, *moment),
     }
 }

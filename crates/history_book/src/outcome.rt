@@ -109,3 +109,42 @@ pub enum ReleaseOutcome {
     /// This was the last reference: the place is owed, and to be recycled.
     Last,
 }
+
+/// What became of a connection that an entry was to expect.
+#[derive(Clone, Copy)]
+pub enum ExpectOutcome {
+    /// It is expected, and this is its id. It takes the place of the older one of that entry, where it had one.
+    Expected { id: u64, replaced: Option<u64> },
+    /// The entry was no longer live.
+    MasterGone { at: u64 },
+    /// Another entry expected it already: this is the first such expectation.
+    Clash { id: u64, at: u64 },
+    /// The entry had none to replace, and there was no room for another.
+    ExpectFull { at: u64 },
+}
+
+/// Whether a packet was expected.
+#[derive(Clone, Copy)]
+pub enum ClaimOutcome {
+    /// It met this expectation of this entry, the first that it matched, by the event of this number.
+    Claimed {
+        number: u64,
+        expectation: u64,
+        master: u64,
+    },
+    /// It matched none.
+    Unclaimed {
+        at: u64,
+    },
+}
+
+/// What became of an expectation that was to end.
+#[derive(Clone, Copy)]
+pub enum UnexpectOutcome {
+    /// It ended, by the event of this number.
+    Removed { number: u64 },
+    /// There was none of that id.
+    Gone { at: u64 },
+    /// It was still due at the moment.
+    Not { deadline: u64, at: u64 },
+}

@@ -2,6 +2,7 @@
 
 use crate::event::{Note, Numbered};
 use crate::verdict::Verdict;
+use expect_table::expectation::Expectation;
 use room_list::RoomList;
 
 /// The events of the one history, in order of their numbers.
@@ -12,6 +13,9 @@ pub type Notes = RoomList<Note>;
 
 /// The verdicts on the packets of one thread, in order.
 pub type Verdicts = RoomList<Verdict>;
+
+/// Expectations, in order of id.
+pub type Expectations = RoomList<Expectation>;
 
 /// The verdicts of each thread.
 pub type ThreadVerdicts = RoomList<Verdicts>;

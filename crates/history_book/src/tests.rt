@@ -1,11 +1,13 @@
-//! Worked flows: a query of UDP with its answer, and connections that are reset and reopened.
+//! Worked flows: a query of UDP with its answer, connections that are reset and reopened, and what a control
+//! connection of FTP expects.
 
 use crate::event::{Event, Why};
 use crate::find::{FoundAt, find, find_id, label};
-use crate::legality::is_lawful;
+use crate::legality::{EXPECTED_FOR, expectation_at, is_lawful};
 use crate::record::Record;
 use crate::sizes::Sizes;
 use crate::verdict::Label;
+use expect_table::expectation::{Expectation, Want};
 use proto_rules::{Part, PartKind, TcpState};
 use tuple_core::{Direction, Kind, Proto, Segment, Tuple};
 
@@ -163,6 +165,7 @@ fn is_confirmed(entries: u32, records: &[Record], number: u64, subject: Record) 
     is_lawful(
         &sizes(entries),
         records,
+        &[],
         number,
         &Event::Confirm { subject },
     )
@@ -177,7 +180,7 @@ fn is_answered(entry: &Record, segment: Segment, moment: u32, after: Part) -> bo
         moment: moment as u64,
         after,
     };
-    is_lawful(&sizes(1), &[*entry], 1, &touch)
+    is_lawful(&sizes(1), &[*entry], &[], 1, &touch)
 }
 
 /// Whether the entry may be destroyed as expired.
@@ -185,7 +188,7 @@ fn is_expired(entry: &Record, moment: u32) -> bool {
     let why = Why::Expired {
         moment: moment as u64,
     };
-    is_lawful(&sizes(1), &[*entry], 1, &Event::Destroy { id: 0, why })
+    is_lawful(&sizes(1), &[*entry], &[], 1, &Event::Destroy { id: 0, why })
 }
 
 /// Whether the entry may be destroyed as reopened by such a packet.
@@ -195,7 +198,7 @@ fn is_reopened(entry: &Record, direction: Direction, segment: Segment, moment: u
         segment,
         moment: moment as u64,
     };
-    is_lawful(&sizes(1), &[*entry], 1, &Event::Destroy { id: 0, why })
+    is_lawful(&sizes(1), &[*entry], &[], 1, &Event::Destroy { id: 0, why })
 }
 
 /// Whether the entry may be destroyed as reset by such a packet.
@@ -204,7 +207,7 @@ fn is_reset(entry: &Record, segment: Segment, moment: u32) -> bool {
         segment,
         moment: moment as u64,
     };
-    is_lawful(&sizes(1), &[*entry], 1, &Event::Destroy { id: 0, why })
+    is_lawful(&sizes(1), &[*entry], &[], 1, &Event::Destroy { id: 0, why })
 }
 
 #[test]
@@ -260,7 +263,7 @@ fn lawful_touches(rt: HostRuntime) {
         moment: 1_000_500_000,
         after: ANSWERED,
     };
-    assert!(rt; !is_lawful(&sizes(1), &[], 1, &touch));
+    assert!(rt; !is_lawful(&sizes(1), &[], &[], 1, &touch));
 }
 
 #[test]
@@ -314,4 +317,218 @@ fn destroyed_as_reset(rt: HostRuntime) {
     assert!(rt; !is_reset(&received, rst, 50_000_000));
     let closed = connection(TcpState::TimeWait, true);
     assert!(rt; !is_reset(&closed, syn, 50_000_000));
+}
+
+/// The entry of a control connection of FTP, with this id and the helper.
+fn control(id: u32) -> Record {
+    Record {
+        id: id as u64,
+        place: id,
+        helper: true,
+        ..connection(TcpState::Established, true)
+    }
+}
+
+/// From 10.0.0.2:20 to 10.0.0.1:40001: a data connection in active mode.
+const DATA: Tuple = Tuple {
+    proto: Proto::Tcp,
+    src: 0x0a00_0002,
+    dst: 0x0a00_0001,
+    a: 20,
+    b: 40001,
+};
+
+/// What expects that data connection.
+const WANT: Want = Want {
+    src: 0x0a00_0002,
+    dst: 0x0a00_0001,
+    port: 40001,
+};
+
+/// What entry 0 expects from 2 s on, as event 4, and entry 1 from 3 s on, as event 6.
+const FIRST: Expectation = Expectation {
+    id: 4,
+    master: 0,
+    want: WANT,
+    deadline: 302_000_000,
+};
+
+const SECOND: Expectation = Expectation {
+    id: 6,
+    master: 1,
+    want: WANT,
+    deadline: 303_000_000,
+};
+
+/// Whether this may be expected as event 9 at 10 s, beside these, where entries 0 and 1 have the helper, entry 2
+/// has not, and there is room for two expectations.
+fn is_expected(expects: &[Expectation], expectation: Expectation, replaced: Option<u64>) -> bool {
+    let plain = Record {
+        helper: false,
+        ..control(2)
+    };
+    let roomy = Sizes {
+        expectations: 2,
+        ..sizes(4)
+    };
+    let expect = Event::Expect {
+        expectation,
+        replaced,
+        moment: 10_000_000,
+    };
+    is_lawful(
+        &roomy,
+        &[control(0), control(1), plain],
+        expects,
+        9,
+        &expect,
+    )
+}
+
+/// What this entry expects from 10 s on, as event 9.
+fn wanted_by(master: u64) -> Expectation {
+    expectation_at(9, master, WANT, 10_000_000)
+}
+
+/// Whether a packet of the data connection may meet this expectation of this entry, where there are two.
+fn is_claimed(expectation: u64, master: u64, moment: u64) -> bool {
+    let claim = Event::Claim {
+        expectation,
+        master,
+        tuple: DATA,
+        moment,
+    };
+    is_lawful(&sizes(2), &[], &[FIRST, SECOND], 9, &claim)
+}
+
+/// Whether the expectation of this id may end unmet, where there are two.
+fn is_unexpected(expectation: u64, moment: u64) -> bool {
+    let unexpect = Event::Unexpect {
+        expectation,
+        moment,
+    };
+    is_lawful(&sizes(2), &[], &[FIRST, SECOND], 9, &unexpect)
+}
+
+#[test]
+fn expected_for_300_seconds(rt: HostRuntime) {
+    assert_eq!(rt; wanted_by(0).deadline, 310_000_000);
+    assert_eq!(rt; EXPECTED_FOR, 300_000_000);
+    assert!(rt; is_expected(&[], wanted_by(0), None));
+    for deadline in [309_999_999, 310_000_001, 10_000_000] {
+        let other = Expectation {
+            deadline,
+            ..wanted_by(0)
+        };
+        assert!(rt; !is_expected(&[], other, None));
+    }
+}
+
+#[test]
+fn expected_under_the_number_of_its_event(rt: HostRuntime) {
+    for id in [8, 10] {
+        let other = Expectation { id, ..wanted_by(0) };
+        assert!(rt; !is_expected(&[], other, None));
+    }
+}
+
+#[test]
+fn only_the_helper_expects(rt: HostRuntime) {
+    assert!(rt; is_expected(&[], wanted_by(1), None));
+    assert!(rt; !is_expected(&[], wanted_by(2), None));
+    assert!(rt; !is_expected(&[], wanted_by(3), None));
+}
+
+#[test]
+fn older_expectation_is_replaced(rt: HostRuntime) {
+    assert!(rt; is_expected(&[FIRST], wanted_by(0), Some(4)));
+    assert!(rt; !is_expected(&[FIRST], wanted_by(0), Some(6)));
+    assert!(rt; !is_expected(&[FIRST], wanted_by(0), None));
+    assert!(rt; !is_expected(&[], wanted_by(0), Some(4)));
+}
+
+#[test]
+fn clash_with_another_master(rt: HostRuntime) {
+    assert!(rt; !is_expected(&[FIRST], wanted_by(1), None));
+    let due = Expectation {
+        deadline: 10_000_001,
+        ..FIRST
+    };
+    assert!(rt; !is_expected(&[due], wanted_by(1), None));
+    let passed = Expectation {
+        deadline: 10_000_000,
+        ..FIRST
+    };
+    assert!(rt; is_expected(&[passed], wanted_by(1), None));
+    let elsewhere = Expectation {
+        want: Want {
+            port: 40002,
+            ..WANT
+        },
+        ..wanted_by(1)
+    };
+    assert!(rt; is_expected(&[FIRST], elsewhere, None));
+}
+
+#[test]
+fn full_list_takes_only_what_replaces(rt: HostRuntime) {
+    let elsewhere = Want {
+        port: 40002,
+        ..WANT
+    };
+    let held = |id: u64, master: u64| Expectation {
+        id,
+        master,
+        want: elsewhere,
+        deadline: 302_000_000,
+    };
+    assert!(rt; is_expected(&[held(4, 7)], wanted_by(0), None));
+    assert!(rt; !is_expected(&[held(4, 7), held(6, 1)], wanted_by(0), None));
+    assert!(rt; is_expected(&[held(4, 7), held(6, 1)], wanted_by(1), Some(6)));
+}
+
+#[test]
+fn first_match_is_claimed(rt: HostRuntime) {
+    assert!(rt; is_claimed(4, 0, 301_999_999));
+    assert!(rt; !is_claimed(6, 1, 301_999_999));
+    assert!(rt; !is_claimed(4, 1, 301_999_999));
+    assert!(rt; !is_claimed(5, 0, 301_999_999));
+}
+
+#[test]
+fn nothing_is_claimed_at_its_deadline(rt: HostRuntime) {
+    assert!(rt; !is_claimed(4, 0, 302_000_000));
+    assert!(rt; is_claimed(6, 1, 302_000_000));
+    assert!(rt; !is_claimed(6, 1, 303_000_000));
+}
+
+#[test]
+fn other_packets_claim_nothing(rt: HostRuntime) {
+    let other_port = Tuple { b: 40002, ..DATA };
+    let datagram = Tuple {
+        proto: Proto::Udp,
+        ..DATA
+    };
+    let any_source = Tuple { a: 21, ..DATA };
+    for (tuple, is_met) in [(other_port, false), (datagram, false), (any_source, true)] {
+        let claim = Event::Claim {
+            expectation: 4,
+            master: 0,
+            tuple,
+            moment: 2_000_000,
+        };
+        assert_eq!(rt;
+            is_lawful(&sizes(2), &[], &[FIRST, SECOND], 9, &claim),
+            is_met
+        );
+    }
+}
+
+#[test]
+fn unexpected_from_its_deadline_on(rt: HostRuntime) {
+    assert!(rt; !is_unexpected(4, 301_999_999));
+    assert!(rt; is_unexpected(4, 302_000_000));
+    assert!(rt; !is_unexpected(6, 302_999_999));
+    assert!(rt; is_unexpected(6, 303_000_000));
+    assert!(rt; !is_unexpected(5, 400_000_000));
 }

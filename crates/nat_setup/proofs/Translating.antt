@@ -101,7 +101,7 @@ first_allowed rule t choice number false is first =
 -- the first number was free
 pub chooses_first : (rule : Rule) (t reply : Tuple) (old new : Sight) (choice : Choice) (number at : ℕ) (has : Bool)
     → IsChoice rule t choice → IsFirst rule t choice has number → reply ≡ reply_with rule t number
-    → Looked old new at (IsFree reply) → Chooses rule t old new reply None at
+    → Looked old new at (IsFree reply) → Chooses rule t old new reply None
 chooses_first rule t reply old new choice number at has is first gives looked = record {
   lawful = record {
     number = number;
@@ -110,8 +110,7 @@ chooses_first rule t reply old new choice number at has is first gives looked = 
     own = first_gives_up_nothing rule t choice number has is first;
   };
   tried = tt;
-  low = looked.low;
-  free = looked.fact;
+  free = record { point = at; low = looked.low; high = looked.fact.within; fact = looked.fact };
 }
 
 found_allowed : (rule : Rule) (t : Tuple) (choice : Choice) (number : ℕ) → IsChoice rule t choice
@@ -122,7 +121,7 @@ found_allowed rule t choice number is above below =
 -- another number was free, and the rule does not allow the own one
 pub chooses_free : (rule : Rule) (t : Tuple) (old mid new : Sight) (choice : Choice) (tried from : ℕ) (reply : Tuple) (at : ℕ)
     (has : Bool) → IsChoice rule t choice → IsFirst rule t choice has tried → has ≡ false
-    → Saw old mid → FindsFree rule t (others_of choice tried from) mid new reply at → Chooses rule t old new reply None at
+    → Saw old mid → FindsFree rule t (others_of choice tried from) mid new reply at → Chooses rule t old new reply None
 chooses_free rule t old mid new choice tried from reply at has is first lacks saw finds = record {
   lawful = record {
     number = finds.number;
@@ -131,8 +130,12 @@ chooses_free rule t old mid new choice tried from reply at has is first lacks sa
     own = lacking_gives_up_nothing rule t choice finds.number is (sym first.has_own ∙ lacks);
   };
   tried = tt;
-  low = omega (arith, finds.later, starts_longer mid.front old.front saw.front);
-  free = finds.free;
+  free = record {
+    point = at;
+    low = omega (arith, finds.later, starts_longer mid.front old.front saw.front);
+    high = finds.free.within;
+    fact = finds.free;
+  };
 }
 
 module _ (stay : StatesStay) where
@@ -140,7 +143,7 @@ module _ (stay : StatesStay) where
   pub chooses_other : (rule : Rule) (t taken : Tuple) (old mid new : Sight) (choice : Choice) (tried from : ℕ) (reply : Tuple) (at : ℕ)
       (has : Bool) → IsChoice rule t choice → IsFirst rule t choice has tried → has ≡ true → taken ≡ reply_with rule t tried
       → Looked old mid from (IsLive taken) → Saw mid new → FindsFree rule t (others_of choice tried from) mid new reply at
-      → Chooses rule t old new reply (Some from) at
+      → Chooses rule t old new reply (Some from)
   chooses_other rule t taken old mid new choice tried from reply at has is first own gives looked saw finds = record {
     lawful = record {
       number = finds.number;
@@ -153,9 +156,13 @@ module _ (stay : StatesStay) where
             (subst (λ u. At mid.front from (IsLive u)) (gives ∙ ap (reply_with rule t) (first.own own)) looked.fact),
       );
     };
-    tried = (looked.low, omega (arith, looked.fact.within, finds.later));
-    low = omega (arith, finds.later, starts_longer mid.front old.front looked.saw.front);
-    free = finds.free;
+    tried = (looked.low, omega (arith, looked.fact.within, starts_longer new.front mid.front saw.front));
+    free = record {
+      point = at;
+      low = omega (arith, looked.fact.within, finds.later);
+      high = finds.free.within;
+      fact = finds.free;
+    };
   }
 
   -- no number was free

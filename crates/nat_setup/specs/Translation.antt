@@ -1,5 +1,5 @@
 -- Which translations are lawful, and what translating a flow answers.
-use Rattle.std.specs.Prelude.{◌≡◌, ℕ, ◌≤◌, Bool, true, false, ◌==◌, ◌||◌, not, Option, Some, None, is_some, List, length}
+use Rattle.std.specs.Prelude.{◌≡◌, ℕ, ◌≤◌, Bool, true, false, ◌==◌, ◌||◌, not, Option, Some, None, is_some, List, length, unwrap_or}
 use Rattle.tuple_core.specs.Tuple.{is_valid}
 use Rattle.tuple_core.specs.declared.Tuple.{Tuple}
 use Rattle.history_book.specs.declared.event.Event.{Event}
@@ -49,12 +49,11 @@ abbrev pub IsBetween : ℕ → ℕ → Option ℕ → Type 0
 IsBetween from to None = Unit {0}
 IsBetween from to (Some p) = (from ≤ p) × (p ≤ to)
 
--- a lawful reply tuple, that was free at this point, and not before the own number was taken
-pub record Chooses (rule : Rule) (t : Tuple) (old new : Sight) (reply : Tuple) (kept_taken_at : Option ℕ) (free_at : ℕ) : Type 0 where
+-- a lawful reply tuple, that was free at a point inside the call, and not before the own number was taken
+pub record Chooses (rule : Rule) (t : Tuple) (old new : Sight) (reply : Tuple) (kept_taken_at : Option ℕ) : Type 0 where
   pub lawful : IsTranslation new.front rule t reply kept_taken_at
-  pub tried : IsBetween (length old.front) free_at kept_taken_at
-  pub low : length old.front ≤ free_at
-  pub free : At new.front free_at (IsFree reply)
+  pub tried : IsBetween (length old.front) (length new.front) kept_taken_at
+  pub free : Between new.front (unwrap_or kept_taken_at (length old.front)) (length new.front) (IsFree reply)
 
 -- each number that the rule allows was taken at a point between these two
 abbrev pub AreAllTaken : List Event → Rule → Tuple → ℕ → ℕ → Type 0
@@ -71,14 +70,14 @@ pub record FindsNoPort (rule : Rule) (t : Tuple) (old new : Sight) (from to : �
 -- the answer for a flow, of which the rule, where there is one, is the first that is for it
 abbrev pub TranslateSays : Option Rule → Tuple → Sight → Sight → TranslateOutcome → Type 0
 TranslateSays None t old new Plain = Unit {0}
-TranslateSays None t old new (Chosen reply kept_taken_at free_at) = ⊥
+TranslateSays None t old new (Chosen reply kept_taken_at) = ⊥
 TranslateSays None t old new (NoPort from to) = ⊥
 TranslateSays (Some rule) t old new Plain = ⊥
-TranslateSays (Some rule) t old new (Chosen reply kept_taken_at free_at) = Chooses rule t old new reply kept_taken_at free_at
+TranslateSays (Some rule) t old new (Chosen reply kept_taken_at) = Chooses rule t old new reply kept_taken_at
 TranslateSays (Some rule) t old new (NoPort from to) = FindsNoPort rule t old new from to
 
 -- a reply tuple that is chosen is valid, and of the flow's protocol
 abbrev pub IsValidFor : Tuple → TranslateOutcome → Type 0
 IsValidFor t Plain = Unit {0}
-IsValidFor t (Chosen reply kept_taken_at free_at) = (is_valid reply ≡ true) × (reply.proto ≡ t.proto)
+IsValidFor t (Chosen reply kept_taken_at) = (is_valid reply ≡ true) × (reply.proto ≡ t.proto)
 IsValidFor t (NoPort from to) = Unit {0}

@@ -23,13 +23,12 @@ use tuple_core::{Tuple, bucket_of};
 pub enum TranslateOutcome {
     /// No rule is for the flow.
     Plain,
-    /// The first rule that is for the flow allows this reply tuple, and nothing was live under it at the
-    /// point `free_at`. `kept_taken_at` is the point at which the flow's own number was taken; none where
-    /// the flow keeps it, or the rule does not allow it.
+    /// The first rule that is for the flow allows this reply tuple, and nothing was live under it at a
+    /// point inside the call. `kept_taken_at` is the point at which the flow's own number was taken; none
+    /// where the flow keeps it, or the rule does not allow it.
     Chosen {
         reply: Tuple,
         kept_taken_at: Option<u64>,
-        free_at: u64,
     },
     /// Each number that the rule allows was taken at a point between these two.
     NoPort {
@@ -129,16 +128,14 @@ fn translate_by<R: Wait, D: Desk>(rt: &R, desk: &mut D, rule: &Rule, t: &Tuple) 
     let tried = first_number(&choice, t, own, has_own);
     let reply = reply_with(rule, t, tried);
     match look(rt, desk, &reply) {
-        Probe::Free { at } => TranslateOutcome::Chosen {
+        Probe::Free { .. } => TranslateOutcome::Chosen {
             reply,
             kept_taken_at: None,
-            free_at: at,
         },
         Probe::Taken { at } => match search_choice(rt, desk, rule, t, &choice, tried, at) {
-            Search::Found { reply, at: free_at } => TranslateOutcome::Chosen {
+            Search::Found { reply, .. } => TranslateOutcome::Chosen {
                 reply,
                 kept_taken_at: if has_own { Some(at) } else { None },
-                free_at,
             },
             Search::AllTaken { to } => TranslateOutcome::NoPort { from: at, to },
         },

@@ -1,9 +1,9 @@
 -- What is said of a packet that would begin a flow.
-use Rattle.std.proofs.Common.{◌≡◌, ℕ, ◌+◌, ◌≤◌, Bool, true, false, cond, List, [], ◌∷◌, length, Option, Some, None, refl, sym, ap, subst, ◌∙◌, ◌⊎◌, inl, inr, ⊎_elim, arith}
+use Rattle.std.proofs.Common.{◌≡◌, ℕ, ◌+◌, ◌≤◌, Bool, true, false, cond, List, [], ◌∷◌, ◌++◌, length, Option, Some, None, refl, sym, ap, subst, ◌∙◌, ◌⊎◌, inl, inr, ⊎_elim, arith, append_assoc, length-append}
 use Rattle.std.specs.List.{AllByRecursion}
-use Rattle.std.specs.Prelude.{◌&&◌, IsSome, unwrap_or}
+use Rattle.std.specs.Prelude.{◌&&◌, IsSome, option_to_list, unwrap_or}
 use Rattle.tuple_core.specs.Inverse.{inverse}
-use Rattle.std.proofs.lemmas.Bool.{true≢false}
+use Rattle.std.proofs.lemmas.Bool.{and_parts, eqb-true, true≢false}
 use Rattle.std.proofs.Math.Bool.{and_assoc}
 use Rattle.tuple_core.specs.declared.Direction.{Direction}
 use Rattle.tuple_core.specs.declared.Proto.TheVariants as proto
@@ -12,7 +12,11 @@ use Rattle.proto_rules.specs.declared.Part.{Part}
 use Rattle.proto_rules.specs.Start.{start_of}
 use Rattle.history_book.specs.declared.event.Event.TheVariants.{Confirm}
 use Rattle.history_book.specs.declared.event.Note.{Note}
+use Rattle.history_book.specs.declared.outcome.ClaimOutcome.{ClaimOutcome}
 use Rattle.history_book.specs.declared.record.Flow.{Flow}
+use Rattle.history_book.specs.declared.record.Record.{Record}
+use Rattle.history_book.specs.declared.verdict.Class.{Class}
+use Rattle.tuple_core.specs.Tuple.{number_of}
 use Rattle.history_book.specs.declared.verdict.Class.TheVariants as class
 use Rattle.history_book.specs.declared.verdict.Translated.{Translated}
 use Rattle.history_book.specs.declared.verdict.Translated.TheVariants.{Plain, Chosen}
@@ -24,7 +28,9 @@ use Rattle.nat_setup.specs.Translation.{IsBetween, TranslateSays}
 use Rattle.packet_path.specs.declared.begin.NewReply.{NewReply}
 use Rattle.packet_path.specs.declared.setup.Setup.{Setup}
 use Rattle.packet_path.specs.Begun.{rule_for, WasTranslated, WouldBegin}
-use Rattle.packet_path.specs.Verdict.{translated_points}
+use Rattle.packet_path.specs.Made.{is_helped}
+use Rattle.packet_path.specs.Packet.{Given}
+use Rattle.packet_path.specs.Verdict.{AnswersFlow, FitsFrame, points_of, translated_points}
 use Rattle.history_book.specs.Desk.{Confirms, FindsFull, IsWinner, Looked, MadeEvent, Saw}
 use Rattle.history_book.specs.Entry.{record_for}
 use Rattle.history_book.specs.History.{after, is_legal}
@@ -37,14 +43,22 @@ use Rattle.history_book.specs.Sight.{IsKnown, Sight}
 use Rattle.history_book.specs.State.{Found, State, first_found, live_under, winner}
 use Rattle.history_book.specs.StateLaws.{AbsentTuplesAreNobodys}
 use Rattle.packet_path.specs.declared.packet.FlowPacket.{FlowPacket}
-use Rattle.packet_path.specs.Internal.Attempt.{Answers, HoldsNothing, IsFoundFor}
+use Rattle.packet_path.specs.Internal.Attempt.{Answers, HoldsNothing, IsFoundFor, claimed_master, unclaimed_at}
 use Rattle.packet_path.specs.Winner.{IsNewWinner, MeetsWinner}
-use Rattle.packet_path.proofs.Growth.{at_grows, translated_grows}
-use Rattle.packet_path.proofs.Attempts.{absent_upto, flow_answer, points_more, saw_refl, silent, silent_answer, starts_longer, starts_refl}
+use Rattle.packet_path.proofs.Claims.{LookedFor}
+use Rattle.packet_path.proofs.Growth.{at_grows, claims_grows, translated_grows}
+use Rattle.packet_path.proofs.Attempts.{absent_upto, flow_answer, points_more, saw_refl, silent, silent_answer, starts_longer, starts_refl, starts_trans}
 
 -- the flow that a packet begins
-abbrev pub flow_of : FlowPacket → Part → Tuple → Flow
-flow_of packet part reply = record { original = packet.tuple; reply = reply; part = part; helper = false; master = None }
+abbrev pub flow_of : FlowPacket → Part → Tuple → Bool → Option ℕ → Flow
+flow_of packet part reply helper master =
+    record { original = packet.tuple; reply = reply; part = part; helper = helper; master = master }
+
+-- points that may be none, and others
+both_points : (m : ℕ) (o : Option ℕ) (ps : List ℕ) → AllByRecursion (λ p. p ≤ m) (option_to_list o) → AllByRecursion (λ p. p ≤ m) ps
+    → AllByRecursion (λ p. p ≤ m) (option_to_list o ++ ps)
+both_points m None ps h hs = hs
+both_points m (Some p) ps (h, rest) hs = (h, hs)
 
 -- a reply tuple that was found up to a point was so up to each later one
 found_later : (log : List Event) (rule : Option Rule) (t : Tuple) (from upto later : ℕ) (translated : Translated) (reply : Tuple)
@@ -105,15 +119,15 @@ module _ (states : StatesStay) (events : EventsStay) where
 
   -- from each mark up to the point at which nothing was live under its tuple, the packet would begin a flow
   would_begin : (setup : Setup) (longer log : List Event) (packet : FlowPacket) (k absent_at upto : ℕ) (found : NewReply)
-      → StartsWith longer log → k ≤ absent_at → found.at ≤ upto → IsSome (start_of packet.segment packet.moment)
+      → StartsWith longer log → k ≤ absent_at → length log ≤ upto → IsSome (start_of packet.segment packet.moment)
       → IsFoundFor setup packet log absent_at found
       → WouldBegin setup longer k packet found.translated found.reply upto
   unfolding absent_upto
   would_begin setup longer log packet k absent_at upto found starts low high begins is = record {
     starts = begins;
-    absent = absent_upto states events longer log k absent_at upto packet.tuple starts low (omega (arith, is.ordered, high)) is.absent;
-    found = found_later longer (rule_for setup packet.tuple) packet.tuple absent_at found.at upto found.translated found.reply high
-        (translated_grows events states longer log starts (rule_for setup packet.tuple) packet.tuple absent_at found.at found.translated
+    absent = absent_upto states events longer log k absent_at upto packet.tuple starts low (omega (arith, is.absent.within, high)) is.absent;
+    found = found_later longer (rule_for setup packet.tuple) packet.tuple absent_at (length log) upto found.translated found.reply high
+        (translated_grows events states longer log starts (rule_for setup packet.tuple) packet.tuple absent_at (length log) found.translated
         found.reply is.translation);
   }
 
@@ -122,58 +136,61 @@ module _ (states : StatesStay) (events : EventsStay) where
       → StartsWith longer log → IsFoundFor setup packet log absent_at found → IsFoundFor setup packet longer absent_at found
   still_found setup packet log longer absent_at found starts is = record {
     absent = at_grows states longer log absent_at (λ x. live_under packet.tuple x ≡ None) starts is.absent;
-    ordered = is.ordered;
-    within = omega (arith, is.within, starts_longer longer log starts);
-    translation = translated_grows events states longer log starts (rule_for setup packet.tuple) packet.tuple absent_at found.at
-        found.translated found.reply is.translation;
+    translation = found_later longer (rule_for setup packet.tuple) packet.tuple absent_at (length log) (length longer) found.translated
+        found.reply (starts_longer longer log starts)
+        (translated_grows events states longer log starts (rule_for setup packet.tuple) packet.tuple absent_at (length log)
+        found.translated found.reply is.translation);
   }
 
-  -- no rule is for the flow: its reply tuple is the inverse
+  -- no rule is seen the flow: its reply tuple is the inverse
   pub plain_found : (setup : Setup) (rule : Option Rule) (packet : FlowPacket) (old new : Sight) (absent_at : ℕ) (reply : Tuple)
       → rule_for setup packet.tuple ≡ rule → reply ≡ inverse packet.tuple
       → At old.front absent_at (λ x. live_under packet.tuple x ≡ None) → Saw old new
       → TranslateSays rule packet.tuple old new translate.Plain
-      → IsFoundFor setup packet new.front absent_at (record { reply = reply; translated = Plain; at = absent_at })
+      → IsFoundFor setup packet new.front absent_at (record { reply = reply; translated = Plain })
   plain_found setup None packet old new absent_at reply first same absent saw says =
       let grown = at_grows states new.front old.front absent_at (λ x. live_under packet.tuple x ≡ None) saw.front absent in
       record {
         absent = grown;
-        ordered = omega arith;
-        within = grown.within;
-        translation = subst (λ (o : Option Rule). WasTranslated new.front o packet.tuple absent_at absent_at Plain reply) (sym first) same;
+        translation = subst (λ (o : Option Rule). WasTranslated new.front o packet.tuple absent_at (length new.front) Plain reply) (sym first)
+            same;
       }
   plain_found setup (Some rule) packet old new absent_at reply first same absent saw says = absurd says
 
   -- the first rule for the flow chose its reply tuple
-  pub chosen_found : (setup : Setup) (rule : Option Rule) (packet : FlowPacket) (old new : Sight) (absent_at free_at : ℕ) (reply : Tuple)
+  pub chosen_found : (setup : Setup) (rule : Option Rule) (packet : FlowPacket) (old new : Sight) (absent_at : ℕ) (reply : Tuple)
       (taken_at : Option ℕ) → rule_for setup packet.tuple ≡ rule
       → At old.front absent_at (λ x. live_under packet.tuple x ≡ None) → Saw old new
-      → TranslateSays rule packet.tuple old new (translate.Chosen reply taken_at free_at)
-      → IsFoundFor setup packet new.front absent_at (record { reply = reply; translated = Chosen reply taken_at; at = free_at })
-  chosen_found setup None packet old new absent_at free_at reply taken_at first absent saw says = absurd says
-  chosen_found setup (Some rule) packet old new absent_at free_at reply taken_at first absent saw says =
+      → TranslateSays rule packet.tuple old new (translate.Chosen reply taken_at)
+      → IsFoundFor setup packet new.front absent_at (record { reply = reply; translated = Chosen reply taken_at })
+  chosen_found setup None packet old new absent_at reply taken_at first absent saw says = absurd says
+  chosen_found setup (Some rule) packet old new absent_at reply taken_at first absent saw says =
       record {
         absent = at_grows states new.front old.front absent_at (λ x. live_under packet.tuple x ≡ None) saw.front absent;
-        ordered = omega (arith, absent.within, says.low);
-        within = says.free.within;
-        translation = subst (λ (o : Option Rule). WasTranslated new.front o packet.tuple absent_at free_at (Chosen reply taken_at) reply)
+        translation = subst
+            (λ (o : Option Rule). WasTranslated new.front o packet.tuple absent_at (length new.front) (Chosen reply taken_at) reply)
             (sym first) (
               refl,
               record {
                 lawful = says.lawful;
                 tried = tried taken_at says.tried;
-                free = record { point = free_at; low = not_later taken_at says.tried; high = omega arith; fact = says.free };
+                free = record {
+                  point = says.free.point;
+                  low = not_before taken_at says.free.low;
+                  high = says.free.high;
+                  fact = says.free.fact;
+                };
               },
             );
       }
     where
-      tried : (p : Option ℕ) → IsBetween (length old.front) free_at p → absent_at ≤ unwrap_or p absent_at
+      tried : (p : Option ℕ) → IsBetween (length old.front) (length new.front) p → absent_at ≤ unwrap_or p absent_at
       tried None h = omega arith
       tried (Some p) h = omega (arith, absent.within, h.0)
 
-      not_later : (p : Option ℕ) → IsBetween (length old.front) free_at p → unwrap_or p absent_at ≤ free_at
-      not_later None h = omega (arith, absent.within, says.low)
-      not_later (Some p) h = h.1
+      not_before : (p : Option ℕ) → unwrap_or p (length old.front) ≤ says.free.point → unwrap_or p absent_at ≤ says.free.point
+      not_before None h = omega (arith, absent.within, h)
+      not_before (Some p) h = h
 
   pub full : (setup : Setup) (old new : Sight) (packet : FlowPacket) (found : NewReply) (n absent_at at : ℕ) → n ≤ 4
       → HoldsNothing old → IsFoundFor setup packet old.front absent_at found → IsSome (start_of packet.segment packet.moment)
@@ -187,50 +204,57 @@ module _ (states : StatesStay) (events : EventsStay) where
         translated = found.translated;
         reply = found.reply;
         begun = would_begin setup new.front old.front packet (mark_past mark kills) absent_at at found finds.looked.saw.front le
-            (omega (arith, is.within, finds.looked.low)) starts is;
+            finds.looked.low starts is;
         full = record {
           within = finds.looked.fact.within;
           fact = omega (arith, finds.looked.fact.fact, ap length empty.held, ap length empty.owed);
         };
       }))
 
-  -- a packet confirmed the entry of its flow
-  pub made_answer : (setup : Setup) (old new : Sight) (packet : FlowPacket) (part : Part) (found : NewReply) (n absent_at place id : ℕ)
-      → n ≤ 4 → start_of packet.segment packet.moment ≡ Some part → IsFoundFor setup packet old.front absent_at found
-      → Confirms place (flow_of packet part found.reply) old new id
-      → Answers setup old new packet n absent_at (class.Made id (id + 1) found.translated (Some found.at))
-  made_answer setup old new packet part found n absent_at place id few starts is confirms =
-      let made : MadeEvent old new id (Confirm (record_for (flow_of packet part found.reply) id place)) = confirms.made in
+  -- a packet confirmed the entry of its flow, after it was looked for among the expectations
+  pub made_answer : (setup : Setup) (old mid new : Sight) (packet : FlowPacket) (part : Part) (found : NewReply) (n absent_at place id : ℕ)
+      (answer : ClaimOutcome) → n ≤ 4 → start_of packet.segment packet.moment ≡ Some part
+      → IsFoundFor setup packet old.front absent_at found → LookedFor packet old mid answer
+      → Confirms place (flow_of packet part found.reply (is_helped setup found.reply) (claimed_master answer)) mid new id
+      → Answers setup old new packet n absent_at (class.Made id (id + 1) found.translated (unclaimed_at answer))
+  made_answer setup old mid new packet part found n absent_at place id answer few starts is looked confirms =
+      let subject : Record =
+      record_for (flow_of packet part found.reply (is_helped setup found.reply) (claimed_master answer)) id place in
+      let note : Note = record { number = id; event = Confirm subject } in
+      let made : MadeEvent mid new id (Confirm subject) = confirms.made in
+      let front : StartsWith new.front old.front = starts_trans new.front mid.front old.front made.front looked.front in
+      let longer : length old.front ≤ length mid.front = starts_longer mid.front old.front looked.front in
       record {
-        front = made.front;
-        sizes = made.sizes;
-        rest = record { number = id; event = Confirm (record_for (flow_of packet part found.reply) id place) } ∷ [];
-        own = made.own;
-        few = omega arith;
-        spare = omega (arith, made.spare);
+        front = front;
+        sizes = made.sizes ∙ looked.sizes;
+        rest = looked.claims ++ note ∷ [];
+        own = made.own ∙ ap (λ (l : List Note). l ++ note ∷ []) looked.own ∙ append_assoc old.own looked.claims (note ∷ []);
+        few = omega (arith, length-append looked.claims (note ∷ []), looked.few);
+        spare = omega (arith, length-append looked.claims (note ∷ []), made.spare, looked.spare);
         points = (
           omega (arith, made.high),
-          (
-            omega (arith, is.within, made.low, made.high),
-            points_more found.at (length new.front) (translated_points found.translated) (omega (arith, is.within, made.low, made.high))
-                (found_points old.front (rule_for setup packet.tuple) packet.tuple absent_at found.at found.translated found.reply
-                is.translation),
-          ),
+          both_points (length new.front) (unclaimed_at answer) (translated_points found.translated)
+              (points_more (length mid.front) (length new.front) (option_to_list (unclaimed_at answer))
+              (starts_longer new.front mid.front made.front) looked.points)
+              (points_more (length old.front) (length new.front) (translated_points found.translated)
+              (omega (arith, longer, made.low, made.high))
+              (found_points old.front (rule_for setup packet.tuple) packet.tuple absent_at (length old.front) found.translated found.reply
+              is.translation)),
         );
         fits = λ given mark kills flows count killed le.
-            flow_answer states events new.front old.front made.front mark given packet kills _ _ flows (omega (arith, count)) killed
+            flow_answer states events new.front old.front front mark given packet kills _ _ flows (omega (arith, count)) killed
             (record {
-              subject = record_for (flow_of packet part found.reply) id place;
+              subject = subject;
+              claims = looked.claims;
               own = refl;
-              happened = record { event = made.happened; later = omega (arith, le, is.absent.within, made.low) };
+              happened = record { event = made.happened; later = omega (arith, le, is.absent.within, longer, made.low) };
               named = refl;
               started = record { original = refl; part = starts; helper = refl };
-              alone = (
-                refl,
-                would_begin setup new.front old.front packet (mark_past mark kills) absent_at found.at found made.front le (omega arith)
-                    (subst (λ (o : Option Part). IsSome o) (sym starts) refl) is,
-                omega (arith, is.within, made.low),
-              );
+              found_at = (length old.front);
+              begun = would_begin setup new.front old.front packet (mark_past mark kills) absent_at (length old.front) found front le (omega arith)
+                  (subst (λ (o : Option Part). IsSome o) (sym starts) refl) is;
+              claimed = claims_grows events states new.front mid.front made.front packet looked.claims (unclaimed_at answer)
+                  (claimed_master answer) (length old.front) id (looked.expected (length old.front) id (omega arith) made.low);
               point = refl;
             });
       }
@@ -271,60 +295,109 @@ module _ (states : StatesStay) (events : EventsStay) where
   older m n Plain t found le h = λ has. omega (arith, le, h has)
   older m n (Chosen chosen taken_at) t found le h = omega (arith, le, h)
 
-  meets : AbsentTuplesAreNobodys → LateEntriesAreNew → (setup : Setup) (old new : Sight) (packet : FlowPacket) (part : Part)
-      (found : NewReply) (absent_at id at : ℕ) (d : Direction) (both merged : Bool) → IsKnown new
-      → start_of packet.segment packet.moment ≡ Some part → IsFoundFor setup packet old.front absent_at found
-      → Looked old new at (IsWinner (flow_of packet part found.reply) id d both)
+  -- a packet that was expected is of TCP, and is not merged
+  not_merged : (packet : FlowPacket) (both : Bool) (claims : List Note) → (claims ≡ []) ⊎ (same_proto packet.tuple.proto proto.Tcp ≡ true)
+      → (same_proto packet.tuple.proto proto.Udp && both) ≡ true → claims ≡ []
+  not_merged packet both claims connection merges =
+      ⊎_elim (λ none. none)
+      (λ tcp. absurd (omega (
+        arith,
+        eqb-true (number_of packet.tuple.proto) 6 tcp,
+        eqb-true (number_of packet.tuple.proto) 17 (and_parts (same_proto packet.tuple.proto proto.Udp) both merges).0,
+      )))
+      connection
+
+  meets : AbsentTuplesAreNobodys → LateEntriesAreNew → (setup : Setup) (old mid new : Sight) (packet : FlowPacket) (flow : Flow)
+      (found : NewReply) (answer : ClaimOutcome) (absent_at id at : ℕ) (d : Direction) (both merged : Bool) → IsKnown new
+      → IsSome (start_of packet.segment packet.moment) → IsFoundFor setup packet old.front absent_at found
+      → (seen : LookedFor packet old mid answer) → flow.original ≡ packet.tuple → flow.reply ≡ found.reply
+      → Looked mid new at (IsWinner flow id d both)
       → (same_proto packet.tuple.proto proto.Udp && both) ≡ merged
       → (mark : ℕ) (kills : List Note) → mark_past mark kills ≤ absent_at
-      → MeetsWinner setup new.front (mark_past mark kills) packet []
+      → MeetsWinner setup new.front (mark_past mark kills) packet seen.claims
       (record { id = id; at = at; translated = found.translated; merged = merged })
-  meets nobodys late setup old new packet part found absent_at id at d both merged known starts is looked merges mark kills le =
+  meets nobodys late setup old mid new packet flow found answer absent_at id at d both merged known begins is seen original reply looked merges mark
+      kills le =
       let w = looked.fact.fact in
-      let absent' = at_grows states new.front old.front absent_at (λ x. live_under packet.tuple x ≡ None) looked.saw.front is.absent in
-      let before : found.at ≤ at = omega (arith, is.within, looked.low) in
+      let front : StartsWith new.front old.front = starts_trans new.front mid.front old.front looked.saw.front seen.front in
+      let absent' = at_grows states new.front old.front absent_at (λ x. live_under packet.tuple x ≡ None) front is.absent in
+      let longer : length old.front ≤ length mid.front = starts_longer mid.front old.front seen.front in
+      let before : (length old.front) ≤ at = omega (arith, longer, looked.low) in
       let rule : Option Rule = rule_for setup packet.tuple in
+      let wins : winner packet.tuple found.reply (after new.front at) ≡ Some w.found =
+      ap (λ (t : Tuple). winner t found.reply (after new.front at)) (sym original)
+      ∙ ap (λ (u : Tuple). winner flow.original u (after new.front at)) (sym reply) ∙ w.wins in
+      let same : both ≡ (has_original packet.tuple w.found.subject && has_reply found.reply w.found.subject) =
+      w.same ∙ ap (λ (t : Tuple). has_original t w.found.subject && has_reply flow.reply w.found.subject) original
+      ∙ ap (λ (u : Tuple). has_original packet.tuple w.found.subject && has_reply u w.found.subject) reply in
       record {
-        own = refl;
         reply = found.reply;
-        begun = would_begin setup new.front old.front packet (mark_past mark kills) absent_at at found looked.saw.front le before
-            (subst (λ (o : Option Part). IsSome o) (sym starts) refl) is;
+        found_at = (length old.front);
+        begun = would_begin setup new.front old.front packet (mark_past mark kills) absent_at (length old.front) found front le (omega arith) begins is;
+        unclaimed = unclaimed_at answer;
+        master = claimed_master answer;
+        claimed = claims_grows events states new.front mid.front looked.saw.front packet seen.claims (unclaimed_at answer)
+            (claimed_master answer) (length old.front) at (seen.expected (length old.front) at (omega arith) looked.low);
+        silent = λ is_merged. not_merged packet both seen.claims seen.connection (merges ∙ is_merged);
         found = w.found;
-        live = record { within = looked.fact.within; fact = w.wins };
+        live = record { within = looked.fact.within; fact = wins };
         named = w.named;
         merge = and_assoc (same_proto packet.tuple.proto proto.Udp) (has_original packet.tuple w.found.subject)
             (has_reply found.reply w.found.subject)
-            ∙ ap (λ b. same_proto packet.tuple.proto proto.Udp && b) (sym w.same) ∙ merges;
+            ∙ ap (λ b. same_proto packet.tuple.proto proto.Udp && b) (sym same) ∙ merges;
         new = older (mark_past mark kills) absent_at found.translated packet.tuple w.found le
-            (new_winner nobodys late new.sizes new.front rule found.translated packet.tuple found.reply absent_at found.at at w.found known.legal
-            (omega (arith, is.ordered, before)) before absent'.fact w.wins
-            (translated_grows events states new.front old.front looked.saw.front rule packet.tuple absent_at found.at found.translated found.reply
+            (new_winner nobodys late new.sizes new.front rule found.translated packet.tuple found.reply absent_at (length old.front) at w.found known.legal
+            (omega (arith, is.absent.within, before)) before absent'.fact wins
+            (translated_grows events states new.front old.front front rule packet.tuple absent_at (length old.front) found.translated found.reply
             is.translation));
       }
 
-  winner_points : (setup : Setup) (old new : Sight) (packet : FlowPacket) (found : NewReply) (absent_at : ℕ)
-      → IsFoundFor setup packet old.front absent_at found → Saw old new
-      → AllByRecursion (λ p. p ≤ length new.front) (translated_points found.translated)
-  winner_points setup old new packet found absent_at is saw =
-      points_more found.at (length new.front) (translated_points found.translated)
-      (omega (arith, is.within, starts_longer new.front old.front saw.front))
-      (found_points old.front (rule_for setup packet.tuple) packet.tuple absent_at found.at found.translated found.reply is.translation)
+  -- a packet met a winner, and its class says just this
+  meets_answer : (setup : Setup) (old mid new : Sight) (packet : FlowPacket) (found : NewReply) (answer : ClaimOutcome) (n absent_at at : ℕ)
+      (k : Class) (P : FlowPacket → ℕ → ℕ → List Note → Type 0) → n ≤ 4 → IsFoundFor setup packet old.front absent_at found
+      → (seen : LookedFor packet old mid answer) → Saw mid new → at ≤ length new.front
+      → points_of k ≡ at ∷ translated_points found.translated
+      → ((given : Given) (mark : ℕ) (own : List Note) → AnswersFlow new.front mark given own P
+      → FitsFrame setup old.sizes new.front mark given own k)
+      → ((mark : ℕ) (kills : List Note) → mark_past mark kills ≤ absent_at → P packet (length kills) (mark_past mark kills) seen.claims)
+      → Answers setup old new packet n absent_at k
+  meets_answer setup old mid new packet found answer n absent_at at k P few is seen saw within points fits meeting =
+      let front : StartsWith new.front old.front = starts_trans new.front mid.front old.front saw.front seen.front in
+      record {
+        front = front;
+        sizes = saw.sizes ∙ seen.sizes;
+        rest = seen.claims;
+        own = saw.own ∙ seen.own;
+        few = omega (arith, seen.few);
+        spare = omega (arith, seen.spare, saw.spare);
+        points = subst (AllByRecursion (λ p. p ≤ length new.front)) (sym points) (
+          within,
+          points_more (length old.front) (length new.front) (translated_points found.translated)
+              (omega (arith, starts_longer new.front old.front front))
+              (found_points old.front (rule_for setup packet.tuple) packet.tuple absent_at (length old.front) found.translated found.reply is.translation),
+        );
+        fits = λ given mark kills flows count killed le.
+            fits given mark (kills ++ seen.claims)
+            (flow_answer states events new.front old.front front mark given packet kills seen.claims P flows (omega (arith, count)) killed
+            (meeting mark kills le));
+      }
 
-  pub winner_answer : AbsentTuplesAreNobodys → LateEntriesAreNew → (setup : Setup) (old new : Sight) (packet : FlowPacket) (part : Part)
-      (found : NewReply) (n absent_at id at : ℕ) (d : Direction) (both : Bool) → n ≤ 4 → IsKnown new
-      → start_of packet.segment packet.moment ≡ Some part → IsFoundFor setup packet old.front absent_at found
-      → Looked old new at (IsWinner (flow_of packet part found.reply) id d both) → (b : Bool)
+  pub winner_answer : AbsentTuplesAreNobodys → LateEntriesAreNew → (setup : Setup) (old mid new : Sight) (packet : FlowPacket) (flow : Flow)
+      (found : NewReply) (answer : ClaimOutcome) (n absent_at id at : ℕ) (d : Direction) (both : Bool) → n ≤ 4 → IsKnown new
+      → IsSome (start_of packet.segment packet.moment) → IsFoundFor setup packet old.front absent_at found
+      → LookedFor packet old mid answer → flow.original ≡ packet.tuple → flow.reply ≡ found.reply
+      → Looked mid new at (IsWinner flow id d both) → (b : Bool)
       → (same_proto packet.tuple.proto proto.Udp && both) ≡ b
       → Answers setup old new packet n absent_at (cond b (class.Merged id at found.translated) (class.Clash id at found.translated))
-  winner_answer nobodys late setup old new packet part found n absent_at id at d both few known starts is looked true merges =
-      silent_answer states events setup old new packet n absent_at (class.Merged id at found.translated) looked.saw
-      (looked.fact.within, winner_points setup old new packet found absent_at is looked.saw)
-      (λ given mark kills flows count killed le.
-      flow_answer states events new.front old.front looked.saw.front mark given packet kills [] _ flows (omega (arith, count)) killed
-      (meets nobodys late setup old new packet part found absent_at id at d both true known starts is looked merges mark kills le))
-  winner_answer nobodys late setup old new packet part found n absent_at id at d both few known starts is looked false merges =
-      silent_answer states events setup old new packet n absent_at (class.Clash id at found.translated) looked.saw
-      (looked.fact.within, winner_points setup old new packet found absent_at is looked.saw)
-      (λ given mark kills flows count killed le.
-      flow_answer states events new.front old.front looked.saw.front mark given packet kills [] _ flows (omega (arith, count)) killed
-      (meets nobodys late setup old new packet part found absent_at id at d both false known starts is looked merges mark kills le))
+  winner_answer nobodys late setup old mid new packet flow found answer n absent_at id at d both few known begins is seen original reply looked true
+      merges =
+      meets_answer setup old mid new packet found answer n absent_at at (class.Merged id at found.translated) _ few is seen looked.saw
+      looked.fact.within refl (λ given mark own h. h)
+      (λ mark kills le. meets nobodys late setup old mid new packet flow found answer absent_at id at d both true known begins is seen original
+      reply looked merges mark kills le)
+  winner_answer nobodys late setup old mid new packet flow found answer n absent_at id at d both few known begins is seen original reply looked false
+      merges =
+      meets_answer setup old mid new packet found answer n absent_at at (class.Clash id at found.translated) _ few is seen looked.saw
+      looked.fact.within refl (λ given mark own h. h)
+      (λ mark kills le. meets nobodys late setup old mid new packet flow found answer absent_at id at d both false known begins is seen original
+      reply looked merges mark kills le)

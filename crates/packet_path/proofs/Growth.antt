@@ -11,14 +11,18 @@ use Rattle.history_book.specs.declared.sizes.Sizes.{Sizes}
 use Rattle.history_book.specs.declared.verdict.Class.{Class}
 use Rattle.history_book.specs.declared.verdict.Class.TheVariants as class
 use Rattle.proto_rules.specs.declared.Outcome.{Outcome}
-use Rattle.history_book.specs.declared.record.Record.{Record}
+use Rattle.expect_table.specs.declared.table.AddOutcome.{AddOutcome}
+use Rattle.history_book.specs.declared.verdict.Ftp.{Ftp}
+use Rattle.history_book.specs.declared.verdict.Ftp.TheVariants as ftp
 use Rattle.history_book.specs.declared.verdict.Translated.{Translated}
 use Rattle.history_book.specs.declared.verdict.Translated.TheVariants.{Plain, Chosen}
 use Rattle.nat_setup.specs.declared.rule.Rule.{Rule}
 use Rattle.nat_setup.specs.Translation.{Between, GivesUpOwn}
 use Rattle.packet_path.specs.Absent.{WasAbsent}
 use Rattle.packet_path.specs.Begun.{rule_for, WasChosen, WasTranslated, WouldBegin}
-use Rattle.packet_path.specs.Made.{IsUnclaimed}
+use Rattle.packet_path.specs.Claim.{ClaimsIfExpected}
+use Rattle.packet_path.specs.FtpPart.{FtpFits, RefusesEnd}
+use Rattle.packet_path.specs.Passed.{IsPassing}
 use Rattle.packet_path.specs.declared.packet.FlowPacket.{FlowPacket}
 use Rattle.packet_path.specs.Packet.{Given}
 use Rattle.packet_path.specs.declared.setup.Setup.{Setup}
@@ -144,17 +148,77 @@ module _ (events : EventsStay) (states : StatesStay) (longer log : List Event) (
     found = translated_grows (rule_for setup packet.tuple) packet.tuple b.absent.at upto translated reply b.found;
   }
 
-  unclaimed_grows : (setup : Setup) (k : ℕ) (packet : FlowPacket) (translated : Translated) (unclaimed : Option ℕ) (r : Record)
-      → IsUnclaimed setup log k packet translated unclaimed r → IsUnclaimed setup longer k packet translated unclaimed r
-  unclaimed_grows setup k packet translated None r h = h
-  unclaimed_grows setup k packet translated (Some p) r h = (h.0, begun_grows setup k packet translated r.reply p h.1, h.2)
+  pub claims_grows : (packet : FlowPacket) (claims : List Note) (unclaimed master : Option ℕ) (from upto : ℕ)
+      → ClaimsIfExpected log packet claims unclaimed master from upto → ClaimsIfExpected longer packet claims unclaimed master from upto
+  claims_grows packet claims (Some p) master from upto c = record {
+    none = c.none;
+    alone = c.alone;
+    low = c.low;
+    high = c.high;
+    unmatched = at_grows states longer log _ _ starts c.unmatched;
+  }
+  claims_grows packet claims None master from upto c = record {
+    number = c.number;
+    expectation = c.expectation;
+    by = c.by;
+    own = c.own;
+    related = c.related;
+    happened = happened_grows from _ c.happened;
+    before = c.before;
+  }
+
+  refuses_grows : (sizes : Sizes) (packet : FlowPacket) (found : Found) (touched : ℕ) (further : List Note) (outcome : AddOutcome) (at : ℕ)
+      → RefusesEnd sizes log packet found touched further outcome at → RefusesEnd sizes longer packet found touched further outcome at
+  refuses_grows sizes packet found touched further outcome at r = record {
+    want = r.want;
+    asked = r.asked;
+    own = r.own;
+    later = r.later;
+    gives = at_grows states longer log _ _ starts r.gives;
+  }
+
+  ftp_grows : (sizes : Sizes) (packet : FlowPacket) (found : Found) (touched : ℕ) (further : List Note) (part : Ftp)
+      → FtpFits sizes log packet found touched further part → FtpFits sizes longer packet found touched further part
+  ftp_grows sizes packet found touched further ftp.Nothing f = f
+  ftp_grows sizes packet found touched further ftp.Address f = f
+  ftp_grows sizes packet found touched further (ftp.Expected id) f = record {
+    want = f.want;
+    asked = f.asked;
+    replaced = f.replaced;
+    own = f.own;
+    happened = happened_grows (touched + 1) _ f.happened;
+  }
+  ftp_grows sizes packet found touched further (ftp.Clash id at) f = refuses_grows sizes packet found touched further _ at f
+  ftp_grows sizes packet found touched further (ftp.Full at) f = refuses_grows sizes packet found touched further _ at f
+  ftp_grows sizes packet found touched further (ftp.Gone at) f = record {
+    want = f.want;
+    asked = f.asked;
+    own = f.own;
+    later = f.later;
+    gone = at_grows states longer log _ _ starts f.gone;
+  }
+
+  passing_grows : (sizes : Sizes) (packet : FlowPacket) (found : Found) (note : Note) (further : List Note) (part : Ftp)
+      → IsPassing sizes log packet found note further part → IsPassing sizes longer packet found note further part
+  passing_grows sizes packet found note further part p =
+      ⊎_elim
+      (λ a. inl (record {
+        after = a.after;
+        event = a.event;
+        payload = ftp_grows sizes packet found note.number further part a.payload;
+      }))
+      (λ r. inr r) p
 
   winner_grows : (setup : Setup) (k : ℕ) (packet : FlowPacket) (rest : List Note) (said : Meeting)
       → MeetsWinner setup log k packet rest said → MeetsWinner setup longer k packet rest said
   winner_grows setup k packet rest said m = record {
-    own = m.own;
     reply = m.reply;
-    begun = begun_grows setup k packet said.translated m.reply said.at m.begun;
+    found_at = m.found_at;
+    begun = begun_grows setup k packet said.translated m.reply m.found_at m.begun;
+    unclaimed = m.unclaimed;
+    master = m.master;
+    claimed = claims_grows packet rest m.unclaimed m.master m.found_at said.at m.claimed;
+    silent = m.silent;
     found = m.found;
     live = at_grows states longer log _ _ starts m.live;
     named = m.named;
@@ -199,11 +263,14 @@ module _ (events : EventsStay) (states : StatesStay) (longer log : List Event) (
       flow_grows mark given own _ _
       (λ packet kills k rest m. record {
         subject = m.subject;
+        claims = m.claims;
         own = m.own;
         happened = happened_grows k _ m.happened;
         named = m.named;
         started = m.started;
-        alone = unclaimed_grows setup k packet translated unclaimed m.subject m.alone;
+        found_at = m.found_at;
+        begun = begun_grows setup k packet translated m.subject.reply m.found_at m.begun;
+        claimed = claims_grows packet m.claims unclaimed m.subject.master m.found_at id m.claimed;
         point = m.point;
       }) f
   frame_grows setup sizes mark given own (class.Passed label id at ftp) f =
@@ -211,13 +278,13 @@ module _ (events : EventsStay) (states : StatesStay) (longer log : List Event) (
       (λ packet kills k rest m. record {
         note = m.note;
         found = m.found;
+        further = m.further;
         own = m.own;
         happened = happened_grows k m.note m.happened;
-        passing = m.passing;
+        passing = passing_grows sizes packet m.found m.note m.further ftp m.passing;
         live = at_grows states longer log _ _ starts m.live;
         named = m.named;
         labelled = m.labelled;
-        payload = m.payload;
         point = m.point;
       }) f
   frame_grows setup sizes mark given own (class.Ignored id at) f =

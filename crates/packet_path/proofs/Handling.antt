@@ -170,7 +170,7 @@ error_found states old mid new inner looked_up place id at d same looked saw =
 
 pub error_related : StatesStay → (old mid new : Sight) (inner looked_up : Tuple) (outer place id at moment : ℕ) (d : Direction)
     → looked_up ≡ inverse inner → Looked old mid at (IsLiveUnder looked_up place id d) → Saw mid new → looked_up.dst ≡ outer
-    → AnswersError (record { packet = packet.Error inner outer; moment = moment }) []
+    → AnswersError (record { packet = packet.Error inner outer; moment = moment; payload = [] }) []
     (λ i o. IsRelated new.front (length old.front) i o d id at)
 error_related states old mid new inner looked_up outer place id at moment d same looked saw address = record {
   inner = inner;
@@ -188,7 +188,7 @@ error_related states old mid new inner looked_up outer place id at moment d same
 
 pub error_misdirected : StatesStay → (old mid new : Sight) (inner looked_up : Tuple) (outer place id at moment : ℕ) (d : Direction)
     → looked_up ≡ inverse inner → Looked old mid at (IsLiveUnder looked_up place id d) → Saw mid new → looked_up.dst ≢ outer
-    → AnswersError (record { packet = packet.Error inner outer; moment = moment }) []
+    → AnswersError (record { packet = packet.Error inner outer; moment = moment; payload = [] }) []
     (λ i o. IsMisdirected new.front (length old.front) i o id at)
 error_misdirected states old mid new inner looked_up outer place id at moment d same looked saw address = record {
   inner = inner;

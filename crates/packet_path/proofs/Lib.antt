@@ -4,6 +4,8 @@ pub mod Silent
 pub mod Protocols
 pub mod HeldPlaces
 pub mod Attempts
+pub mod Payloads
+pub mod Claims
 pub mod Beginnings
 pub mod Meetings
 pub mod Handling

@@ -1,5 +1,5 @@
 -- A verdict that fits from a mark on fits from any lower one: one case for each class.
-use Rattle.std.proofs.Common.{ℕ, ◌+◌, ◌≤◌, List, [], ◌∷◌, max, arith, Option, Some, None, inl, inr, ⊎_elim}
+use Rattle.std.proofs.Common.{ℕ, ◌+◌, ◌≤◌, List, [], ◌∷◌, max, arith, Option, inl, inr, ⊎_elim}
 use Rattle.tuple_core.specs.declared.Tuple.{Tuple}
 use Rattle.history_book.specs.Notes.{Happened, mark_past}
 use Rattle.history_book.specs.State.{Found}
@@ -15,7 +15,6 @@ use Rattle.packet_path.specs.Packet.{Given}
 use Rattle.packet_path.specs.Unchanged.{LeavesEntry}
 use Rattle.packet_path.specs.Error.{LooksUp}
 use Rattle.packet_path.specs.Absent.{WasAbsent}
-use Rattle.packet_path.specs.Made.{IsUnclaimed}
 use Rattle.packet_path.specs.Begun.{WouldBegin}
 use Rattle.packet_path.specs.declared.setup.Setup.{Setup}
 use Rattle.packet_path.specs.Winner.{IsNewWinner, Meeting, MeetsWinner}
@@ -42,11 +41,6 @@ begun_lower setup log m n packet translated reply upto le b = record {
   absent = absent_lower log m n packet.tuple upto le b.absent;
   found = b.found;
 }
-
-unclaimed_lower : (setup : Setup) (log : List Event) (m n : ℕ) (packet : FlowPacket) (translated : Translated) (unclaimed : Option ℕ)
-    (r : Record) → m ≤ n → IsUnclaimed setup log n packet translated unclaimed r → IsUnclaimed setup log m packet translated unclaimed r
-unclaimed_lower setup log m n packet translated None r le h = h
-unclaimed_lower setup log m n packet translated (Some p) r le h = (h.0, begun_lower setup log m n packet translated r.reply p le h.1, h.2)
 
 new_lower : (m n : ℕ) (translated : Translated) (t : Tuple) (r : Record) → m ≤ n → IsNewWinner n translated t r
     → IsNewWinner m translated t r
@@ -91,9 +85,13 @@ module _ (log : List Event) (m n : ℕ) (le : m ≤ n) where
   winner_lower : (setup : Setup) (j k : ℕ) (packet : FlowPacket) (rest : List Note) (said : Meeting) → j ≤ k
       → MeetsWinner setup log k packet rest said → MeetsWinner setup log j packet rest said
   winner_lower setup j k packet rest said lower h = record {
-    own = h.own;
     reply = h.reply;
-    begun = begun_lower setup log j k packet said.translated h.reply said.at lower h.begun;
+    found_at = h.found_at;
+    begun = begun_lower setup log j k packet said.translated h.reply h.found_at lower h.begun;
+    unclaimed = h.unclaimed;
+    master = h.master;
+    claimed = h.claimed;
+    silent = h.silent;
     found = h.found;
     live = h.live;
     named = h.named;
@@ -138,11 +136,14 @@ module _ (log : List Event) (m n : ℕ) (le : m ≤ n) where
       flow_lower given own _ _
       (λ packet kills j k rest lower h. record {
         subject = h.subject;
+        claims = h.claims;
         own = h.own;
         happened = happened_lower log j k _ lower h.happened;
         named = h.named;
         started = h.started;
-        alone = unclaimed_lower setup log j k packet translated unclaimed h.subject lower h.alone;
+        found_at = h.found_at;
+        begun = begun_lower setup log j k packet translated h.subject.reply h.found_at lower h.begun;
+        claimed = h.claimed;
         point = h.point;
       }) f
   frame_lower setup sizes given own (class.Passed label id at ftp) f =
@@ -150,13 +151,13 @@ module _ (log : List Event) (m n : ℕ) (le : m ≤ n) where
       (λ packet kills j k rest lower h. record {
         note = h.note;
         found = h.found;
+        further = h.further;
         own = h.own;
         happened = happened_lower log j k h.note lower h.happened;
         passing = h.passing;
         live = h.live;
         named = h.named;
         labelled = h.labelled;
-        payload = h.payload;
         point = h.point;
       }) f
   frame_lower setup sizes given own (class.Ignored id at) f =

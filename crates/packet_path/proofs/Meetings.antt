@@ -1,5 +1,5 @@
 -- What is said of a packet that met an entry.
-use Rattle.std.proofs.Common.{◌≡◌, ℕ, ◌+◌, ◌<◌, ◌≤◌, Bool, true, false, cond, List, [], ◌∷◌, ◌++◌, length, Some, refl, sym, ap, subst, ◌∙◌, arith, inl, inr}
+use Rattle.std.proofs.Common.{◌≡◌, ℕ, ◌+◌, ◌<◌, ◌≤◌, Bool, true, false, cond, List, [], ◌∷◌, ◌++◌, length, Some, refl, sym, ap, subst, ◌∙◌, arith, append_assoc, inl, inr}
 use Rattle.std.specs.List.{find}
 use Rattle.std.proofs.lemmas.Bool.{eqb-true}
 use Rattle.tuple_core.specs.declared.Direction.{Direction}
@@ -15,12 +15,15 @@ use Rattle.history_book.specs.declared.event.Why.TheVariants as why
 use Rattle.history_book.specs.declared.record.Record.{Record}
 use Rattle.history_book.specs.declared.verdict.Class.{Class}
 use Rattle.history_book.specs.declared.verdict.Class.TheVariants as class
+use Rattle.history_book.specs.declared.sizes.Sizes.{Sizes}
+use Rattle.history_book.specs.declared.verdict.Ftp.{Ftp}
 use Rattle.history_book.specs.declared.verdict.Ftp.TheVariants.{Nothing}
+use Rattle.proto_rules.specs.declared.Part.{Part}
 use Rattle.history_book.specs.Desk.{Destroys, HoldsOneMore, IsLiveUnder, Leaves, Looked, MadeEvent, SamePlaces, StepGives, Touches}
-use Rattle.history_book.specs.Entry.{is_of_entry, suits_entry}
+use Rattle.history_book.specs.Entry.{is_helped_entry, is_of_entry, suits_entry}
 use Rattle.history_book.specs.History.{after}
 use Rattle.history_book.specs.Label.{label_of}
-use Rattle.history_book.specs.Laws.{EventsStay, FoundAreFoundAgain, FoundKeepTheirProtocol, RecordsAreOfOneProtocol, StatesStay}
+use Rattle.history_book.specs.Laws.{EntriesKeepTheirHelper, EventsStay, FoundAreFoundAgain, FoundKeepTheirProtocol, RecordsAreOfOneProtocol, StatesStay}
 use Rattle.history_book.specs.Notes.{mark_past}
 use Rattle.history_book.specs.Point.{At, StartsWith}
 use Rattle.history_book.specs.Record.{has_id}
@@ -30,14 +33,15 @@ use Rattle.history_book.specs.StateLaws.{LiveRecordsHaveTheProtocol}
 use Rattle.packet_path.specs.declared.attempt.Met.{Met}
 use Rattle.packet_path.specs.declared.packet.FlowPacket.{FlowPacket}
 use Rattle.packet_path.specs.declared.setup.Setup.{Setup}
-use Rattle.packet_path.specs.Internal.Attempt.{Answers, EndsEntry, HoldsNothing, IsClassified, IsMet, KilledOne}
+use Rattle.packet_path.specs.Internal.Attempt.{Answers, EndsEntry, Follows, HoldsNothing, IsClassified, IsMet, KilledOne}
 use Rattle.packet_path.specs.Laws.{SameProtocolIsEquality}
 use Rattle.packet_path.specs.Packet.{Given}
-use Rattle.packet_path.specs.Passed.{IsPassing}
+use Rattle.packet_path.specs.FtpPart.{FtpFits}
+use Rattle.packet_path.specs.Passed.{reset_by, touch_by}
 use Rattle.packet_path.specs.Unchanged.{IsToEnd, LeavesEntry}
 use Rattle.packet_path.specs.Verdict.{AnswersFlow, FitsFrame, IsKillOf, points_of}
 use Rattle.packet_path.proofs.Growth.{at_grows}
-use Rattle.packet_path.proofs.Attempts.{flow_answer, saw_refl, silent, starts_refl}
+use Rattle.packet_path.proofs.Attempts.{flow_answer, saw_refl, silent, starts_longer, starts_refl, starts_trans}
 
 -- a record that is found by its id has it
 found_has : {X : Type 0} (p : X → Bool) (xs : List X) (y : X) → find p xs ≡ Some y → p y ≡ true
@@ -49,8 +53,17 @@ found_has p (x ∷ xs) y h = first_has p x y xs (p x) refl h (found_has p xs y)
     first_has p x y xs true e h rest = cc
     first_has p x y xs false e h rest = rest h
 
-has_id_of : (id : ℕ) (s : State) (r : Record) → record_of id s ≡ Some r → r.id ≡ id
+pub has_id_of : (id : ℕ) (s : State) (r : Record) → record_of id s ≡ Some r → r.id ≡ id
 has_id_of id s r h = eqb-true r.id id (found_has (has_id id) s.records r h)
+
+-- the entry of a record that has the helper was confirmed with it
+pub helped_entry : EntriesKeepTheirHelper → (s : Sight) (number id : ℕ) (before : Record) → IsKnown s
+    → record_of id (after s.front number) ≡ Some before → before.helper ≡ true → is_helped_entry before.id s.front ≡ true
+helped_entry keep s number id before known at helper =
+    let same : before.id ≡ id = has_id_of id (after s.front number) before at in
+    keep s.sizes s.front number before.id before known.legal
+    (subst (λ i. record_of i (after s.front number) ≡ Some before) (sym same) at)
+    ∙ helper
 
 module _ (states : StatesStay) (events : EventsStay) where
   -- the entry that was met is live under the packet's tuple wherever it is live
@@ -64,12 +77,12 @@ module _ (states : StatesStay) (events : EventsStay) where
 
   -- the packet's one event of the entry that it met
   module _ (again : FoundAreFoundAgain) (old new : Sight) (packet : FlowPacket) (met : Met) (known : IsKnown new) (is : IsMet packet met old) where
-    -- it passes by an entry that was this record
-    pub passed_answer : (setup : Setup) (n from number : ℕ) (event : Event) (before : Record) → n ≤ 4 → from ≤ length old.front
+    -- it reset an entry that was this record
+    pub reset_answer : (setup : Setup) (n from number : ℕ) (event : Event) (before : Record) → n ≤ 4 → from ≤ length old.front
         → MadeEvent old new number event → At new.front number (λ s. record_of met.id s ≡ Some before)
-        → IsPassing packet (record { subject = before; direction = met.direction }) event
+        → event ≡ reset_by packet (record { subject = before; direction = met.direction })
         → Answers setup old new packet n from (class.Passed (label_of before met.direction) before.id (number + 1) Nothing)
-    passed_answer setup n from number event before few low made found passing = record {
+    reset_answer setup n from number event before few low made found same = record {
       front = made.front;
       sizes = made.sizes;
       rest = record { number = number; event = event } ∷ [];
@@ -82,19 +95,68 @@ module _ (states : StatesStay) (events : EventsStay) where
           (record {
             note = record { number = number; event = event };
             found = record { subject = before; direction = met.direction };
+            further = [];
             own = refl;
             happened = record { event = made.happened; later = omega (arith, le, low, made.low) };
-            passing = passing;
+            passing = inr (record { event = same; none = refl; payload = refl });
             live = record {
               within = found.within;
               fact = live_again again old new packet met number before known made.front is found.fact;
             };
             named = refl;
             labelled = refl;
-            payload = refl;
             point = refl;
           });
     }
+
+    -- it touched an entry that was this record, and then this came of its payload
+    pub touched_answer : (setup : Setup) (mid : Sight) (n from number : ℕ) (event : Event) (part : Part) (before : Record) (ftp : Ftp)
+        → n ≤ 4 → from ≤ length old.front
+        → MadeEvent old mid number event → At mid.front number (λ s. record_of met.id s ≡ Some before)
+        → event ≡ touch_by packet (record { subject = before; direction = met.direction }) part
+        → Follows packet (record { subject = before; direction = met.direction }) number mid new ftp
+        → Answers setup old new packet n from (class.Passed (label_of before met.direction) before.id (number + 1) ftp)
+    touched_answer setup mid n from number event part before ftp few low made found same follows =
+        let front : StartsWith new.front old.front = starts_trans new.front mid.front old.front follows.front made.front in
+        let note : Note = record { number = number; event = event } in
+        let grown = at_grows states new.front mid.front number (λ s. record_of met.id s ≡ Some before) follows.front found in
+        record {
+          front = front;
+          sizes = follows.sizes ∙ made.sizes;
+          rest = note ∷ follows.further;
+          own = follows.own ∙ ap (λ (l : List Note). l ++ follows.further) made.own
+              ∙ append_assoc old.own (note ∷ []) follows.further;
+          few = omega (arith, follows.few);
+          spare = omega (arith, made.spare, follows.spare);
+          points = (omega (arith, made.high, starts_longer new.front mid.front follows.front), follows.points);
+          fits = λ given mark kills flow count killed le.
+              flow_answer states events new.front old.front front mark given packet kills _ _ flow (omega (arith, count)) killed
+              (record {
+                note = note;
+                found = record { subject = before; direction = met.direction };
+                further = follows.further;
+                own = refl;
+                happened = record {
+                  event = events new.front mid.front number event follows.front made.happened;
+                  later = omega (arith, le, low, made.low);
+                };
+                passing = inl (record {
+                  after = part;
+                  event = same;
+                  payload = subst
+                      (λ (z : Sizes). FtpFits z new.front packet (record { subject = before; direction = met.direction }) number follows.further
+                      ftp)
+                      made.sizes follows.fits;
+                });
+                live = record {
+                  within = grown.within;
+                  fact = live_again again old new packet met number before known front is grown.fact;
+                };
+                named = refl;
+                labelled = refl;
+                point = refl;
+              });
+        }
 
     -- the entry stands so at a point
     pub stands : (from at : ℕ) (o : Outcome) → StartsWith new.front old.front
@@ -215,18 +277,17 @@ module _ (states : StatesStay) (events : EventsStay) (again : FoundAreFoundAgain
       (stands states events again old new packet met known is (length old.front) at o left.0.saw.front left.0.fact mark kills le
       left.0.low)))
 
-  -- a packet touched the entry that it met
-  pub touched : (setup : Setup) (old new : Sight) (packet : FlowPacket) (met : Met) (n number : ℕ) (before : Record) → n ≤ 4 → IsKnown new
-      → IsMet packet met old → Touches met.id met.direction packet.segment packet.moment old new number before
-      → Answers setup old new packet n (length old.front) (class.Passed (label_of before met.direction) before.id (number + 1) Nothing)
-  touched setup old new packet met n number before few known is touches =
-      passed_answer states events again old new packet met known is setup n (length old.front) number _ before few (omega arith) touches.made
-      touches.found
-      (inl (
-        touches.after,
-        ap (λ i. Touch i met.direction packet.segment packet.moment touches.after)
-            (sym (has_id_of met.id (after new.front number) before touches.found.fact)),
-      ))
+  -- a packet touched the entry that it met, and then this came of its payload
+  pub touched : (setup : Setup) (old mid new : Sight) (packet : FlowPacket) (met : Met) (n number : ℕ) (before : Record) (ftp : Ftp) → n ≤ 4
+      → IsKnown new → IsMet packet met old → Touches met.id met.direction packet.segment packet.moment old mid number before
+      → Follows packet (record { subject = before; direction = met.direction }) number mid new ftp
+      → Answers setup old new packet n (length old.front) (class.Passed (label_of before met.direction) before.id (number + 1) ftp)
+  touched setup old mid new packet met n number before ftp few known is touches follows =
+      touched_answer states events again old new packet met known is setup mid n (length old.front) number _ touches.after before ftp few
+      (omega arith) touches.made touches.found
+      (ap (λ i. Touch i met.direction packet.segment packet.moment touches.after)
+      (sym (has_id_of met.id (after mid.front number) before touches.found.fact)))
+      follows
 
   -- a packet reset the entry that it met
   pub was_reset : (setup : Setup) (old new : Sight) (packet : FlowPacket) (met : Met) (n from number : ℕ) (subject : Record) → n ≤ 4
@@ -234,9 +295,9 @@ module _ (states : StatesStay) (events : EventsStay) (again : FoundAreFoundAgain
       → Destroys met.id (why.Reset packet.segment packet.moment) old new number subject
       → Answers setup old new packet n from (class.Passed (label_of subject met.direction) subject.id (number + 1) Nothing)
   was_reset setup old new packet met n from number subject few low known is d =
-      passed_answer states events again old new packet met known is setup n from number _ subject few low d.made d.found
-      (inr (ap (λ i. Destroy i (why.Reset packet.segment packet.moment))
-      (sym (has_id_of met.id (after new.front number) subject d.found.fact))))
+      reset_answer states events again old new packet met known is setup n from number _ subject few low d.made d.found
+      (ap (λ i. Destroy i (why.Reset packet.segment packet.moment))
+      (sym (has_id_of met.id (after new.front number) subject d.found.fact)))
 
   -- a packet killed the entry that it met
   pub was_killed : (w : Why) (old mid new : Sight) (packet : FlowPacket) (met : Met) (n from at number : ℕ) (subject : Record)

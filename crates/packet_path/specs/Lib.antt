@@ -2,6 +2,8 @@ pub mod Packet
 pub mod Error
 pub mod Absent
 pub mod Begun
+pub mod Claim
+pub mod FtpPart
 pub mod Made
 pub mod Winner
 pub mod Passed

@@ -1,5 +1,5 @@
 -- What the tracker is given of a frame.
-use Rattle.std.specs.Prelude.{◌≡◌, ℕ, List}
+use Rattle.std.specs.Prelude.{◌≡◌, ℕ, List, [], drop, take}
 use Rattle.packet_headers.specs.declared.frame.Frame.{Frame}
 use Rattle.packet_headers.specs.declared.packet.Packet.{Packet}
 use Rattle.packet_headers.specs.declared.packet.Packet.TheVariants as packet
@@ -11,20 +11,37 @@ use Rattle.packet_path.specs.declared.packet.FlowPacket.{FlowPacket}
 use Rattle.history_book.specs.declared.verdict.UntrackedWhy.{UntrackedWhy}
 use Rattle.history_book.specs.declared.verdict.UntrackedWhy.TheVariants as why
 
--- what its headers say, and the time of its capture record in microseconds
+-- what its headers say, the time of its capture record in microseconds, and the payload
 pub record Given : Type 0 where
   pub packet : Packet
   pub moment : ℕ
+  pub payload : List ℕ
+
+-- the bytes of a file in a span
+abbrev pub bytes_in : List ℕ → Span → List ℕ
+bytes_in bytes span = drop span.start (take span.end bytes)
+
+-- the payload of a packet of a flow, as far as it was captured; of no other is one read
+abbrev pub payload_of : List ℕ → Packet → List ℕ
+payload_of bytes (packet.Untracked why) = []
+payload_of bytes packet.Invalid = []
+payload_of bytes (packet.Flow tuple segment span) = bytes_in bytes span
+payload_of bytes (packet.Error inner outer) = []
+
+-- what is given of a packet of a file with these bytes
+abbrev pub given_by : List ℕ → Packet → ℕ → Given
+given_by bytes packet moment = record { packet = packet; moment = moment; payload = payload_of bytes packet }
 
 -- of a frame of a file with these bytes
 unfoldable pub given_of : List ℕ → Frame → Given
-given_of bytes frame = record { packet = packet_of bytes frame; moment = frame.moment }
+given_of bytes frame = given_by bytes (packet_of bytes frame) frame.moment
 
 -- the frame is this packet of a flow
 pub record IsFlow (given : Given) (p : FlowPacket) : Type 0 where
-  pub payload : Span
-  pub headers : given.packet ≡ packet.Flow p.tuple p.segment payload
+  pub span : Span
+  pub headers : given.packet ≡ packet.Flow p.tuple p.segment span
   pub moment : p.moment ≡ given.moment
+  pub payload : p.payload.now ≡ given.payload
 
 -- the headers' reason why a frame is not tracked
 abbrev pub cause_of : UntrackedWhy → Untracked

@@ -78,7 +78,7 @@ FitsFrame setup sizes log mark given own (class.Error direction id at) =
 FitsFrame setup sizes log mark given own (class.Made id at translated unclaimed) =
     AnswersFlow log mark given own (λ p killed k rest. Makes setup log k p rest (record { id = id; at = at; translated = translated; unclaimed = unclaimed }))
 FitsFrame setup sizes log mark given own (class.Passed label id at ftp) =
-    AnswersFlow log mark given own (λ p killed k rest. Passes log k p rest label id at ftp)
+    AnswersFlow log mark given own (λ p killed k rest. Passes sizes log k p rest (record { label = label; id = id; at = at; ftp = ftp }))
 FitsFrame setup sizes log mark given own (class.Ignored id at) =
     AnswersFlow log mark given own (λ p killed k rest. LeavesEntry log k p rest id at outcome.Ignore)
 FitsFrame setup sizes log mark given own (class.Merged id at translated) =

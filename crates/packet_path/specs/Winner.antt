@@ -1,5 +1,5 @@
 -- A packet that would begin a flow, and meets an entry that has one of the flow's tuples.
-use Rattle.std.specs.Prelude.{◌≡◌, ℕ, ◌≤◌, Bool, true, ◌&&◌, Some, List, []}
+use Rattle.std.specs.Prelude.{◌≡◌, ℕ, ◌≤◌, Bool, true, ◌&&◌, Option, Some, List, []}
 use Rattle.tuple_core.specs.declared.Proto.TheVariants as proto
 use Rattle.tuple_core.specs.declared.Tuple.{Tuple}
 use Rattle.history_book.specs.declared.event.Event.{Event}
@@ -12,6 +12,7 @@ use Rattle.history_book.specs.Point.{At}
 use Rattle.history_book.specs.Record.{has_original, has_reply, has_tuple}
 use Rattle.history_book.specs.State.{Found, winner}
 use Rattle.packet_path.specs.Begun.{WouldBegin}
+use Rattle.packet_path.specs.Claim.{ClaimsIfExpected}
 use Rattle.packet_path.specs.declared.packet.FlowPacket.{FlowPacket}
 use Rattle.packet_path.specs.declared.setup.Setup.{Setup}
 
@@ -33,13 +34,18 @@ pub record Meeting : Type 0 where
   pub translated : Translated
   pub merged : Bool
 
--- no further event; a flow would begin with the packet, and later, at this point, the entry is the one that has
--- the packet's tuple, else the one that has the reply tuple
+-- No further event but a Claim, where the packet was expected; one that is merged makes none. A flow would begin with
+-- the packet, which was then looked for among the expectations; and later, at this point, the entry is the one that
+-- has the packet's tuple, else the one that has the reply tuple.
 pub record MeetsWinner (setup : Setup) (log : List Event) (k : ℕ) (packet : FlowPacket) (rest : List Note)
     (said : Meeting) : Type 0 where
-  pub own : rest ≡ []
   pub reply : Tuple
-  pub begun : WouldBegin setup log k packet said.translated reply said.at
+  pub found_at : ℕ
+  pub begun : WouldBegin setup log k packet said.translated reply found_at
+  pub unclaimed : Option ℕ
+  pub master : Option ℕ
+  pub claimed : ClaimsIfExpected log packet rest unclaimed master found_at said.at
+  pub silent : said.merged ≡ true → rest ≡ []
   pub found : Found
   pub live : At log said.at (λ s. winner packet.tuple reply s ≡ Some found)
   pub named : found.subject.id ≡ said.id

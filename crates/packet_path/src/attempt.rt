@@ -4,7 +4,6 @@
 ghost use Rattle.std.specs.Prelude.{◌≡◌, ℕ, ◌+◌, ◌<◌, ◌≤◌, ◌^◌, ◌&&◌, if◌then◌else◌, true, None, Some, [], length};
 ghost use Rattle.std.specs.List.{AllByRecursion};
 ghost use Rattle.history_book.specs.declared.verdict.Class.TheVariants.{Passed};
-ghost use Rattle.history_book.specs.declared.verdict.Ftp.TheVariants.{Nothing};
 ghost use Rattle.history_book.specs.Desk.{SamePlaces, Saw};
 ghost use Rattle.history_book.specs.Label.{label_of};
 ghost use Rattle.history_book.specs.Sight.{IsKnown};
@@ -15,14 +14,15 @@ ghost use Rattle.packet_path.specs.Internal.Attempt.{HoldsNothing, HoldsOne, IsC
 use crate::begin::begin_flow;
 use crate::laws::same_protocol_is_equality;
 use crate::packet::FlowPacket;
+use crate::payload::follow_payload;
 use crate::places::give_up;
 use crate::setup::Setup;
 use history_book::desk::Desk;
 use history_book::event::Why;
 use history_book::find::label;
 use history_book::laws::{
-    events_stay, found_are_found_again, found_keep_their_protocol, live_records_have_the_protocol,
-    records_are_of_one_protocol, states_stay,
+    entries_keep_their_helper, events_stay, found_are_found_again, found_keep_their_protocol,
+    live_records_have_the_protocol, records_are_of_one_protocol, states_stay,
 };
 use history_book::outcome::{FindOutcome, KillOutcome, TouchOutcome};
 use history_book::record::Record;
@@ -52,16 +52,16 @@ pub struct Met {
 }
 
 /// The class of a packet that passes by an entry, which was so before it and was found in this direction,
-/// by the event of this number.
-fn passed(before: &Record, direction: Direction, number: u64) -> Class
+/// by the event of this number, and of what came of its payload.
+fn passed(before: &Record, direction: Direction, number: u64, ftp: Ftp) -> Class
     requires { number < 2 ^ 40 }
-    ensures { result ≡ Passed (label_of before.now direction) before.now.id (number + 1) Nothing }
+    ensures { result ≡ Passed (label_of before.now direction) before.now.id (number + 1) ftp }
 {
     Class::Passed {
         label: label(before, direction),
         id: before.id,
         at: number + 1,
-        ftp: Ftp::Nothing,
+        ftp,
     }
 }
 
@@ -89,7 +89,7 @@ fn reset_entry<R: Wait, D: Desk>(rt: &R, desk: &mut D, packet: &FlowPacket, met:
     };
     match desk.kill(rt, met.place, why) {
         KillOutcome::Killed { number, subject } => {
-            Attempt::Done(passed(&subject, met.direction, number))
+            Attempt::Done(passed(&subject, met.direction, number, Ftp::Nothing))
         }
         KillOutcome::Gone { .. } | KillOutcome::Not { .. } => Attempt::Again,
     }
@@ -110,7 +110,7 @@ fn end_entry<R: Wait, D: Desk>(
     requires met { IsMet packet.now met.now (D.sight desk.old) }
     requires few { kills ≤ 4 }
     requires ends { EndsEntry packet.now met.now at why (D.sight desk.old) }
-    requires spare { 5 ≤ (D.sight desk.old).spare + kills }
+    requires spare { 6 ≤ (D.sight desk.old).spare + kills }
     requires knows { IsKnown (D.sight desk.old) }
     ensures says { (setup : Setup) (from : ℕ) → from ≤ at → from ≤ length (D.sight desk.old).front →
         AttemptSays setup (D.sight desk.old) (D.sight desk.new) packet.now kills from result }
@@ -146,13 +146,14 @@ fn meet_entry<R: Wait, D: Desk>(
     requires classified { IsClassified packet.now }
     requires met { IsMet packet.now met.now (D.sight desk.old) }
     requires few { kills ≤ 4 }
-    requires spare { 5 ≤ (D.sight desk.old).spare + kills }
+    requires spare { 6 ≤ (D.sight desk.old).spare + kills }
     requires knows { IsKnown (D.sight desk.old) }
     ensures says { (setup : Setup) → AttemptSays setup (D.sight desk.old) (D.sight desk.new)
         packet.now kills (length (D.sight desk.old).front) result }
     ensures places { SamePlaces (D.sight desk.old) (D.sight desk.new) }
     ensures knows { IsKnown (D.sight desk.new) }
 {
+    entries_keep_their_helper();
     events_stay();
     found_are_found_again();
     found_keep_their_protocol();
@@ -173,7 +174,8 @@ fn meet_entry<R: Wait, D: Desk>(
     } = *met;
     match desk.touch(rt, place, direction, segment, moment) {
         TouchOutcome::Touched { number, before } => {
-            Attempt::Done(passed(&before, direction, number))
+            let ftp = follow_payload(rt, desk, packet, place, &before, direction);
+            Attempt::Done(passed(&before, direction, number, ftp))
         }
         TouchOutcome::Ignored { at } => Attempt::Done(Class::Ignored { id, at }),
         TouchOutcome::Invalid { at } => Attempt::Done(Class::BadState { id, at }),
@@ -207,7 +209,7 @@ pub fn try_packet<R: Wait, D: Desk>(
     requires classified { IsClassified packet.now }
     requires empty { HoldsNothing (D.sight desk.old) }
     requires few { kills ≤ 4 }
-    requires spare { 5 ≤ (D.sight desk.old).spare + kills }
+    requires spare { 6 ≤ (D.sight desk.old).spare + kills }
     ensures says { AttemptSays setup.now (D.sight desk.old) (D.sight desk.new)
         packet.now kills (length (D.sight desk.old).front) result }
     ensures empty { HoldsNothing (D.sight desk.new) }

@@ -9,7 +9,9 @@ ghost use Rattle.history_book.specs.Point.{At};
 ghost use Rattle.history_book.specs.Sight.{IsKnown};
 ghost use Rattle.history_book.specs.State.{live_under};
 ghost use Rattle.nat_setup.specs.Rule.{IsLawfulRule};
-ghost use Rattle.packet_path.specs.Internal.Attempt.{Answers, HoldsNothing, HoldsOne, IsClassified, IsFoundFor, IsReplyOf};
+ghost use Rattle.packet_path.specs.Internal.Attempt.{Answers, claimed_master, HoldsNothing, HoldsOne, IsClassified};
+ghost use Rattle.packet_path.specs.Internal.Attempt.{IsFoundFor, IsReplyOf, unclaimed_at};
+ghost use Rattle.packet_path.specs.Made.{is_helped};
 ghost use Rattle.proto_rules.specs.Start.{start_of};
 
 use crate::laws::same_protocol_is_equality;
@@ -18,9 +20,9 @@ use crate::places::give_up;
 use crate::setup::Setup;
 use history_book::desk::Desk;
 use history_book::laws::{
-    absent_tuples_are_nobodys, events_stay, late_entries_are_new, states_stay,
+    absent_tuples_are_nobodys, events_may_happen, events_stay, late_entries_are_new, states_stay,
 };
-use history_book::outcome::{ConfirmOutcome, TakeOutcome};
+use history_book::outcome::{ClaimOutcome, ConfirmOutcome, TakeOutcome};
 use history_book::record::Flow;
 use history_book::verdict::{Class, Translated};
 use nat_setup::translate::{TranslateOutcome, translate};
@@ -29,20 +31,47 @@ use proto_rules::{Part, start};
 use std::sync::Wait;
 use tuple_core::{Proto, Tuple, invert};
 
-/// The reply tuple that was found for a flow, how it was, and the last point on the way to it.
+/// The reply tuple that was found for a flow, and how it was.
 #[derive(Clone, Copy)]
 pub struct NewReply {
     pub reply: Tuple,
     pub translated: Translated,
-    pub at: u64,
 }
 
-/// Confirms a new entry in the place that was taken for it. Nothing was live under the packet's tuple at
-/// the point `absent_at`, and the reply tuple was found from it on.
+/// Whether an entry with this reply tuple has the helper.
+fn is_helped(setup: &Setup, reply: &Tuple) -> bool
+    ensures { result ≡ is_helped setup.now reply.now }
+{
+    reply.proto == Proto::Tcp && setup.ftp.as_slice().contains(&reply.a)
+}
+
+/// The point at which a packet was not expected, if it was not.
+fn unclaimed_at(claim: ClaimOutcome) -> Option<u64>
+    ensures { result ≡ unclaimed_at claim }
+{
+    match claim {
+        ClaimOutcome::Claimed { .. } => None,
+        ClaimOutcome::Unclaimed { at } => Some(at),
+    }
+}
+
+/// The master of the expectation that a packet claimed, if it claimed one.
+fn claimed_master(claim: ClaimOutcome) -> Option<u64>
+    ensures { result ≡ claimed_master claim }
+{
+    match claim {
+        ClaimOutcome::Claimed { master, .. } => Some(master),
+        ClaimOutcome::Unclaimed { .. } => None,
+    }
+}
+
+/// Claims what expects the packet, and confirms a new entry in the place that was taken for it. Nothing was live
+/// under the packet's tuple at the point `absent_at`, and the reply tuple was found from it on.
 fn confirm_flow<R: Wait, D: Desk>(
     rt: &R,
     desk: &mut D,
     packet: &FlowPacket,
+    setup: &Setup,
     part: Part,
     found: &NewReply,
     place: u32,
@@ -52,30 +81,32 @@ fn confirm_flow<R: Wait, D: Desk>(
     requires starts { start_of packet.now.segment packet.now.moment ≡ Some part }
     requires valid { IsReplyOf packet.now.tuple found.now.reply }
     requires holds { HoldsOne (record { place = place; id = None }) (D.sight desk.old) }
-    requires spare { 1 ≤ (D.sight desk.old).spare }
-    ensures answers { (setup : Setup) (killed : ℕ) → killed ≤ 4 →
-        IsFoundFor setup packet.now (D.sight desk.old).front absent_at found.now →
-        Answers setup (D.sight desk.old) (D.sight desk.new) packet.now killed absent_at result }
+    requires spare { 2 ≤ (D.sight desk.old).spare }
+    ensures answers { (killed : ℕ) → killed ≤ 4 →
+        IsFoundFor setup.now packet.now (D.sight desk.old).front absent_at found.now →
+        Answers setup.now (D.sight desk.old) (D.sight desk.new) packet.now killed absent_at result }
     ensures empty { HoldsNothing (D.sight desk.new) }
     ensures knows { IsKnown (D.sight desk.new) }
 {
     absent_tuples_are_nobodys();
     entries_begin_fresh();
+    events_may_happen();
     events_stay();
     late_entries_are_new();
     same_protocol_is_equality();
     states_stay();
+    let claim = desk.claim(rt, &packet.tuple, packet.moment);
     let flow = Flow {
         original: packet.tuple,
         reply: found.reply,
         part,
-        helper: false,
-        master: None,
+        helper: is_helped(setup, &found.reply),
+        master: claimed_master(claim),
     };
     match desk.confirm(rt, place, &flow) {
         ConfirmOutcome::Confirmed { id } => {
             give_up(rt, desk, place);
-            made(found, id)
+            made(found, id, unclaimed_at(claim))
         }
         ConfirmOutcome::Clash { id, both, at, .. } => {
             give_up(rt, desk, place);
@@ -85,15 +116,15 @@ fn confirm_flow<R: Wait, D: Desk>(
 }
 
 /// The class of a packet that made an entry of this id, with the reply tuple that was found.
-fn made(found: &NewReply, id: u64) -> Class
+fn made(found: &NewReply, id: u64, unclaimed: Option<u64>) -> Class
     requires { id < 2 ^ 40 }
-    ensures { result ≡ Made id (id + 1) found.now.translated (Some found.now.at) }
+    ensures { result ≡ Made id (id + 1) found.now.translated unclaimed }
 {
     Class::Made {
         id,
         at: id + 1,
         translated: found.translated,
-        unclaimed: Some(found.at),
+        unclaimed,
     }
 }
 
@@ -114,6 +145,7 @@ fn place_flow<R: Wait, D: Desk>(
     rt: &R,
     desk: &mut D,
     packet: &FlowPacket,
+    setup: &Setup,
     part: Part,
     found: &NewReply,
     absent_at: u64,
@@ -122,10 +154,10 @@ fn place_flow<R: Wait, D: Desk>(
     requires starts { start_of packet.now.segment packet.now.moment ≡ Some part }
     requires valid { IsReplyOf packet.now.tuple found.now.reply }
     requires empty { HoldsNothing (D.sight desk.old) }
-    requires spare { 1 ≤ (D.sight desk.old).spare }
-    ensures answers { (setup : Setup) (killed : ℕ) → killed ≤ 4 →
-        IsFoundFor setup packet.now (D.sight desk.old).front absent_at found.now →
-        Answers setup (D.sight desk.old) (D.sight desk.new) packet.now killed absent_at result }
+    requires spare { 2 ≤ (D.sight desk.old).spare }
+    ensures answers { (killed : ℕ) → killed ≤ 4 →
+        IsFoundFor setup.now packet.now (D.sight desk.old).front absent_at found.now →
+        Answers setup.now (D.sight desk.old) (D.sight desk.new) packet.now killed absent_at result }
     ensures empty { HoldsNothing (D.sight desk.new) }
     ensures knows { IsKnown (D.sight desk.new) }
 {
@@ -134,7 +166,7 @@ fn place_flow<R: Wait, D: Desk>(
     match desk.take(rt) {
         TakeOutcome::Full { at } => Class::Full { at },
         TakeOutcome::Taken { place } => {
-            confirm_flow(rt, desk, packet, part, found, place, absent_at)
+            confirm_flow(rt, desk, packet, setup, part, found, place, absent_at)
         }
     }
 }
@@ -153,7 +185,7 @@ pub fn begin_flow<R: Wait, D: Desk>(
     requires absent { At (D.sight desk.old).front absent_at
         (λ s. live_under packet.now.tuple s ≡ None) }
     requires empty { HoldsNothing (D.sight desk.old) }
-    requires spare { 1 ≤ (D.sight desk.old).spare }
+    requires spare { 2 ≤ (D.sight desk.old).spare }
     requires knows { IsKnown (D.sight desk.old) }
     ensures answers { (killed : ℕ) → killed ≤ 4 → Answers setup.now
         (D.sight desk.old) (D.sight desk.new) packet.now killed absent_at result }
@@ -170,14 +202,12 @@ pub fn begin_flow<R: Wait, D: Desk>(
             let found = NewReply {
                 reply: invert(&packet.tuple),
                 translated: Translated::Plain,
-                at: absent_at,
             };
-            place_flow(rt, desk, packet, part, &found, absent_at)
+            place_flow(rt, desk, packet, setup, part, &found, absent_at)
         }
         TranslateOutcome::Chosen {
             reply,
             kept_taken_at,
-            free_at,
         } => {
             let found = NewReply {
                 reply,
@@ -185,9 +215,8 @@ pub fn begin_flow<R: Wait, D: Desk>(
                     reply,
                     kept_taken_at,
                 },
-                at: free_at,
             };
-            place_flow(rt, desk, packet, part, &found, absent_at)
+            place_flow(rt, desk, packet, setup, part, &found, absent_at)
         }
         TranslateOutcome::NoPort { from, to } => Class::NoPort { from, to },
     }

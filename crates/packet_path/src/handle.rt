@@ -6,11 +6,12 @@ ghost use Rattle.tuple_core.specs.Tuple.{is_valid};
 ghost use Rattle.history_book.specs.Desk.{Saw};
 ghost use Rattle.history_book.specs.Sight.{IsKnown};
 ghost use Rattle.nat_setup.specs.Rule.{IsLawfulRule};
-ghost use Rattle.packet_headers.specs.ClassifySound.{has_valid_tuple, HasItsProtocol};
+ghost use Rattle.packet_headers.specs.ClassifySound.{has_valid_tuple, HasItsProtocol, HasPayloadIn};
+ghost use Rattle.packet_headers.specs.Span.{IsSpanIn};
 ghost use Rattle.packet_headers.specs.declared.packet.Packet.TheVariants.{Error};
 ghost use Rattle.packet_path.specs.Handled.{Handled};
 ghost use Rattle.packet_path.specs.Internal.Attempt.{HoldsNothing, IsClassified};
-ghost use Rattle.packet_path.specs.Packet.{cause_of, given_of, Given, IsFlow};
+ghost use Rattle.packet_path.specs.Packet.{bytes_in, cause_of, given_by, given_of, Given, IsFlow};
 ghost use Rattle.packet_path.specs.Verdict.{FitsFrame, points_of};
 
 use crate::attempt::{Attempt, try_packet};
@@ -22,7 +23,7 @@ use history_book::laws::{events_stay, states_stay};
 use history_book::outcome::FindOutcome;
 use history_book::verdict::{Class, UntrackedWhy, Verdict};
 use packet_headers::classify::classify;
-use packet_headers::frame::Frame;
+use packet_headers::frame::{Frame, Span};
 use packet_headers::packet::{Packet, Untracked};
 use std::sync::Wait;
 use tuple_core::{NoMemory, Tuple, invert};
@@ -37,7 +38,7 @@ fn handle_flow<R: Wait, D: Desk>(
     requires lawful { AllByRecursion IsLawfulRule setup.now.rules.items }
     requires classified { IsClassified packet.now }
     requires empty { HoldsNothing (D.sight desk.old) }
-    requires spare { 5 ≤ (D.sight desk.old).spare }
+    requires spare { 6 ≤ (D.sight desk.old).spare }
     requires knows { IsKnown (D.sight desk.old) }
     ensures handled { (given : Given) → IsFlow given packet.now →
         Handled setup.now given (D.sight desk.old) (D.sight desk.new) result }
@@ -72,7 +73,7 @@ fn error_class<R: Wait, D: Desk>(
     ensures saw { Saw (D.sight desk.old) (D.sight desk.new) }
     ensures fits { (setup : Setup) (moment : ℕ) → FitsFrame setup (D.sight desk.old).sizes (D.sight desk.new).front
         (length (D.sight desk.old).front)
-        (record { packet = Error inner.now outer_destination; moment = moment }) [] result }
+        (record { packet = Error inner.now outer_destination; moment = moment; payload = [] }) [] result }
     ensures points { AllByRecursion (λ p. p ≤ length (D.sight desk.new).front) (points_of result) }
     ensures empty { HoldsNothing (D.sight desk.new) }
     ensures knows { IsKnown (D.sight desk.new) }
@@ -108,10 +109,21 @@ fn untracked_why(cause: Untracked) -> UntrackedWhy
     }
 }
 
-/// Handles one packet, by what its headers say. Only a packet of a flow makes events.
+/// The bytes of a file in a span.
+fn bytes_in(bytes: &[u8], span: Span) -> &[u8]
+    requires { IsSpanIn bytes.now span }
+    ensures { result.now ≡ bytes_in bytes.now span }
+{
+    let (front, _) = bytes.split_at(span.end);
+    let (_, inside) = front.split_at(span.start);
+    inside
+}
+
+/// Handles one packet of a file with these bytes, by what its headers say. Only a packet of a flow makes events.
 fn handle_packet<R: Wait, D: Desk>(
     rt: &R,
     desk: &mut D,
+    bytes: &[u8],
     packet: &Packet,
     moment: u64,
     setup: &Setup,
@@ -119,21 +131,27 @@ fn handle_packet<R: Wait, D: Desk>(
     requires lawful { AllByRecursion IsLawfulRule setup.now.rules.items }
     requires valid { has_valid_tuple packet.now ≡ true }
     requires protocol { HasItsProtocol packet.now }
+    requires inside { HasPayloadIn bytes.now packet.now }
     requires timely { moment ≤ 10 ^ 16 }
     requires empty { HoldsNothing (D.sight desk.old) }
-    requires spare { 5 ≤ (D.sight desk.old).spare }
+    requires spare { 6 ≤ (D.sight desk.old).spare }
     requires knows { IsKnown (D.sight desk.old) }
-    ensures handled { Handled setup.now (record { packet = packet.now; moment = moment })
+    ensures handled { Handled setup.now (given_by bytes.now packet.now moment)
         (D.sight desk.old) (D.sight desk.new) result }
     ensures knows { IsKnown (D.sight desk.new) }
 {
     let first = desk.made();
     let class = match packet {
-        Packet::Flow { tuple, segment, .. } => {
+        Packet::Flow {
+            tuple,
+            segment,
+            payload,
+        } => {
             let packet = FlowPacket {
                 tuple: *tuple,
                 segment: *segment,
                 moment,
+                payload: bytes_in(bytes, *payload),
             };
             return handle_flow(rt, desk, &packet, setup);
         }
@@ -176,5 +194,5 @@ pub fn handle<R: Wait, D: Desk>(
 {
     desk.ready(8)?;
     let packet = classify(bytes, frame);
-    Ok(handle_packet(rt, desk, &packet, frame.moment, setup))
+    Ok(handle_packet(rt, desk, bytes, &packet, frame.moment, setup))
 }

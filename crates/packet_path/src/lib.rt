@@ -6,5 +6,6 @@ mod begin;
 pub mod handle;
 pub mod laws;
 pub mod packet;
+mod payload;
 mod places;
 pub mod setup;

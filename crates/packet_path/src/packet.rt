@@ -2,10 +2,12 @@
 
 use tuple_core::{Segment, Tuple};
 
-/// What the tracker reads of the headers of a packet of a flow, and its moment in microseconds.
+/// What the tracker reads of a packet of a flow: its headers, its moment in microseconds, and its payload as
+/// far as it was captured.
 #[derive(Clone, Copy)]
-pub struct FlowPacket {
+pub struct FlowPacket<'p> {
     pub tuple: Tuple,
     pub segment: Segment,
     pub moment: u64,
+    pub payload: &'p [u8],
 }

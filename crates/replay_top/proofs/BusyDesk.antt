@@ -7,6 +7,8 @@ use Rattle.std.proofs.lemmas.List.{append-nil}
 use Rattle.std.proofs.lemmas.List.Elements.{All-push}
 use Rattle.std.proofs.lemmas.List.Quantifiers.{all_pairs_push}
 use Rattle.std.proofs.lemmas.Option.{slice_get_within}
+use Rattle.expect_table.specs.declared.expectation.Expectation.{Expectation}
+use Rattle.expect_table.specs.declared.expectation.Want.{Want}
 use Rattle.tuple_core.specs.declared.Direction.{Direction}
 use Rattle.tuple_core.specs.declared.Segment.{Segment}
 use Rattle.tuple_core.specs.declared.Tuple.{Tuple}
@@ -16,6 +18,8 @@ use Rattle.history_book.specs.declared.event.Note.{Note}
 use Rattle.history_book.specs.declared.event.Why.{Why}
 use Rattle.history_book.specs.declared.outcome.ConfirmOutcome.{ConfirmOutcome}
 use Rattle.history_book.specs.declared.outcome.ConfirmOutcome.TheVariants as confirm
+use Rattle.history_book.specs.declared.outcome.ExpectOutcome.{ExpectOutcome}
+use Rattle.history_book.specs.declared.outcome.ExpectOutcome.TheVariants as expect
 use Rattle.history_book.specs.declared.outcome.FindOutcome.{FindOutcome}
 use Rattle.history_book.specs.declared.outcome.FindOutcome.TheVariants as find
 use Rattle.history_book.specs.declared.outcome.HoldOutcome.{HoldOutcome}
@@ -33,14 +37,16 @@ use Rattle.history_book.specs.declared.outcome.TouchOutcome.TheVariants as touch
 use Rattle.history_book.specs.declared.record.Flow.{Flow}
 use Rattle.history_book.specs.declared.sizes.Sizes.{Sizes}
 use Rattle.history_book.specs.Desk.{ConfirmSays, Destroys, FindSays, HoldSays, HoldsOneMore, KeepsPlace, KillSays, PeekSays, ReleaseSays, Looked, MadeEvent, OwesPlace, RecycleSays, SamePlaces, Saw, TakeSays, Takes, TouchSays, Touches}
+use Rattle.history_book.specs.DeskExpectations.{ExpectSays, Expects, expectation_at}
+use Rattle.history_book.specs.Entry.{confirmed_by, is_helped_entry}
 use Rattle.history_book.specs.Held.{held_for, held_id, is_at, is_held, paid, without}
 use Rattle.history_book.specs.Point.{StartsWith}
 use Rattle.history_book.specs.Sight.{IsKnown, Sight}
 use Rattle.history_book.specs.Record.{has_id}
-use Rattle.history_book.specs.History.{is_legal, is_legal_from}
-use Rattle.history_book.specs.Legality.{may_happen}
+use Rattle.history_book.specs.History.{after, is_legal, is_legal_from}
+use Rattle.history_book.specs.Legality.{has_helper, may_happen}
 use Rattle.history_book.specs.State.{State, empty_state, next, record_of}
-use Rattle.history_book.specs.declared.event.Event.TheVariants.{Confirm, Destroy, Touch}
+use Rattle.history_book.specs.declared.event.Event.TheVariants.{Claim, Confirm, Destroy, Expect, Touch, Unexpect}
 use Rattle.history_book.specs.declared.record.Record.{Record}
 use Rattle.proto_rules.specs.declared.Outcome.TheVariants.{Accept}
 use Rattle.proto_rules.specs.declared.Part.{Part}
@@ -131,6 +137,24 @@ went_touch place d segment moment old new (touch.Reset at) says known = went_saw
 went_touch place d segment moment old new (touch.Expired at) says known = went_saw old new says.0.saw says.1 known
 went_touch place d segment moment old new (touch.Gone at) says known = went_saw old new says.0.saw says.1 known
 
+pub went_expect : (place : ℕ) (want : Want) (moment : ℕ) (old new : Sight) (r : ExpectOutcome) → ExpectSays place want moment old new r
+    → IsKnown new → Went old new 1 0
+went_expect place want moment old new (expect.Expected id replaced) says known = went_made old new id _ says.0 says.1 known
+went_expect place want moment old new (expect.MasterGone at) says known = went_saw old new says.0.saw says.1 known
+went_expect place want moment old new (expect.Clash id at) says known = went_saw old new says.0.saw says.1 known
+went_expect place want moment old new (expect.ExpectFull at) says known = went_saw old new says.0.saw says.1 known
+
+pub went_then : (old mid new : Sight) (b a : ℕ) → Went old mid b a → Saw mid new → SamePlaces mid new → IsKnown new → Went old new b a
+went_then old mid new b a went saw same known = record {
+  known = known;
+  front = starts_trans new.front mid.front old.front saw.front went.front;
+  held = same.held ∙ went.held;
+  owed = same.owed ∙ went.owed;
+  sizes = saw.sizes ∙ went.sizes;
+  fewer = went.fewer;
+  spare = omega (arith, went.spare, saw.spare);
+}
+
 pub went_kill : (place : ℕ) (w : Why) (old new : Sight) (r : KillOutcome) → KillSays place w old new r → IsKnown new → Went old new 1 0
 went_kill place w old new (kill.Killed n subject) says known = went_made old new n _ says.made says.same known
 went_kill place w old new (kill.Gone at) says known = went_saw old new says.0.saw says.1 known
@@ -176,6 +200,17 @@ holding_confirmed place flow old mid new (confirm.Clash id d both at) taken says
   owed = says.1.owed ∙ taken.holds.owed;
   sizes = says.0.saw.sizes ∙ taken.saw.sizes;
   spare = omega (arith, says.0.saw.spare, taken.saw.spare);
+}
+
+pub holding_found : (t : Tuple) (place id : ℕ) (d : Direction) (at : ℕ) (old mid new : Sight)
+    → FindSays t old mid (find.Found place id d at) → Went mid new 1 0 → Holding place old new
+holding_found t place id d at old mid new says went = record {
+  front = starts_trans new.front mid.front old.front went.front says.0.saw.front;
+  id = Some id;
+  held = went.held ∙ says.1.held;
+  owed = went.owed ∙ says.1.owed;
+  sizes = went.sizes ∙ says.0.saw.sizes;
+  spare = omega (arith, went.spare, says.0.saw.spare);
 }
 
 let_go : (place : ℕ) (id : Option ℕ) (held : List Hold) → without place (record { place = place; id = id } ∷ held) ≡ held
@@ -297,23 +332,23 @@ module _ (old : Sight) (f : List Event) (o : List Note) (k : ℕ) (start : Start
     alone = λ one place below. absurd (omega (arith, one));
   }
 
-  pub moved_touched : (id : ℕ) (d : Direction) (segment : Segment) (moment n spare' : ℕ) (before : Record) (after : Part)
-      → Touches id d segment moment (moved old f o k) new n before → step_of before.part d segment moment ≡ Accept after
+  pub moved_touched : (id : ℕ) (d : Direction) (segment : Segment) (moment n spare' : ℕ) (before : Record) (later : Part)
+      → Touches id d segment moment (moved old f o k) new n before → step_of before.part d segment moment ≡ Accept later
       → spare ≡ spare' + 1
       → Touches id d segment moment (seen_by old notes spare)
-      (seen_by new (notes ++ record { number = n; event = Touch before.id d segment moment after } ∷ []) spare') n before
-  moved_touched id d segment moment n spare' before after says step one =
-      let named : before.id ≡ id = has_id_of id _ before says.found.fact in
-      let parts : says.after ≡ after = accepted says.after after (sym says.step ∙ step) in
-      let event : Touch id d segment moment says.after ≡ Touch before.id d segment moment after =
+      (seen_by new (notes ++ record { number = n; event = Touch before.id d segment moment later } ∷ []) spare') n before
+  moved_touched id d segment moment n spare' before later says step one =
+      let named : before.id ≡ id = has_id_of id (after new.front n) before says.found.fact in
+      let parts : says.after ≡ later = accepted says.after later (sym says.step ∙ step) in
+      let event : Touch id d segment moment says.after ≡ Touch before.id d segment moment later =
       ap (λ i. Touch i d segment moment says.after) (sym named) ∙ ap (Touch before.id d segment moment) parts in
       record {
-        after = after;
+        after = later;
         made = subst
             (λ i. MadeEvent (seen_by old notes spare)
-            (seen_by new (notes ++ record { number = n; event = Touch before.id d segment moment after } ∷ []) spare') n (Touch i d segment moment after))
+            (seen_by new (notes ++ record { number = n; event = Touch before.id d segment moment later } ∷ []) spare') n (Touch i d segment moment later))
             named
-            (made spare' n (Touch before.id d segment moment after) (subst (MadeEvent (moved old f o k) new n) event says.made) one);
+            (made spare' n (Touch before.id d segment moment later) (subst (MadeEvent (moved old f o k) new n) event says.made) one);
         found = says.found;
         step = step;
         same = record { held = says.same.held; owed = says.same.owed };
@@ -324,7 +359,7 @@ module _ (old : Sight) (f : List Event) (o : List Note) (k : ℕ) (start : Start
       → Destroys id w (seen_by old notes spare)
       (seen_by new (notes ++ record { number = n; event = Destroy subject.id w } ∷ []) spare') n subject
   moved_killed id w n spare' subject says one =
-      let named : subject.id ≡ id = has_id_of id _ subject says.found.fact in
+      let named : subject.id ≡ id = has_id_of id (after new.front n) subject says.found.fact in
       record {
         made = subst
             (λ i. MadeEvent (seen_by old notes spare)
@@ -336,6 +371,12 @@ module _ (old : Sight) (f : List Event) (o : List Note) (k : ℕ) (start : Start
         reason = says.reason;
         same = record { held = says.same.held; owed = says.same.owed };
       }
+
+  pub moved_made : (spare' n : ℕ) (e : Event) → MadeEvent (moved old f o k) new n e → SamePlaces (moved old f o k) new
+      → spare ≡ spare' + 1
+      → MadeEvent (seen_by old notes spare) (seen_by new (notes ++ record { number = n; event = e } ∷ []) spare') n e
+      × SamePlaces (seen_by old notes spare) (seen_by new (notes ++ record { number = n; event = e } ∷ []) spare')
+  moved_made spare' n e m places one = (made spare' n e m one, record { held = places.held; owed = places.owed })
 
 pub take_went : (old mid new : Sight) (notes : List Note) (spare b a : ℕ) (r : TakeOutcome) → Went old mid b a
     → old.sizes.passes ≡ 1 → TakeSays mid new r → TakeSays (seen_by old notes spare) (seen_by new notes spare) r
@@ -352,6 +393,9 @@ may_two : (z : Sizes) (k : ℕ) (s : State) (n : ℕ) (e : Event) → may_happen
 may_two z k s n (Confirm r) = refl
 may_two z k s n (Touch id direction segment moment after) = refl
 may_two z k s n (Destroy id why) = refl
+may_two z k s n (Expect expectation replaced moment) = refl
+may_two z k s n (Claim expectation master tuple moment) = refl
+may_two z k s n (Unexpect expectation moment) = refl
 
 legal_from_two : (z : Sizes) (k : ℕ) (s : State) (n : ℕ) (log : List Event)
     → is_legal_from (record z { passes = k }) s n log ≡ is_legal_from z s n log
@@ -445,27 +489,27 @@ busy_pushed old mid new notes items capacity room spare spare' b a n e busy went
     (subst (λ (r : ℕ). IsBusy new (notes ++ record { number = n; event = e } ∷ []) r spare' a) (sym same)
     (busy_made mid new notes capacity spare spare' a n e (busy_went old mid notes capacity spare b a busy went) made known one))
 
-pub touch_made : (id : ℕ) (d : Direction) (segment : Segment) (moment : ℕ) (mid new : Sight) (n : ℕ) (before : Record) (after : Part)
-    → Touches id d segment moment mid new n before → step_of before.part d segment moment ≡ Accept after
-    → MadeEvent mid new n (Touch before.id d segment moment after)
-touch_made id d segment moment mid new n before after says step =
-    subst (λ i. MadeEvent mid new n (Touch i d segment moment after)) (sym (has_id_of id _ before says.found.fact))
-    (subst (λ (p : Part). MadeEvent mid new n (Touch id d segment moment p)) (accepted says.after after (sym says.step ∙ step)) says.made)
+pub touch_made : (id : ℕ) (d : Direction) (segment : Segment) (moment : ℕ) (mid new : Sight) (n : ℕ) (before : Record) (later : Part)
+    → Touches id d segment moment mid new n before → step_of before.part d segment moment ≡ Accept later
+    → MadeEvent mid new n (Touch before.id d segment moment later)
+touch_made id d segment moment mid new n before later says step =
+    subst (λ i. MadeEvent mid new n (Touch i d segment moment later)) (sym (has_id_of id (after new.front n) before says.found.fact))
+    (subst (λ (p : Part). MadeEvent mid new n (Touch id d segment moment p)) (accepted says.after later (sym says.step ∙ step)) says.made)
 
 pub kill_made : (id : ℕ) (w : Why) (mid new : Sight) (n : ℕ) (subject : Record) → Destroys id w mid new n subject
     → MadeEvent mid new n (Destroy subject.id w)
 kill_made id w mid new n subject says =
-    subst (λ i. MadeEvent mid new n (Destroy i w)) (sym (has_id_of id _ subject says.found.fact)) says.made
+    subst (λ i. MadeEvent mid new n (Destroy i w)) (sym (has_id_of id (after new.front n) subject says.found.fact)) says.made
 
 pub touched_went : (place : ℕ) (old mid new : Sight) (notes items : List Note) (spare spare' b a : ℕ) (d : Direction) (segment : Segment)
-    (moment n : ℕ) (before : Record) (after : Part) → Went old mid b a → old.sizes.passes ≡ 1
-    → Touches (held_id place mid.held) d segment moment mid new n before → step_of before.part d segment moment ≡ Accept after
-    → items ≡ notes ++ record { number = n; event = Touch before.id d segment moment after } ∷ [] → spare ≡ spare' + 1
+    (moment n : ℕ) (before : Record) (later : Part) → Went old mid b a → old.sizes.passes ≡ 1
+    → Touches (held_id place mid.held) d segment moment mid new n before → step_of before.part d segment moment ≡ Accept later
+    → items ≡ notes ++ record { number = n; event = Touch before.id d segment moment later } ∷ [] → spare ≡ spare' + 1
     → Touches (held_id place old.held) d segment moment (seen_by old notes spare) (seen_by new items spare') n before
-touched_went place old mid new notes items spare spare' b a d segment moment n before after went lone says step pushed one =
+touched_went place old mid new notes items spare spare' b a d segment moment n before later went lone says step pushed one =
     subst (λ (l : List Note). Touches (held_id place old.held) d segment moment (seen_by old notes spare) (seen_by new l spare') n before)
     (sym pushed)
-    (moved_touched old mid.front mid.own mid.spare went.front lone new notes spare (held_id place old.held) d segment moment n spare' before after
+    (moved_touched old mid.front mid.own mid.spare went.front lone new notes spare (held_id place old.held) d segment moment n spare' before later
     (subst (λ (m : Sight). Touches (held_id place m.held) d segment moment m new n before) (moved_by old mid b a went) says) step one)
 
 pub killed_went : (place : ℕ) (old mid new : Sight) (notes items : List Note) (spare spare' b a : ℕ) (w : Why) (n : ℕ)
@@ -477,6 +521,67 @@ killed_went place old mid new notes items spare spare' b a w n subject went lone
     (sym pushed)
     (moved_killed old mid.front mid.own mid.spare went.front lone new notes spare (held_id place old.held) w n spare' subject
     (subst (λ (m : Sight). Destroys (held_id place m.held) w m new n subject) (moved_by old mid b a went) says) one)
+
+-- an event of this pass after the other's turn
+pub made_went : (old mid new : Sight) (notes items : List Note) (spare spare' b a n : ℕ) (e : Event) → Went old mid b a
+    → old.sizes.passes ≡ 1 → MadeEvent mid new n e → SamePlaces mid new
+    → items ≡ notes ++ record { number = n; event = e } ∷ [] → spare ≡ spare' + 1
+    → MadeEvent (seen_by old notes spare) (seen_by new items spare') n e × SamePlaces (seen_by old notes spare) (seen_by new items spare')
+made_went old mid new notes items spare spare' b a n e went lone event same pushed one =
+    subst (λ (l : List Note). MadeEvent (seen_by old notes spare) (seen_by new l spare') n e
+    × SamePlaces (seen_by old notes spare) (seen_by new l spare')) (sym pushed)
+    (moved_made old mid.front mid.own mid.spare went.front lone new notes spare spare' n e
+    (subst (λ (m : Sight). MadeEvent m new n e) (moved_by old mid b a went) event)
+    (subst (λ (m : Sight). SamePlaces m new) (moved_by old mid b a went) same) one)
+
+-- the id of what was read is that for which the place is held
+pub read_id : (place : ℕ) (mid seen : Sight) (subject : Record) (at : ℕ) → PeekSays place mid seen (peek.Seen subject at)
+    → held_id place seen.held ≡ subject.id
+read_id place mid seen subject at says =
+    ap (held_id place) says.1.held
+    ∙ sym (has_id_of (held_id place mid.held) (after seen.front at) subject says.0.fact.fact)
+
+pub expect_made : (place : ℕ) (want : Want) (moment : ℕ) (mid seen new : Sight) (subject : Record) (at id : ℕ) (replaced : Option ℕ)
+    → PeekSays place mid seen (peek.Seen subject at) → ExpectSays place want moment seen new (expect.Expected id replaced)
+    → MadeEvent seen new id (Expect (expectation_at id subject.id want moment) replaced moment)
+expect_made place want moment mid seen new subject at id replaced read says =
+    subst (λ m. MadeEvent seen new id (Expect (expectation_at id m want moment) replaced moment))
+    (read_id place mid seen subject at read) says.0
+
+-- the note of what is expected
+pub expect_noted : (items notes : List Note) (id : ℕ) (noted e : Expectation) (replaced : Option ℕ) (moment : ℕ)
+    → items ≡ notes ++ record { number = id; event = Expect noted replaced moment } ∷ [] → noted ≡ e
+    → items ≡ notes ++ record { number = id; event = Expect e replaced moment } ∷ []
+expect_noted items notes id noted e replaced moment pushed same =
+    pushed ∙ ap (λ (x : Expectation). notes ++ record { number = id; event = Expect x replaced moment } ∷ []) same
+
+pub expected_went : (place : ℕ) (want : Want) (moment : ℕ) (old mid seen new : Sight) (notes items : List Note) (spare spare' b a : ℕ)
+    (subject : Record) (at id : ℕ) (replaced : Option ℕ) → Went old mid b a → old.sizes.passes ≡ 1 → IsKnown seen
+    → PeekSays place mid seen (peek.Seen subject at) → ExpectSays place want moment seen new (expect.Expected id replaced)
+    → items ≡ notes ++ record { number = id; event = Expect (expectation_at id subject.id want moment) replaced moment } ∷ []
+    → spare ≡ spare' + 1
+    → Expects (held_id place old.held) want moment (seen_by old notes spare) (seen_by new items spare') id replaced
+expected_went place want moment old mid seen new notes items spare spare' b a subject at id replaced went lone known read says pushed one =
+    let named : subject.id ≡ held_id place old.held =
+    sym (read_id place mid seen subject at read) ∙ ap (held_id place) (read.1.held ∙ went.held) in
+    subst (λ m. Expects m want moment (seen_by old notes spare) (seen_by new items spare') id replaced) named
+    (made_went old seen new notes items spare spare' b a id (Expect (expectation_at id subject.id want moment) replaced moment)
+    (went_then old mid seen b a went read.0.saw read.1 known) lone
+    (expect_made place want moment mid seen new subject at id replaced read says) says.1 pushed one)
+
+-- an entry that has the helper is one that has it when the history goes on
+helped_grows : (id : ℕ) (log front : List Event) → StartsWith log front → is_helped_entry id front ≡ true → is_helped_entry id log ≡ true
+helped_grows id log front start helped = by_event (slice_get front id) refl helped
+  where
+    by_event : (o : Option Event) → slice_get front id ≡ o → has_helper (confirmed_by o) ≡ true → is_helped_entry id log ≡ true
+    by_event None same helped = cc
+    by_event (Some e) same helped = ap (λ (x : Option Event). has_helper (confirmed_by x)) (get_grows log front id e start same) ∙ helped
+
+pub still_helped : (place : ℕ) (old mid seen : Sight) (b a : ℕ) → Went old mid b a → Saw mid seen → SamePlaces mid seen
+    → is_helped_entry (held_id place old.held) old.front ≡ true → is_helped_entry (held_id place seen.held) seen.front ≡ true
+still_helped place old mid seen b a went saw same helped =
+    subst (λ (held : List Hold). is_helped_entry (held_id place held) seen.front ≡ true) (sym (same.held ∙ went.held))
+    (helped_grows (held_id place old.held) seen.front old.front (starts_trans seen.front mid.front old.front saw.front went.front) helped)
 
 pub one_less : (seen : Sight) (spare : ℕ) → spare ≡ seen.spare → 1 ≤ seen.spare → spare ≡ (spare - 1) + 1
 one_less seen spare same some = omega (arith, same, some)

@@ -15,6 +15,7 @@ use Rattle.replay_top.specs.Causes.{FailedToOpen, FailsToOpen, FailsToRead, Othe
 use Rattle.replay_top.specs.Flaw.{HasFlaw}
 use Rattle.replay_top.specs.Inputs.{FirstFlaw, IsFlawed, Reaches, ReadsWell}
 use Rattle.replay_top.specs.Internal.Ending.{CaptureReplaysAs, HasCauseAt, HasCauseIn, HasCauseOfRules, OthersStandBesideName, Replays}
+use Rattle.replay_top.specs.Ports.{ftp_ports}
 use Rattle.replay_top.specs.Replay.{Gave, GaveRules, IsReplayOf}
 use Rattle.replay_top.specs.Words.{Command, file_at, files_of, files_of_kind, InputFile}
 use Rattle.replay_top.proofs.Findings.{rules_read}
@@ -99,18 +100,19 @@ this_capture (Some name) capture = refl
 -- what the capture gives once the rules were read is what the command gives
 pub replays : (name : Option (List ℕ)) (setup : Setup) (capture : List ℕ) (at : ℕ) (files between files' : Source) (result : Result Report Refusal)
     → at ≡ first_capture name → Stays files between → SameFaults files between → GaveRules files name setup.rules.items
-    → CaptureReplaysAs setup capture at between files' result
+    → setup.ftp.items ≡ ftp_ports → CaptureReplaysAs setup capture at between files' result
     → Replays (record { rules = name; captures = capture ∷ [] }) files files' result
-replays name setup capture at files between files' (Ok report) numbered stays same gave (read, later) =
+replays name setup capture at files between files' (Ok report) numbered stays same gave ports (read, later) =
     let whole : IsReplayOf files (record { rules = name; captures = capture ∷ [] }) report = record {
       setup = setup;
       gave_rules = gave;
+      ftp = ports;
       captures = read.given ∷ [];
       gave = (gave_later files between files' stays capture read.given read.gave, tt);
       well_formed = read.well_formed;
     } in
     (whole, same_faults files between files' same later)
-replays name setup capture at files between files' (Err why) numbered stays same gave (cause, later) =
+replays name setup capture at files between files' (Err why) numbered stays same gave ports (cause, later) =
     let found : HasCauseIn (record { kind = kind.Capture; name = capture }) (first_capture name) files files' why =
     subst (λ k. HasCauseIn (record { kind = kind.Capture; name = capture }) k files files' why) numbered
     (cause_later files between files' stays (record { kind = kind.Capture; name = capture }) at why cause) in (

@@ -4,6 +4,7 @@ pub mod Flaw
 pub mod Inputs
 pub mod Internal
 pub mod Laws
+pub mod Ports
 pub mod Process
 pub mod Readable
 pub mod Replay

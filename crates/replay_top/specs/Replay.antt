@@ -12,6 +12,7 @@ use Rattle.replay_top.specs.declared.flaw.FileKind.TheVariants.{Capture}
 use Rattle.replay_top.specs.declared.flaw.ReplayError.{ReplayError}
 use Rattle.replay_top.specs.declared.flaw.ReplayError.TheVariants.{Flawed, NoMemory}
 use Rattle.replay_top.specs.Flaw.{HasFlaw}
+use Rattle.replay_top.specs.Ports.{ftp_ports}
 use Rattle.replay_top.specs.Readable.{IsReadable, IsReadableRules}
 use Rattle.replay_top.specs.Report.{IsWellFormed, Tracker}
 use Rattle.replay_top.specs.Sizes.{program_sizes}
@@ -63,10 +64,12 @@ GaveEach files [] (given ∷ more) = ⊥
 GaveEach files (name ∷ names) [] = ⊥
 GaveEach files (name ∷ names) (given ∷ more) = Gave files name given × GaveEach files names more
 
--- the report is that of the command's captures, with a tracker that has its rules
+-- the report is that of the command's captures, with a tracker that has its rules, and the helper for the port of
+-- FTP
 pub record IsReplayOf (files : Source) (command : Command) (report : Report) : Type 0 where
   pub setup : Setup
   pub gave_rules : GaveRules files command.rules setup.rules.items
+  pub ftp : setup.ftp.items ≡ ftp_ports
   pub captures : List (List Given)
   pub gave : GaveEach files command.captures captures
   pub well_formed : IsWellFormed (program_tracker setup) captures report

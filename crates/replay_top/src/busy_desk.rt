@@ -7,14 +7,16 @@ ghost use Rattle.proto_rules.specs.declared.Outcome.TheVariants.{Accept};
 ghost use Rattle.proto_rules.specs.Step.{step_of};
 
 use book_desk::desk::PlainDesk;
+use expect_table::expectation::Want;
 use history_book::desk::Desk;
 use history_book::event::{Event, Note, Why};
+use history_book::legality::expectation_at;
 use history_book::outcome::{
-    ConfirmOutcome, FindOutcome, HoldOutcome, KillOutcome, LiveCount, PeekOutcome, ReleaseOutcome,
-    TakeOutcome, TouchOutcome,
+    ClaimOutcome, ConfirmOutcome, ExpectOutcome, FindOutcome, HoldOutcome, KillOutcome, LiveCount,
+    PeekOutcome, ReleaseOutcome, TakeOutcome, TouchOutcome, UnexpectOutcome,
 };
 use history_book::record::{Flow, Record};
-use history_book::report::Notes;
+use history_book::report::{Expectations, Notes};
 use proto_rules::{Outcome, Part, is_of_protocol, step};
 use stage::{Call, Script, Stage};
 use std::alloc::Global;
@@ -86,6 +88,10 @@ impl Desk for BusyDesk {
 
     fn places(&self) -> u32 {
         self.stage.desk.places()
+    }
+
+    fn expect_room(&self) -> u32 {
+        self.stage.desk.expect_room()
     }
 
     fn made(&self) -> u64 {
@@ -201,6 +207,81 @@ impl Desk for BusyDesk {
             KillOutcome::Gone { .. } => outcome,
             KillOutcome::Not { .. } => outcome,
         }
+    }
+
+    fn expect<R: Wait>(&mut self, rt: &R, place: u32, want: Want, moment: u64) -> ExpectOutcome {
+        self.stage.other_meets(rt, Call::Expect, place);
+        // The event names the entry, which this call gives by its place alone.
+        let master = match self.stage.desk.peek(rt, place) {
+            PeekOutcome::Gone { at } => return ExpectOutcome::MasterGone { at },
+            PeekOutcome::Seen { subject, .. } => subject.id,
+        };
+        let outcome = self.stage.desk.expect(rt, place, want, moment);
+        match outcome {
+            ExpectOutcome::Expected { id, replaced } => {
+                self.notes.push(Note {
+                    number: id,
+                    event: Event::Expect {
+                        expectation: expectation_at(id, master, want, moment),
+                        replaced,
+                        moment,
+                    },
+                });
+                self.spare -= 1;
+                outcome
+            }
+            ExpectOutcome::MasterGone { .. } => outcome,
+            ExpectOutcome::Clash { .. } => outcome,
+            ExpectOutcome::ExpectFull { .. } => outcome,
+        }
+    }
+
+    fn claim<R: Wait>(&mut self, rt: &R, t: &Tuple, moment: u64) -> ClaimOutcome {
+        self.stage.other_claims(rt);
+        let outcome = self.stage.desk.claim(rt, t, moment);
+        match outcome {
+            ClaimOutcome::Unclaimed { .. } => outcome,
+            ClaimOutcome::Claimed {
+                number,
+                expectation,
+                master,
+            } => {
+                self.notes.push(Note {
+                    number,
+                    event: Event::Claim {
+                        expectation,
+                        master,
+                        tuple: *t,
+                        moment,
+                    },
+                });
+                self.spare -= 1;
+                outcome
+            }
+        }
+    }
+
+    fn unexpect<R: Wait>(&mut self, rt: &R, id: u64, moment: u64) -> UnexpectOutcome {
+        let outcome = self.stage.desk.unexpect(rt, id, moment);
+        match outcome {
+            UnexpectOutcome::Removed { number } => {
+                self.notes.push(Note {
+                    number,
+                    event: Event::Unexpect {
+                        expectation: id,
+                        moment,
+                    },
+                });
+                self.spare -= 1;
+                outcome
+            }
+            UnexpectOutcome::Gone { .. } => outcome,
+            UnexpectOutcome::Not { .. } => outcome,
+        }
+    }
+
+    fn expects<R: Wait>(&mut self, rt: &R, listed: &mut Expectations) -> u64 {
+        self.stage.desk.expects(rt, listed)
     }
 
     fn hold<R: Wait>(&mut self, rt: &R, place: u32) -> HoldOutcome {

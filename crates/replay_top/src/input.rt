@@ -13,6 +13,7 @@ ghost use Rattle.replay_top.specs.Words.{files_of, files_of_kind};
 
 use crate::command_line::Asked;
 use crate::flaw::{FileKind, Flaw, Refusal, ReplayError};
+use crate::ports::ftp_ports;
 use crate::read::{ReadError, read_file};
 use crate::replay::replay;
 use crate::sizes::program_sizes;
@@ -88,16 +89,20 @@ fn read_input<F: Files>(
 }
 
 /// Sets a tracker up with the rules of the file of this name, the first of the run; without a name there are
-/// none.
+/// none. The helper is for the port of FTP.
 fn read_setup<F: Files>(alloc: Global, files: &mut F, name: Option<&str>) -> Result<Setup, Refusal>
     ensures reads { RulesReadAs (option_map (λ n. n.now) name.entry) (F.source files.old) (F.source files.new) result }
     ensures others { OthersStandBeside (files_of_kind FileKind.Rules (option_to_list (option_map (λ n. n.now) name.entry)))
         (F.source files.old) (F.source files.new) }
     ensures stays { Stays (F.source files.old) (F.source files.new) }
 {
+    let ftp = match ftp_ports(alloc) {
+        Ok(ports) => ports,
+        Err(_) => return Err(Refusal::NoMemory),
+    };
     let Some(name) = name else {
         return match Rules::new(alloc, 0) {
-            Ok(rules) => Ok(Setup { rules }),
+            Ok(rules) => Ok(Setup { rules, ftp }),
             Err(_) => Err(Refusal::NoMemory),
         };
     };
@@ -106,7 +111,7 @@ fn read_setup<F: Files>(alloc: Global, files: &mut F, name: Option<&str>) -> Res
         Err(why) => return Err(why),
     };
     match read_rules(alloc, bytes.as_slice()) {
-        Ok(rules) => Ok(Setup { rules }),
+        Ok(rules) => Ok(Setup { rules, ftp }),
         Err(RuleError::Fault(fault)) => Err(Refusal::Flawed {
             file: 0,
             flaw: Flaw::Rules(fault),

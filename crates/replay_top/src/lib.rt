@@ -10,6 +10,7 @@ mod flaw;
 mod input;
 pub mod laws;
 mod naming;
+mod ports;
 mod process;
 mod program;
 mod read;

@@ -61,11 +61,11 @@ fn run<R: Wait, F: Files, K: Sink>(
 /// capture, and writes the report's text to `out`, or one line to `err`.
 ///
 /// `words` are `ctreplay CAPTURE` or `ctreplay --rules FILE CAPTURE`; no name begins with `-`. New flows are
-/// translated by the rules. The statuses are 0 (all was written), 1 (the words are not of that
-/// form), 2 (a file is no file of rules, or no capture), 3 (one could not be opened or read), 4 (the output
-/// could not be written), 5 (a file has too many bytes: of rules 1,048,576 are read, of a capture
-/// 268,435,456) and 6 (memory was wanted). The report is there with 0 and 4. No thread is started and the
-/// gate is not called.
+/// translated by the rules, and connections to a server's port 21 have the helper of FTP. The statuses are 0
+/// (all was written), 1 (the words are not of that form), 2 (a file is no file of rules, or no capture), 3 (one
+/// could not be opened or read), 4 (the output could not be written), 5 (a file has too many bytes: of rules
+/// 1,048,576 are read, of a capture 268,435,456) and 6 (memory was wanted). The report is there with 0 and 4.
+/// No thread is started and the gate is not called.
 pub fn top<R: Threads + Wait + Sync, F: Files, K: Sink, G: Gate + Sync>(
     rt: &R,
     alloc: Global,

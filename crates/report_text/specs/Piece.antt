@@ -1,12 +1,14 @@
 -- The pieces of a line. Numbers are plain decimal.
 use Rattle.std.specs.Prelude.{ℕ, Bool, true, false, ◌/◌, ◌%◌, ◌^◌, List, [], ◌++◌, codes, decimal, Option, None, Some}
+use Rattle.expect_table.specs.declared.expectation.Expectation.{Expectation}
+use Rattle.expect_table.specs.declared.expectation.Want.{Want}
 use Rattle.tuple_core.specs.declared.Direction.{Direction}
 use Rattle.tuple_core.specs.declared.Direction.TheVariants.{Original, Reply}
 use Rattle.tuple_core.specs.declared.Proto.{Proto}
 use Rattle.tuple_core.specs.declared.Proto.TheVariants.{Icmp, Tcp, Udp}
 use Rattle.tuple_core.specs.declared.Tuple.{Tuple}
 use Rattle.history_book.specs.declared.event.Event.{Event}
-use Rattle.history_book.specs.declared.event.Event.TheVariants.{Confirm, Touch, Destroy}
+use Rattle.history_book.specs.declared.event.Event.TheVariants.{Confirm, Touch, Destroy, Expect, Claim, Unexpect}
 use Rattle.history_book.specs.declared.event.Why.{Why}
 use Rattle.history_book.specs.declared.event.Why.TheVariants.{Expired, Reopened, Reset}
 use Rattle.history_book.specs.declared.record.Record.{Record}
@@ -18,6 +20,7 @@ use Rattle.history_book.specs.declared.verdict.UntrackedWhy.{UntrackedWhy}
 use Rattle.history_book.specs.declared.verdict.UntrackedWhy.TheVariants as untracked
 use Rattle.history_book.specs.declared.verdict.Label.{Label}
 use Rattle.history_book.specs.declared.verdict.Label.TheVariants as label
+use Rattle.proto_rules.specs.declared.Part.{Part}
 use Rattle.proto_rules.specs.declared.PartKind.{PartKind}
 use Rattle.proto_rules.specs.declared.PartKind.TheVariants as kind
 use Rattle.proto_rules.specs.declared.TcpState.{TcpState}
@@ -101,15 +104,56 @@ why_text (Expired moment) = codes " expired"
 why_text (Reopened direction segment moment) = codes " reopened"
 why_text (Reset segment moment) = codes " reset"
 
+-- a packet in this direction leaves the entry with this part
+unfoldable pub touched_text : ℕ → Direction → Part → List ℕ
+touched_text id direction after =
+    codes " id=" ++ decimal id ++ codes " " ++ direction_word direction ++ codes " until=" ++
+    decimal after.deadline ++ state_text after.kind ++ word_if after.replied (codes " replied") ++
+    word_if after.assured (codes " assured")
+
+-- an older expectation ends
+abbrev pub replaced_text : Option ℕ → List ℕ
+replaced_text None = []
+replaced_text (Some id) = codes " replaces=" ++ decimal id
+
+-- from where a connection is expected, and to where
+unfoldable pub want_text : Want → List ℕ
+want_text w =
+    codes " src=" ++ address_text w.src ++ codes " dst=" ++ address_text w.dst ++
+    codes " dport=" ++ decimal w.port
+
+-- what is expected, for which entry and until when, and the older expectation that ends with that
+unfoldable pub expectation_text : Expectation → Option ℕ → List ℕ
+expectation_text e replaced =
+    codes " master=" ++ decimal e.master ++ want_text e.want ++ codes " until=" ++
+    decimal e.deadline ++ replaced_text replaced
+
+-- a packet met an expectation of this entry
+abbrev pub claimed_text : ℕ → ℕ → List ℕ
+claimed_text expectation master =
+    codes " expect=" ++ decimal expectation ++ codes " master=" ++ decimal master
+
+abbrev pub event_word : Event → List ℕ
+event_word (Confirm subject) = codes "confirm"
+event_word (Touch id direction segment moment after) = codes "touch"
+event_word (Destroy id why) = codes "destroy"
+event_word (Expect expectation replaced moment) = codes "expect"
+event_word (Claim expectation master tuple moment) = codes "claim"
+event_word (Unexpect expectation moment) = codes "unexpect"
+
+-- what an event does
+abbrev pub event_rest : Event → List ℕ
+event_rest (Confirm subject) = codes " " ++ record_text subject
+event_rest (Touch id direction segment moment after) = touched_text id direction after
+event_rest (Destroy id why) = codes " id=" ++ decimal id ++ why_text why
+event_rest (Expect expectation replaced moment) = expectation_text expectation replaced
+event_rest (Claim expectation master tuple moment) = claimed_text expectation master
+event_rest (Unexpect expectation moment) =
+    codes " expect=" ++ decimal expectation ++ codes " expired"
+
 -- an event, made by `who`
-abbrev pub event_text : List ℕ → Event → List ℕ
-event_text who (Confirm subject) = codes " confirm " ++ who ++ codes " " ++ record_text subject
-event_text who (Touch id direction segment moment after) =
-    codes " touch " ++ who ++ codes " id=" ++ decimal id ++ codes " " ++ direction_word direction ++
-    codes " until=" ++ decimal after.deadline ++ state_text after.kind ++
-    word_if after.replied (codes " replied") ++ word_if after.assured (codes " assured")
-event_text who (Destroy id why) =
-    codes " destroy " ++ who ++ codes " id=" ++ decimal id ++ why_text why
+unfoldable pub event_text : List ℕ → Event → List ℕ
+event_text who e = codes " " ++ event_word e ++ codes " " ++ who ++ event_rest e
 
 -- a point of the history
 unfoldable pub point_text : ℕ → List ℕ

@@ -2,13 +2,14 @@
 
 ghost use Rattle.std.specs.Prelude.{◌≤◌, ◌++◌, length};
 ghost use Rattle.report_text.specs.Page.{Adds, HasRoom};
-ghost use Rattle.report_text.specs.Piece.{address_text, class_text, direction_word, ends_text, entry_text, error_word, event_text, flow_text, ftp_text, label_word, made_word, master_text, point_text, proto_word, record_text, state_text, state_word, tuple_text, untracked_word, who_text, why_text};
+ghost use Rattle.report_text.specs.Piece.{address_text, claimed_text, class_text, direction_word, ends_text, entry_text, error_word, event_rest, event_text, event_word, expectation_text, flow_text, ftp_text, label_word, made_word, master_text, point_text, proto_word, record_text, replaced_text, state_text, state_word, touched_text, tuple_text, untracked_word, want_text, who_text, why_text};
 
 use crate::page::Page;
+use expect_table::expectation::{Expectation, Want};
 use history_book::event::{Event, Numbered, Why};
 use history_book::record::Record;
 use history_book::verdict::{Class, Ftp, Label, UntrackedWhy};
-use proto_rules::{PartKind, TcpState};
+use proto_rules::{Part, PartKind, TcpState};
 use tuple_core::{Direction, Proto, Tuple};
 
 impl<'b> Page<'b> {
@@ -182,16 +183,96 @@ impl<'b> Page<'b> {
         }
     }
 
-    /// Writes an event, and who made it.
-    pub(crate) fn event(&mut self, e: &Numbered)
-        requires { HasRoom 249 self.old }
-        ensures { Adds 249 (event_text (who_text e.now.thread e.now.index) e.now.event)
-            self.old self.new }
+    /// Writes the way of a packet that an entry accepted, and the entry's part from then on.
+    #[tactic(auto, unfolding(crate::specs::Piece::touched_text))]
+    fn touched(&mut self, id: u64, direction: Direction, after: &Part)
+        requires { HasRoom 96 self.old }
+        ensures { Adds 96 (touched_text id direction after.now) self.old self.new }
     {
-        match e.event {
+        self.text(b" id=");
+        self.number(id);
+        self.text(b" ");
+        self.direction(direction);
+        self.text(b" until=");
+        self.number(after.deadline);
+        self.state(after.kind);
+        self.text_if(after.replied, b" replied");
+        self.text_if(after.assured, b" assured");
+    }
+
+    /// Writes the older expectation that ends, if there is one.
+    fn replaced(&mut self, replaced: Option<u64>)
+        requires { HasRoom 30 self.old }
+        ensures { Adds 30 (replaced_text replaced) self.old self.new }
+    {
+        match replaced {
+            None => {}
+            Some(id) => {
+                self.text(b" replaces=");
+                self.number(id);
+            }
+        }
+    }
+
+    /// Writes from where a connection is expected, and to where.
+    #[tactic(auto, unfolding(crate::specs::Piece::want_text))]
+    fn want(&mut self, want: &Want)
+        requires { HasRoom 52 self.old }
+        ensures { Adds 52 (want_text want.now) self.old self.new }
+    {
+        self.text(b" src=");
+        self.address(want.src);
+        self.text(b" dst=");
+        self.address(want.dst);
+        self.text(b" dport=");
+        self.number(want.port);
+    }
+
+    /// Writes an expectation, and the older one that ends with that.
+    #[tactic(auto, unfolding(crate::specs::Piece::expectation_text))]
+    fn expectation(&mut self, e: &Expectation, replaced: Option<u64>)
+        requires { HasRoom 137 self.old }
+        ensures { Adds 137 (expectation_text e.now replaced) self.old self.new }
+    {
+        self.master(Some(e.master));
+        self.want(&e.want);
+        self.text(b" until=");
+        self.number(e.deadline);
+        self.replaced(replaced);
+    }
+
+    /// Writes the expectation that a packet met, and its master.
+    fn claimed(&mut self, expectation: u64, master: u64)
+        requires { HasRoom 56 self.old }
+        ensures { Adds 56 (claimed_text expectation master) self.old self.new }
+    {
+        self.text(b" expect=");
+        self.number(expectation);
+        self.master(Some(master));
+    }
+
+    /// Writes the word of an event.
+    fn event_word(&mut self, event: &Event)
+        requires { HasRoom 8 self.old }
+        ensures { Adds 8 (event_word event.now) self.old self.new }
+    {
+        match event {
+            Event::Confirm { .. } => self.text(b"confirm"),
+            Event::Touch { .. } => self.text(b"touch"),
+            Event::Destroy { .. } => self.text(b"destroy"),
+            Event::Expect { .. } => self.text(b"expect"),
+            Event::Claim { .. } => self.text(b"claim"),
+            Event::Unexpect { .. } => self.text(b"unexpect"),
+        }
+    }
+
+    /// Writes what an event does.
+    fn event_rest(&mut self, event: &Event)
+        requires { HasRoom 219 self.old }
+        ensures { Adds 219 (event_rest event.now) self.old self.new }
+    {
+        match *event {
             Event::Confirm { subject } => {
-                self.text(b" confirm ");
-                self.who(e.thread, e.index);
                 self.text(b" ");
                 self.record(&subject);
             }
@@ -200,27 +281,42 @@ impl<'b> Page<'b> {
                 direction,
                 after,
                 ..
-            } => {
-                self.text(b" touch ");
-                self.who(e.thread, e.index);
-                self.text(b" id=");
-                self.number(id);
-                self.text(b" ");
-                self.direction(direction);
-                self.text(b" until=");
-                self.number(after.deadline);
-                self.state(after.kind);
-                self.text_if(after.replied, b" replied");
-                self.text_if(after.assured, b" assured");
-            }
+            } => self.touched(id, direction, &after),
             Event::Destroy { id, why } => {
-                self.text(b" destroy ");
-                self.who(e.thread, e.index);
                 self.text(b" id=");
                 self.number(id);
                 self.why(why);
             }
+            Event::Expect {
+                expectation,
+                replaced,
+                ..
+            } => self.expectation(&expectation, replaced),
+            Event::Claim {
+                expectation,
+                master,
+                ..
+            } => self.claimed(expectation, master),
+            Event::Unexpect { expectation, .. } => {
+                self.text(b" expect=");
+                self.number(expectation);
+                self.text(b" expired");
+            }
         }
+    }
+
+    /// Writes an event, and who made it.
+    #[tactic(auto, unfolding(crate::specs::Piece::event_text))]
+    pub(crate) fn event(&mut self, e: &Numbered)
+        requires { HasRoom 250 self.old }
+        ensures { Adds 250 (event_text (who_text e.now.thread e.now.index) e.now.event)
+            self.old self.new }
+    {
+        self.text(b" ");
+        self.event_word(&e.event);
+        self.text(b" ");
+        self.who(e.thread, e.index);
+        self.event_rest(&e.event);
     }
 
     /// Writes a point of the history.

@@ -3,6 +3,7 @@
 use crate::page::LONGEST_LINE;
 use crate::write::{write_each, write_report};
 use ct_io::MemSink;
+use expect_table::expectation::{Expectation, Want};
 use history_book::event::{Event, Numbered, Why};
 use history_book::record::Record;
 use history_book::report::Report;
@@ -101,6 +102,16 @@ fn made(id: u64, at: u64) -> Verdict {
         at,
         translated: Translated::Plain,
         unclaimed: Some(at),
+    })
+}
+
+/// A new entry that met an expectation.
+fn related(id: u64, at: u64) -> Verdict {
+    verdict(Class::Made {
+        id,
+        at,
+        translated: Translated::Plain,
+        unclaimed: None,
     })
 }
 
@@ -219,6 +230,16 @@ script 0
     Ok(())
 }
 
+/// An event of thread 0.
+fn event(number: u64, index: u32, event: Event) -> Numbered {
+    Numbered {
+        number,
+        thread: 0,
+        index,
+        event,
+    }
+}
+
 /// Event `number`: packet `index` of thread 0 put the connection of event 0 into this state.
 fn connection(number: u64, index: u32, direction: Direction, state: TcpState) -> Numbered {
     Numbered {
@@ -242,12 +263,7 @@ fn connection(number: u64, index: u32, direction: Direction, state: TcpState) ->
 
 /// Event `number`: packet `index` of thread 0 ended the entry of this name.
 fn ended(number: u64, index: u32, id: u64, why: Why) -> Numbered {
-    Numbered {
-        number,
-        thread: 0,
-        index,
-        event: Event::Destroy { id, why },
-    }
+    event(number, index, Event::Destroy { id, why })
 }
 
 const STATES: &str = "\
@@ -308,6 +324,167 @@ fn states_and_ends_of_tcp(rt: HostRuntime) -> Result<(), Fail> {
     Ok(())
 }
 
+/// Event `number`: packet `index` of thread 0 begins a connection of TCP between 10.0.0.1 and 10.0.0.2.
+fn opened(number: u64, index: u32, original: Tuple, helper: bool, master: Option<u64>) -> Numbered {
+    let reply = Tuple {
+        proto: Proto::Tcp,
+        src: original.dst,
+        dst: original.src,
+        a: original.b,
+        b: original.a,
+    };
+    let subject = Record {
+        id: number,
+        place: 0,
+        original,
+        reply,
+        part: Part {
+            kind: PartKind::Tcp(TcpState::SynSent),
+            replied: false,
+            assured: false,
+            deadline: 121_000_000,
+        },
+        helper,
+        master,
+    };
+    event(number, index, Event::Confirm { subject })
+}
+
+/// Event `number`: what packet `index` of thread 0 has the entry of event 0 expect.
+fn expect(number: u64, index: u32, want: Want, deadline: u64, replaced: Option<u64>) -> Numbered {
+    let expectation = Expectation {
+        id: number,
+        master: 0,
+        want,
+        deadline,
+    };
+    event(
+        number,
+        index,
+        Event::Expect {
+            expectation,
+            replaced,
+            moment: 0,
+        },
+    )
+}
+
+/// A connection from 10.0.0.2 to this port of 10.0.0.1.
+fn data(port: u16) -> Want {
+    Want {
+        src: 0x0a00_0002,
+        dst: 0x0a00_0001,
+        port,
+    }
+}
+
+const EXPECTED: &str = "\
+events 10
+0 confirm 0.0 tcp src=10.0.0.1 dst=10.0.0.2 sport=5000 dport=21 src=10.0.0.2 dst=10.0.0.1 sport=21 dport=5000 until=121000000 state=SYN_SENT helper
+1 touch 0.1 id=0 reply until=60 state=SYN_RECV replied
+2 touch 0.2 id=0 original until=60 state=ESTABLISHED replied
+3 touch 0.3 id=0 original until=60 state=ESTABLISHED replied
+4 expect 0.3 master=0 src=10.0.0.2 dst=10.0.0.1 dport=40001 until=304000000
+5 touch 0.4 id=0 original until=60 state=ESTABLISHED replied
+6 expect 0.4 master=0 src=10.0.0.2 dst=10.0.0.1 dport=40002 until=305000000 replaces=4
+7 touch 0.5 id=0 reply until=60 state=ESTABLISHED replied
+8 claim 0.6 expect=6 master=0
+9 confirm 0.6 tcp src=10.0.0.2 dst=10.0.0.1 sport=20 dport=40002 src=10.0.0.1 dst=10.0.0.2 sport=40002 dport=20 until=121000000 state=SYN_SENT master=0
+thread 0 packets 7
+0 NEW id=0 @1
+1 ESTABLISHED_REPLY id=0 @2
+2 ESTABLISHED id=0 @3
+3 ESTABLISHED id=0 @4 ftp expect=4
+4 ESTABLISHED id=0 @6 ftp expect=6
+5 ESTABLISHED_REPLY id=0 @8
+6 RELATED id=9 @10
+script 0
+";
+
+/// A control connection of FTP announces one port and then another, at which its data connection arrives.
+#[test]
+fn data_connection_is_expected(rt: HostRuntime) -> Result<(), Fail> {
+    let flow = |src: u32, dst: u32, a: u16, b: u16| Tuple {
+        proto: Proto::Tcp,
+        src,
+        dst,
+        a,
+        b,
+    };
+    let control = flow(0x0a00_0001, 0x0a00_0002, 5000, 21);
+    let arrived = flow(0x0a00_0002, 0x0a00_0001, 20, 40002);
+    let claim = Event::Claim {
+        expectation: 6,
+        master: 0,
+        tuple: arrived,
+        moment: 7_000_000,
+    };
+    let events = [
+        opened(0, 0, control, true, None),
+        connection(1, 1, Direction::Reply, TcpState::SynRecv),
+        connection(2, 2, Direction::Original, TcpState::Established),
+        connection(3, 3, Direction::Original, TcpState::Established),
+        expect(4, 3, data(40001), 304_000_000, None),
+        connection(5, 4, Direction::Original, TcpState::Established),
+        expect(6, 4, data(40002), 305_000_000, Some(4)),
+        connection(7, 5, Direction::Reply, TcpState::Established),
+        event(8, 6, claim),
+        opened(9, 6, arrived, false, Some(0)),
+    ];
+    let verdicts = [
+        made(0, 1),
+        passed(Label::EstablishedReply, 2, Ftp::Nothing),
+        passed(Label::Established, 3, Ftp::Nothing),
+        passed(Label::Established, 4, Ftp::Expected { id: 4 }),
+        passed(Label::Established, 6, Ftp::Expected { id: 6 }),
+        passed(Label::EstablishedReply, 8, Ftp::Nothing),
+        related(9, 10),
+    ];
+    let report = report_of(rt.alloc(), &events, &[&verdicts])?;
+    check(&rt, rt.alloc(), &report, EXPECTED)?;
+    Ok(())
+}
+
+/// The longest numbers of these lines, and an expectation that ends unmet.
+#[test]
+fn expectation_ends_unmet(rt: HostRuntime) -> Result<(), Fail> {
+    let want = Want {
+        src: 0xcb00_7105,
+        dst: 0xc633_6415,
+        port: 65535,
+    };
+    let claim = Event::Claim {
+        expectation: 18_446_744_073_709_551_615,
+        master: 1,
+        tuple: QUERY,
+        moment: 0,
+    };
+    let unexpect = Event::Unexpect {
+        expectation: 12,
+        moment: 310_000_000,
+    };
+    let events = [
+        expect(12, 4_294_967_295, want, 310_000_000, Some(10_000_000_000)),
+        event(13, 1, unexpect),
+        event(14, 2, claim),
+    ];
+    let report = report_of(rt.alloc(), &events, &[&[]])?;
+    check(
+        &rt,
+        rt.alloc(),
+        &report,
+        "\
+events 3
+12 expect 0.4294967295 master=0 src=203.0.113.5 dst=198.51.100.21 dport=65535 until=310000000 replaces=10000000000
+13 unexpect 0.1 expect=12 expired
+14 claim 0.2 expect=18446744073709551615 master=1
+thread 0 packets 0
+script 0
+",
+    )?;
+    Ok(())
+}
+
 #[test]
 fn udp_again_before_its_deadline(rt: HostRuntime) -> Result<(), Fail> {
     let events = [
@@ -337,12 +514,7 @@ script 0
 fn every_verdict() -> [Verdict; 24] {
     [
         made(4, 5),
-        verdict(Class::Made {
-            id: 6,
-            at: 8,
-            translated: Translated::Plain,
-            unclaimed: None,
-        }),
+        related(6, 8),
         passed(Label::New, 1, Ftp::Nothing),
         passed(Label::Related, 2, Ftp::Expected { id: 16 }),
         passed(Label::Established, 3, Ftp::Address),

@@ -12,7 +12,7 @@ use Rattle.history_book.specs.History.{after, is_legal}
 use Rattle.history_book.specs.Record.{has_place}
 use Rattle.history_book.specs.Sight.{IsForEntryOf, IsForOne, Sight, notes_from}
 use Rattle.history_book.specs.Sizes.{AreWithinLimits}
-use Rattle.history_book.specs.State.{State, state_of, winner}
+use Rattle.history_book.specs.State.{State, winner}
 use Rattle.tuple_core.specs.declared.Tuple.{Tuple}
 use Rattle.book_desk.specs.declared.book.Book.{Book}
 
@@ -24,7 +24,7 @@ events_of notes = map (λ (n : Note). n.event) notes
 abbrev pub noted : List Note → Event → Note
 noted notes e = record { number = length notes; event = e }
 
--- what the fields are after an event, but for the records and the references
+-- what the fields are after an event, but for the records, the references and the expectations
 pub record Adds (old new : Book) (e : Event) : Type 0 where
   pub notes : new.notes.items ≡ old.notes.items ++ noted old.notes.items e ∷ []
   pub notes_room : new.notes.room ≡ old.notes.room
@@ -34,6 +34,7 @@ pub record Adds (old new : Book) (e : Event) : Type 0 where
   pub owed : new.owed ≡ old.owed
   pub records_room : new.records.room ≡ old.records.room
   pub holds_room : new.holds.room ≡ old.holds.room
+  pub expects_room : new.expects.room ≡ old.expects.room
 
 -- the record at this index is the one that a new flow with these tuples meets, by this direction
 pub record WinsAt (original reply : Tuple) (s : State) (found : FoundAt) : Type 0 where
@@ -51,6 +52,10 @@ sight_of b = record {
   spare = b.spare;
   sizes = b.sizes;
 }
+
+-- the state that the fields have: the live records and what is expected
+abbrev pub state_in : Book → State
+state_in b = record { records = b.records.items; expects = b.expects.items }
 
 -- a test that passes counts one
 abbrev pub bit : Bool → ℕ
@@ -91,11 +96,11 @@ pub record AreReferences (front : List Event) (rs : List Record) (held : List Ho
   pub current : AllByRecursion (λ h. AllByRecursion (IsForRecord h) rs) held
   pub agreed : Agree held
 
--- the notes are a legal history whose state the records are
-pub record IsHistory (sizes : Sizes) (notes : List Note) (rs : List Record) : Type 0 where
+-- the notes are a legal history that leaves this state
+pub record IsHistory (sizes : Sizes) (notes : List Note) (s : State) : Type 0 where
   pub numbered : notes ≡ notes_from 0 (events_of notes)
   pub legal : is_legal sizes (events_of notes) ≡ true
-  pub state : state_of rs ≡ after (events_of notes) (length (events_of notes))
+  pub state : s ≡ after (events_of notes) (length (events_of notes))
 
 -- there is room for all that may come
 pub record HasRooms (b : Book) : Type 0 where
@@ -103,13 +108,14 @@ pub record HasRooms (b : Book) : Type 0 where
   pub free : b.sizes.entries ≤ b.free.room
   pub holds : 4 ≤ b.holds.room
   pub owed : 4 ≤ b.owed.room
+  pub expects : b.expects.room ≡ b.sizes.expectations
   pub notes : length b.notes.items + b.spare ≤ b.notes.room
   pub spared : length b.notes.items + b.spare ≤ 2 ^ 30
 
 -- the fields are right
 pub record IsBook (b : Book) : Type 0 where
   pub limits : AreWithinLimits b.sizes
-  pub history : IsHistory b.sizes b.notes.items b.records.items
+  pub history : IsHistory b.sizes b.notes.items (state_in b)
   pub places : ArePlaces b.sizes.entries b.records.items b.holds.items b.free.items b.owed.items
   pub references : AreReferences (events_of b.notes.items) b.records.items b.holds.items
   pub few : length b.holds.items + length b.owed.items ≤ 4

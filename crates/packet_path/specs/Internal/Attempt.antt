@@ -1,10 +1,10 @@
 -- One attempt to handle a packet of a flow with a desk.
-use Rattle.std.specs.Prelude.{◌≡◌, ℕ, ◌+◌, ◌<◌, ◌≤◌, ◌^◌, true, None, Some, List, [], ◌∷◌, ◌++◌, length}
+use Rattle.std.specs.Prelude.{◌≡◌, ℕ, ◌+◌, ◌<◌, ◌≤◌, ◌^◌, true, Option, None, Some, List, [], ◌∷◌, ◌++◌, length}
 use Rattle.std.specs.List.{AllByRecursion}
 use Rattle.tuple_core.specs.Tuple.{is_valid}
 use Rattle.tuple_core.specs.declared.Tuple.{Tuple}
 use Rattle.history_book.specs.declared.event.Event.{Event}
-use Rattle.history_book.specs.State.{live_under}
+use Rattle.history_book.specs.State.{Found, live_under}
 use Rattle.packet_path.specs.Begun.{rule_for, WasTranslated}
 use Rattle.packet_path.specs.declared.begin.NewReply.{NewReply}
 use Rattle.history_book.specs.declared.desk.Hold.{Hold}
@@ -13,6 +13,9 @@ use Rattle.history_book.specs.declared.event.Why.{Why}
 use Rattle.history_book.specs.declared.event.Why.TheVariants as why
 use Rattle.history_book.specs.declared.verdict.Class.{Class}
 use Rattle.proto_rules.specs.declared.Outcome.TheVariants as outcome
+use Rattle.history_book.specs.declared.outcome.ClaimOutcome.{ClaimOutcome}
+use Rattle.history_book.specs.declared.outcome.ClaimOutcome.TheVariants as claim
+use Rattle.history_book.specs.declared.verdict.Ftp.{Ftp}
 use Rattle.history_book.specs.Desk.{IsLiveUnder, Saw, StepGives}
 use Rattle.history_book.specs.Notes.{mark_past}
 use Rattle.history_book.specs.Point.{At, StartsWith}
@@ -24,7 +27,10 @@ use Rattle.packet_path.specs.declared.attempt.Met.{Met}
 use Rattle.packet_path.specs.declared.packet.FlowPacket.{FlowPacket}
 use Rattle.packet_path.specs.Packet.{Given, IsFlow}
 use Rattle.packet_path.specs.declared.setup.Setup.{Setup}
-use Rattle.packet_path.specs.Verdict.{FitsFrame, Kills, KillsAll, points_of}
+use Rattle.packet_path.specs.declared.payload.Wanted.{Wanted}
+use Rattle.packet_path.specs.declared.payload.Wanted.TheVariants.{Nothing, Foreign, End}
+use Rattle.packet_path.specs.FtpPart.{Asks, AsksNothing, FtpFits}
+use Rattle.packet_path.specs.Verdict.{FitsFrame, Kills, KillsAll, ftp_points, points_of}
 
 -- the tuple is valid and of the segment's protocol, and the moment is one that a capture can name
 pub record IsClassified (p : FlowPacket) : Type 0 where
@@ -52,12 +58,36 @@ pub record IsReplyOf (t reply : Tuple) : Type 0 where
   pub valid : is_valid reply ≡ true
   pub protocol : reply.proto ≡ t.proto
 
--- nothing was live under the packet's tuple at this point, and the reply tuple was found for it from there on
+-- nothing was live under the packet's tuple at this point, and from there on the reply tuple was found for it
 pub record IsFoundFor (setup : Setup) (packet : FlowPacket) (log : List Event) (absent_at : ℕ) (found : NewReply) : Type 0 where
   pub absent : At log absent_at (λ s. live_under packet.tuple s ≡ None)
-  pub ordered : absent_at ≤ found.at
-  pub within : found.at ≤ length log
-  pub translation : WasTranslated log (rule_for setup packet.tuple) packet.tuple absent_at found.at found.translated found.reply
+  pub translation : WasTranslated log (rule_for setup packet.tuple) packet.tuple absent_at (length log) found.translated found.reply
+
+-- the point at which a packet was not expected, and the master of the expectation that it claimed
+abbrev pub unclaimed_at : ClaimOutcome → Option ℕ
+unclaimed_at (claim.Claimed number expectation master) = None
+unclaimed_at (claim.Unclaimed at) = Some at
+
+abbrev pub claimed_master : ClaimOutcome → Option ℕ
+claimed_master (claim.Claimed number expectation master) = Some master
+claimed_master (claim.Unclaimed at) = None
+
+-- what the payload of a packet that an entry accepted asks for
+abbrev pub WantedSays : FlowPacket → Found → Wanted → Type 0
+WantedSays packet found Nothing = AsksNothing packet found
+WantedSays packet found Foreign = Asks packet found None
+WantedSays packet found (End want) = Asks packet found (Some want)
+
+-- what came of the payload of a packet that the entry accepted, which was found so, by this event
+pub record Follows (packet : FlowPacket) (found : Found) (touched : ℕ) (old new : Sight) (ftp : Ftp) : Type 0 where
+  pub front : StartsWith new.front old.front
+  pub sizes : new.sizes ≡ old.sizes
+  pub further : List Note
+  pub own : new.own ≡ old.own ++ further
+  pub few : length further ≤ 1
+  pub spare : old.spare ≡ new.spare + length further
+  pub points : AllByRecursion (λ p. p ≤ length new.front) (ftp_points ftp)
+  pub fits : FtpFits old.sizes new.front packet found touched further ftp
 
 -- the entry that was met is to end for this reason, since the step said so at the point
 abbrev pub EndsEntry : FlowPacket → Met → ℕ → Why → Sight → Type 0
@@ -76,7 +106,7 @@ pub record Answers (setup : Setup) (old new : Sight) (packet : FlowPacket) (kill
   pub sizes : new.sizes ≡ old.sizes
   pub rest : List Note
   pub own : new.own ≡ old.own ++ rest
-  pub few : length rest ≤ 1
+  pub few : length rest ≤ 2
   pub spare : old.spare ≤ new.spare + length rest
   pub points : AllByRecursion (λ p. p ≤ length new.front) (points_of answer)
   pub fits : (given : Given) (mark : ℕ) (kills : List Note) → IsFlow given packet → length kills ≡ killed

@@ -16,6 +16,7 @@ use Rattle.replay_top.specs.declared.flaw.Refusal.{Refusal}
 use Rattle.replay_top.specs.declared.flaw.Refusal.TheVariants.{Flawed, Misused, NoMemory, NotOpened, NotRead}
 use Rattle.replay_top.specs.Causes.{FailedToOpen, FailsToOpen, FailsToRead, HasCause, refusal_status}
 use Rattle.replay_top.specs.Inputs.{FirstFlaw, IsFlawed}
+use Rattle.replay_top.specs.Ports.{ftp_ports}
 use Rattle.replay_top.specs.Readable.{most_bytes}
 use Rattle.replay_top.specs.Replay.{Gave, GaveRules, IsCutShort, IsPrinted, IsReplayOf, program_tracker}
 use Rattle.replay_top.specs.Report.{IsWellFormed}
@@ -45,10 +46,11 @@ abbrev pub HasCauseOfRules : Option (List ℕ) → Source → Source → Refusal
 HasCauseOfRules None files files' why = why ≡ NoMemory
 HasCauseOfRules (Some name) files files' why = HasCauseIn (record { kind = Rules; name = name }) 0 files files' why
 
--- what reading the rules of a run gives: they are lawful, too
+-- what reading the rules of a run gives: they are lawful, too, and the helper is for the port of FTP
 abbrev pub RulesReadAs : Option (List ℕ) → Source → Source → Result Setup Refusal → Type 0
 RulesReadAs name files files' (Ok setup) =
-    GaveRules files name setup.rules.items × AllByRecursion IsLawfulRule setup.rules.items × SameFaults files files'
+    GaveRules files name setup.rules.items × AllByRecursion IsLawfulRule setup.rules.items × (setup.ftp.items ≡ ftp_ports)
+    × SameFaults files files'
 RulesReadAs name files files' (Err why) = HasCauseOfRules name files files' why × SameFaultsBut why files files'
 
 -- a file of this name gave the frames of a capture, and the report is that of it alone

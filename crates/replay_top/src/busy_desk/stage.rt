@@ -8,17 +8,18 @@ ghost use Rattle.history_book.specs.Sizes.{AreWithinLimits};
 ghost use Rattle.replay_top.specs.Internal.Busy.{Went};
 
 use book_desk::desk::PlainDesk;
+use expect_table::expectation::Want;
 use history_book::desk::Desk;
 use history_book::event::Why;
-use history_book::laws::entries_keep_their_protocol;
-use history_book::outcome::{PeekOutcome, ReleaseOutcome, TakeOutcome};
+use history_book::laws::{entries_keep_their_helper, entries_keep_their_protocol};
+use history_book::outcome::{FindOutcome, PeekOutcome, ReleaseOutcome, TakeOutcome};
 use history_book::record::Flow;
 use history_book::sizes::Sizes;
 use proto_rules::{is_of_protocol, proto_of};
 use room_list::RoomList;
 use std::alloc::Global;
 use std::sync::Wait;
-use tuple_core::{Direction, NoMemory, Segment, is_valid};
+use tuple_core::{Direction, NoMemory, Segment, Tuple, is_valid};
 
 /// A call of this pass, before which the other pass may do something.
 #[derive(Clone, Copy, PartialEq, Eq)]
@@ -27,9 +28,13 @@ pub enum Call {
     Take,
     Touch,
     Kill,
+    Expect,
+    Claim,
 }
 
-/// What the other pass does.
+/// What the other pass does. The entry of a call is that of a `Touch`, a `Kill` or an `Expect`. Before those this
+/// pass may have no room for a further place, so that the other then expects something for that entry alone;
+/// and it confirms a flow before `Find` and `Take` alone.
 #[derive(Clone, Copy)]
 pub enum Act {
     Nothing,
@@ -41,6 +46,17 @@ pub enum Act {
     Touch {
         direction: Direction,
         segment: Segment,
+        moment: u64,
+    },
+    /// It expects this for what is live under the tuple, if that has the helper.
+    Expect {
+        master: Tuple,
+        want: Want,
+        moment: u64,
+    },
+    /// It claims what a packet with this tuple would, before any call.
+    Claim {
+        tuple: Tuple,
         moment: u64,
     },
 }
@@ -56,7 +72,7 @@ pub struct Turn {
 /// turn before it.
 pub type Script = RoomList<Turn>;
 
-/// A pool of four places, for two passes.
+/// A pool of four places and room for two expectations, for two passes.
 fn sizes() -> Sizes
     ensures { AreWithinLimits result }
 {
@@ -65,7 +81,7 @@ fn sizes() -> Sizes
         buckets: 1,
         seed: 0,
         passes: 2,
-        expectations: 0,
+        expectations: 2,
     }
 }
 
@@ -136,13 +152,43 @@ impl Stage {
         if self.others == 0 {
             return;
         }
-        if let Act::Confirm(flow) = self.turn(call) {
-            self.others -= 1;
-            confirm(rt, &mut self.desk, &flow);
+        match self.turn(call) {
+            Act::Nothing | Act::Expire(_) | Act::Touch { .. } => {}
+            Act::Confirm(flow) => {
+                self.others -= 1;
+                confirm(rt, &mut self.desk, &flow);
+            }
+            Act::Expect {
+                master,
+                want,
+                moment,
+            } => {
+                self.others -= 1;
+                expect(rt, &mut self.desk, &master, want, moment);
+            }
+            Act::Claim { tuple, moment } => {
+                self.others -= 1;
+                let _ = self.desk.claim(rt, &tuple, moment);
+            }
         }
     }
 
-    /// The other pass's turn before this pass touches or destroys the entry for which a place is held.
+    /// The other pass's turn before this pass claims an expectation.
+    pub fn other_claims<R: Wait>(&mut self, rt: &R)
+        requires known { IsKnown self.old.desk }
+        requires left { self.old.others ≤ self.old.desk.spare }
+        ensures { Went self.old.desk self.new.desk self.old.others self.new.others }
+    {
+        if self.others == 0 {
+            return;
+        }
+        if let Act::Claim { tuple, moment } = self.turn(Call::Claim) {
+            self.others -= 1;
+            let _ = self.desk.claim(rt, &tuple, moment);
+        }
+    }
+
+    /// The other pass's turn before this pass does something with the entry for which a place is held.
     pub fn other_meets<R: Wait>(&mut self, rt: &R, call: Call, place: u32)
         requires known { IsKnown self.old.desk }
         requires left { self.old.others ≤ self.old.desk.spare }
@@ -165,6 +211,18 @@ impl Stage {
             } => {
                 self.others -= 1;
                 touch(rt, &mut self.desk, place, direction, segment, moment);
+            }
+            Act::Expect {
+                master,
+                want,
+                moment,
+            } => {
+                self.others -= 1;
+                expect_for(rt, &mut self.desk, place, &master, want, moment);
+            }
+            Act::Claim { tuple, moment } => {
+                self.others -= 1;
+                let _ = self.desk.claim(rt, &tuple, moment);
             }
         }
     }
@@ -212,4 +270,46 @@ fn touch<R: Wait>(
         return;
     }
     let _ = desk.touch(rt, place, direction, segment, moment);
+}
+
+/// Expects something for what is live under the tuple, if that has the helper, and keeps no place.
+fn expect<R: Wait>(rt: &R, desk: &mut PlainDesk, master: &Tuple, want: Want, moment: u64)
+    requires known { IsKnown desk.old }
+    requires spare { 1 ≤ desk.old.spare }
+    requires room { length desk.old.held + length desk.old.owed ≤ 3 }
+    ensures { Went desk.old desk.new 1 0 }
+{
+    let FindOutcome::Found { place, .. } = desk.find(rt, master) else {
+        return;
+    };
+    expect_for(rt, desk, place, master, want, moment);
+    match desk.release(rt, place) {
+        ReleaseOutcome::Kept => {}
+        ReleaseOutcome::Last => desk.recycle(rt, place),
+    }
+}
+
+/// Expects something for the entry for which a place is held, if it has the tuple and the helper.
+fn expect_for<R: Wait>(
+    rt: &R,
+    desk: &mut PlainDesk,
+    place: u32,
+    master: &Tuple,
+    want: Want,
+    moment: u64,
+)
+    requires known { IsKnown desk.old }
+    requires spare { 1 ≤ desk.old.spare }
+    requires held { is_held_for_entry place desk.old.held ≡ true }
+    ensures { Went desk.old desk.new 1 0 }
+{
+    entries_keep_their_helper();
+    let PeekOutcome::Seen { subject, .. } = desk.peek(rt, place) else {
+        return;
+    };
+    let named = subject.original == *master || subject.reply == *master;
+    if moment > 10_000_000_000_000_000 || !named || !subject.helper {
+        return;
+    }
+    let _ = desk.expect(rt, place, want, moment);
 }

@@ -13,7 +13,7 @@ use nat_setup::read::read_rules;
 use nat_setup::rule::Rules;
 use packet_headers::frame::{Frame, Link};
 use packet_path::handle::handle;
-use packet_path::setup::Setup;
+use packet_path::setup::{Ports, Setup};
 use proto_rules::{Part, PartKind, TcpState};
 use std::alloc::Global;
 use std::process::Abort;
@@ -127,6 +127,7 @@ fn handled<R: Wait + Abort + AllocGlobal>(
 {
     let setup = Setup {
         rules: Rules::new(rt.alloc(), 0)?,
+        ftp: Ports::new(rt.alloc(), 0)?,
     };
     handled_by(rt, desk, packet, moment, &setup)
 }
@@ -513,7 +514,10 @@ fn set_up<R: Abort + AllocGlobal>(rt: &R, rules: &str) -> Result<Setup, Fail>
 {
     assert!(rt; rules.len() < 1000);
     match read_rules(rt.alloc(), rules.as_bytes()) {
-        Ok(rules) => Ok(Setup { rules }),
+        Ok(rules) => Ok(Setup {
+            rules,
+            ftp: Ports::new(rt.alloc(), 0)?,
+        }),
         Err(_) => Err(Fail::from("no rules")),
     }
 }
@@ -609,3 +613,5 @@ fn the_flows_own_port_is_taken_after_its_tuple_was_looked_up(rt: HostRuntime) ->
     assert!(rt; 1024 <= reply.b && reply.b != 5000);
     Ok(())
 }
+
+mod ftp;

@@ -7,7 +7,7 @@ use builder::{Capture, PLAIN, QUERY, query_twice};
 use ct_io::{MemFiles, MemSink, NoGate};
 use nat_setup::rule::Rules;
 use packet_headers::capture::CaptureFault;
-use packet_path::setup::Setup;
+use packet_path::setup::{Ports, Setup};
 use std::alloc::{AllocError, Global};
 use std::sync::Wait;
 use std::test::Fail;
@@ -225,6 +225,7 @@ fn bytes_are_replayed(rt: HostRuntime) -> Result<(), Fail> {
     let alloc = rt.alloc();
     let setup = Setup {
         rules: Rules::new(alloc, 0)?,
+        ftp: Ports::new(alloc, 0)?,
     };
     let report = replay_bytes(&rt, alloc, &CAPTURE, &setup)
         .ok()
@@ -316,5 +317,6 @@ mod builder;
 mod captures;
 mod desk;
 mod flows;
+mod ftp;
 mod rules;
 mod translated;

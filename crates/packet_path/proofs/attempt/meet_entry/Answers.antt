@@ -1,12 +1,15 @@
 use Rattle.history_book.specs.declared.verdict.Class.TheVariants as class
-use Rattle.std.proofs.Common.{refl, ◌∙◌, ap, length, subst, sym}
+use Rattle.std.proofs.Common.{◌≡◌, Some, refl, ◌∙◌, ap, length, subst, sym}
 use Rattle.history_book.specs.declared.verdict.Class.{Class}
 use Rattle.history_book.specs.Desk.{Leaves, Touches}
 use Rattle.history_book.specs.Entry.{is_of_entry}
+use Rattle.history_book.specs.Held.{held_id}
+use Rattle.history_book.specs.History.{after}
+use Rattle.history_book.specs.State.{record_of}
 use Rattle.proto_rules.specs.declared.Outcome.TheVariants as outcome
 use Rattle.packet_path.specs.Internal.Attempt.{Answers}
 use Rattle.packet_path.proofs.Attempts.{attempt_after, starts_longer}
-use Rattle.packet_path.proofs.Meetings.{left_as_it_is, met_protocol, touched}
+use Rattle.packet_path.proofs.Meetings.{has_id_of, helped_entry, left_as_it_is, met_protocol, touched}
 use Rattle.packet_path.proofs.HeldPlaces.{only_id}
 use Rattle.packet_path.proofs.attempt.meet_entry.Goals as goal
 
@@ -18,16 +21,35 @@ touch-requires-clause-protocol g c =
     c.records_are_of_one_protocol.ensures c.same_protocol_is_equality.ensures s c.args.packet.now c.args.met.now c.requires.knows
     c.requires.classified c.requires.met
 
+pub follow_payload-ftp-requires-clause-named : goal.follow_payload-ftp-requires-clause-named
+follow_payload-ftp-requires-clause-named g c =
+    let s = g.D.Desk.sight c.args.desk.now in
+    let mid = g.D.Desk.sight c.touch.new.self in
+    let id : held_id c.args.met.now.place s.held ≡ c.args.met.now.id =
+    only_id c.args.met.now.place c.args.met.now.id s c.requires.met.holds in
+    ap (held_id c.args.met.now.place) c.in-Touched.ensures.says.same.held ∙ id
+    ∙ sym (has_id_of c.args.met.now.id (after mid.front c.in-Touched.number) c.in-Touched.before
+    (subst (λ i. record_of i (after mid.front c.in-Touched.number) ≡ Some c.in-Touched.before) id c.in-Touched.ensures.says.found.fact))
+
+pub follow_payload-ftp-requires-clause-helper : goal.follow_payload-ftp-requires-clause-helper
+follow_payload-ftp-requires-clause-helper g c = λ helper.
+    let s = g.D.Desk.sight c.args.desk.now in
+    helped_entry c.entries_keep_their_helper.ensures (g.D.Desk.sight c.touch.new.self) c.in-Touched.number
+    (held_id c.args.met.now.place s.held) c.in-Touched.before c.touch.ensures.knows c.in-Touched.ensures.says.found.fact helper
+
 pub returns-in-Touched-clause-says : goal.returns-in-Touched-clause-says
 returns-in-Touched-clause-says g c = λ setup.
     let s = g.D.Desk.sight c.args.desk.now in
-    let new = g.D.Desk.sight c.touch.new.self in
+    let mid = g.D.Desk.sight c.touch.new.self in
+    let new = g.D.Desk.sight c.follow_payload-ftp.new.desk in
     subst (λ (k : Class). Answers setup s new c.args.packet.now c.args.kills (length s.front) k) (sym c.passed.ensures)
-    (touched c.states_stay.ensures c.events_stay.ensures c.found_are_found_again.ensures setup s new c.args.packet.now c.args.met.now
-    c.args.kills c.in-Touched.number c.in-Touched.before c.requires.few c.touch.ensures.knows c.requires.met
-    (subst (λ id. Touches id c.args.met.now.direction c.args.packet.now.segment c.args.packet.now.moment s new c.in-Touched.number
+    (touched c.states_stay.ensures c.events_stay.ensures c.found_are_found_again.ensures setup s mid new c.args.packet.now c.args.met.now
+    c.args.kills c.in-Touched.number c.in-Touched.before c.follow_payload-ftp.result c.requires.few c.follow_payload-ftp.ensures.knows
+    c.requires.met
+    (subst (λ id. Touches id c.args.met.now.direction c.args.packet.now.segment c.args.packet.now.moment s mid c.in-Touched.number
     c.in-Touched.before)
-    (only_id c.args.met.now.place c.args.met.now.id s c.requires.met.holds) c.in-Touched.ensures.says))
+    (only_id c.args.met.now.place c.args.met.now.id s c.requires.met.holds) c.in-Touched.ensures.says)
+    (c.follow_payload-ftp.ensures.follows c.in-Touched.number c.in-Touched.ensures.says.made.high))
 
 pub returns-in-Ignored-clause-says : goal.returns-in-Ignored-clause-says
 returns-in-Ignored-clause-says g c = λ setup.

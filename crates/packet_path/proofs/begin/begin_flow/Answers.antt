@@ -15,7 +15,7 @@ returns-in-Plain-clause-answers g c = λ killed few.
     let mid = g.D.Desk.sight c.translate.new.desk in
     answers_after c.states_stay.ensures c.events_stay.ensures c.args.setup.now s mid (g.D.Desk.sight c.place_flow.new.desk)
     c.args.packet.now killed c.args.absent_at c.place_flow.result c.translate.ensures.saw
-    (c.place_flow.ensures.answers c.args.setup.now killed few
+    (c.place_flow.ensures.answers killed few
     (plain_found c.states_stay.ensures c.events_stay.ensures c.args.setup.now (rule_for c.args.setup.now c.args.packet.now.tuple)
     c.args.packet.now s mid c.args.absent_at c.invert.result refl c.invert.ensures.exact c.requires.absent c.translate.ensures.saw
     c.in-Plain.ensures.says))
@@ -26,9 +26,9 @@ returns-in-Chosen-clause-answers g c = λ killed few.
     let mid = g.D.Desk.sight c.translate.new.desk in
     answers_after c.states_stay.ensures c.events_stay.ensures c.args.setup.now s mid (g.D.Desk.sight c.place_flow-in-Chosen.new.desk)
     c.args.packet.now killed c.args.absent_at c.place_flow-in-Chosen.result c.translate.ensures.saw
-    (c.place_flow-in-Chosen.ensures.answers c.args.setup.now killed few
+    (c.place_flow-in-Chosen.ensures.answers killed few
     (chosen_found c.states_stay.ensures c.events_stay.ensures c.args.setup.now (rule_for c.args.setup.now c.args.packet.now.tuple)
-    c.args.packet.now s mid c.args.absent_at c.in-Chosen.free_at c.in-Chosen.reply c.in-Chosen.kept_taken_at refl c.requires.absent
+    c.args.packet.now s mid c.args.absent_at c.in-Chosen.reply c.in-Chosen.kept_taken_at refl c.requires.absent
     c.translate.ensures.saw c.in-Chosen.ensures.says))
 
 pub returns-in-NoPort-clause-answers : goal.returns-in-NoPort-clause-answers

@@ -1,33 +1,52 @@
-use Rattle.std.proofs.Common.{refl, subst, sym}
-use Rattle.std.specs.Prelude.{◌&&◌}
+use Rattle.std.proofs.Common.{◌+◌, refl, subst, sym}
+use Rattle.std.specs.Prelude.{◌&&◌, Bool, IsSome, Option, ℕ}
 use Rattle.tuple_core.specs.declared.Proto.TheVariants as proto
+use Rattle.proto_rules.specs.declared.Part.{Part}
 use Rattle.history_book.specs.declared.verdict.Class.{Class}
+use Rattle.history_book.specs.declared.verdict.Class.TheVariants as class
+use Rattle.history_book.specs.Desk.{Confirms}
 use Rattle.history_book.specs.Legality.{same_proto}
 use Rattle.packet_path.specs.Internal.Attempt.{Answers}
 use Rattle.packet_path.proofs.Attempts.{answers_before}
-use Rattle.packet_path.proofs.Beginnings.{made_answer, winner_answer}
+use Rattle.packet_path.proofs.Beginnings.{flow_of, made_answer, winner_answer}
+use Rattle.packet_path.proofs.Claims.{looked_for}
 use Rattle.packet_path.proofs.begin.confirm_flow.Goals as goal
 
 pub returns-in-Confirmed-clause-answers : goal.returns-in-Confirmed-clause-answers
-returns-in-Confirmed-clause-answers g c = λ setup killed few is.
+returns-in-Confirmed-clause-answers g c = λ killed few is.
     let s = g.D.Desk.sight c.args.desk.now in
-    let mid = g.D.Desk.sight c.confirm.new.self in
+    let mid = g.D.Desk.sight c.claim-claim.new.self in
+    let after = g.D.Desk.sight c.confirm.new.self in
     let new = g.D.Desk.sight c.give_up.new.desk in
-    subst (λ (k : Class). Answers setup s new c.args.packet.now killed c.args.absent_at k) (sym c.made.ensures)
-    (answers_before c.states_stay.ensures c.events_stay.ensures setup s mid new c.args.packet.now killed c.args.absent_at _
-    (made_answer c.states_stay.ensures c.events_stay.ensures setup s mid c.args.packet.now c.args.part c.args.found.now killed
-    c.args.absent_at c.args.place c.in-Confirmed.id few c.requires.starts is c.in-Confirmed.ensures.says)
-    c.give_up.ensures.saw)
+    subst (λ (k : Class). Answers c.args.setup.now s new c.args.packet.now killed c.args.absent_at k) (sym c.made.ensures)
+    (subst
+    (λ (o : Option ℕ). Answers c.args.setup.now s new c.args.packet.now killed c.args.absent_at
+    (class.Made c.in-Confirmed.id (c.in-Confirmed.id + 1) c.args.found.now.translated o))
+    (sym c.unclaimed_at.ensures)
+    (answers_before c.states_stay.ensures c.events_stay.ensures c.args.setup.now s after new c.args.packet.now killed c.args.absent_at _
+    (made_answer c.states_stay.ensures c.events_stay.ensures c.args.setup.now s mid after c.args.packet.now c.args.part c.args.found.now
+    killed c.args.absent_at c.args.place c.in-Confirmed.id c.claim-claim.result few c.requires.starts is
+    (looked_for c.events_may_happen.ensures c.args.packet.now s mid c.claim-claim.result c.claim-claim.ensures.knows c.claim-claim.ensures.says)
+    (subst
+    (λ (h : Bool). Confirms c.args.place (flow_of c.args.packet.now c.args.part c.args.found.now.reply h (Rattle.packet_path.specs.Internal.Attempt.claimed_master c.claim-claim.result)) mid after c.in-Confirmed.id)
+    c.is_helped.ensures
+    (subst
+    (λ (m : Option ℕ). Confirms c.args.place (flow_of c.args.packet.now c.args.part c.args.found.now.reply c.is_helped.result m) mid after c.in-Confirmed.id)
+    c.claimed_master.ensures c.in-Confirmed.ensures.says)))
+    c.give_up.ensures.saw))
 
 pub returns-in-Clash-clause-answers : goal.returns-in-Clash-clause-answers
-returns-in-Clash-clause-answers g c = λ setup killed few is.
+returns-in-Clash-clause-answers g c = λ killed few is.
     let s = g.D.Desk.sight c.args.desk.now in
-    let mid = g.D.Desk.sight c.confirm.new.self in
+    let mid = g.D.Desk.sight c.claim-claim.new.self in
+    let after = g.D.Desk.sight c.confirm.new.self in
     let new = g.D.Desk.sight c.give_up-in-Clash.new.desk in
-    subst (λ (k : Class). Answers setup s new c.args.packet.now killed c.args.absent_at k) (sym c.met_winner.ensures)
-    (answers_before c.states_stay.ensures c.events_stay.ensures setup s mid new c.args.packet.now killed c.args.absent_at _
+    subst (λ (k : Class). Answers c.args.setup.now s new c.args.packet.now killed c.args.absent_at k) (sym c.met_winner.ensures)
+    (answers_before c.states_stay.ensures c.events_stay.ensures c.args.setup.now s after new c.args.packet.now killed c.args.absent_at _
     (winner_answer c.states_stay.ensures c.events_stay.ensures c.absent_tuples_are_nobodys.ensures c.late_entries_are_new.ensures
-    setup s mid c.args.packet.now c.args.part c.args.found.now killed c.args.absent_at c.in-Clash.id c.in-Clash.at
-    c.in-Clash.direction c.in-Clash.both few c.confirm.ensures.knows c.requires.starts is c.in-Clash.ensures.says.0
+    c.args.setup.now s mid after c.args.packet.now _ c.args.found.now c.claim-claim.result killed c.args.absent_at c.in-Clash.id c.in-Clash.at
+    c.in-Clash.direction c.in-Clash.both few c.confirm.ensures.knows (subst (λ (o : Option Part). IsSome o) (sym c.requires.starts) refl) is
+    (looked_for c.events_may_happen.ensures c.args.packet.now s mid c.claim-claim.result c.claim-claim.ensures.knows c.claim-claim.ensures.says)
+    refl refl c.in-Clash.ensures.says.0
     (same_proto c.args.packet.now.tuple.proto proto.Udp && c.in-Clash.both) refl)
     c.give_up-in-Clash.ensures.saw)

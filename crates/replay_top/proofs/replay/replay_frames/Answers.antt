@@ -1,4 +1,4 @@
-use Rattle.std.proofs.Common.{arith, map}
+use Rattle.std.proofs.Common.{[], arith, map}
 use Rattle.std.proofs.lemmas.List.{length-map}
 use Rattle.packet_headers.specs.declared.packet.Packet.TheVariants.{Invalid}
 use Rattle.packet_path.specs.Packet.{given_of}
@@ -15,10 +15,10 @@ pub frames-preserved : goal.frames-preserved
 frames-preserved g c =
     let below = c.frames-test.true in
     replayed_next c.verdicts_still_fit.ensures c.lower_marks_fit.ensures c.args.setup.now
-    (map (given_of c.args.bytes.now) c.args.frames.now) (record { packet = Invalid; moment = 0 }) c.frames.frame-index
+    (map (given_of c.args.bytes.now) c.args.frames.now) (record { packet = Invalid; moment = 0; payload = [] }) c.frames.frame-index
     (g.D.Desk.sight c.args.desk.now) (g.D.Desk.sight c.frames.desk) (g.D.Desk.sight c.handle.new.desk)
     c.frames.verdicts c.push.new.self c.in-Ok.verdict c.frames.invariant
     (handled_at c.args.setup.now (g.D.Desk.sight c.frames.desk) (g.D.Desk.sight c.handle.new.desk) c.frames.frame-index c.args.bytes.now c.args.frames.now _
-    (record { packet = Invalid; moment = 0 }) c.in-Ok.verdict (omega (arith, below)) c.in-Ok.ensures.handled)
+    (record { packet = Invalid; moment = 0; payload = [] }) c.in-Ok.verdict (omega (arith, below)) c.in-Ok.ensures.handled)
     c.in-Ok.ensures.knows (omega (arith, below, length-map c.args.frames.now (given_of c.args.bytes.now)))
     c.push.ensures.items c.push.ensures.room

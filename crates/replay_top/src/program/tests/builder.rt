@@ -210,6 +210,19 @@ pub fn syn(ends: &Ends) -> [u8; 40] {
     ]
 }
 
+/// A segment of TCP between these ends, with these control bits and this data.
+pub fn segment(alloc: Global, ends: &Ends, flags: u8, data: &[u8]) -> Result<Vec<u8>, AllocError> {
+    let mut header = syn(ends);
+    let [high, low] = (40 + (data.len() % 1000) as u16).to_be_bytes();
+    header[2] = high;
+    header[3] = low;
+    header[33] = flags;
+    let mut packet = Vec::new(alloc);
+    packet.extend_from_slice(&header)?;
+    packet.extend_from_slice(data)?;
+    Ok(packet)
+}
+
 /// An ICMP message of this type with the identifier 7, between any two hosts.
 pub fn echo(src: u32, dst: u32, kind: u8) -> [u8; 28] {
     let [a, b, c, d] = src.to_be_bytes();

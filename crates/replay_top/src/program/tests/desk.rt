@@ -13,7 +13,7 @@ use history_book::verdict::Class;
 use nat_setup::rule::Rules;
 use packet_headers::frame::{Frame, Link};
 use packet_path::handle::handle;
-use packet_path::setup::Setup;
+use packet_path::setup::{Ports, Setup};
 use std::test::Fail;
 
 /// A query of UDP from 10.0.0.3:5000 to 10.0.0.2:53.
@@ -55,6 +55,7 @@ fn an_entry_ended_by_hand_makes_room(rt: HostRuntime) -> Result<(), Fail> {
     desk.ready(64)?;
     let setup = Setup {
         rules: Rules::new(rt.alloc(), 0)?,
+        ftp: Ports::new(rt.alloc(), 0)?,
     };
     let first = handle(&rt, &mut desk, &QUERY, &frame(1_000_000), &setup)?;
     assert!(rt; matches!(first.class, Class::Made { id: 0, at: 1, .. }));

@@ -23,6 +23,7 @@ returns-clause-adds c = record {
   owed = ap (λ (b : Book). b.owed) c.note.ensures.rest;
   records_room = c.push.ensures.room ∙ ap (λ (b : Book). b.records.room) c.note.ensures.rest;
   holds_room = c.name_holds.ensures.room ∙ ap (λ (b : Book). b.holds.room) c.note.ensures.rest;
+  expects_room = ap (λ (b : Book). b.expects.room) c.note.ensures.rest;
 }
 
 pub returns-clause-records : goal.returns-clause-records
@@ -34,3 +35,6 @@ pub returns-clause-holds : goal.returns-clause-holds
 returns-clause-holds c =
     c.name_holds.ensures.items ∙ ap (λ (b : Book). held_for c.args.place c.point-id.result b.holds.items) c.note.ensures.rest
     ∙ ap (λ n. held_for c.args.place n c.args.self.now.holds.items) c.point-id.ensures
+
+pub returns-clause-expects : goal.returns-clause-expects
+returns-clause-expects c = ap (λ (b : Book). b.expects) c.note.ensures.rest

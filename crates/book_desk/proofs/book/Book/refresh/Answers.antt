@@ -13,6 +13,7 @@ returns-clause-adds c = record {
   owed = ap (λ (b : Book). b.owed) c.note.ensures.rest;
   records_room = c.set.ensures.room ∙ ap (λ (b : Book). b.records.room) c.note.ensures.rest;
   holds_room = ap (λ (b : Book). b.holds.room) c.note.ensures.rest;
+  expects_room = ap (λ (b : Book). b.expects.room) c.note.ensures.rest;
 }
 
 pub returns-clause-records : goal.returns-clause-records
@@ -21,3 +22,6 @@ returns-clause-records c =
 
 pub returns-clause-holds : goal.returns-clause-holds
 returns-clause-holds c = ap (λ (b : Book). b.holds) c.note.ensures.rest
+
+pub returns-clause-expects : goal.returns-clause-expects
+returns-clause-expects c = ap (λ (b : Book). b.expects) c.note.ensures.rest

@@ -38,7 +38,7 @@ invariant_of-self g c =
     (ap (λ (s : Sight). is_taken c.args.place s.held) c.self.view_is ∙ c.requires.taken) refl c.requires.protocol
     (subst (λ rs. live_under flow.original (state_of rs) ≡ None) c.as_slice-records.ensures c.in_default.ensures.original)
     (subst (λ rs. live_under flow.reply (state_of rs) ≡ None) c.as_slice-records.ensures c.in_default.ensures.reply)
-    c.enter.ensures.records c.enter.ensures.holds
+    c.enter.ensures.records c.enter.ensures.holds c.enter.ensures.expects
 
 pub returns-clause-says : goal.returns-clause-says
 returns-clause-says g c =

@@ -5,10 +5,10 @@ use Rattle.std.proofs.lemmas.Bool.{eqb-true}
 use Rattle.history_book.specs.declared.record.Record.{Record}
 use Rattle.history_book.specs.Desk.{HoldsOneMore, IsLiveIn}
 use Rattle.history_book.specs.Record.{has_place}
-use Rattle.history_book.specs.State.{is_unused, state_of}
+use Rattle.history_book.specs.State.{is_unused}
 use Rattle.history_book.specs.Sight.{Sight}
 use Rattle.book_desk.specs.declared.book.Book.{Book}
-use Rattle.book_desk.specs.Internal.Book.{IsBook, sight_of}
+use Rattle.book_desk.specs.Internal.Book.{IsBook, sight_of, state_in}
 use Rattle.book_desk.proofs.Histories.{looked}
 use Rattle.book_desk.proofs.Known.{known}
 use Rattle.book_desk.proofs.Positions.{none_at, passes_at}
@@ -41,7 +41,7 @@ returns-clause-says g c =
     let rest : new ≡ record b { holds = new.holds } = c.hold_record-subject.ensures.rest in
     let found : position (has_place c.args.place) b.records.items ≡ Some c.in-Some.index =
     ap (position (has_place c.args.place)) (sym c.as_slice.ensures) ∙ sym c.place_index.ensures ∙ c.in-Some.is in
-    let live : IsLiveIn c.args.place subject.id (state_of b.records.items) =
+    let live : IsLiveIn c.args.place subject.id (state_in b) =
     live_in c.records_are_apart.ensures c.ids_name_records.ensures b c.args.place c.in-Some.index subject c.self.invariant found
     c.hold_record-subject.ensures.subject in
     rw (← c.self.view_is) (

@@ -20,7 +20,7 @@ invariant_of-self g c =
     c.at.ensures
     (held_place c.live_records_are_confirmed.ensures b c.args.place c.in-Some.index c.at.result.now c.self.invariant
     (ap (λ (s : Sight). is_held_for_entry c.args.place s.held) c.self.view_is ∙ c.requires.held) c.at.ensures (its.named ∙ its.given))
-    reason c.destroy.ensures.records c.destroy.ensures.holds
+    reason c.destroy.ensures.records c.destroy.ensures.holds c.destroy.ensures.expects
 
 pub returns-clause-says : goal.returns-clause-says
 returns-clause-says g c =

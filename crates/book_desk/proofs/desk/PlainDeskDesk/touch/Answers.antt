@@ -31,6 +31,7 @@ invariant_of-self g c =
     (ap (λ n. is_of_entry c.args.segment n (events_of b.notes.items)) its.given
     ∙ ap (λ (s : Sight). is_of_entry c.args.segment (held_id c.args.place s.held) s.front) c.self.view_is ∙ c.requires.protocol))
     (sym c.step.ensures ∙ c.in-Accept.is) c.refresh.ensures.records c.refresh.ensures.holds
+    c.refresh.ensures.expects
 
 pub returns-in-Accept-clause-says : goal.returns-in-Accept-clause-says
 returns-in-Accept-clause-says g c =
