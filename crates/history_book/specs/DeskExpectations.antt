@@ -25,7 +25,7 @@ abbrev pub expectation_at : ℕ → ℕ → Want → ℕ → Expectation
 expectation_at n master want moment =
     record { id = n; master = master; want = want; deadline = moment + expected_for }
 
--- the entry is live, and adding what it expects, as event n of a tracker with room for so many expectations,
+-- the entry is live and has the helper, and adding what it expects, as event n of a tracker with room for so many expectations,
 -- gives this
 pub record AddGives (room n master : ℕ) (want : Want) (moment : ℕ) (outcome : AddOutcome) (s : State) : Type 0 where
   pub live : has_helper (record_of master s) ≡ true
@@ -37,13 +37,13 @@ AddsNothing master want moment outcome old new at =
     Looked old new at (AddGives new.sizes.expectations at master want moment outcome) × SamePlaces old new
 
 -- it is expected, and its id is the event's number
-abbrev pub Expects : ℕ → Want → ℕ → Sight → Sight → ℕ → Option ℕ → Type 0
-Expects master want moment old new id replaced =
+abbrev pub MakesExpect : ℕ → Want → ℕ → Sight → Sight → ℕ → Option ℕ → Type 0
+MakesExpect master want moment old new id replaced =
     MadeEvent old new id (Expect (expectation_at id master want moment) replaced moment) × SamePlaces old new
 
 abbrev pub ExpectSays : ℕ → Want → ℕ → Sight → Sight → ExpectOutcome → Type 0
 ExpectSays place want moment old new (expect.Expected id replaced) =
-    Expects (held_id place old.held) want moment old new id replaced
+    MakesExpect (held_id place old.held) want moment old new id replaced
 ExpectSays place want moment old new (expect.MasterGone at) = IsGoneAt (held_id place old.held) old new at
 ExpectSays place want moment old new (expect.Clash id at) =
     AddsNothing (held_id place old.held) want moment (add.Clash id) old new at
@@ -71,5 +71,5 @@ UnexpectSays id moment old new (unexpect.Not deadline at) =
     Looked old new at (IsDueUntil id deadline) × (moment < deadline) × SamePlaces old new
 
 -- these are the expectations at the point
-abbrev pub ExpectsSays : List Expectation → Sight → Sight → ℕ → Type 0
-ExpectsSays listed old new at = Looked old new at (λ s. listed ≡ s.expects) × SamePlaces old new
+abbrev pub ListsExpected : List Expectation → Sight → Sight → ℕ → Type 0
+ListsExpected listed old new at = Looked old new at (λ s. listed ≡ s.expects) × SamePlaces old new

@@ -5,7 +5,7 @@ ghost use Rattle.std.specs.Prelude.{◌≡◌, ◌+◌, ◌<◌, ◌≤◌, ◌^
 ghost use Rattle.history_book.specs.Desk.{ConfirmSays, CountSays, FindSays, HoldSays, IsReady};
 ghost use Rattle.history_book.specs.Desk.{KillSays, PeekSays, RecycleSays, ReleaseSays};
 ghost use Rattle.history_book.specs.Desk.{TakeSays, TouchSays};
-ghost use Rattle.history_book.specs.DeskExpectations.{ClaimSays, ExpectSays, ExpectsSays, UnexpectSays};
+ghost use Rattle.history_book.specs.DeskExpectations.{ClaimSays, ExpectSays, ListsExpected, UnexpectSays};
 ghost use Rattle.history_book.specs.Entry.{is_flow_of_one_protocol, is_helped_entry, is_of_entry, suits_entry};
 ghost use Rattle.history_book.specs.Held.{held_id, is_held, is_held_for_entry, is_owed, is_taken};
 ghost use Rattle.history_book.specs.Legality.{reason_moment_of};
@@ -149,7 +149,7 @@ pub trait Desk {
     /// Lists the expectations in order of id, in place of what the list has, and answers their point.
     fn expects<R: Wait>(&mut self, rt: &R, listed: &mut Expectations) -> u64
         requires { (sight self.old).sizes.expectations ≤ listed.old.room }
-        ensures says { ExpectsSays listed.new.items (sight self.old) (sight self.new) result }
+        ensures says { ListsExpected listed.new.items (sight self.old) (sight self.new) result }
         ensures room { listed.new.room ≡ listed.old.room }
         ensures knows { IsKnown (sight self.new) };
 

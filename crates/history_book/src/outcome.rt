@@ -117,7 +117,8 @@ pub enum ExpectOutcome {
     Expected { id: u64, replaced: Option<u64> },
     /// The entry was no longer live.
     MasterGone { at: u64 },
-    /// Another entry expected it already: this is the first such expectation.
+    /// Another entry expects the same connection, and that is still due: this is the first such
+    /// expectation.
     Clash { id: u64, at: u64 },
     /// The entry had none to replace, and there was no room for another.
     ExpectFull { at: u64 },

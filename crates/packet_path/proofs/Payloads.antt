@@ -9,12 +9,12 @@ use Rattle.history_book.specs.declared.sizes.Sizes.{Sizes}
 use Rattle.history_book.specs.declared.verdict.Ftp.{Ftp}
 use Rattle.history_book.specs.declared.verdict.Ftp.TheVariants as ftp
 use Rattle.history_book.specs.Desk.{IsGoneAt, Saw}
-use Rattle.history_book.specs.DeskExpectations.{AddGives, AddsNothing, Expects}
+use Rattle.history_book.specs.DeskExpectations.{AddGives, AddsNothing, MakesExpect}
 use Rattle.history_book.specs.Point.{At}
 use Rattle.history_book.specs.Sight.{Sight}
 use Rattle.history_book.specs.State.{Found}
 use Rattle.packet_path.specs.declared.packet.FlowPacket.{FlowPacket}
-use Rattle.packet_path.specs.FtpPart.{Asks, AsksNothing, FtpFits, RefusesEnd, expect_by}
+use Rattle.packet_path.specs.FtpPart.{Asks, NamesNone, FtpFits, RefusesEnd, expect_by}
 use Rattle.packet_path.specs.Internal.Attempt.{Follows}
 use Rattle.packet_path.specs.Verdict.{ftp_points}
 use Rattle.packet_path.proofs.Attempts.{starts_refl}
@@ -37,7 +37,7 @@ module _ (packet : FlowPacket) (found : Found) (touched : ℕ) where
   still : (s : Sight) → Saw s s
   still s = record { front = starts_refl s.front; own = refl; spare = refl; sizes = refl }
 
-  pub follows_nothing : (s : Sight) → AsksNothing packet found → Follows packet found touched s s ftp.Nothing
+  pub follows_nothing : (s : Sight) → NamesNone packet found → Follows packet found touched s s ftp.Nothing
   follows_nothing s asks = silently s s ftp.Nothing (still s) tt (refl, asks)
 
   pub follows_foreign : (s : Sight) → Asks packet found None → Follows packet found touched s s ftp.Address
@@ -45,7 +45,7 @@ module _ (packet : FlowPacket) (found : Found) (touched : ℕ) where
 
   module _ (old new : Sight) (want : Want) (asked : Asks packet found (Some want)) (later : touched < length old.front) where
     -- the entry expects it
-    pub follows_expected : (id : ℕ) (replaced : Option ℕ) → Expects found.subject.id want packet.moment old new id replaced
+    pub follows_expected : (id : ℕ) (replaced : Option ℕ) → MakesExpect found.subject.id want packet.moment old new id replaced
         → Follows packet found touched old new (ftp.Expected id)
     follows_expected id replaced (made, same) = record {
       front = made.front;

@@ -13,7 +13,8 @@ abbrev pub claim_by : FlowPacket → (number expectation master : ℕ) → Note
 claim_by packet number expectation master =
     record { number = number; event = Claim expectation master packet.tuple packet.moment }
 
--- no expectation matched the packet at this point from the first to the last, and the entry has no master
+-- there is no Claim: no expectation matched the packet at this point, from the first to the last, and the entry has no
+-- master
 pub record IsUnclaimed (log : List Event) (packet : FlowPacket) (claims : List Note) (master : Option ℕ)
     (from p upto : ℕ) : Type 0 where
   pub none : claims ≡ []

@@ -30,17 +30,18 @@ is_established Related = false
 is_established Established = true
 is_established EstablishedReply = true
 
--- the payload is read: the packet is of TCP, and the entry, as the packet found it, has the helper and is established
+-- the payload is read: the packet is of TCP, the entry, as the packet found it, has the helper, and the packet is an
+-- answer, or one was seen before it
 abbrev pub is_read : FlowPacket → Found → Bool
 is_read packet found =
     same_proto packet.tuple.proto proto.Tcp && found.subject.helper && is_established (label_of found.subject found.direction)
 
 -- no payload is read, or it names no end
-abbrev pub AsksNothing : FlowPacket → Found → Type 0
-AsksNothing packet found =
+abbrev pub NamesNone : FlowPacket → Found → Type 0
+NamesNone packet found =
     (is_read packet found ≡ false) ⊎ ((end : NamedEnd) → NamesEnd found.direction packet.payload.now end → ⊥)
 
--- the payload is read and names an end, for which this is wanted; nothing where the address is a foreign one
+-- the payload is read and names an end, for which this is wanted; a foreign end is named, and nothing is wanted for it
 pub record Asks (packet : FlowPacket) (found : Found) (want : Option Want) : Type 0 where
   pub read : is_read packet found ≡ true
   pub end : NamedEnd
@@ -82,7 +83,7 @@ pub record LosesMaster (log : List Event) (packet : FlowPacket) (found : Found) 
 -- What came of the payload of a packet of which the Touch was this event, and the further events that it made. Room
 -- for expectations is that of the sizes.
 abbrev pub FtpFits : Sizes → List Event → FlowPacket → Found → ℕ → List Note → Ftp → Type 0
-FtpFits sizes log packet found touched further ftp.Nothing = (further ≡ []) × AsksNothing packet found
+FtpFits sizes log packet found touched further ftp.Nothing = (further ≡ []) × NamesNone packet found
 FtpFits sizes log packet found touched further ftp.Address = (further ≡ []) × Asks packet found None
 FtpFits sizes log packet found touched further (ftp.Expected id) = ExpectsEnd log packet found touched further id
 FtpFits sizes log packet found touched further (ftp.Clash id at) =

@@ -35,7 +35,7 @@ pub record Making : Type 0 where
   pub unclaimed : Option ℕ
 
 -- Its further events are a Claim, where it was expected, and the Confirm numbered id. Its reply tuple was found up
--- to a point, from which on it was looked for among the expectations, and that before the Confirm.
+-- to a point, and from that on the packet was looked for among the expectations, before the Confirm.
 pub record Makes (setup : Setup) (log : List Event) (k : ℕ) (packet : FlowPacket) (rest : List Note)
     (said : Making) : Type 0 where
   pub subject : Record

@@ -36,7 +36,7 @@ pub record Meeting : Type 0 where
 
 -- No further event but a Claim, where the packet was expected; one that is merged makes none. A flow would begin with
 -- the packet, which was then looked for among the expectations; and later, at this point, the entry is the one that
--- has the packet's tuple, else the one that has the reply tuple.
+-- has the packet's tuple, else the one that has the reply tuple. No entry is made, so the master is nobody's.
 pub record MeetsWinner (setup : Setup) (log : List Event) (k : ℕ) (packet : FlowPacket) (rest : List Note)
     (said : Meeting) : Type 0 where
   pub reply : Tuple

@@ -37,7 +37,7 @@ use Rattle.history_book.specs.declared.outcome.TouchOutcome.TheVariants as touch
 use Rattle.history_book.specs.declared.record.Flow.{Flow}
 use Rattle.history_book.specs.declared.sizes.Sizes.{Sizes}
 use Rattle.history_book.specs.Desk.{ConfirmSays, Destroys, FindSays, HoldSays, HoldsOneMore, KeepsPlace, KillSays, PeekSays, ReleaseSays, Looked, MadeEvent, OwesPlace, RecycleSays, SamePlaces, Saw, TakeSays, Takes, TouchSays, Touches}
-use Rattle.history_book.specs.DeskExpectations.{ExpectSays, Expects, expectation_at}
+use Rattle.history_book.specs.DeskExpectations.{ExpectSays, MakesExpect, expectation_at}
 use Rattle.history_book.specs.Entry.{confirmed_by, is_helped_entry}
 use Rattle.history_book.specs.Held.{held_for, held_id, is_at, is_held, paid, without}
 use Rattle.history_book.specs.Point.{StartsWith}
@@ -560,11 +560,11 @@ pub expected_went : (place : ℕ) (want : Want) (moment : ℕ) (old mid seen new
     → PeekSays place mid seen (peek.Seen subject at) → ExpectSays place want moment seen new (expect.Expected id replaced)
     → items ≡ notes ++ record { number = id; event = Expect (expectation_at id subject.id want moment) replaced moment } ∷ []
     → spare ≡ spare' + 1
-    → Expects (held_id place old.held) want moment (seen_by old notes spare) (seen_by new items spare') id replaced
+    → MakesExpect (held_id place old.held) want moment (seen_by old notes spare) (seen_by new items spare') id replaced
 expected_went place want moment old mid seen new notes items spare spare' b a subject at id replaced went lone known read says pushed one =
     let named : subject.id ≡ held_id place old.held =
     sym (read_id place mid seen subject at read) ∙ ap (held_id place) (read.1.held ∙ went.held) in
-    subst (λ m. Expects m want moment (seen_by old notes spare) (seen_by new items spare') id replaced) named
+    subst (λ m. MakesExpect m want moment (seen_by old notes spare) (seen_by new items spare') id replaced) named
     (made_went old seen new notes items spare spare' b a id (Expect (expectation_at id subject.id want moment) replaced moment)
     (went_then old mid seen b a went read.0.saw read.1 known) lone
     (expect_made place want moment mid seen new subject at id replaced read says) says.1 pushed one)
