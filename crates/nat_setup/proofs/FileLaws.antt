@@ -1,86 +1,52 @@
 -- Laws of files of rules, over lists of lines.
-use Rattle.std.proofs.Common.{◌≡◌, ◌∙◌, ◌⊎◌, ℕ, ◌+◌, ◌<◌, ◌≤◌, Bool, true, false, nat_le, List, [], ◌∷◌, ◌++◌, length, Option, Some, None, Result, Ok, Err, option_to_list, inl, inr, get_or, subst, ◌==◌, if◌then◌else◌, arith, refl, sym, ap, length-append}
+use Rattle.std.proofs.Common.{◌≡◌, ◌∙◌, ◌⊎◌, ℕ, ◌+◌, ◌<◌, ◌≤◌, Bool, true, false, nat_le, List, [], ◌∷◌, ◌++◌, length, Option, Some, None, Result, Ok, Err, option_to_list, inl, inr, subst, arith, refl, sym, ap, length-append}
 use Rattle.std.proofs.lemmas.Bool.Decides.{nat_tests}
 use Rattle.nat_setup.specs.declared.rule.Rule.{Rule}
 use Rattle.nat_setup.specs.declared.rule.Side.{Side}
 use Rattle.nat_setup.specs.declared.read.RuleKind.{RuleKind}
-use Rattle.nat_setup.specs.declared.read.RuleKind.TheVariants.{Word, TooMany}
+use Rattle.nat_setup.specs.declared.read.RuleKind.TheVariants.{Word}
 use Rattle.nat_setup.specs.declared.read.RuleFault.{RuleFault}
-use Rattle.nat_setup.specs.Text.{lines_of, without_return, words_of}
-use Rattle.nat_setup.specs.RuleText.{◌>>=◌, line_of, rule_from, rule_of, new_rule, side_of, required}
-use Rattle.nat_setup.specs.RuleFile.{file_of, located, rules_from, IsRulesFile, HasFault}
+use Rattle.file_text.proofs.Reading.{came_to, same_read, stopped}
+use Rattle.file_text.specs.Reading.{◌>>=◌, required}
+use Rattle.file_text.specs.Text.{lines_of, words_of_line}
+use Rattle.nat_setup.specs.RuleText.{line_of, rule_from, rule_of, new_rule, side_of}
+use Rattle.nat_setup.specs.RuleFile.{located, rules_from, HasFault}
 use Rattle.nat_setup.specs.RuleLaws.{Say, IsFirst}
-
-pub two_rules : (read : Result (List Rule) RuleFault) (rules other : List Rule) → read ≡ Ok rules → read ≡ Ok other → rules ≡ other
-two_rules read rules other first second = cc
-
-pub two_faults : (read : Result (List Rule) RuleFault) (fault other : RuleFault) → read ≡ Err fault → read ≡ Err other → fault ≡ other
-two_faults read fault other first second = cc
-
-pub rules_and_fault : (read : Result (List Rule) RuleFault) (rules : List Rule) (fault : RuleFault) → read ≡ Ok rules → read ≡ Err fault → ⊥
-rules_and_fault read rules fault first second = cc
-
-either_of : (read : Result (List Rule) RuleFault) → ((rules : List Rule) × (read ≡ Ok rules)) ⊎ ((fault : RuleFault) × (read ≡ Err fault))
-either_of (Ok rules) = inl (rules, refl)
-either_of (Err fault) = inr (fault, refl)
-
-pub either : (bytes : List ℕ) → ((rules : List Rule) × IsRulesFile bytes rules) ⊎ ((fault : RuleFault) × HasFault bytes fault)
-either bytes = either_of (file_of bytes)
-
--- a read that goes on to an end
-went_on : {A B E : Type 0} (read : Result A E) (f : A → Result B E) (y : B) → (read >>= f) ≡ Ok y → (x : A) × (read ≡ Ok x) × (f x ≡ Ok y)
-went_on (Ok x) f y done = (x, refl, done)
-went_on (Err e) f y done = absurd (cc)
-
--- a read that ends in a fault
-stopped : {A B E : Type 0} (read : Result A E) (f : A → Result B E) (e : E) → (read >>= f) ≡ Err e → (read ≡ Err e) ⊎ ((x : A) × (read ≡ Ok x) × (f x ≡ Err e))
-stopped (Ok x) f e done = inr (x, refl, done)
-stopped (Err d) f e done = inl (cc)
 
 not_located : {A : Type 0} (number : ℕ) (read : Result A RuleKind) (x : A) → located number read ≡ Ok x → read ≡ Ok x
 not_located number (Ok y) x done = cc
 not_located number (Err kind) x done = absurd (cc)
 
-chosen_with_room : (comment full : Bool) (nothing told : Result (Option Rule) RuleKind) (kind : RuleKind) (rule : Option Rule) →
-    (if comment then nothing else (if full then Err kind else told)) ≡ Ok rule → (if comment then nothing else told) ≡ Ok rule
-chosen_with_room true full nothing told kind rule said = said
-chosen_with_room false false nothing told kind rule said = said
-chosen_with_room false true nothing told kind rule said = absurd (cc)
-
 -- a full file's lines say what they say where there is room
 with_room : (full : Bool) (words : List (List ℕ)) (rule : Option Rule) → line_of full words ≡ Ok rule → line_of false words ≡ Ok rule
 unfolding line_of
 with_room full [] rule said = said
-with_room full (word ∷ words) rule said = chosen_with_room (get_or word 0 0 == 35) full (Ok None) (rule_of word words) TooMany rule said
+with_room false (word ∷ words) rule said = said
+with_room true (word ∷ words) rule said = absurd (cc)
 
 some_and_none : (read : Result (Option Rule) RuleKind) (rule : Rule) → read ≡ Ok (Some rule) → read ≡ Ok None → ⊥
 some_and_none read rule first second = cc
 
 never_nothing : (word : List ℕ) (words : List (List ℕ)) → rule_of word words ≡ Ok None → ⊥
 never_nothing word words said =
-    let h = went_on (required Word (side_of word)) (λ (side : Side). rule_from (new_rule side) words >>= λ (rule : Rule). Ok (Some rule)) None said in
-    let k = went_on (rule_from (new_rule h.0) words) (λ (rule : Rule). Ok (Some rule)) None h.2 in
+    let h = came_to (required Word (side_of word)) (λ (side : Side). rule_from (new_rule side) words >>= λ (rule : Rule). Ok (Some rule)) None said in
+    let k = came_to (rule_from (new_rule h.0) words) (λ (rule : Rule). Ok (Some rule)) None h.2 in
     some_and_none (Ok (Some k.0)) k.0 refl k.2
-
-chosen_nothing : (comment full : Bool) (told : Result (Option Rule) RuleKind) (kind : RuleKind) → (told ≡ Ok None → ⊥) →
-    (if comment then Ok None else told) ≡ Ok None → (if comment then Ok None else (if full then Err kind else told)) ≡ Ok None
-chosen_nothing true full told kind never said = refl
-chosen_nothing false full told kind never said = absurd (never said)
 
 -- a line that says nothing says so in a full file too
 nothing_said : (full : Bool) (words : List (List ℕ)) → line_of false words ≡ Ok None → line_of full words ≡ Ok None
 unfolding line_of
 nothing_said full [] said = refl
-nothing_said full (word ∷ words) said = chosen_nothing (get_or word 0 0 == 35) full (rule_of word words) TooMany (never_nothing word words) said
+nothing_said full (word ∷ words) said = absurd (never_nothing word words said)
 
 pub say : (number count : ℕ) (lines : List (List ℕ)) (rules : List Rule) → rules_from number count lines ≡ Ok rules → Say lines rules
 unfolding rules_from
 say number count [] rules read = cc
 say number count (line ∷ lines) rules read =
-    let here = line_of (nat_le 256 count) (words_of (without_return line)) in
-    let h = went_on (located number here) (λ (rule : Option Rule). rules_from (number + 1) (count + length (option_to_list rule)) lines >>= λ (others : List Rule). Ok (option_to_list rule ++ others)) rules read in
-    let k = went_on (rules_from (number + 1) (count + length (option_to_list h.0)) lines) (λ (others : List Rule). Ok (option_to_list h.0 ++ others)) rules h.2 in
-    (h.0, k.0, sym (two_rules (Ok (option_to_list h.0 ++ k.0)) (option_to_list h.0 ++ k.0) rules refl k.2), with_room (nat_le 256 count) (words_of (without_return line)) h.0 (not_located number here h.0 h.1), say (number + 1) (count + length (option_to_list h.0)) lines k.0 k.1)
+    let here = line_of (nat_le 256 count) (words_of_line line) in
+    let h = came_to (located number here) (λ (rule : Option Rule). rules_from (number + 1) (count + length (option_to_list rule)) lines >>= λ (others : List Rule). Ok (option_to_list rule ++ others)) rules read in
+    let k = came_to (rules_from (number + 1) (count + length (option_to_list h.0)) lines) (λ (others : List Rule). Ok (option_to_list h.0 ++ others)) rules h.2 in
+    (h.0, k.0, sym (same_read (Ok (option_to_list h.0 ++ k.0)) (option_to_list h.0 ++ k.0) rules refl k.2), with_room (nat_le 256 count) (words_of_line line) h.0 (not_located number here h.0 h.1), say (number + 1) (count + length (option_to_list h.0)) lines k.0 k.1)
 
 said_here : (count : ℕ) (words : List (List ℕ)) (rule : Option Rule) → line_of false words ≡ Ok rule → count + length (option_to_list rule) ≤ 256 → line_of (nat_le 256 count) words ≡ Ok rule
 said_here count words None said few = nothing_said (nat_le 256 count) words said
@@ -94,7 +60,7 @@ unfolding rules_from
 make number count [] rules none few = ap Ok (sym none)
 make number count (line ∷ lines) rules (rule, others, is, said, more) few =
     let both : length rules ≡ length (option_to_list rule) + length others = ap length is ∙ length-append (option_to_list rule) others in
-    let here = said_here count (words_of (without_return line)) rule said (omega arith) in
+    let here = said_here count (words_of_line line) rule said (omega arith) in
     let rest = make (number + 1) (count + length (option_to_list rule)) lines others more (omega arith) in
     rw (here, rest) (ap Ok (sym is))
 
@@ -107,7 +73,7 @@ pub record IsFirstFrom (number count : ℕ) (lines : List (List ℕ)) (fault : R
   pub number_is : fault.line ≡ length before + number
   pub rules : List Rule
   pub flawless : rules_from number count before ≡ Ok rules
-  pub faulty : line_of (nat_le 256 (count + length rules)) (words_of (without_return line)) ≡ Err fault.kind
+  pub faulty : line_of (nat_le 256 (count + length rules)) (words_of_line line) ≡ Err fault.kind
 
 located_line : {A : Type 0} (number : ℕ) (read : Result A RuleKind) (fault : RuleFault) → located number read ≡ Err fault → fault.line ≡ number
 located_line number (Ok x) fault is = absurd (cc)
@@ -117,20 +83,20 @@ located_kind : {A : Type 0} (number : ℕ) (read : Result A RuleKind) (fault : R
 located_kind number (Ok x) fault is = absurd (cc)
 located_kind number (Err kind) fault is = cc
 
-here_first : (number count : ℕ) (line : List ℕ) (lines : List (List ℕ)) (fault : RuleFault) → located number (line_of (nat_le 256 count) (words_of (without_return line))) ≡ Err fault → IsFirstFrom number count (line ∷ lines) fault
+here_first : (number count : ℕ) (line : List ℕ) (lines : List (List ℕ)) (fault : RuleFault) → located number (line_of (nat_le 256 count) (words_of_line line)) ≡ Err fault → IsFirstFrom number count (line ∷ lines) fault
 unfolding rules_from
 here_first number count line lines fault is = record {
   before = [];
   line = line;
   behind = lines;
   lines_are = refl;
-  number_is = located_line number (line_of (nat_le 256 count) (words_of (without_return line))) fault is ∙ (omega arith);
+  number_is = located_line number (line_of (nat_le 256 count) (words_of_line line)) fault is ∙ (omega arith);
   rules = [];
   flawless = refl;
-  faulty = subst (λ (n : ℕ). line_of (nat_le 256 n) (words_of (without_return line)) ≡ Err fault.kind) (omega arith) (located_kind number (line_of (nat_le 256 count) (words_of (without_return line))) fault is);
+  faulty = subst (λ (n : ℕ). line_of (nat_le 256 n) (words_of_line line) ≡ Err fault.kind) (omega arith) (located_kind number (line_of (nat_le 256 count) (words_of_line line)) fault is);
 }
 
-later_first : (number count : ℕ) (line : List ℕ) (lines : List (List ℕ)) (fault : RuleFault) (rule : Option Rule) → line_of (nat_le 256 count) (words_of (without_return line)) ≡ Ok rule →
+later_first : (number count : ℕ) (line : List ℕ) (lines : List (List ℕ)) (fault : RuleFault) (rule : Option Rule) → line_of (nat_le 256 count) (words_of_line line) ≡ Ok rule →
     IsFirstFrom (number + 1) (count + length (option_to_list rule)) lines fault → IsFirstFrom number count (line ∷ lines) fault
 unfolding rules_from
 later_first number count line lines fault rule said first = record {
@@ -141,10 +107,10 @@ later_first number count line lines fault rule said first = record {
   number_is = omega (arith, first.number_is);
   rules = option_to_list rule ++ first.rules;
   flawless = rw (said, first.flawless);
-  faulty = subst (λ (n : ℕ). line_of (nat_le 256 n) (words_of (without_return first.line)) ≡ Err fault.kind) (omega (arith, length-append (option_to_list rule) first.rules)) first.faulty;
+  faulty = subst (λ (n : ℕ). line_of (nat_le 256 n) (words_of_line first.line) ≡ Err fault.kind) (omega (arith, length-append (option_to_list rule) first.rules)) first.faulty;
 }
 
-first_behind : (number count : ℕ) (line : List ℕ) (lines : List (List ℕ)) (fault : RuleFault) (rule : Option Rule) → line_of (nat_le 256 count) (words_of (without_return line)) ≡ Ok rule →
+first_behind : (number count : ℕ) (line : List ℕ) (lines : List (List ℕ)) (fault : RuleFault) (rule : Option Rule) → line_of (nat_le 256 count) (words_of_line line) ≡ Ok rule →
     ((n c : ℕ) → rules_from n c lines ≡ Err fault → IsFirstFrom n c lines fault) →
     (rules_from (number + 1) (count + length (option_to_list rule)) lines ≡ Err fault) ⊎ ((others : List Rule) × (rules_from (number + 1) (count + length (option_to_list rule)) lines ≡ Ok others) × (Ok (option_to_list rule ++ others) ≡ Err fault)) →
     IsFirstFrom number count (line ∷ lines) fault
@@ -153,13 +119,13 @@ first_behind number count line lines fault rule said again (inr (others, read, i
 
 first_of : (number count : ℕ) (line : List ℕ) (lines : List (List ℕ)) (fault : RuleFault) →
     ((n c : ℕ) → rules_from n c lines ≡ Err fault → IsFirstFrom n c lines fault) →
-    (located number (line_of (nat_le 256 count) (words_of (without_return line))) ≡ Err fault)
-    ⊎ ((rule : Option Rule) × (located number (line_of (nat_le 256 count) (words_of (without_return line))) ≡ Ok rule)
+    (located number (line_of (nat_le 256 count) (words_of_line line)) ≡ Err fault)
+    ⊎ ((rule : Option Rule) × (located number (line_of (nat_le 256 count) (words_of_line line)) ≡ Ok rule)
     × ((rules_from (number + 1) (count + length (option_to_list rule)) lines >>= λ (others : List Rule). Ok (option_to_list rule ++ others)) ≡ Err fault)) →
     IsFirstFrom number count (line ∷ lines) fault
 first_of number count line lines fault again (inl is) = here_first number count line lines fault is
 first_of number count line lines fault again (inr (rule, said, is)) =
-    first_behind number count line lines fault rule (not_located number (line_of (nat_le 256 count) (words_of (without_return line))) rule said) again
+    first_behind number count line lines fault rule (not_located number (line_of (nat_le 256 count) (words_of_line line)) rule said) again
     (stopped (rules_from (number + 1) (count + length (option_to_list rule)) lines) (λ (others : List Rule). Ok (option_to_list rule ++ others)) fault is)
 
 first : (number count : ℕ) (lines : List (List ℕ)) (fault : RuleFault) → rules_from number count lines ≡ Err fault → IsFirstFrom number count lines fault
@@ -167,7 +133,7 @@ unfolding rules_from
 first number count [] fault read = absurd (cc)
 first number count (line ∷ lines) fault read =
     first_of number count line lines fault (λ n c again. first n c lines fault again)
-    (stopped (located number (line_of (nat_le 256 count) (words_of (without_return line)))) (λ (rule : Option Rule). rules_from (number + 1) (count + length (option_to_list rule)) lines >>= λ (others : List Rule). Ok (option_to_list rule ++ others)) fault read)
+    (stopped (located number (line_of (nat_le 256 count) (words_of_line line))) (λ (rule : Option Rule). rules_from (number + 1) (count + length (option_to_list rule)) lines >>= λ (others : List Rule). Ok (option_to_list rule ++ others)) fault read)
 
 pub fault_first : (bytes : List ℕ) (fault : RuleFault) → HasFault bytes fault → IsFirst bytes fault
 fault_first bytes fault has =
@@ -180,38 +146,38 @@ fault_first bytes fault has =
       number = f.number_is;
       rules = f.rules;
       flawless = f.flawless;
-      faulty = subst (λ (n : ℕ). line_of (nat_le 256 n) (words_of (without_return f.line)) ≡ Err fault.kind) (omega arith) f.faulty;
+      faulty = subst (λ (n : ℕ). line_of (nat_le 256 n) (words_of_line f.line) ≡ Err fault.kind) (omega arith) f.faulty;
     }
 
 same_place : (number place : ℕ) (kind : RuleKind) (read : Result (List Rule) RuleFault) → number ≡ place → read ≡ Err (record { line = number; kind = kind }) → read ≡ Err (record { line = place; kind = kind })
 same_place number place kind read is at = subst (λ (n : ℕ). read ≡ Err (record { line = n; kind = kind })) is at
 
-located_fault : (number : ℕ) (line : List ℕ) (count : ℕ) (lines : List (List ℕ)) (kind : RuleKind) → line_of (nat_le 256 count) (words_of (without_return line)) ≡ Err kind → rules_from number count (line ∷ lines) ≡ Err (record { line = number; kind = kind })
+located_fault : (number : ℕ) (line : List ℕ) (count : ℕ) (lines : List (List ℕ)) (kind : RuleKind) → line_of (nat_le 256 count) (words_of_line line) ≡ Err kind → rules_from number count (line ∷ lines) ≡ Err (record { line = number; kind = kind })
 unfolding rules_from
 located_fault number line count lines kind said = rw said
 
 make_fault : (number count : ℕ) (before : List (List ℕ)) (line : List ℕ) (behind : List (List ℕ)) (rules : List Rule) (kind : RuleKind) (place : ℕ) → rules_from number count before ≡ Ok rules →
-    line_of (nat_le 256 (count + length rules)) (words_of (without_return line)) ≡ Err kind → place ≡ length before + number → rules_from number count (before ++ line ∷ behind) ≡ Err (record { line = place; kind = kind })
+    line_of (nat_le 256 (count + length rules)) (words_of_line line) ≡ Err kind → place ≡ length before + number → rules_from number count (before ++ line ∷ behind) ≡ Err (record { line = place; kind = kind })
 unfolding rules_from
 make_fault number count [] line behind rules kind place read faulty at =
-    let none : [] ≡ rules = two_rules (Ok []) [] rules refl read in
-    let here : line_of (nat_le 256 count) (words_of (without_return line)) ≡ Err kind =
-    subst (λ (n : ℕ). line_of (nat_le 256 n) (words_of (without_return line)) ≡ Err kind) (omega (arith, ap length none)) faulty in
+    let none : [] ≡ rules = same_read (Ok []) [] rules refl read in
+    let here : line_of (nat_le 256 count) (words_of_line line) ≡ Err kind =
+    subst (λ (n : ℕ). line_of (nat_le 256 n) (words_of_line line) ≡ Err kind) (omega (arith, ap length none)) faulty in
     same_place number place kind (rules_from number count (line ∷ behind)) (omega arith) (located_fault number line count behind kind here)
 make_fault number count (b ∷ bs) line behind rules kind place read faulty at =
-    let said = line_of (nat_le 256 count) (words_of (without_return b)) in
-    let h = went_on (located number said) (λ (rule : Option Rule). rules_from (number + 1) (count + length (option_to_list rule)) bs >>= λ (others : List Rule). Ok (option_to_list rule ++ others)) rules read in
-    let k = went_on (rules_from (number + 1) (count + length (option_to_list h.0)) bs) (λ (others : List Rule). Ok (option_to_list h.0 ++ others)) rules h.2 in
-    let is : option_to_list h.0 ++ k.0 ≡ rules = two_rules (Ok (option_to_list h.0 ++ k.0)) (option_to_list h.0 ++ k.0) rules refl k.2 in
+    let said = line_of (nat_le 256 count) (words_of_line b) in
+    let h = came_to (located number said) (λ (rule : Option Rule). rules_from (number + 1) (count + length (option_to_list rule)) bs >>= λ (others : List Rule). Ok (option_to_list rule ++ others)) rules read in
+    let k = came_to (rules_from (number + 1) (count + length (option_to_list h.0)) bs) (λ (others : List Rule). Ok (option_to_list h.0 ++ others)) rules h.2 in
+    let is : option_to_list h.0 ++ k.0 ≡ rules = same_read (Ok (option_to_list h.0 ++ k.0)) (option_to_list h.0 ++ k.0) rules refl k.2 in
     let long : count + length rules ≡ count + length (option_to_list h.0) + length k.0 = omega (arith, ap length is, length-append (option_to_list h.0) k.0) in
     let here : said ≡ Ok h.0 = not_located number said h.0 h.1 in
     let more : rules_from (number + 1) (count + length (option_to_list h.0)) (bs ++ line ∷ behind) ≡ Err (record { line = place; kind = kind }) =
     make_fault (number + 1) (count + length (option_to_list h.0)) bs line behind k.0 kind place k.1
-    (subst (λ (n : ℕ). line_of (nat_le 256 n) (words_of (without_return line)) ≡ Err kind) long faulty) (omega arith) in
+    (subst (λ (n : ℕ). line_of (nat_le 256 n) (words_of_line line) ≡ Err kind) long faulty) (omega arith) in
     rw (here, more)
 
 pub first_fault : (bytes : List ℕ) (fault : RuleFault) → IsFirst bytes fault → HasFault bytes fault
 first_fault bytes fault first =
     subst (λ (lines : List (List ℕ)). rules_from 1 0 lines ≡ Err fault) (sym first.lines)
     (make_fault 1 0 first.before first.line first.behind first.rules fault.kind fault.line first.flawless
-    (subst (λ (n : ℕ). line_of (nat_le 256 n) (words_of (without_return first.line)) ≡ Err fault.kind) (omega arith) first.faulty) first.number)
+    (subst (λ (n : ℕ). line_of (nat_le 256 n) (words_of_line first.line) ≡ Err fault.kind) (omega arith) first.faulty) first.number)

@@ -1,5 +1,5 @@
 -- The rules of a file are lawful, and at most 256.
-use Rattle.std.proofs.Common.{◌≡◌, ℕ, ◌+◌, ◌<◌, ◌≤◌, ◌==◌, ◌&&◌, ◌||◌, Bool, true, false, nat_le, if◌then◌else◌, List, [], ◌∷◌, ◌++◌, length, get_or, Option, Some, None, Result, Ok, Err, IfOk, IfSome, option_to_list, codes, bytes_eq, arith, refl, sym, subst}
+use Rattle.std.proofs.Common.{◌≡◌, ℕ, ◌+◌, ◌<◌, ◌≤◌, ◌||◌, Bool, true, false, nat_le, List, [], ◌∷◌, ◌++◌, length, Option, Some, None, Result, Ok, Err, IfOk, IfSome, option_to_list, codes, bytes_eq, arith, refl, sym, subst}
 use Rattle.std.proofs.lemmas.Bool.Decides.{nat_tests}
 use Rattle.std.proofs.lemmas.Result.{IfOk-at_ok}
 use Rattle.std.specs.List.{AllByRecursion}
@@ -8,192 +8,162 @@ use Rattle.nat_setup.specs.declared.rule.PortRange.{PortRange}
 use Rattle.nat_setup.specs.declared.rule.Rule.{Rule}
 use Rattle.nat_setup.specs.declared.rule.Side.{Side}
 use Rattle.nat_setup.specs.declared.read.RuleKind.{RuleKind}
-use Rattle.nat_setup.specs.declared.read.RuleKind.TheVariants.{Word, Address, Prefix, Range, TooMany}
+use Rattle.nat_setup.specs.declared.read.RuleKind.TheVariants.{Word, Address, Prefix, Range}
 use Rattle.nat_setup.specs.Internal.Reading.{IsUnaimed}
 use Rattle.nat_setup.specs.Rule.{IsBlock, IsLawfulRule, IsRange, has_ports, is_portless}
 use Rattle.nat_setup.specs.RuleFile.{IsRulesFile, located, rules_from}
-use Rattle.nat_setup.specs.RuleText.{◌>>=◌, block_of, block_of_halves, ended, line_of, new_rule, once, ports_of, ports_of_halves, proto_of, required, rising, rule_from, rule_of, side_of, target_of_halves, with_dport, with_dst, with_option, with_proto, with_sport, with_src, with_target}
-use Rattle.nat_setup.specs.Text.{address_of, decimal_of, halves_at, length_of, lines_of, port_of, within, without_return, words_of}
+use Rattle.nat_setup.specs.RuleText.{block_of, block_of_halves, ended, length_of, line_of, new_rule, ports_of, ports_of_halves, proto_of, rising, rule_from, rule_of, side_of, target_of_halves, with_dport, with_dst, with_option, with_proto, with_sport, with_src, with_target}
+use Rattle.file_text.specs.Laws.{NumbersStayWithin}
+use Rattle.file_text.proofs.Reading.{needed, was_once, went_on, went_on_with, where_read}
+use Rattle.file_text.specs.Reading.{required}
+use Rattle.file_text.specs.Text.{address_of, decimal_of, halves_at, lines_of, port_of, words_of_line}
 
--- what was read has one property, and what is read next has another because of it
-went_on : {A B E : Type 0} (Q : A → Type 0) (P : B → Type 0) (read : Result A E) (f : A → Result B E) → IfOk read Q
-    → ((x : A) → Q x → IfOk (f x) P) → IfOk (read >>= f) P
-went_on Q P (Ok x) f is next = next x is
-went_on Q P (Err e) f is next = tt
+module _ (numbers : NumbersStayWithin) where
+  short_length : (text : List ℕ) → IfSome (length_of text) (λ n. n ≤ 32)
+  unfolding length_of
+  short_length text = numbers 0 32 (decimal_of 2 text)
 
--- whatever was read
-went_on_with : {A B E : Type 0} (P : B → Type 0) (read : Result A E) (f : A → Result B E) → ((x : A) → IfOk (f x) P)
-    → IfOk (read >>= f) P
-went_on_with P (Ok x) f next = next x
-went_on_with P (Err e) f next = tt
+  short_halves : (text : List ℕ) (halves : Option (List ℕ × List ℕ)) → IfOk (block_of_halves text halves) (λ block. block.length ≤ 32)
+  short_halves text None = went_on_with {A = ℕ} {B = Block} (λ (block : Block). block.length ≤ 32) (required Address (address_of text)) _ (λ a. omega arith)
+  short_halves text (Some halves) =
+      went_on_with {A = ℕ} {B = Block} (λ (block : Block). block.length ≤ 32) (required Address (address_of halves.0)) _
+      (λ a. went_on {A = ℕ} {B = Block} (λ n. n ≤ 32) (λ (block : Block). block.length ≤ 32) (required Prefix (length_of halves.1)) _
+      (needed (λ n. n ≤ 32) Prefix (length_of halves.1) (short_length halves.1)) (λ n short. short))
 
-where_read : {A E : Type 0} (P : A → Type 0) (test : Bool) (read other : Result A E) → (test ≡ true → IfOk read P)
-    → (test ≡ false → IfOk other P) → IfOk (if test then read else other) P
-where_read P true read other first second = first refl
-where_read P false read other first second = second refl
+  -- a block has a length of at most 32
+  short_block : (text : List ℕ) → IfOk (block_of text) (λ block. block.length ≤ 32)
+  unfolding block_of
+  short_block text = short_halves text (halves_at 47 text)
 
-needed : {A : Type 0} (P : A → Type 0) (kind : RuleKind) (read : Option A) → IfSome read P → IfOk (required kind read) P
-needed P kind None is = tt
-needed P kind (Some x) is = is
+  ordered : (low high : ℕ) → IfOk (rising low high) (λ range. range.low ≤ range.high)
+  ordered low high = where_read (λ (range : PortRange). range.low ≤ range.high) (nat_le low high) _ (Err Range) (λ is. grind (arith, nat_tests, is)) (λ _. tt)
 
-was_once : {A B : Type 0} (P : B → Type 0) (old : Option A) (read : Result B RuleKind) → IfOk read P → IfOk (once old read) P
-was_once P None read is = is
-was_once P (Some x) read is = tt
+  rising_halves : (text : List ℕ) (halves : Option (List ℕ × List ℕ)) → IfOk (ports_of_halves text halves) (λ range. range.low ≤ range.high)
+  rising_halves text None = went_on_with {A = ℕ} {B = PortRange} (λ (range : PortRange). range.low ≤ range.high) (required Range (port_of 1 text)) _ (λ p. omega arith)
+  rising_halves text (Some halves) =
+      went_on_with {A = ℕ} {B = PortRange} (λ (range : PortRange). range.low ≤ range.high) (required Range (port_of 1 halves.0)) _
+      (λ low. went_on_with {A = ℕ} {B = PortRange} (λ (range : PortRange). range.low ≤ range.high) (required Range (port_of 1 halves.1)) _ (λ high. ordered low high))
 
--- a number within bounds is no greater than the upper one
-below_high : (low high : ℕ) (read : Option ℕ) → IfSome (within low high read) (λ n. n ≤ high)
-below_high low high None = tt
-below_high low high (Some n) = tested (nat_le low n && nat_le n high) (λ is. grind (arith, nat_tests, is))
-  where
-    tested : (test : Bool) → (test ≡ true → n ≤ high) → IfSome (if test then Some n else None) (λ m. m ≤ high)
-    tested true below = below refl
-    tested false below = tt
+  -- ports go up
+  rising_ports : (text : List ℕ) → IfOk (ports_of text) (λ range. range.low ≤ range.high)
+  unfolding ports_of
+  rising_ports text = rising_halves text (halves_at 45 text)
 
-short_length : (text : List ℕ) → IfSome (length_of text) (λ n. n ≤ 32)
-unfolding length_of
-short_length text = below_high 0 32 (decimal_of 2 text)
+  -- an option more leaves a rule without a target lawful
+  module _ (rule : Rule) (value : List ℕ) (is : IsUnaimed rule) where
+    kept_proto : IfOk (with_proto rule value) IsUnaimed
+    kept_proto = was_once IsUnaimed Word rule.proto _ (went_on_with IsUnaimed (required Word (proto_of value)) _ (λ p. record { src = is.src; dst = is.dst; ports = is.ports }))
 
-short_halves : (text : List ℕ) (halves : Option (List ℕ × List ℕ)) → IfOk (block_of_halves text halves) (λ block. block.length ≤ 32)
-short_halves text None = went_on_with {A = ℕ} {B = Block} (λ (block : Block). block.length ≤ 32) (required Address (address_of text)) _ (λ a. omega arith)
-short_halves text (Some halves) =
-    went_on_with {A = ℕ} {B = Block} (λ (block : Block). block.length ≤ 32) (required Address (address_of halves.0)) _
-    (λ a. went_on {A = ℕ} {B = Block} (λ n. n ≤ 32) (λ (block : Block). block.length ≤ 32) (required Prefix (length_of halves.1)) _
-    (needed (λ n. n ≤ 32) Prefix (length_of halves.1) (short_length halves.1)) (λ n short. short))
+    kept_src : IfOk (with_src rule value) IsUnaimed
+    kept_src =
+        was_once IsUnaimed Word rule.src _ (went_on {A = Block} {B = Rule} (λ (block : Block). block.length ≤ 32) IsUnaimed (block_of value) _ (short_block value)
+        (λ block short. record { src = short; dst = is.dst; ports = is.ports }))
 
--- a block has a length of at most 32
-short_block : (text : List ℕ) → IfOk (block_of text) (λ block. block.length ≤ 32)
-unfolding block_of
-short_block text = short_halves text (halves_at 47 text)
+    kept_dst : IfOk (with_dst rule value) IsUnaimed
+    kept_dst =
+        was_once IsUnaimed Word rule.dst _ (went_on {A = Block} {B = Rule} (λ (block : Block). block.length ≤ 32) IsUnaimed (block_of value) _ (short_block value)
+        (λ block short. record { src = is.src; dst = short; ports = is.ports }))
 
-ordered : (low high : ℕ) → IfOk (rising low high) (λ range. range.low ≤ range.high)
-ordered low high = where_read (λ (range : PortRange). range.low ≤ range.high) (nat_le low high) _ (Err Range) (λ is. grind (arith, nat_tests, is)) (λ _. tt)
+    kept_sport : IfOk (with_sport rule value) IsUnaimed
+    kept_sport = was_once IsUnaimed Word rule.sport _ (went_on_with IsUnaimed (required Range (port_of 1 value)) _ (λ p. record { src = is.src; dst = is.dst; ports = is.ports }))
 
-rising_halves : (text : List ℕ) (halves : Option (List ℕ × List ℕ)) → IfOk (ports_of_halves text halves) (λ range. range.low ≤ range.high)
-rising_halves text None = went_on_with {A = ℕ} {B = PortRange} (λ (range : PortRange). range.low ≤ range.high) (required Range (port_of text)) _ (λ p. omega arith)
-rising_halves text (Some halves) =
-    went_on_with {A = ℕ} {B = PortRange} (λ (range : PortRange). range.low ≤ range.high) (required Range (port_of halves.0)) _
-    (λ low. went_on_with {A = ℕ} {B = PortRange} (λ (range : PortRange). range.low ≤ range.high) (required Range (port_of halves.1)) _ (λ high. ordered low high))
+    kept_dport : IfOk (with_dport rule value) IsUnaimed
+    kept_dport = was_once IsUnaimed Word rule.dport _ (went_on_with IsUnaimed (required Range (port_of 1 value)) _ (λ p. record { src = is.src; dst = is.dst; ports = is.ports }))
 
--- ports go up
-rising_ports : (text : List ℕ) → IfOk (ports_of text) (λ range. range.low ≤ range.high)
-unfolding ports_of
-rising_ports text = rising_halves text (halves_at 45 text)
+    kept : (name : List ℕ) → IfOk (with_option rule name value) IsUnaimed
+    unfolding with_option
+    kept name =
+        where_read IsUnaimed (bytes_eq name (codes "-p")) _ _ (λ _. kept_proto)
+        (λ _. where_read IsUnaimed (bytes_eq name (codes "-s")) _ _ (λ _. kept_src)
+        (λ _. where_read IsUnaimed (bytes_eq name (codes "-d")) _ _ (λ _. kept_dst)
+        (λ _. where_read IsUnaimed (bytes_eq name (codes "--sport")) _ _ (λ _. kept_sport)
+        (λ _. where_read IsUnaimed (bytes_eq name (codes "--dport")) _ (Err Word) (λ _. kept_dport) (λ _. tt)))))
 
--- an option more leaves a rule without a target lawful
-module _ (rule : Rule) (value : List ℕ) (is : IsUnaimed rule) where
-  kept_proto : IfOk (with_proto rule value) IsUnaimed
-  kept_proto = was_once IsUnaimed rule.proto _ (went_on_with IsUnaimed (required Word (proto_of value)) _ (λ p. record { src = is.src; dst = is.dst; ports = is.ports }))
+  -- a rule whose target is read
+  record IsAimed (rule : Rule) : Type 0 where
+    src : IsBlock rule.src
+    dst : IsBlock rule.dst
+    ports : IsRange rule.ports
 
-  kept_src : IfOk (with_src rule value) IsUnaimed
-  kept_src =
-      was_once IsUnaimed rule.src _ (went_on {A = Block} {B = Rule} (λ (block : Block). block.length ≤ 32) IsUnaimed (block_of value) _ (short_block value)
-      (λ block short. record { src = short; dst = is.dst; ports = is.ports }))
+  aimed_halves : (rule : Rule) (text : List ℕ) (halves : Option (List ℕ × List ℕ)) → IsUnaimed rule → IfOk (target_of_halves rule text halves) IsAimed
+  aimed_halves rule text None is =
+      went_on_with IsAimed (required Address (address_of text)) _ (λ a. record { src = is.src; dst = is.dst; ports = subst IsRange (sym is.ports) tt })
+  aimed_halves rule text (Some halves) is =
+      went_on_with {A = ℕ} {B = Rule} IsAimed (required Address (address_of halves.0)) _
+      (λ a. went_on {A = PortRange} {B = Rule} (λ (range : PortRange). range.low ≤ range.high) IsAimed (ports_of halves.1) _ (rising_ports halves.1)
+      (λ range up. record { src = is.src; dst = is.dst; ports = up }))
 
-  kept_dst : IfOk (with_dst rule value) IsUnaimed
-  kept_dst =
-      was_once IsUnaimed rule.dst _ (went_on {A = Block} {B = Rule} (λ (block : Block). block.length ≤ 32) IsUnaimed (block_of value) _ (short_block value)
-      (λ block short. record { src = is.src; dst = short; ports = is.ports }))
+  aimed : (rule : Rule) (text : List ℕ) → IsUnaimed rule → IfOk (with_target rule text) IsAimed
+  unfolding with_target
+  aimed rule text is = aimed_halves rule text (halves_at 58 text) is
 
-  kept_sport : IfOk (with_sport rule value) IsUnaimed
-  kept_sport = was_once IsUnaimed rule.sport _ (went_on_with IsUnaimed (required Range (port_of value)) _ (λ p. record { src = is.src; dst = is.dst; ports = is.ports }))
+  lawful_end : (rule : Rule) (words : List (List ℕ)) → IsAimed rule → IfOk (ended rule words) IsLawfulRule
+  lawful_end rule [] is =
+      where_read IsLawfulRule (has_ports rule.proto || is_portless rule) (Ok rule) (Err Word)
+      (λ beside. record { src = is.src; dst = is.dst; ports = is.ports; beside = beside }) (λ _. tt)
+  lawful_end rule (word ∷ words) is = tt
 
-  kept_dport : IfOk (with_dport rule value) IsUnaimed
-  kept_dport = was_once IsUnaimed rule.dport _ (went_on_with IsUnaimed (required Range (port_of value)) _ (λ p. record { src = is.src; dst = is.dst; ports = is.ports }))
+  -- words make a lawful rule
+  lawful_words : (rule : Rule) (words : List (List ℕ)) → IsUnaimed rule → IfOk (rule_from rule words) IsLawfulRule
+  unfolding rule_from
+  lawful_words rule [] is = tt
+  lawful_words rule (name ∷ []) is = tt
+  lawful_words rule (name ∷ value ∷ words) is =
+      where_read IsLawfulRule (bytes_eq name (codes "to")) _ _
+      (λ _. went_on IsAimed IsLawfulRule (with_target rule value) _ (aimed rule value is) (λ r a. lawful_end r words a))
+      (λ _. went_on IsUnaimed IsLawfulRule (with_option rule name value) _ (kept rule value is name) (λ r u. lawful_words r words u))
 
-  kept : (name : List ℕ) → IfOk (with_option rule name value) IsUnaimed
-  unfolding with_option
-  kept name =
-      where_read IsUnaimed (bytes_eq name (codes "-p")) _ _ (λ _. kept_proto)
-      (λ _. where_read IsUnaimed (bytes_eq name (codes "-s")) _ _ (λ _. kept_src)
-      (λ _. where_read IsUnaimed (bytes_eq name (codes "-d")) _ _ (λ _. kept_dst)
-      (λ _. where_read IsUnaimed (bytes_eq name (codes "--sport")) _ _ (λ _. kept_sport)
-      (λ _. where_read IsUnaimed (bytes_eq name (codes "--dport")) _ (Err Word) (λ _. kept_dport) (λ _. tt)))))
+  unaimed : (side : Side) → IsUnaimed (new_rule side)
+  unaimed side = record { src = tt; dst = tt; ports = refl }
 
--- a rule whose target is read
-record IsAimed (rule : Rule) : Type 0 where
-  src : IsBlock rule.src
-  dst : IsBlock rule.dst
-  ports : IsRange rule.ports
+  -- a rule that a line says is lawful, and the file was not full
+  record Fits (full : Bool) (rule : Option Rule) : Type 0 where
+    lawful : IfSome rule IsLawfulRule
+    room : IfSome rule (λ _. full ≡ false)
 
-aimed_halves : (rule : Rule) (text : List ℕ) (halves : Option (List ℕ × List ℕ)) → IsUnaimed rule → IfOk (target_of_halves rule text halves) IsAimed
-aimed_halves rule text None is =
-    went_on_with IsAimed (required Address (address_of text)) _ (λ a. record { src = is.src; dst = is.dst; ports = subst IsRange (sym is.ports) tt })
-aimed_halves rule text (Some halves) is =
-    went_on_with {A = ℕ} {B = Rule} IsAimed (required Address (address_of halves.0)) _
-    (λ a. went_on {A = PortRange} {B = Rule} (λ (range : PortRange). range.low ≤ range.high) IsAimed (ports_of halves.1) _ (rising_ports halves.1)
-    (λ range up. record { src = is.src; dst = is.dst; ports = up }))
+  nothing_fits : (full : Bool) → Fits full None
+  nothing_fits full = record { lawful = tt; room = tt }
 
-aimed : (rule : Rule) (text : List ℕ) → IsUnaimed rule → IfOk (with_target rule text) IsAimed
-unfolding with_target
-aimed rule text is = aimed_halves rule text (halves_at 58 text) is
+  rule_fits : (word : List ℕ) (words : List (List ℕ)) → IfOk (rule_of word words) (Fits false)
+  rule_fits word words =
+      went_on_with {A = Side} {B = Option Rule} (Fits false) (required Word (side_of word)) _
+      (λ side. went_on {A = Rule} {B = Option Rule} IsLawfulRule (Fits false) (rule_from (new_rule side) words) _ (lawful_words (new_rule side) words (unaimed side))
+      (λ rule lawful. record { lawful = lawful; room = refl }))
 
-lawful_end : (rule : Rule) (words : List (List ℕ)) → IsAimed rule → IfOk (ended rule words) IsLawfulRule
-lawful_end rule [] is =
-    where_read IsLawfulRule (has_ports rule.proto || is_portless rule) (Ok rule) (Err Word)
-    (λ beside. record { src = is.src; dst = is.dst; ports = is.ports; beside = beside }) (λ _. tt)
-lawful_end rule (word ∷ words) is = tt
+  line_fits : (full : Bool) (words : List (List ℕ)) → IfOk (line_of full words) (Fits full)
+  unfolding line_of
+  line_fits full [] = nothing_fits full
+  line_fits true (word ∷ words) = tt
+  line_fits false (word ∷ words) = rule_fits word words
 
--- words make a lawful rule
-lawful_words : (rule : Rule) (words : List (List ℕ)) → IsUnaimed rule → IfOk (rule_from rule words) IsLawfulRule
-unfolding rule_from
-lawful_words rule [] is = tt
-lawful_words rule (name ∷ []) is = tt
-lawful_words rule (name ∷ value ∷ words) is =
-    where_read IsLawfulRule (bytes_eq name (codes "to")) _ _
-    (λ _. went_on IsAimed IsLawfulRule (with_target rule value) _ (aimed rule value is) (λ r a. lawful_end r words a))
-    (λ _. went_on IsUnaimed IsLawfulRule (with_option rule name value) _ (kept rule value is name) (λ r u. lawful_words r words u))
+  located_fits : {A : Type 0} (P : A → Type 0) (number : ℕ) (read : Result A RuleKind) → IfOk read P → IfOk (located number read) P
+  located_fits P number (Ok x) is = is
+  located_fits P number (Err kind) is = tt
 
-unaimed : (side : Side) → IsUnaimed (new_rule side)
-unaimed side = record { src = tt; dst = tt; ports = refl }
+  -- rules are lawful, and with those before them at most 256
+  record AreLawful (count : ℕ) (rules : List Rule) : Type 0 where
+    lawful : AllByRecursion IsLawfulRule rules
+    few : count ≤ 256 → count + length rules ≤ 256
 
--- a rule that a line says is lawful, and the file was not full
-record Fits (full : Bool) (rule : Option Rule) : Type 0 where
-  lawful : IfSome rule IsLawfulRule
-  room : IfSome rule (λ _. full ≡ false)
+  joined : (count : ℕ) (rule : Option Rule) (rules : List Rule) → Fits (nat_le 256 count) rule → AreLawful (count + length (option_to_list rule)) rules
+      → AreLawful count (option_to_list rule ++ rules)
+  joined count None rules one more = record { lawful = more.lawful; few = λ below. omega (arith, more.few (omega arith)) }
+  joined count (Some rule) rules one more =
+      let room : nat_le 256 count ≡ false = one.room in
+      let below : count < 256 = grind (arith, nat_tests, room) in
+      record { lawful = (one.lawful, more.lawful); few = λ _. omega (arith, more.few (omega arith)) }
 
-nothing_fits : (full : Bool) → Fits full None
-nothing_fits full = record { lawful = tt; room = tt }
+  lawful_lines : (number count : ℕ) (lines : List (List ℕ)) → IfOk (rules_from number count lines) (AreLawful count)
+  unfolding rules_from
+  lawful_lines number count [] = record { lawful = tt; few = λ below. omega arith }
+  lawful_lines number count (line ∷ lines) =
+      went_on {A = Option Rule} {B = List Rule} (Fits (nat_le 256 count)) (AreLawful count) (located number (line_of (nat_le 256 count) (words_of_line line))) _
+      (located_fits (Fits (nat_le 256 count)) number (line_of (nat_le 256 count) (words_of_line line)) (line_fits (nat_le 256 count) (words_of_line line)))
+      (λ rule one. went_on {A = List Rule} {B = List Rule} (AreLawful (count + length (option_to_list rule))) (AreLawful count)
+      (rules_from (number + 1) (count + length (option_to_list rule)) lines) _ (lawful_lines (number + 1) (count + length (option_to_list rule)) lines)
+      (λ rules more. joined count rule rules one more))
 
-rule_fits : (word : List ℕ) (words : List (List ℕ)) → IfOk (rule_of word words) (Fits false)
-rule_fits word words =
-    went_on_with {A = Side} {B = Option Rule} (Fits false) (required Word (side_of word)) _
-    (λ side. went_on {A = Rule} {B = Option Rule} IsLawfulRule (Fits false) (rule_from (new_rule side) words) _ (lawful_words (new_rule side) words (unaimed side))
-    (λ rule lawful. record { lawful = lawful; room = refl }))
-
-line_fits : (full : Bool) (words : List (List ℕ)) → IfOk (line_of full words) (Fits full)
-unfolding line_of
-line_fits full [] = nothing_fits full
-line_fits true (word ∷ words) = where_read (Fits true) (get_or word 0 0 == 35) (Ok None) (Err TooMany) (λ _. nothing_fits true) (λ _. tt)
-line_fits false (word ∷ words) = where_read (Fits false) (get_or word 0 0 == 35) (Ok None) (rule_of word words) (λ _. nothing_fits false) (λ _. rule_fits word words)
-
-located_fits : {A : Type 0} (P : A → Type 0) (number : ℕ) (read : Result A RuleKind) → IfOk read P → IfOk (located number read) P
-located_fits P number (Ok x) is = is
-located_fits P number (Err kind) is = tt
-
--- rules are lawful, and with those before them at most 256
-record AreLawful (count : ℕ) (rules : List Rule) : Type 0 where
-  lawful : AllByRecursion IsLawfulRule rules
-  few : count ≤ 256 → count + length rules ≤ 256
-
-joined : (count : ℕ) (rule : Option Rule) (rules : List Rule) → Fits (nat_le 256 count) rule → AreLawful (count + length (option_to_list rule)) rules
-    → AreLawful count (option_to_list rule ++ rules)
-joined count None rules one more = record { lawful = more.lawful; few = λ below. omega (arith, more.few (omega arith)) }
-joined count (Some rule) rules one more =
-    let room : nat_le 256 count ≡ false = one.room in
-    let below : count < 256 = grind (arith, nat_tests, room) in
-    record { lawful = (one.lawful, more.lawful); few = λ _. omega (arith, more.few (omega arith)) }
-
-lawful_lines : (number count : ℕ) (lines : List (List ℕ)) → IfOk (rules_from number count lines) (AreLawful count)
-unfolding rules_from
-lawful_lines number count [] = record { lawful = tt; few = λ below. omega arith }
-lawful_lines number count (line ∷ lines) =
-    went_on {A = Option Rule} {B = List Rule} (Fits (nat_le 256 count)) (AreLawful count) (located number (line_of (nat_le 256 count) (words_of (without_return line)))) _
-    (located_fits (Fits (nat_le 256 count)) number (line_of (nat_le 256 count) (words_of (without_return line))) (line_fits (nat_le 256 count) (words_of (without_return line))))
-    (λ rule one. went_on {A = List Rule} {B = List Rule} (AreLawful (count + length (option_to_list rule))) (AreLawful count)
-    (rules_from (number + 1) (count + length (option_to_list rule)) lines) _ (lawful_lines (number + 1) (count + length (option_to_list rule)) lines)
-    (λ rules more. joined count rule rules one more))
-
-pub lawful_file : (bytes : List ℕ) (rules : List Rule) → IsRulesFile bytes rules → AllByRecursion IsLawfulRule rules × (length rules ≤ 256)
-lawful_file bytes rules read =
-    let are = IfOk-at_ok (AreLawful 0) read (lawful_lines 1 0 (lines_of bytes)) in
-    (are.lawful, omega (arith, are.few (omega arith)))
+  pub lawful_file : (bytes : List ℕ) (rules : List Rule) → IsRulesFile bytes rules → AllByRecursion IsLawfulRule rules × (length rules ≤ 256)
+  lawful_file bytes rules read =
+      let are = IfOk-at_ok (AreLawful 0) read (lawful_lines 1 0 (lines_of bytes)) in
+      (are.lawful, omega (arith, are.few (omega arith)))

@@ -1,9 +1,6 @@
-pub mod Digits
 pub mod FileLaws
 pub mod Lawful
-pub mod Parts
 pub mod RuleLines
 pub mod RuleWords
-pub mod Words
 pub mod Searching
 pub mod Translating

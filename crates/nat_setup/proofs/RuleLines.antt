@@ -6,8 +6,9 @@ use Rattle.nat_setup.specs.declared.rule.Rule.{Rule}
 use Rattle.nat_setup.specs.declared.read.RuleKind.{RuleKind}
 use Rattle.nat_setup.specs.declared.read.RuleFault.{RuleFault}
 use Rattle.nat_setup.specs.Rule.{IsLawfulRule}
-use Rattle.nat_setup.specs.Text.{lines_of, without_return, words_of}
-use Rattle.nat_setup.specs.RuleText.{◌>>=◌, line_of}
+use Rattle.file_text.specs.Reading.{◌>>=◌}
+use Rattle.file_text.specs.Text.{lines_of, words_of_line}
+use Rattle.nat_setup.specs.RuleText.{line_of}
 use Rattle.nat_setup.specs.RuleFile.{file_of, rules_from}
 
 -- these rules, and those that were read behind them
@@ -25,13 +26,13 @@ front_of_both : (items more : List Rule) (read : Result (List Rule) RuleFault) �
 front_of_both items more (Ok rules) = rw append_assoc
 front_of_both items more (Err fault) = refl
 
-line_said : (items : List Rule) (number : ℕ) (line : List ℕ) (lines : List (List ℕ)) (rule : Option Rule) → line_of (nat_le 256 (length items)) (words_of (without_return line)) ≡ Ok rule →
+line_said : (items : List Rule) (number : ℕ) (line : List ℕ) (lines : List (List ℕ)) (rule : Option Rule) → line_of (nat_le 256 (length items)) (words_of_line line) ≡ Ok rule →
     with_front (items ++ option_to_list rule) (rules_from (number + 1) (length (items ++ option_to_list rule)) lines) ≡ with_front items (rules_from number (length items) (line ∷ lines))
 unfolding rules_from
 line_said items number line lines rule said =
     rw (said, length-append) (front_of_both items (option_to_list rule) (rules_from (number + 1) (length items + length (option_to_list rule)) lines))
 
-line_faulty : (items : List Rule) (number : ℕ) (line : List ℕ) (lines : List (List ℕ)) (kind : RuleKind) → line_of (nat_le 256 (length items)) (words_of (without_return line)) ≡ Err kind →
+line_faulty : (items : List Rule) (number : ℕ) (line : List ℕ) (lines : List (List ℕ)) (kind : RuleKind) → line_of (nat_le 256 (length items)) (words_of_line line) ≡ Err kind →
     with_front items (rules_from number (length items) (line ∷ lines)) ≡ Err (record { line = number; kind = kind })
 unfolding rules_from
 line_faulty items number line lines kind said = rw said
@@ -48,7 +49,7 @@ lawful_more [] (Some rule) all one = (one, tt)
 lawful_more (item ∷ items) rule all one = (all.0, lawful_more items rule all.1 one)
 
 more_items : (bytes rest line behind : List ℕ) (items : List Rule) (number : ℕ) (rule : Option Rule) → HasRead bytes rest items number → lines_of rest ≡ line ∷ lines_of behind → length behind < length rest →
-    line_of (nat_le 256 (length items)) (words_of (without_return line)) ≡ Ok rule → IfSome rule IsLawfulRule → IfSome rule (λ _. nat_le 256 (length items) ≡ false) → HasRead bytes behind (items ++ option_to_list rule) (number + 1)
+    line_of (nat_le 256 (length items)) (words_of_line line) ≡ Ok rule → IfSome rule IsLawfulRule → IfSome rule (λ _. nat_le 256 (length items) ≡ false) → HasRead bytes behind (items ++ option_to_list rule) (number + 1)
 more_items bytes rest line behind items number rule read here less said lawful room = record {
   same = line_said items (number + 1) line (lines_of behind) rule said ∙ (ap (λ (lines : List (List ℕ)). with_front items (rules_from (number + 1) (length items) lines)) (sym here) ∙ read.same);
   fits = omega (arith, read.fits);
@@ -58,13 +59,13 @@ more_items bytes rest line behind items number rule read here less said lawful r
 
 -- a line that has no fault is read
 pub read_more : (bytes rest line behind : List ℕ) (items longer : List Rule) (number : ℕ) (rule : Option Rule) → HasRead bytes rest items number → lines_of rest ≡ line ∷ lines_of behind → length behind < length rest →
-    line_of (nat_le 256 (length items)) (words_of (without_return line)) ≡ Ok rule → IfSome rule IsLawfulRule → IfSome rule (λ _. nat_le 256 (length items) ≡ false) → longer ≡ items ++ option_to_list rule → HasRead bytes behind longer (number + 1)
+    line_of (nat_le 256 (length items)) (words_of_line line) ≡ Ok rule → IfSome rule IsLawfulRule → IfSome rule (λ _. nat_le 256 (length items) ≡ false) → longer ≡ items ++ option_to_list rule → HasRead bytes behind longer (number + 1)
 read_more bytes rest line behind items longer number rule read here less said lawful room is =
     rw is (more_items bytes rest line behind items number rule read here less said lawful room)
 
 -- a line that has a fault is the first
 pub found_fault : (bytes rest line behind : List ℕ) (items : List Rule) (number : ℕ) (kind : RuleKind) → HasRead bytes rest items number → lines_of rest ≡ line ∷ lines_of behind →
-    line_of (nat_le 256 (length items)) (words_of (without_return line)) ≡ Err kind → file_of bytes ≡ Err (record { line = number + 1; kind = kind })
+    line_of (nat_le 256 (length items)) (words_of_line line) ≡ Err kind → file_of bytes ≡ Err (record { line = number + 1; kind = kind })
 found_fault bytes rest line behind items number kind read here said =
     sym read.same ∙ (ap (λ (lines : List (List ℕ)). with_front items (rules_from (number + 1) (length items) lines)) here ∙ line_faulty items (number + 1) line (lines_of behind) kind said)
 

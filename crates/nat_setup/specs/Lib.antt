@@ -1,5 +1,4 @@
 pub mod Rule
-pub mod Text
 pub mod RuleText
 pub mod RuleFile
 pub mod RuleLaws

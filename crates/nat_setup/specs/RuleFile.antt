@@ -5,8 +5,9 @@ use Rattle.nat_setup.specs.declared.read.RuleKind.{RuleKind}
 use Rattle.nat_setup.specs.declared.read.RuleFault.{RuleFault}
 use Rattle.nat_setup.specs.declared.read.RuleError.{RuleError}
 use Rattle.nat_setup.specs.declared.read.RuleError.TheVariants.{Fault, NoMemory}
-use Rattle.nat_setup.specs.Text.{lines_of, without_return, words_of}
-use Rattle.nat_setup.specs.RuleText.{◌>>=◌, line_of}
+use Rattle.file_text.specs.Reading.{◌>>=◌}
+use Rattle.file_text.specs.Text.{lines_of, words_of_line}
+use Rattle.nat_setup.specs.RuleText.{line_of}
 
 -- a fault of the line of this number
 abbrev pub located : {A : Type 0} → ℕ → Result A RuleKind → Result A RuleFault
@@ -17,7 +18,7 @@ located number (Err kind) = Err (record { line = number; kind = kind })
 unfoldable pub rules_from : ℕ → ℕ → List (List ℕ) → Result (List Rule) RuleFault
 rules_from number count [] = Ok []
 rules_from number count (line ∷ lines) =
-    located number (line_of (nat_le 256 count) (words_of (without_return line))) >>= λ rule.
+    located number (line_of (nat_le 256 count) (words_of_line line)) >>= λ rule.
     rules_from (number + 1) (count + length (option_to_list rule)) lines >>= λ rules. Ok (option_to_list rule ++ rules)
 
 -- the rules of a file, or its first fault

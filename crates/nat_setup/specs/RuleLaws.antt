@@ -4,7 +4,7 @@ use Rattle.std.specs.List.{AllByRecursion}
 use Rattle.nat_setup.specs.declared.rule.Rule.{Rule}
 use Rattle.nat_setup.specs.declared.read.RuleFault.{RuleFault}
 use Rattle.nat_setup.specs.Rule.{IsLawfulRule}
-use Rattle.nat_setup.specs.Text.{lines_of, without_return, words_of}
+use Rattle.file_text.specs.Text.{lines_of, words_of_line}
 use Rattle.nat_setup.specs.RuleText.{line_of}
 use Rattle.nat_setup.specs.RuleFile.{IsRulesFile, HasFault, rules_from}
 
@@ -28,7 +28,7 @@ BytesHaveRulesOrFault = (bytes : List ℕ) → ((rules : List Rule) × IsRulesFi
 abbrev pub Say : List (List ℕ) → List Rule → Type 0
 Say [] rules = rules ≡ []
 Say (line ∷ lines) rules =
-    (rule : Option Rule) × (others : List Rule) × (rules ≡ option_to_list rule ++ others) × (line_of false (words_of (without_return line)) ≡ Ok rule) × Say lines others
+    (rule : Option Rule) × (others : List Rule) × (rules ≡ option_to_list rule ++ others) × (line_of false (words_of_line line) ≡ Ok rule) × Say lines others
 
 -- the lines of a file of rules say its rules
 abbrev pub FilesSayTheirRules : Type 0
@@ -51,7 +51,7 @@ pub record IsFirst (bytes : List ℕ) (fault : RuleFault) : Type 0 where
   pub number : fault.line ≡ length before + 1
   pub rules : List Rule
   pub flawless : rules_from 1 0 before ≡ Ok rules
-  pub faulty : line_of (nat_le 256 (length rules)) (words_of (without_return line)) ≡ Err fault.kind
+  pub faulty : line_of (nat_le 256 (length rules)) (words_of_line line) ≡ Err fault.kind
 
 -- a fault is that of the first faulty line
 abbrev pub FaultsAreFirst : Type 0

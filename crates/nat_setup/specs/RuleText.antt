@@ -1,5 +1,5 @@
 -- What a line of a rules file says, word by word.
-use Rattle.std.specs.Prelude.{ℕ, ◌==◌, ◌||◌, Bool, nat_le, if◌then◌else◌, List, [], ◌∷◌, get_or, Option, Some, None, Result, Ok, Err, codes, bytes_eq}
+use Rattle.std.specs.Prelude.{ℕ, ◌||◌, Bool, nat_le, if◌then◌else◌, List, [], ◌∷◌, Option, Some, None, Result, Ok, Err, codes, bytes_eq}
 use Rattle.tuple_core.specs.declared.Proto.{Proto}
 use Rattle.tuple_core.specs.declared.Proto.TheVariants.{Icmp, Tcp, Udp}
 use Rattle.nat_setup.specs.declared.rule.Side.{Side}
@@ -10,18 +10,8 @@ use Rattle.nat_setup.specs.declared.rule.Rule.{Rule}
 use Rattle.nat_setup.specs.declared.read.RuleKind.{RuleKind}
 use Rattle.nat_setup.specs.declared.read.RuleKind.TheVariants.{Word, Address, Prefix, Range, TooMany}
 use Rattle.nat_setup.specs.Rule.{has_ports, is_portless}
-use Rattle.nat_setup.specs.Text.{address_of, halves_at, length_of, port_of}
-
--- go on with what was read; a fault stays
-infixl 10 ◌>>=◌
-abbrev pub ◌>>=◌ : {A B E : Type 0} → Result A E → (A → Result B E) → Result B E
-(Ok x) >>= f = f x
-(Err e) >>= f = Err e
-
--- a text that is none is a fault of this kind
-abbrev pub required : {A : Type 0} → RuleKind → Option A → Result A RuleKind
-required kind None = Err kind
-required kind (Some x) = Ok x
+use Rattle.file_text.specs.Reading.{◌>>=◌, once, required}
+use Rattle.file_text.specs.Text.{address_of, halves_at, number_in, port_of}
 
 -- the kinds of faults in order, from 1
 abbrev pub number_of_kind : RuleKind → ℕ
@@ -41,6 +31,10 @@ proto_of word =
     if bytes_eq word (codes "tcp") then Some Tcp else (if bytes_eq word (codes "udp") then Some Udp else
     (if bytes_eq word (codes "icmp") then Some Icmp else None))
 
+-- a length is a number from 0 to 32
+unfoldable pub length_of : List ℕ → Option ℕ
+length_of text = number_in 2 0 32 text
+
 -- a block is an address, or an address, a slash and a length
 abbrev pub block_of_halves : List ℕ → Option (List ℕ × List ℕ) → Result Block RuleKind
 block_of_halves text None = required Address (address_of text) >>= λ a. Ok (record { address = a; length = 32 })
@@ -55,8 +49,8 @@ abbrev pub rising : ℕ → ℕ → Result PortRange RuleKind
 rising low high = if nat_le low high then Ok (record { low = low; high = high }) else Err Range
 
 abbrev pub ports_of_halves : List ℕ → Option (List ℕ × List ℕ) → Result PortRange RuleKind
-ports_of_halves text None = required Range (port_of text) >>= λ p. Ok (record { low = p; high = p })
-ports_of_halves text (Some halves) = required Range (port_of halves.0) >>= λ low. required Range (port_of halves.1) >>= λ high. rising low high
+ports_of_halves text None = required Range (port_of 1 text) >>= λ p. Ok (record { low = p; high = p })
+ports_of_halves text (Some halves) = required Range (port_of 1 halves.0) >>= λ low. required Range (port_of 1 halves.1) >>= λ high. rising low high
 
 unfoldable pub ports_of : List ℕ → Result PortRange RuleKind
 ports_of text = ports_of_halves text (halves_at 45 text)
@@ -71,24 +65,20 @@ unfoldable pub with_target : Rule → List ℕ → Result Rule RuleKind
 with_target rule text = target_of_halves rule text (halves_at 58 text)
 
 -- an option that the line has already is a wrong word
-abbrev pub once : {A B : Type 0} → Option A → Result B RuleKind → Result B RuleKind
-once None read = read
-once (Some x) read = Err Word
-
 abbrev pub with_proto : Rule → List ℕ → Result Rule RuleKind
-with_proto rule value = once rule.proto (required Word (proto_of value) >>= λ p. Ok (record rule { proto = Some p }))
+with_proto rule value = once Word rule.proto (required Word (proto_of value) >>= λ p. Ok (record rule { proto = Some p }))
 
 abbrev pub with_src : Rule → List ℕ → Result Rule RuleKind
-with_src rule value = once rule.src (block_of value >>= λ b. Ok (record rule { src = Some b }))
+with_src rule value = once Word rule.src (block_of value >>= λ b. Ok (record rule { src = Some b }))
 
 abbrev pub with_dst : Rule → List ℕ → Result Rule RuleKind
-with_dst rule value = once rule.dst (block_of value >>= λ b. Ok (record rule { dst = Some b }))
+with_dst rule value = once Word rule.dst (block_of value >>= λ b. Ok (record rule { dst = Some b }))
 
 abbrev pub with_sport : Rule → List ℕ → Result Rule RuleKind
-with_sport rule value = once rule.sport (required Range (port_of value) >>= λ p. Ok (record rule { sport = Some p }))
+with_sport rule value = once Word rule.sport (required Range (port_of 1 value) >>= λ p. Ok (record rule { sport = Some p }))
 
 abbrev pub with_dport : Rule → List ℕ → Result Rule RuleKind
-with_dport rule value = once rule.dport (required Range (port_of value) >>= λ p. Ok (record rule { dport = Some p }))
+with_dport rule value = once Word rule.dport (required Range (port_of 1 value) >>= λ p. Ok (record rule { dport = Some p }))
 
 -- the rule with the option of this name; there are no other options
 unfoldable pub with_option : Rule → List ℕ → List ℕ → Result Rule RuleKind
@@ -120,7 +110,7 @@ new_rule side = record { side = side; proto = None; src = None; dst = None; spor
 abbrev pub rule_of : List ℕ → List (List ℕ) → Result (Option Rule) RuleKind
 rule_of word words = required Word (side_of word) >>= λ side. rule_from (new_rule side) words >>= λ rule. Ok (Some rule)
 
--- a line without words and a comment say nothing, others a rule; where the file is full, none may follow
+-- a line that is skipped says nothing, others a rule; where the file is full, none may follow
 unfoldable pub line_of : Bool → List (List ℕ) → Result (Option Rule) RuleKind
 line_of full [] = Ok None
-line_of full (word ∷ words) = if get_or word 0 0 == 35 then Ok None else (if full then Err TooMany else rule_of word words)
+line_of full (word ∷ words) = if full then Err TooMany else rule_of word words

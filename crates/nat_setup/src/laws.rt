@@ -2,6 +2,8 @@
 
 ghost use Rattle.nat_setup.specs.RuleLaws.{BytesHaveRulesOrFault, FaultsAreFirst, FaultsAreUnique, FilesHaveNoFault, FilesSayTheirRules, FirstAreFaults, LinesMakeFiles, RulesAreLawful, RulesAreUnique};
 
+use file_text::laws::numbers_stay_within;
+
 /// Bytes are a file of one list of rules at most.
 pub fn rules_are_unique()
     ensures { RulesAreUnique }
@@ -35,7 +37,9 @@ pub fn lines_make_files()
 /// The rules of a file are lawful, and there are at most 256.
 pub fn rules_are_lawful()
     ensures { RulesAreLawful }
-{}
+{
+    numbers_stay_within();
+}
 
 /// A fault is that of the first faulty line.
 pub fn faults_are_first()

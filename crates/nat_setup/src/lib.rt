@@ -7,5 +7,4 @@ pub mod read;
 mod reply;
 pub mod rule;
 mod search;
-mod text;
 pub mod translate;

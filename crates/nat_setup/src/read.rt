@@ -2,17 +2,18 @@
 
 ghost use Rattle.std.specs.Prelude.{◌≡◌, ◌<◌, ◌≤◌, ◌^◌, ◌||◌, ◌++◌, false, length, option_to_list, IfErr, IfOk, IfSome, OnOk, Some, None};
 ghost use Rattle.std.specs.List.{AllByRecursion};
+ghost use Rattle.file_text.specs.Reading.{once, required};
+ghost use Rattle.file_text.specs.Text.{address_of, port_of, words_of, words_of_line};
 ghost use Rattle.nat_setup.specs.Rule.{has_ports, is_portless, IsBlock, IsLawfulRule, IsRange};
-ghost use Rattle.nat_setup.specs.Text.{address_of, length_of, port_of, without_return, words_of};
 ghost use Rattle.nat_setup.specs.declared.read.RuleKind.TheVariants.{Word, Address, Prefix, Range, TooMany};
 ghost use Rattle.nat_setup.specs.Internal.Reading.{IsUnaimed};
 ghost use Rattle.nat_setup.specs.RuleFile.{IsReason, IsRulesFile};
-ghost use Rattle.nat_setup.specs.RuleText.{block_of, ended, required, line_of, new_rule, number_of_kind, once, ports_of, proto_of, rule_from, side_of, with_dport, with_dst, with_option, with_proto, with_sport, with_src, with_target};
+ghost use Rattle.nat_setup.specs.RuleText.{block_of, ended, length_of, line_of, new_rule, number_of_kind, ports_of, proto_of, rule_from, side_of, with_dport, with_dst, with_option, with_proto, with_sport, with_src, with_target};
 
 use crate::rule::{Block, PortRange, Rule, Rules, Side};
-use crate::text::{
-    line_text, next_line, next_word, read_address, read_length, read_port, split_once,
-};
+use file_text::halves::split_once;
+use file_text::lines::{first_word, next_line, next_word};
+use file_text::numbers::{number, read_address, read_port};
 use std::alloc::Global;
 use tuple_core::{NoMemory, Proto};
 
@@ -108,21 +109,22 @@ fn want_address(text: &[u8]) -> Result<u32, RuleKind>
 
 /// A port, or the result's fault.
 fn want_port(text: &[u8]) -> Result<u16, RuleKind>
-    ensures { result ≡ required Range (port_of text.now) }
+    ensures { result ≡ required Range (port_of 1 text.now) }
 {
-    match read_port(text) {
+    match read_port(text, 1) {
         Some(port) => Ok(port),
         None => Err(RuleKind::Range),
     }
 }
 
 /// A length, or the result's fault.
+#[tactic(auto, unfolding(crate::specs::RuleText::length_of))]
 fn want_length(text: &[u8]) -> Result<u8, RuleKind>
     ensures exact { result ≡ required Prefix (length_of text.now) }
     ensures high { IfOk result (λ n. n ≤ 32) }
 {
-    match read_length(text) {
-        Some(length) => Ok(length),
+    match number(text, 2, 0, 32) {
+        Some(length) => Ok(length as u8),
         None => Err(RuleKind::Prefix),
     }
 }
@@ -370,16 +372,13 @@ fn read_rule(side: Side, words: &[u8]) -> Result<Rule, RuleKind>
 /// The rule of a line, if it says one. Where the file is full, it may not.
 #[tactic(auto, unfolding(crate::specs::RuleText::line_of))]
 fn read_line(line: &[u8], full: bool) -> Result<Option<Rule>, RuleKind>
-    ensures exact { result ≡ line_of full (words_of (without_return line.now)) }
+    ensures exact { result ≡ line_of full (words_of_line line.now) }
     ensures lawful { IfOk result (λ rule. IfSome rule IsLawfulRule) }
     ensures room { IfOk result (λ rule. IfSome rule (λ _. full ≡ false)) }
 {
-    let Some((first, words)) = next_word(line_text(line)) else {
+    let Some((first, words)) = first_word(line) else {
         return Ok(None);
     };
-    if first[0] == b'#' {
-        return Ok(None);
-    }
     if full {
         return Err(RuleKind::TooMany);
     }

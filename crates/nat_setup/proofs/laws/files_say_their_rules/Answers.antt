@@ -1,4 +1,4 @@
-use Rattle.nat_setup.specs.Text.{lines_of}
+use Rattle.file_text.specs.Text.{lines_of}
 use Rattle.nat_setup.proofs.FileLaws.{say}
 use Rattle.nat_setup.proofs.laws.files_say_their_rules.Goals as goal
 

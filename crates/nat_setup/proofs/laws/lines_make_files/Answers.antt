@@ -1,5 +1,5 @@
 use Rattle.std.proofs.Common.{arith}
-use Rattle.nat_setup.specs.Text.{lines_of}
+use Rattle.file_text.specs.Text.{lines_of}
 use Rattle.nat_setup.proofs.FileLaws.{make}
 use Rattle.nat_setup.proofs.laws.lines_make_files.Goals as goal
 

@@ -1,6 +1,6 @@
 use Rattle.nat_setup.specs.RuleFile.{file_of}
-use Rattle.nat_setup.proofs.FileLaws.{two_rules}
+use Rattle.file_text.proofs.Reading.{same_read}
 use Rattle.nat_setup.proofs.laws.rules_are_unique.Goals as goal
 
 pub returns : goal.returns
-returns c = λ bytes. two_rules (file_of bytes)
+returns c = λ bytes. same_read (file_of bytes)

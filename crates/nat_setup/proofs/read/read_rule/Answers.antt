@@ -1,5 +1,5 @@
 use Rattle.std.proofs.Common.{rules, ◌≡◌, ◌∙◌, ◌∷◌, false, codes, bytes_eq, Ok}
-use Rattle.nat_setup.specs.Text.{words_of}
+use Rattle.file_text.specs.Text.{words_of}
 use Rattle.nat_setup.specs.RuleText.{with_option}
 use Rattle.nat_setup.proofs.RuleWords.{one_option, two_words}
 use Rattle.nat_setup.proofs.read.read_rule.Goals as goal

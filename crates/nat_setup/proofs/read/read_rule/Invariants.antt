@@ -1,5 +1,5 @@
 use Rattle.std.proofs.Common.{◌≡◌, length}
-use Rattle.nat_setup.specs.Text.{words_of}
+use Rattle.file_text.specs.Text.{words_of}
 use Rattle.nat_setup.specs.Internal.Reading.{IsUnaimed}
 use Rattle.nat_setup.specs.RuleText.{new_rule, rule_from}
 use Rattle.nat_setup.proofs.read.read_rule.Given as goal

@@ -1,0 +1,5 @@
+pub mod Bounds
+pub mod Digits
+pub mod Parts
+pub mod Reading
+pub mod Words
