@@ -124,7 +124,7 @@ module _ (t : Tuple) (s : State) (id : ℕ) (r : Record) (apart : Pairs s.record
       (find_only (has_reply t) id r (λ x a. (elsewhere has x a).1) s.records apart at h)
 
 -- where no record is found by a test, each that the state has fails it
-none_passes : (p : Record → Bool) (rs : List Record) → find p rs ≡ None → AllByRecursion (λ r. p r ≡ false) rs
+pub none_passes : (p : Record → Bool) (rs : List Record) → find p rs ≡ None → AllByRecursion (λ r. p r ≡ false) rs
 none_passes p rs h = each_fails p rs (none_found p rs h)
 
 again_by : (t : Tuple) (s : State) (before : State) (id : ℕ) (found : Found) (r : Record) (d : Direction) → found.direction ≡ d
@@ -178,7 +178,7 @@ unfolding is_legal after
 dead_from sizes p q id log legal old le h = dead_later sizes 0 p q id empty_state log legal (omega arith) le h
 
 -- no record of the id is live where none is found
-dead_of : (id : ℕ) (rs : List Record) → AllByRecursion (λ r. has_id id r ≡ false) rs → AllByRecursion (λ r. r.id ≢ id) rs
+pub dead_of : (id : ℕ) (rs : List Record) → AllByRecursion (λ r. has_id id r ≡ false) rs → AllByRecursion (λ r. r.id ≢ id) rs
 dead_of id [] h = tt
 dead_of id (r ∷ rs) (h, hs) = (eqb-false r.id id h, dead_of id rs hs)
 

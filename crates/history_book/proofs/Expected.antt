@@ -23,11 +23,11 @@ use Rattle.history_book.proofs.Again.{found_confirmed}
 use Rattle.history_book.proofs.Entries.{each_filter, with_part-same}
 
 -- what the test of an Expect says
-record MayExpect (n : ℕ) (s : State) (e : Expectation) : Type 0 where
+pub record MayExpect (n : ℕ) (s : State) (e : Expectation) : Type 0 where
   pub id : e.id ≡ n
   pub helped : has_helper (record_of e.master s) ≡ true
 
-may_expect-parts : (sizes : Sizes) (n : ℕ) (s : State) (e : Expectation) (replaced : Option ℕ) (moment : ℕ)
+pub may_expect-parts : (sizes : Sizes) (n : ℕ) (s : State) (e : Expectation) (replaced : Option ℕ) (moment : ℕ)
     → may_expect sizes s n e replaced moment ≡ true → MayExpect n s e
 may_expect-parts sizes n s e replaced moment h =
     let a = and_parts _ (is_added (add_outcome sizes.expectations s.expects e moment) replaced) h in
@@ -35,7 +35,7 @@ may_expect-parts sizes n s e replaced moment h =
     let c = and_parts (e.id == n) (e.deadline == moment + expected_for) b.0 in
     record { id = eqb-true e.id n c.0; helped = b.1 }
 
-each_more : {X : Type 0} (P : X → Type 0) (xs : List X) (x : X) → AllByRecursion P xs → P x
+pub each_more : {X : Type 0} (P : X → Type 0) (xs : List X) (x : X) → AllByRecursion P xs → P x
     → AllByRecursion P (xs ++ x ∷ [])
 each_more P [] x h one = (one, tt)
 each_more P (y ∷ ys) x (h, hs) one = (h, each_more P ys x hs one)

@@ -11,4 +11,7 @@ pub mod Live
 pub mod OneProtocol
 pub mod Again
 pub mod Expected
+pub mod Gone
+pub mod HeldPlaces
+pub mod Placed
 pub mod Examples

@@ -111,12 +111,12 @@ sound_after sizes p log legal =
 abbrev pub IsRest : List Event → ℕ → List Event → Type 0
 IsRest log n rest = (k : ℕ) (e : Event) → slice_get rest k ≡ Some e → slice_get log (k + n) ≡ Some e
 
-rest_all : (log : List Event) → IsRest log 0 log
+pub rest_all : (log : List Event) → IsRest log 0 log
 rest_all log k e at =
     let same : k ≡ k + 0 = omega arith in
     subst (λ i. slice_get log i ≡ Some e) same at
 
-rest_next : (log : List Event) (n : ℕ) (e : Event) (es : List Event) → IsRest log n (e ∷ es) → IsRest log (n + 1) es
+pub rest_next : (log : List Event) (n : ℕ) (e : Event) (es : List Event) → IsRest log n (e ∷ es) → IsRest log (n + 1) es
 rest_next log n e es rest k x at =
     let same : suc k + n ≡ k + (n + 1) = omega arith in
     subst (λ i. slice_get log i ≡ Some x) same (rest (suc k) x at)

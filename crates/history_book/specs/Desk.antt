@@ -1,4 +1,4 @@
--- What each call of a desk answers. Old and new are what the desk knows before the call and after it.
+-- What the calls of a desk on entries and places answer. Old and new are what the desk knows before the call and after it.
 use Rattle.std.specs.Prelude.{◌≡◌, ℕ, ◌+◌, ◌-◌, ◌<◌, ◌≤◌, Bool, true, false, ◌&&◌, ◌||◌, not, Option, Some, None, [], ◌∷◌, ◌++◌, length, slice_get}
 use Rattle.tuple_core.specs.declared.Direction.{Direction}
 use Rattle.tuple_core.specs.declared.Segment.{Segment}

@@ -1,4 +1,4 @@
--- The protocol of an entry, by the Confirm that made it, and that of a flow.
+-- The protocol and the helper of an entry, by the Confirm that made it, and the protocol of a flow.
 use Rattle.std.specs.Prelude.{ℕ, Bool, true, false, Option, Some, None, List, slice_get}
 use Rattle.tuple_core.specs.declared.Segment.{Segment}
 use Rattle.history_book.specs.declared.event.Event.{Event}
@@ -54,3 +54,5 @@ abbrev pub suits_entry : Why → ℕ → List Event → Bool
 suits_entry (why.Expired moment) id log = true
 suits_entry (why.Reopened direction segment moment) id log = is_of_entry segment id log
 suits_entry (why.Reset segment moment) id log = is_of_entry segment id log
+suits_entry (why.Deleted filter) id log = true
+suits_entry why.Flushed id log = true

@@ -1,15 +1,18 @@
 -- What holds of every legal history.
-use Rattle.std.specs.Prelude.{◌≡◌, ◌≢◌, ℕ, ◌+◌, ◌<◌, ◌≤◌, true, Some, List, [], ◌∷◌, ◌++◌, length, slice_get, AllPairs, All, None}
+use Rattle.std.specs.Prelude.{◌≡◌, ◌≢◌, ℕ, ◌+◌, ◌<◌, ◌≤◌, true, Option, Some, List, [], ◌∷◌, ◌++◌, length, slice_get, AllPairs, All, None, find}
 use Rattle.history_book.specs.declared.event.Event.{Event}
-use Rattle.history_book.specs.declared.event.Event.TheVariants.{Confirm, Destroy}
+use Rattle.history_book.specs.declared.event.Event.TheVariants.{Confirm, Destroy, Expect}
 use Rattle.history_book.specs.declared.event.Why.{Why}
 use Rattle.history_book.specs.declared.record.Record.{Record}
 use Rattle.history_book.specs.declared.sizes.Sizes.{Sizes}
 use Rattle.expect_table.specs.Expectations.{AreInOrder}
+use Rattle.expect_table.specs.Match as expected
+use Rattle.expect_table.specs.declared.expectation.Expectation.{Expectation}
 use Rattle.history_book.specs.Entry.{is_helped_entry, is_of_entry}
 use Rattle.history_book.specs.Legality.{has_helper, is_of_one_protocol, may_happen}
 use Rattle.history_book.specs.History.{after, is_legal}
 use Rattle.history_book.specs.Point.{StartsWith}
+use Rattle.history_book.specs.Sight.{WasConfirmedIn}
 use Rattle.history_book.specs.State.{Found, live_under, next, record_of}
 use Rattle.proto_rules.specs.Protocol.{is_of_protocol}
 use Rattle.tuple_core.specs.declared.Segment.{Segment}
@@ -143,3 +146,45 @@ abbrev pub EntriesKeepTheirHelper : Type 0
 EntriesKeepTheirHelper =
     (sizes : Sizes) (log : List Event) (p : ℕ) (id : ℕ) (r : Record) → is_legal sizes log ≡ true
     → record_of id (after log p) ≡ Some r → is_helped_entry id log ≡ r.helper
+
+-- an entry that is gone stays so: its id was a number of an event before the point
+abbrev pub GoneEntriesStayGone : Type 0
+GoneEntriesStayGone =
+    (sizes : Sizes) (log : List Event) (p q id : ℕ) → is_legal sizes log ≡ true → id < p → p ≤ q
+    → record_of id (after log p) ≡ None → record_of id (after log q) ≡ None
+
+-- in every state of a legal history each record has a place of the pool
+abbrev pub PlacesAreInThePool : Type 0
+PlacesAreInThePool =
+    (sizes : Sizes) (log : List Event) (p : ℕ) → is_legal sizes log ≡ true
+    → All (λ r. r.place < sizes.entries) (after log p).records
+
+-- the Expect at the number of its id made this expectation
+pub record IsExpected (log : List Event) (e : Expectation) : Type 0 where
+  pub replaced : Option ℕ
+  pub moment : ℕ
+  pub event : slice_get log e.id ≡ Some (Expect e replaced moment)
+
+-- in every state of a legal history each expectation is that of the Expect at its id
+abbrev pub ExpectationsAreExpected : Type 0
+ExpectationsAreExpected =
+    (sizes : Sizes) (log : List Event) (p : ℕ) → is_legal sizes log ≡ true → All (IsExpected log) (after log p).expects
+
+-- an expectation that is gone stays so: its id was a number of an event before the point
+abbrev pub GoneExpectationsStayGone : Type 0
+GoneExpectationsStayGone =
+    (sizes : Sizes) (log : List Event) (p q id : ℕ) → is_legal sizes log ≡ true → id < p → p ≤ q
+    → find (expected.has_id id) (after log p).expects ≡ None → find (expected.has_id id) (after log q).expects ≡ None
+
+-- a live record has the place in which its entry was confirmed
+abbrev pub EntriesKeepTheirPlace : Type 0
+EntriesKeepTheirPlace =
+    (sizes : Sizes) (log : List Event) (p id : ℕ) (r : Record) → is_legal sizes log ≡ true
+    → record_of id (after log p) ≡ Some r
+    → WasConfirmedIn log r.place id × ((place : ℕ) → WasConfirmedIn log place id → r.place ≡ place)
+
+-- two live records of one place are of one entry
+abbrev pub PlacesNameEntries : Type 0
+PlacesNameEntries =
+    (sizes : Sizes) (log : List Event) (p id other : ℕ) (r q : Record) → is_legal sizes log ≡ true
+    → record_of id (after log p) ≡ Some r → record_of other (after log p) ≡ Some q → r.place ≡ q.place → id ≡ other

@@ -23,6 +23,7 @@ use Rattle.proto_rules.specs.Same.{same_part}
 use Rattle.proto_rules.specs.Protocol.{is_of_protocol, proto_of}
 use Rattle.proto_rules.specs.Step.{step_of}
 use Rattle.history_book.specs.declared.sizes.Sizes.{Sizes}
+use Rattle.history_book.specs.Filter.{passes}
 use Rattle.history_book.specs.State.{State, is_free, is_unused, record_of}
 
 abbrev pub same_proto : Proto → Proto → Bool
@@ -78,13 +79,16 @@ may_touch (Some r) direction segment moment after =
     is_of_protocol segment r.part.kind && accepts (step_of r.part direction segment moment) after
 
 -- The reason holds of the record: it was expired at the moment, or a segment of its protocol reopened or
--- reset it then. A reset is the same in both directions.
+-- reset it then, or it passes the filter of a command; one that flushes all needs no more. A reset is the same in
+-- both directions.
 abbrev pub is_reason : Why → Record → Bool
 is_reason (why.Expired moment) r = is_expired r.part moment
 is_reason (why.Reopened direction segment moment) r =
     is_of_protocol segment r.part.kind && is_reopen (step_of r.part direction segment moment)
 is_reason (why.Reset segment moment) r =
     is_of_protocol segment r.part.kind && is_reset (step_of r.part Original segment moment)
+is_reason (why.Deleted filter) r = passes filter r
+is_reason why.Flushed r = true
 
 -- an entry may be destroyed where it is live and the reason holds of it
 abbrev pub may_destroy : Option Record → Why → Bool
@@ -146,6 +150,8 @@ abbrev pub reason_moment_of : Why → ℕ
 reason_moment_of (why.Expired moment) = 0
 reason_moment_of (why.Reopened direction segment moment) = moment
 reason_moment_of (why.Reset segment moment) = moment
+reason_moment_of (why.Deleted filter) = 0
+reason_moment_of why.Flushed = 0
 
 -- the moment of the packet that an event was made by, where the step reads it or a deadline is reckoned by it
 abbrev pub step_moment_of : Event → ℕ

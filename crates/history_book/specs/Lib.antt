@@ -1,6 +1,7 @@
 pub mod Record
 pub mod Sizes
 pub mod State
+pub mod Filter
 pub mod Legality
 pub mod History
 pub mod Point
@@ -13,5 +14,6 @@ pub mod Laws
 pub mod StateLaws
 pub mod Held
 pub mod Sight
+pub mod Places
 pub mod Desk
 pub mod DeskExpectations

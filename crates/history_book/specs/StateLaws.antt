@@ -1,6 +1,6 @@
 -- What holds of tests, and of states, whoever made them. In the states of a legal history the records
 -- are apart.
-use Rattle.std.specs.Prelude.{◌≡◌, ℕ, true, false, Some, None, slice_get, slice_set, All, AllPairs}
+use Rattle.std.specs.Prelude.{◌≡◌, ◌≢◌, ℕ, true, false, Some, None, slice_get, slice_set, All, AllPairs}
 use Rattle.std.specs.List.{remove}
 use Rattle.tuple_core.specs.declared.Direction.{Direction}
 use Rattle.tuple_core.specs.declared.Segment.{Segment}
@@ -66,3 +66,8 @@ abbrev pub LiveRecordsHaveTheProtocol : Type 0
 LiveRecordsHaveTheProtocol =
     (t : Tuple) (s : State) (found : Found) → All (λ r. is_of_one_protocol r ≡ true) s.records
     → live_under t s ≡ Some found → proto_of found.subject.part.kind ≡ t.proto
+
+-- no live record has an unused place
+abbrev pub UnusedPlacesAreNobodys : Type 0
+UnusedPlacesAreNobodys =
+    (s : State) (place id : ℕ) (r : Record) → is_unused place s ≡ true → record_of id s ≡ Some r → r.place ≢ place

@@ -1,5 +1,6 @@
 //! The events of the tracker: each is one change of the table.
 
+use crate::filter::Filter;
 use crate::record::Record;
 use expect_table::expectation::Expectation;
 use proto_rules::Part;
@@ -23,6 +24,12 @@ pub enum Why {
         segment: Segment,
         moment: u64,
     },
+    /// A command was to delete the entries that pass this filter, and it passes.
+    Deleted {
+        filter: Filter,
+    },
+    /// A command was to delete all entries.
+    Flushed,
 }
 
 /// One change of the table.
@@ -45,14 +52,15 @@ pub enum Event {
         id: u64,
         why: Why,
     },
-    /// A connection is expected from then on, at a moment in microseconds; `replaced` is the older
+    /// An entry expects a connection from a moment in microseconds on; `replaced` is the older
     /// expectation of the same master, which ends with that.
     Expect {
         expectation: Expectation,
         replaced: Option<u64>,
         moment: u64,
     },
-    /// A packet with this tuple met an expectation of this master at a moment, which ends it.
+    /// A packet with this tuple met, at a moment, the first expectation that it matches, which is of this
+    /// master; it ends with that.
     Claim {
         expectation: u64,
         master: u64,

@@ -6,13 +6,15 @@ ghost use Rattle.history_book.specs.Laws.{EventsMayHappen, EventsStay, StatesSta
 ghost use Rattle.history_book.specs.Laws.{LiveRecordsAreConfirmed, DestroyedIdsStayDead};
 ghost use Rattle.history_book.specs.Laws.{RecordsAreOfOneProtocol};
 ghost use Rattle.history_book.specs.Laws.{EntriesKeepTheirProtocol, FoundAreFoundAgain};
-ghost use Rattle.history_book.specs.Laws.{FoundKeepTheirProtocol, LateEntriesAreNew};
+ghost use Rattle.history_book.specs.Laws.{ExpectationsAreExpected, FoundKeepTheirProtocol, GoneEntriesStayGone};
+ghost use Rattle.history_book.specs.Laws.{GoneExpectationsStayGone, LateEntriesAreNew, PlacesAreInThePool};
+ghost use Rattle.history_book.specs.Laws.{EntriesKeepTheirPlace, PlacesNameEntries};
 ghost use Rattle.history_book.specs.Laws.{EntriesKeepTheirHelper, ExpectationsAreInOrder, MastersHaveTheHelper};
 ghost use Rattle.history_book.specs.StateLaws.{SameTupleIsEquality};
 ghost use Rattle.history_book.specs.StateLaws.{AbsentTuplesAreNobodys, FreeIsAbsent};
 ghost use Rattle.history_book.specs.StateLaws.{IdsNameRecords, TouchesChangeOne};
 ghost use Rattle.history_book.specs.StateLaws.{DestroysTakeOne, DestroysFree};
-ghost use Rattle.history_book.specs.StateLaws.{LiveRecordsHaveTheProtocol};
+ghost use Rattle.history_book.specs.StateLaws.{LiveRecordsHaveTheProtocol, UnusedPlacesAreNobodys};
 
 use expect_table::laws::{adding_keeps_order, removing_keeps_order};
 use proto_rules::laws::{accepted_go_on, same_part_is_equality};
@@ -120,6 +122,36 @@ pub fn entries_keep_their_helper()
     ensures { EntriesKeepTheirHelper }
 {}
 
+/// An entry that is gone stays gone.
+pub fn gone_entries_stay_gone()
+    ensures { GoneEntriesStayGone }
+{}
+
+/// In every state of a legal history each record has a place of the pool.
+pub fn places_are_in_the_pool()
+    ensures { PlacesAreInThePool }
+{}
+
+/// In every state of a legal history each expectation is that of the Expect at its id.
+pub fn expectations_are_expected()
+    ensures { ExpectationsAreExpected }
+{}
+
+/// An expectation that is gone stays gone.
+pub fn gone_expectations_stay_gone()
+    ensures { GoneExpectationsStayGone }
+{}
+
+/// A live record has the place in which its entry was confirmed.
+pub fn entries_keep_their_place()
+    ensures { EntriesKeepTheirPlace }
+{}
+
+/// Two live records of one place are of one entry.
+pub fn places_name_entries()
+    ensures { PlacesNameEntries }
+{}
+
 /// The test of two tuples says exactly whether they are equal.
 pub fn same_tuple_is_equality()
     ensures { SameTupleIsEquality }
@@ -158,4 +190,9 @@ pub fn destroys_free()
 /// Where each record is of one protocol, what is live under a tuple is of that tuple's.
 pub fn live_records_have_the_protocol()
     ensures { LiveRecordsHaveTheProtocol }
+{}
+
+/// No live record has an unused place.
+pub fn unused_places_are_nobodys()
+    ensures { UnusedPlacesAreNobodys }
 {}

@@ -1,12 +1,15 @@
 //! The one history of the tracker: records, the events that change them, and the verdicts on packets.
 #![tactic(auto)]
 
+pub mod answer;
 pub mod desk;
 pub mod event;
+pub mod filter;
 pub mod find;
 pub mod laws;
 pub mod legality;
 pub mod outcome;
+pub mod places;
 pub mod record;
 pub mod report;
 pub mod sizes;

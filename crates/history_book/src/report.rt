@@ -1,5 +1,6 @@
 //! What a run of the tracker gives.
 
+use crate::answer::Answers;
 use crate::event::{Note, Numbered};
 use crate::verdict::Verdict;
 use expect_table::expectation::Expectation;
@@ -20,12 +21,14 @@ pub type Expectations = RoomList<Expectation>;
 /// The verdicts of each thread.
 pub type ThreadVerdicts = RoomList<Verdicts>;
 
-/// What a run gives: the one history, the number of entries that are live after it, and the verdicts.
+/// What a run gives: the one history, the number of entries that are live after it, the verdicts, and the answers to
+/// the script.
 #[derive(Drop)]
 pub struct Report {
     pub history: History,
     pub live: u32,
     pub threads: ThreadVerdicts,
+    pub answers: Answers,
 }
 
 /// What a tracker leaves at its end: the number of its events, how many entries are live after them, and

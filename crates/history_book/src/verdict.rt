@@ -18,11 +18,17 @@ pub enum Translated {
 /// What the payload of a packet led to.
 #[derive(Clone, Copy)]
 pub enum Ftp {
+    /// It was not read, or names no end.
     Nothing,
+    /// The entry expects the connection to the end, by the event of this number.
     Expected { id: u64 },
+    /// It names an end at a foreign address.
     Address,
+    /// At this point this expectation of another entry, the first such, was of the same connection and due.
     Clash { id: u64, at: u64 },
+    /// At this point the entry had none to replace, and there was no room.
     Full { at: u64 },
+    /// At this point the entry was no longer live.
     Gone { at: u64 },
 }
 
@@ -78,7 +84,8 @@ pub enum Class {
         id: u64,
         at: u64,
     },
-    /// A new entry was confirmed for it. `unclaimed` is the point at which no expectation matched.
+    /// A new entry was confirmed for it. `unclaimed` is the point at which no expectation matched; none where
+    /// one was claimed.
     Made {
         id: u64,
         at: u64,

@@ -37,13 +37,14 @@ use Rattle.history_book.specs.History.{after, is_legal}
 use Rattle.history_book.specs.Laws.{EventsStay, LateEntriesAreNew, StatesStay}
 use Rattle.history_book.specs.Legality.{same_proto}
 use Rattle.history_book.specs.Notes.{mark_past}
+use Rattle.history_book.specs.Places.{HoldsNothing}
 use Rattle.history_book.specs.Point.{At, StartsWith}
 use Rattle.history_book.specs.Record.{has_original, has_reply, has_tuple}
 use Rattle.history_book.specs.Sight.{IsKnown, Sight}
 use Rattle.history_book.specs.State.{Found, State, first_found, live_under, winner}
 use Rattle.history_book.specs.StateLaws.{AbsentTuplesAreNobodys}
 use Rattle.packet_path.specs.declared.packet.FlowPacket.{FlowPacket}
-use Rattle.packet_path.specs.Internal.Attempt.{Answers, HoldsNothing, IsFoundFor, claimed_master, unclaimed_at}
+use Rattle.packet_path.specs.Internal.Attempt.{Answers, IsFoundFor, claimed_master, unclaimed_at}
 use Rattle.packet_path.specs.Winner.{IsNewWinner, MeetsWinner}
 use Rattle.packet_path.proofs.Claims.{LookedFor}
 use Rattle.packet_path.proofs.Growth.{at_grows, claims_grows, translated_grows}

@@ -15,13 +15,14 @@ use Rattle.history_book.specs.Desk.{IsLiveUnder, IsReady, Looked, Saw}
 use Rattle.history_book.specs.History.{after}
 use Rattle.history_book.specs.Laws.{EventsStay, StatesStay}
 use Rattle.history_book.specs.Notes.{mark_past}
+use Rattle.history_book.specs.Places.{HoldsNothing}
 use Rattle.history_book.specs.Point.{StartsWith}
 use Rattle.history_book.specs.Sight.{IsKnown, Sight}
 use Rattle.history_book.specs.State.{live_under}
 use Rattle.packet_path.specs.declared.packet.FlowPacket.{FlowPacket}
 use Rattle.packet_path.specs.Error.{AnswersError, IsMisdirected, IsRelated, LooksUp}
 use Rattle.packet_headers.specs.declared.packet.Packet.TheVariants as packet
-use Rattle.packet_path.specs.Internal.Attempt.{Answers, HoldsNothing, IsKilling, KilledOne}
+use Rattle.packet_path.specs.Internal.Attempt.{Answers, IsKilling, KilledOne}
 use Rattle.packet_path.specs.Handled.{Handled}
 use Rattle.packet_path.specs.Packet.{Given, IsFlow}
 use Rattle.packet_path.specs.declared.setup.Setup.{Setup}

@@ -2,7 +2,6 @@ pub mod Growth
 pub mod Marks
 pub mod Silent
 pub mod Protocols
-pub mod HeldPlaces
 pub mod Attempts
 pub mod Payloads
 pub mod Claims

@@ -25,6 +25,7 @@ use Rattle.history_book.specs.History.{after}
 use Rattle.history_book.specs.Label.{label_of}
 use Rattle.history_book.specs.Laws.{EntriesKeepTheirHelper, EventsStay, FoundAreFoundAgain, FoundKeepTheirProtocol, RecordsAreOfOneProtocol, StatesStay}
 use Rattle.history_book.specs.Notes.{mark_past}
+use Rattle.history_book.specs.Places.{HoldsNothing}
 use Rattle.history_book.specs.Point.{At, StartsWith}
 use Rattle.history_book.specs.Record.{has_id}
 use Rattle.history_book.specs.Sight.{IsKnown, Sight}
@@ -33,7 +34,7 @@ use Rattle.history_book.specs.StateLaws.{LiveRecordsHaveTheProtocol}
 use Rattle.packet_path.specs.declared.attempt.Met.{Met}
 use Rattle.packet_path.specs.declared.packet.FlowPacket.{FlowPacket}
 use Rattle.packet_path.specs.declared.setup.Setup.{Setup}
-use Rattle.packet_path.specs.Internal.Attempt.{Answers, EndsEntry, Follows, HoldsNothing, IsClassified, IsMet, KilledOne}
+use Rattle.packet_path.specs.Internal.Attempt.{Answers, EndsEntry, Follows, IsClassified, IsMet, KilledOne}
 use Rattle.packet_path.specs.Laws.{SameProtocolIsEquality}
 use Rattle.packet_path.specs.Packet.{Given}
 use Rattle.packet_path.specs.FtpPart.{FtpFits}
@@ -226,6 +227,8 @@ suits (why.Expired moment) s packet met at ends h = refl
 suits (why.Reopened direction segment moment) s packet met at ends h =
     subst (λ (x : Segment). is_of_entry x met.id s.front ≡ true) (sym ends.1) h
 suits (why.Reset segment moment) s packet met at ends h = absurd ends
+suits (why.Deleted filter) s packet met at ends h = absurd ends
+suits why.Flushed s packet met at ends h = absurd ends
 
 -- a reason for which an entry ends is a packet's kill
 pub is_kill : (w : Why) (s : Sight) (packet : FlowPacket) (met : Met) (at : ℕ) (subject : Record) → EndsEntry packet met at w s
@@ -238,6 +241,8 @@ is_kill (why.Reopened direction segment moment) s packet met at subject ends =
         → Destroy id (why.Reopened d x m) ≡ Destroy id (why.Reopened e y n)
     reopened id d e x y m n p q r = cc
 is_kill (why.Reset segment moment) s packet met at subject ends = absurd ends
+is_kill (why.Deleted filter) s packet met at subject ends = absurd ends
+is_kill why.Flushed s packet met at subject ends = absurd ends
 
 module _ (states : StatesStay) (events : EventsStay) (again : FoundAreFoundAgain) where
   -- after four kills an entry that is to end stands
@@ -253,6 +258,8 @@ module _ (states : StatesStay) (events : EventsStay) (again : FoundAreFoundAgain
       within (why.Expired moment) e = e.1.within
       within (why.Reopened direction segment moment) e = e.3.within
       within (why.Reset segment moment) e = absurd e
+      within (why.Deleted filter) e = absurd e
+      within why.Flushed e = absurd e
 
       to_end : (w : Why) → EndsEntry packet met at w s → (mark : ℕ) (kills : List Note) → mark_past mark kills ≤ from
           → IsToEnd s.front (mark_past mark kills) packet [] met.id at
@@ -261,6 +268,8 @@ module _ (states : StatesStay) (events : EventsStay) (again : FoundAreFoundAgain
       to_end (why.Reopened direction segment moment) e mark kills le =
           inr (stands states events again s s packet met known is from at outcome.Reopen (starts_refl s.front) e.3 mark kills le low)
       to_end (why.Reset segment moment) e mark kills le = absurd e
+      to_end (why.Deleted filter) e mark kills le = absurd e
+      to_end why.Flushed e mark kills le = absurd e
 
   -- a packet leaves the entry that it met as it is, with a class that says just this of the step
   pub left_as_it_is : (setup : Setup) (o : Outcome) (k : Class) (old new : Sight) (packet : FlowPacket) (met : Met) (n at : ℕ) → n ≤ 4 → IsKnown new

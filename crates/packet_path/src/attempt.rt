@@ -9,13 +9,13 @@ ghost use Rattle.history_book.specs.Label.{label_of};
 ghost use Rattle.history_book.specs.Sight.{IsKnown};
 ghost use Rattle.nat_setup.specs.Rule.{IsLawfulRule};
 ghost use Rattle.packet_path.specs.Internal.Attempt.{Answers, AttemptSays, EndsEntry, IsFoundFor, IsReplyOf};
-ghost use Rattle.packet_path.specs.Internal.Attempt.{HoldsNothing, HoldsOne, IsClassified, IsMet};
+ghost use Rattle.packet_path.specs.Internal.Attempt.{IsClassified, IsMet};
+ghost use Rattle.history_book.specs.Places.{HoldsNothing, HoldsOne};
 
 use crate::begin::begin_flow;
 use crate::laws::same_protocol_is_equality;
 use crate::packet::FlowPacket;
 use crate::payload::follow_payload;
-use crate::places::give_up;
 use crate::setup::Setup;
 use history_book::desk::Desk;
 use history_book::event::Why;
@@ -25,6 +25,7 @@ use history_book::laws::{
     live_records_have_the_protocol, records_are_of_one_protocol, states_stay,
 };
 use history_book::outcome::{FindOutcome, KillOutcome, TouchOutcome};
+use history_book::places::{give_up, one_hold_has_its_id};
 use history_book::record::Record;
 use history_book::verdict::{Class, Ftp};
 use std::sync::Wait;
@@ -80,6 +81,7 @@ fn reset_entry<R: Wait, D: Desk>(rt: &R, desk: &mut D, packet: &FlowPacket, met:
     found_are_found_again();
     found_keep_their_protocol();
     live_records_have_the_protocol();
+    one_hold_has_its_id();
     records_are_of_one_protocol();
     same_protocol_is_equality();
     states_stay();
@@ -121,6 +123,7 @@ fn end_entry<R: Wait, D: Desk>(
     found_are_found_again();
     found_keep_their_protocol();
     live_records_have_the_protocol();
+    one_hold_has_its_id();
     records_are_of_one_protocol();
     same_protocol_is_equality();
     states_stay();
@@ -158,6 +161,7 @@ fn meet_entry<R: Wait, D: Desk>(
     found_are_found_again();
     found_keep_their_protocol();
     live_records_have_the_protocol();
+    one_hold_has_its_id();
     records_are_of_one_protocol();
     same_protocol_is_equality();
     states_stay();

@@ -9,20 +9,21 @@ ghost use Rattle.history_book.specs.Point.{At};
 ghost use Rattle.history_book.specs.Sight.{IsKnown};
 ghost use Rattle.history_book.specs.State.{live_under};
 ghost use Rattle.nat_setup.specs.Rule.{IsLawfulRule};
-ghost use Rattle.packet_path.specs.Internal.Attempt.{Answers, claimed_master, HoldsNothing, HoldsOne, IsClassified};
+ghost use Rattle.packet_path.specs.Internal.Attempt.{Answers, claimed_master, IsClassified};
+ghost use Rattle.history_book.specs.Places.{HoldsNothing, HoldsOne};
 ghost use Rattle.packet_path.specs.Internal.Attempt.{IsFoundFor, IsReplyOf, unclaimed_at};
 ghost use Rattle.packet_path.specs.Made.{is_helped};
 ghost use Rattle.proto_rules.specs.Start.{start_of};
 
 use crate::laws::same_protocol_is_equality;
 use crate::packet::FlowPacket;
-use crate::places::give_up;
 use crate::setup::Setup;
 use history_book::desk::Desk;
 use history_book::laws::{
     absent_tuples_are_nobodys, events_may_happen, events_stay, late_entries_are_new, states_stay,
 };
 use history_book::outcome::{ClaimOutcome, ConfirmOutcome, TakeOutcome};
+use history_book::places::give_up;
 use history_book::record::Flow;
 use history_book::verdict::{Class, Translated};
 use nat_setup::translate::{TranslateOutcome, translate};

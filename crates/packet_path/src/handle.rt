@@ -10,17 +10,18 @@ ghost use Rattle.packet_headers.specs.ClassifySound.{has_valid_tuple, HasItsProt
 ghost use Rattle.packet_headers.specs.Span.{IsSpanIn};
 ghost use Rattle.packet_headers.specs.declared.packet.Packet.TheVariants.{Error};
 ghost use Rattle.packet_path.specs.Handled.{Handled};
-ghost use Rattle.packet_path.specs.Internal.Attempt.{HoldsNothing, IsClassified};
+ghost use Rattle.packet_path.specs.Internal.Attempt.{IsClassified};
+ghost use Rattle.history_book.specs.Places.{HoldsNothing};
 ghost use Rattle.packet_path.specs.Packet.{bytes_in, cause_of, given_by, given_of, Given, IsFlow};
 ghost use Rattle.packet_path.specs.Verdict.{FitsFrame, points_of};
 
 use crate::attempt::{Attempt, try_packet};
 use crate::packet::FlowPacket;
-use crate::places::give_up;
 use crate::setup::Setup;
 use history_book::desk::Desk;
 use history_book::laws::{events_stay, states_stay};
 use history_book::outcome::FindOutcome;
+use history_book::places::give_up;
 use history_book::verdict::{Class, UntrackedWhy, Verdict};
 use packet_headers::classify::classify;
 use packet_headers::frame::{Frame, Span};

@@ -7,5 +7,4 @@ pub mod handle;
 pub mod laws;
 pub mod packet;
 mod payload;
-mod places;
 pub mod setup;

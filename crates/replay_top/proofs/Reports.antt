@@ -129,6 +129,7 @@ module _ (setup : Setup) (sizes : Sizes) (given : List Given) (old new : Sight) 
             (subst (λ (z : Sizes). is_legal z new.front ≡ true) newly known.legal);
         verdicts = threads_fit history report.threads.items
             (subst (λ log. NotesFit (record { setup = setup; sizes = sizes }) log closed.notes.items 0 0 given verdicts.items) front fit) told.history told.threads;
+        answers = told.answers;
         live = told.live ∙ left ∙ ap (λ k. length (after new.front k).records) long
             ∙ ap (λ log. length (after log (length history)).records) front;
       }

@@ -56,9 +56,11 @@ ThreadsFit tracker history thread (ps ∷ pss) (vs ∷ vss) =
     VerdictsFit tracker (events_of history) (made_by thread history) 0 0 0 ps vs.items
     × ThreadsFit tracker history (thread + 1) pss vss
 
--- the history is numbered from 0 and legal, the verdicts fit it, and so many entries are live after it
+-- the history is numbered from 0 and legal, the verdicts fit it, no command was answered, and so many entries are
+-- live after it
 pub record IsWellFormed (tracker : Tracker) (captures : List (List Given)) (report : Report) : Type 0 where
   pub numbered : IsNumberedFrom 0 report.history.items
   pub legal : is_legal tracker.sizes (events_of report.history.items) ≡ true
   pub verdicts : ThreadsFit tracker report.history.items 0 captures report.threads.items
+  pub answers : report.answers.items ≡ []
   pub live : report.live ≡ length (after (events_of report.history.items) (length report.history.items)).records

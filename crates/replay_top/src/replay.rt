@@ -13,6 +13,7 @@ ghost use Rattle.replay_top.specs.Report.{IsWellFormed};
 
 use crate::naming::name_events;
 use book_desk::desk::PlainDesk;
+use history_book::answer::Answers;
 use history_book::desk::Desk;
 use history_book::report::{Closed, Report, ThreadVerdicts, Verdicts};
 use history_book::sizes::Sizes;
@@ -72,6 +73,7 @@ fn report(alloc: Global, closed: Closed, verdicts: Verdicts) -> Result<Report, N
         history,
         live: closed.live,
         threads,
+        answers: Answers::new(alloc, 0)?,
     })
 }
 

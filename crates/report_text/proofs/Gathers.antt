@@ -4,7 +4,7 @@ use Rattle.std.proofs.lemmas.List.{take_all}
 use Rattle.ct_io.specs.Tape.{Tape}
 use Rattle.report_text.specs.Internal.Gathered.{Gathered, Lost, Sent}
 use Rattle.report_text.specs.Page.{Adds, Held}
-use Rattle.report_text.specs.Report.{texts_from}
+use Rattle.report_text.specs.Texts.{texts_from}
 use Rattle.report_text.specs.Wrote.{Wrote, WroteFront}
 use Rattle.report_text.specs.declared.write.WriteFault.{WriteFault}
 use Rattle.report_text.proofs.Texts.{texts_from-more, texts_from-split}

@@ -2,7 +2,7 @@
 use Rattle.std.proofs.Common.{◌≡◌, ℕ, ◌+◌, ◌<◌, ◌≤◌, List, [], ◌∷◌, ◌++◌, length, get_or, take, drop, arith, append_assoc, append-nil}
 use Rattle.std.proofs.lemmas.List.{take-append-drop, take_more}
 use Rattle.std.proofs.lemmas.Grind.{common_steps}
-use Rattle.report_text.specs.Report.{texts_from}
+use Rattle.report_text.specs.Texts.{texts_from}
 
 pub texts_from-append : {X : Type 0} (text : ℕ → X → List ℕ) (from : ℕ) (xs ys : List X) →
     texts_from text from (xs ++ ys)

@@ -1,5 +1,8 @@
 pub mod Internal
 pub mod Line
+pub mod Texts
+pub mod Row
+pub mod Answer
 pub mod Page
 pub mod Piece
 pub mod Report

@@ -8,9 +8,9 @@ use Rattle.report_text.specs.Piece.{class_text, event_text, who_text}
 unfoldable pub history_head : ℕ → List ℕ
 history_head events = codes "events " ++ decimal events ++ codes "\n"
 
--- an event of the history
-unfoldable pub event_line : Numbered → List ℕ
-event_line e = decimal e.number ++ event_text (who_text e.thread e.index) e.event ++ codes "\n"
+-- an event of the history, with a script of this number among the threads
+unfoldable pub event_line : ℕ → Numbered → List ℕ
+event_line script e = decimal e.number ++ event_text (who_text script e.thread e.index) e.event ++ codes "\n"
 
 -- the line before the verdicts on the packets of a thread
 unfoldable pub thread_head : ℕ → ℕ → List ℕ

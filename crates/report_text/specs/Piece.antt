@@ -1,5 +1,5 @@
 -- The pieces of a line. Numbers are plain decimal.
-use Rattle.std.specs.Prelude.{ℕ, Bool, true, false, ◌/◌, ◌%◌, ◌^◌, List, [], ◌++◌, codes, decimal, Option, None, Some}
+use Rattle.std.specs.Prelude.{ℕ, ◌==◌, if◌then◌else◌, Bool, true, false, ◌/◌, ◌%◌, ◌^◌, List, [], ◌++◌, codes, decimal, Option, None, Some}
 use Rattle.expect_table.specs.declared.expectation.Expectation.{Expectation}
 use Rattle.expect_table.specs.declared.expectation.Want.{Want}
 use Rattle.tuple_core.specs.declared.Direction.{Direction}
@@ -10,7 +10,7 @@ use Rattle.tuple_core.specs.declared.Tuple.{Tuple}
 use Rattle.history_book.specs.declared.event.Event.{Event}
 use Rattle.history_book.specs.declared.event.Event.TheVariants.{Confirm, Touch, Destroy, Expect, Claim, Unexpect}
 use Rattle.history_book.specs.declared.event.Why.{Why}
-use Rattle.history_book.specs.declared.event.Why.TheVariants.{Expired, Reopened, Reset}
+use Rattle.history_book.specs.declared.event.Why.TheVariants.{Expired, Reopened, Reset, Deleted, Flushed}
 use Rattle.history_book.specs.declared.record.Record.{Record}
 use Rattle.history_book.specs.declared.verdict.Class.{Class}
 use Rattle.history_book.specs.declared.verdict.Class.TheVariants as class
@@ -60,9 +60,13 @@ abbrev pub word_if : Bool → List ℕ → List ℕ
 word_if true word = word
 word_if false word = []
 
--- who made an event: the thread, and the index of its packet
-abbrev pub who_text : ℕ → ℕ → List ℕ
-who_text thread index = decimal thread ++ codes "." ++ decimal index
+-- a thread; the script's has this number, behind those of the captures
+abbrev pub thread_word : ℕ → ℕ → List ℕ
+thread_word script thread = if thread == script then codes "s" else decimal thread
+
+-- who made an event: the thread, and the index of its packet or command
+abbrev pub who_text : ℕ → ℕ → ℕ → List ℕ
+who_text script thread index = thread_word script thread ++ codes "." ++ decimal index
 
 abbrev pub master_text : Option ℕ → List ℕ
 master_text None = []
@@ -103,6 +107,8 @@ abbrev pub why_text : Why → List ℕ
 why_text (Expired moment) = codes " expired"
 why_text (Reopened direction segment moment) = codes " reopened"
 why_text (Reset segment moment) = codes " reset"
+why_text (Deleted filter) = codes " deleted"
+why_text Flushed = codes " flushed"
 
 -- a packet in this direction leaves the entry with this part
 unfoldable pub touched_text : ℕ → Direction → Part → List ℕ

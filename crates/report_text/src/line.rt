@@ -19,14 +19,14 @@ impl<'b> Page<'b> {
         self.text(b"\n");
     }
 
-    /// Writes the line of an event.
+    /// Writes the line of an event, with a script of this number among the threads.
     #[tactic(auto, unfolding(crate::specs::Line::event_line))]
-    pub(crate) fn event_line(&mut self, e: &Numbered)
+    pub(crate) fn event_line(&mut self, script: usize, e: &Numbered)
         requires { HasRoom LONGEST_LINE self.old }
-        ensures { Adds LONGEST_LINE (event_line e.now) self.old self.new }
+        ensures { Adds LONGEST_LINE (event_line script e.now) self.old self.new }
     {
         self.number(e.number);
-        self.event(e);
+        self.event(script, e);
         self.text(b"\n");
     }
 

@@ -2,7 +2,7 @@
 
 ghost use Rattle.std.specs.Prelude.{◌≤◌, ◌++◌, length};
 ghost use Rattle.report_text.specs.Page.{Adds, HasRoom};
-ghost use Rattle.report_text.specs.Piece.{address_text, claimed_text, class_text, direction_word, ends_text, entry_text, error_word, event_rest, event_text, event_word, expectation_text, flow_text, ftp_text, label_word, made_word, master_text, point_text, proto_word, record_text, replaced_text, state_text, state_word, touched_text, tuple_text, untracked_word, want_text, who_text, why_text};
+ghost use Rattle.report_text.specs.Piece.{address_text, claimed_text, class_text, direction_word, ends_text, entry_text, error_word, event_rest, event_text, event_word, expectation_text, flow_text, ftp_text, label_word, made_word, master_text, point_text, proto_word, record_text, replaced_text, state_text, state_word, thread_word, touched_text, tuple_text, untracked_word, want_text, who_text, why_text};
 
 use crate::page::Page;
 use expect_table::expectation::{Expectation, Want};
@@ -15,7 +15,7 @@ use tuple_core::{Direction, Proto, Tuple};
 impl<'b> Page<'b> {
     /// Writes an address as four numbers with dots between them.
     #[tactic(auto, unfolding(crate::specs::Piece::address_text))]
-    fn address(&mut self, address: u32)
+    pub(crate) fn address(&mut self, address: u32)
         requires { HasRoom 15 self.old }
         ensures { Adds 15 (address_text address) self.old self.new }
     {
@@ -53,7 +53,7 @@ impl<'b> Page<'b> {
 
     /// Writes one direction of a flow.
     #[tactic(auto, unfolding(crate::specs::Piece::tuple_text))]
-    fn tuple(&mut self, t: &Tuple)
+    pub(crate) fn tuple(&mut self, t: &Tuple)
         requires { HasRoom 66 self.old }
         ensures { Adds 66 (tuple_text t.now) self.old self.new }
     {
@@ -87,12 +87,24 @@ impl<'b> Page<'b> {
         }
     }
 
-    /// Writes who made an event.
-    fn who(&mut self, thread: u32, index: u32)
-        requires { HasRoom 21 self.old }
-        ensures { Adds 21 (who_text thread index) self.old self.new }
+    /// Writes a thread; the script's has this number.
+    fn thread(&mut self, script: usize, thread: u32)
+        requires { HasRoom 10 self.old }
+        ensures { Adds 10 (thread_word script thread) self.old self.new }
     {
-        self.number(thread);
+        if thread as usize == script {
+            self.text(b"s");
+        } else {
+            self.number(thread);
+        }
+    }
+
+    /// Writes who made an event, with a script of this number among the threads.
+    fn who(&mut self, script: usize, thread: u32, index: u32)
+        requires { HasRoom 21 self.old }
+        ensures { Adds 21 (who_text script thread index) self.old self.new }
+    {
+        self.thread(script, thread);
         self.text(b".");
         self.number(index);
     }
@@ -125,7 +137,7 @@ impl<'b> Page<'b> {
     }
 
     /// Writes the word of a state of a connection.
-    fn state_word(&mut self, state: TcpState)
+    pub(crate) fn state_word(&mut self, state: TcpState)
         requires { HasRoom 11 self.old }
         ensures { Adds 11 (state_word state) self.old self.new }
     {
@@ -180,6 +192,8 @@ impl<'b> Page<'b> {
             Why::Expired { moment: _ } => self.text(b" expired"),
             Why::Reopened { .. } => self.text(b" reopened"),
             Why::Reset { .. } => self.text(b" reset"),
+            Why::Deleted { .. } => self.text(b" deleted"),
+            Why::Flushed => self.text(b" flushed"),
         }
     }
 
@@ -307,21 +321,21 @@ impl<'b> Page<'b> {
 
     /// Writes an event, and who made it.
     #[tactic(auto, unfolding(crate::specs::Piece::event_text))]
-    pub(crate) fn event(&mut self, e: &Numbered)
+    pub(crate) fn event(&mut self, script: usize, e: &Numbered)
         requires { HasRoom 250 self.old }
-        ensures { Adds 250 (event_text (who_text e.now.thread e.now.index) e.now.event)
+        ensures { Adds 250 (event_text (who_text script e.now.thread e.now.index) e.now.event)
             self.old self.new }
     {
         self.text(b" ");
         self.event_word(&e.event);
         self.text(b" ");
-        self.who(e.thread, e.index);
+        self.who(script, e.thread, e.index);
         self.event_rest(&e.event);
     }
 
     /// Writes a point of the history.
     #[tactic(auto, unfolding(crate::specs::Piece::point_text))]
-    fn point(&mut self, point: u64)
+    pub(crate) fn point(&mut self, point: u64)
         requires { HasRoom 22 self.old }
         ensures { Adds 22 (point_text point) self.old self.new }
     {

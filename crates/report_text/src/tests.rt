@@ -15,6 +15,8 @@ use std::process::Abort;
 use std::test::Fail;
 use tuple_core::{Direction, Kind, NoMemory, Proto, Segment, Tuple};
 
+mod answers;
+
 /// The flow of UDP from 10.0.0.1:5000 to 10.0.0.2:53.
 const QUERY: Tuple = Tuple {
     proto: Proto::Udp,
@@ -143,6 +145,7 @@ fn report_of(
         history,
         live: 1,
         threads,
+        answers: RoomList::new(alloc, 0)?,
     })
 }
 

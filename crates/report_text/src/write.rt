@@ -6,11 +6,16 @@ ghost use Rattle.std.specs.Prelude.{ℕ, ◌≤◌, List, [], length, IfOk};
 ghost use Rattle.report_text.specs.Internal.Gathered.{Gathered};
 ghost use Rattle.report_text.specs.Line.{event_line, history_head, script_head, thread_head, verdict_line};
 ghost use Rattle.report_text.specs.Page.{HasRoom};
-ghost use Rattle.report_text.specs.Report.{history_text, line_of_event, report_text, texts_from, thread_text, tracking_text};
+ghost use Rattle.report_text.specs.Answer.{answer_head, answer_text, got_text, line_of_expectation, line_of_row, rows_text};
+ghost use Rattle.report_text.specs.Report.{history_text, line_of_event, report_text, script_text, thread_text, tracking_text};
+ghost use Rattle.report_text.specs.Row.{expectation_line, row_line};
+ghost use Rattle.report_text.specs.Texts.{texts_from};
 ghost use Rattle.report_text.specs.Wrote.{Wrote};
 
 use crate::page::{LONGEST_LINE, Page};
 use ct_io::{Failed, Sink};
+use expect_table::expectation::Expectation;
+use history_book::answer::{Answer, Row, Said};
 use history_book::event::Numbered;
 use history_book::report::{Report, Verdicts};
 use history_book::verdict::Verdict;
@@ -80,14 +85,19 @@ fn write_history_head<K: Sink>(
     Ok(())
 }
 
-/// Writes the line of an event, or holds it back.
+/// Writes the line of an event, or holds it back, with a script of this number among the threads.
 #[tactic(auto, using(crate::proofs::Gathers::sent_line, crate::proofs::Gathers::lost_line))]
-fn write_event<K: Sink>(event: &Numbered, page: &mut Page, out: &mut K) -> Result<(), WriteFault>
-    ensures { Gathered (event_line event.now) page.old page.new
+fn write_event<K: Sink>(
+    script: usize,
+    event: &Numbered,
+    page: &mut Page,
+    out: &mut K,
+) -> Result<(), WriteFault>
+    ensures { Gathered (event_line script event.now) page.old page.new
         (K.tape out.old) (K.tape out.new) result }
 {
     make_room(page, out)?;
-    page.event_line(event);
+    page.event_line(script, event);
     Ok(())
 }
 
@@ -141,15 +151,16 @@ fn write_script_head<K: Sink>(
 /// Writes the line of each event, or holds it back.
 #[tactic(auto, using(crate::proofs::Gathers::sent_none, crate::proofs::Gathers::sent_each))]
 fn write_events<K: Sink>(
+    script: usize,
     events: &[Numbered],
     page: &mut Page,
     out: &mut K,
 ) -> Result<(), WriteFault>
-    ensures { Gathered (texts_from line_of_event 0 events.now) page.old page.new
+    ensures { Gathered (texts_from (line_of_event script) 0 events.now) page.old page.new
         (K.tape out.old) (K.tape out.new) result }
 {
     'events: for event in events {
-        write_event(event, page, out)?;
+        write_event(script, event, page, out)?;
     }
     Ok(())
 }
@@ -157,15 +168,16 @@ fn write_events<K: Sink>(
 /// Writes the number of events and each of them, or holds them back.
 #[tactic(auto, using(crate::proofs::Gathers::gathered_then, crate::proofs::Gathers::lost_more), unfolding(crate::specs::Report::history_text))]
 fn write_history<K: Sink>(
+    script: usize,
     events: &[Numbered],
     page: &mut Page,
     out: &mut K,
 ) -> Result<(), WriteFault>
-    ensures { Gathered (history_text events.now) page.old page.new
+    ensures { Gathered (history_text script events.now) page.old page.new
         (K.tape out.old) (K.tape out.new) result }
 {
     write_history_head(events.len(), page, out)?;
-    write_events(events, page, out)
+    write_events(script, events, page, out)
 }
 
 /// Writes the line of each verdict, or holds it back.
@@ -221,8 +233,175 @@ fn write_tracking<K: Sink>(report: &Report, page: &mut Page, out: &mut K) -> Res
     ensures { Gathered (tracking_text report.now) page.old page.new
         (K.tape out.old) (K.tape out.new) result }
 {
-    write_history(report.history.as_slice(), page, out)?;
+    let script = report.threads.len();
+    write_history(script, report.history.as_slice(), page, out)?;
     write_threads(report.threads.as_slice(), page, out)
+}
+
+/// Writes the line of an entry at a moment, or holds it back.
+#[tactic(auto, using(crate::proofs::Gathers::sent_line, crate::proofs::Gathers::lost_line))]
+fn write_row<K: Sink>(
+    moment: u64,
+    row: &Row,
+    page: &mut Page,
+    out: &mut K,
+) -> Result<(), WriteFault>
+    ensures { Gathered (row_line moment row.now) page.old page.new
+        (K.tape out.old) (K.tape out.new) result }
+{
+    make_room(page, out)?;
+    page.row_line(moment, row);
+    Ok(())
+}
+
+/// Writes the line of each entry at a moment, or holds it back.
+#[tactic(auto, using(crate::proofs::Gathers::sent_none, crate::proofs::Gathers::sent_each))]
+fn write_rows<K: Sink>(
+    moment: u64,
+    rows: &[Row],
+    page: &mut Page,
+    out: &mut K,
+) -> Result<(), WriteFault>
+    ensures { Gathered (texts_from (line_of_row moment) 0 rows.now) page.old page.new
+        (K.tape out.old) (K.tape out.new) result }
+{
+    'rows: for row in rows {
+        write_row(moment, row, page, out)?;
+    }
+    Ok(())
+}
+
+/// Writes the line of an expectation at a moment and a point, or holds it back.
+#[tactic(auto, using(crate::proofs::Gathers::sent_line, crate::proofs::Gathers::lost_line))]
+fn write_expectation<K: Sink>(
+    moment: u64,
+    at: u64,
+    e: &Expectation,
+    page: &mut Page,
+    out: &mut K,
+) -> Result<(), WriteFault>
+    ensures { Gathered (expectation_line moment at e.now) page.old page.new
+        (K.tape out.old) (K.tape out.new) result }
+{
+    make_room(page, out)?;
+    page.expectation_line(moment, at, e);
+    Ok(())
+}
+
+/// Writes the line of each expectation at a moment and a point, or holds it back.
+#[tactic(auto, using(crate::proofs::Gathers::sent_none, crate::proofs::Gathers::sent_each))]
+fn write_expectations<K: Sink>(
+    moment: u64,
+    at: u64,
+    expectations: &[Expectation],
+    page: &mut Page,
+    out: &mut K,
+) -> Result<(), WriteFault>
+    ensures { Gathered (texts_from (line_of_expectation moment at) 0 expectations.now) page.old page.new
+        (K.tape out.old) (K.tape out.new) result }
+{
+    'expectations: for e in expectations {
+        write_expectation(moment, at, e, page, out)?;
+    }
+    Ok(())
+}
+
+/// Writes nothing.
+#[tactic(auto, using(crate::proofs::Gathers::sent_none))]
+fn write_nothing<K: Sink>(_page: &mut Page, _out: &mut K) -> Result<(), WriteFault>
+    ensures { Gathered [] _page.old _page.new (K.tape _out.old) (K.tape _out.new) result }
+{
+    Ok(())
+}
+
+/// Writes the line of the entry that was looked up, or holds it back, if one was live.
+fn write_got<K: Sink>(
+    moment: u64,
+    row: &Option<Row>,
+    page: &mut Page,
+    out: &mut K,
+) -> Result<(), WriteFault>
+    ensures { Gathered (got_text moment row.now) page.old page.new
+        (K.tape out.old) (K.tape out.new) result }
+{
+    match row {
+        Some(row) => write_row(moment, row, page, out),
+        None => write_nothing(page, out),
+    }
+}
+
+/// Writes the rows of an answer, or holds them back.
+fn write_said<K: Sink>(answer: &Answer, page: &mut Page, out: &mut K) -> Result<(), WriteFault>
+    ensures { Gathered (rows_text answer.now.said answer.now.moment answer.now.from) page.old page.new
+        (K.tape out.old) (K.tape out.new) result }
+{
+    match &answer.said {
+        Said::Listed(rows) | Said::Deleted(rows) => {
+            write_rows(answer.moment, rows.as_slice(), page, out)
+        }
+        Said::Expectations(rows) => {
+            write_expectations(answer.moment, answer.from, rows.as_slice(), page, out)
+        }
+        Said::Got(row) => write_got(answer.moment, row, page, out),
+        Said::Flushed | Said::Counted(_) | Said::Expired { .. } => write_nothing(page, out),
+    }
+}
+
+/// Writes the line of the answer to the command of this index, or holds it back.
+#[tactic(auto, using(crate::proofs::Gathers::sent_line, crate::proofs::Gathers::lost_line))]
+fn write_answer_head<K: Sink>(
+    index: usize,
+    answer: &Answer,
+    page: &mut Page,
+    out: &mut K,
+) -> Result<(), WriteFault>
+    ensures { Gathered (answer_head index answer.now) page.old page.new
+        (K.tape out.old) (K.tape out.new) result }
+{
+    make_room(page, out)?;
+    page.answer_head(index, answer);
+    Ok(())
+}
+
+/// Writes the answer to the command of this index, or holds it back.
+#[tactic(auto, using(crate::proofs::Gathers::gathered_then, crate::proofs::Gathers::lost_more), unfolding(crate::specs::Answer::answer_text))]
+fn write_answer<K: Sink>(
+    index: usize,
+    answer: &Answer,
+    page: &mut Page,
+    out: &mut K,
+) -> Result<(), WriteFault>
+    ensures { Gathered (answer_text index answer.now) page.old page.new
+        (K.tape out.old) (K.tape out.new) result }
+{
+    write_answer_head(index, answer, page, out)?;
+    write_said(answer, page, out)
+}
+
+/// Writes each answer, or holds it back.
+#[tactic(auto, using(crate::proofs::Gathers::sent_none, crate::proofs::Gathers::sent_each))]
+fn write_answers<K: Sink>(
+    answers: &[Answer],
+    page: &mut Page,
+    out: &mut K,
+) -> Result<(), WriteFault>
+    ensures { Gathered (texts_from answer_text 0 answers.now) page.old page.new
+        (K.tape out.old) (K.tape out.new) result }
+{
+    'answers: for (index, answer) in answers.iter().enumerate() {
+        write_answer(index, answer, page, out)?;
+    }
+    Ok(())
+}
+
+/// Writes the number of commands and the answer to each, or holds them back.
+#[tactic(auto, using(crate::proofs::Gathers::gathered_then, crate::proofs::Gathers::lost_more), unfolding(crate::specs::Report::script_text))]
+fn write_script<K: Sink>(answers: &[Answer], page: &mut Page, out: &mut K) -> Result<(), WriteFault>
+    ensures { Gathered (script_text answers.now) page.old page.new
+        (K.tape out.old) (K.tape out.new) result }
+{
+    write_script_head(answers.len(), page, out)?;
+    write_answers(answers, page, out)
 }
 
 /// Writes the text of a report, or holds it back.
@@ -232,7 +411,7 @@ fn gather_report<K: Sink>(report: &Report, page: &mut Page, out: &mut K) -> Resu
         (K.tape out.old) (K.tape out.new) result }
 {
     write_tracking(report, page, out)?;
-    write_script_head(0, page, out)
+    write_script(report.answers.as_slice(), page, out)
 }
 
 /// Writes the text of `report` through `buffer`, in few calls of the sink where that is large.

@@ -18,6 +18,7 @@ use Rattle.history_book.specs.declared.outcome.ClaimOutcome.TheVariants as claim
 use Rattle.history_book.specs.declared.verdict.Ftp.{Ftp}
 use Rattle.history_book.specs.Desk.{IsLiveUnder, Saw, StepGives}
 use Rattle.history_book.specs.Notes.{mark_past}
+use Rattle.history_book.specs.Places.{HoldsNothing, HoldsOne}
 use Rattle.history_book.specs.Point.{At, StartsWith}
 use Rattle.history_book.specs.Sight.{IsKnown, Sight}
 use Rattle.packet_headers.specs.ClassifySound.{protocol_of}
@@ -29,7 +30,7 @@ use Rattle.packet_path.specs.Packet.{Given, IsFlow}
 use Rattle.packet_path.specs.declared.setup.Setup.{Setup}
 use Rattle.packet_path.specs.declared.payload.Wanted.{Wanted}
 use Rattle.packet_path.specs.declared.payload.Wanted.TheVariants.{Nothing, Foreign, End}
-use Rattle.packet_path.specs.FtpPart.{Asks, AsksNothing, FtpFits}
+use Rattle.packet_path.specs.FtpPart.{Asks, NamesNone, FtpFits}
 use Rattle.packet_path.specs.Verdict.{FitsFrame, Kills, KillsAll, ftp_points, points_of}
 
 -- the tuple is valid and of the segment's protocol, and the moment is one that a capture can name
@@ -37,16 +38,6 @@ pub record IsClassified (p : FlowPacket) : Type 0 where
   pub valid : is_valid p.tuple ≡ true
   pub protocol : p.tuple.proto ≡ protocol_of p.segment
   pub timely : p.moment ≤ 10 ^ 16
-
--- the desk holds and owes nothing
-pub record HoldsNothing (s : Sight) : Type 0 where
-  pub held : s.held ≡ []
-  pub owed : s.owed ≡ []
-
--- the desk holds one place, for an entry or for none
-pub record HoldsOne (hold : Hold) (s : Sight) : Type 0 where
-  pub held : s.held ≡ hold ∷ []
-  pub owed : s.owed ≡ []
 
 -- the entry that the packet met was live under its tuple, and its place is held for it
 pub record IsMet (packet : FlowPacket) (met : Met) (s : Sight) : Type 0 where
@@ -74,7 +65,7 @@ claimed_master (claim.Unclaimed at) = None
 
 -- what the payload of a packet that an entry accepted asks for
 abbrev pub WantedSays : FlowPacket → Found → Wanted → Type 0
-WantedSays packet found Nothing = AsksNothing packet found
+WantedSays packet found Nothing = NamesNone packet found
 WantedSays packet found Foreign = Asks packet found None
 WantedSays packet found (End want) = Asks packet found (Some want)
 
@@ -98,6 +89,8 @@ EndsEntry packet met at (why.Reopened direction segment moment) s =
     (direction ≡ met.direction) × (segment ≡ packet.segment) × (moment ≡ packet.moment)
     × At s.front at (StepGives met.id met.direction packet.segment packet.moment outcome.Reopen)
 EndsEntry packet met at (why.Reset segment moment) s = ⊥
+EndsEntry packet met at (why.Deleted filter) s = ⊥
+EndsEntry packet met at why.Flushed s = ⊥
 
 -- The packet's class, which fits whatever kills of this number came before, none of them later than this
 -- point.

@@ -26,3 +26,4 @@ pub record IsToldBy (closed : Closed) (verdicts : Roomed Verdict) (report : Repo
   pub history : report.history.items ≡ all_named 0 closed.notes.items verdicts.items
   pub live : report.live ≡ closed.live
   pub threads : report.threads.items ≡ verdicts ∷ []
+  pub answers : report.answers.items ≡ []

@@ -10,13 +10,12 @@ use Rattle.proto_rules.specs.declared.Outcome.TheVariants as outcome
 use Rattle.packet_path.specs.Internal.Attempt.{Answers}
 use Rattle.packet_path.proofs.Attempts.{attempt_after, starts_longer}
 use Rattle.packet_path.proofs.Meetings.{has_id_of, helped_entry, left_as_it_is, met_protocol, touched}
-use Rattle.packet_path.proofs.HeldPlaces.{only_id}
 use Rattle.packet_path.proofs.attempt.meet_entry.Goals as goal
 
 pub touch-requires-clause-protocol : goal.touch-requires-clause-protocol
 touch-requires-clause-protocol g c =
     let s = g.D.Desk.sight c.args.desk.now in
-    ap (λ id. is_of_entry c.args.packet.now.segment id s.front) (only_id c.args.met.now.place c.args.met.now.id s c.requires.met.holds)
+    ap (λ id. is_of_entry c.args.packet.now.segment id s.front) (c.one_hold_has_its_id.ensures c.args.met.now.place c.args.met.now.id s c.requires.met.holds)
     ∙ met_protocol c.found_keep_their_protocol.ensures c.live_records_have_the_protocol.ensures
     c.records_are_of_one_protocol.ensures c.same_protocol_is_equality.ensures s c.args.packet.now c.args.met.now c.requires.knows
     c.requires.classified c.requires.met
@@ -26,7 +25,7 @@ follow_payload-ftp-requires-clause-named g c =
     let s = g.D.Desk.sight c.args.desk.now in
     let mid = g.D.Desk.sight c.touch.new.self in
     let id : held_id c.args.met.now.place s.held ≡ c.args.met.now.id =
-    only_id c.args.met.now.place c.args.met.now.id s c.requires.met.holds in
+    c.one_hold_has_its_id.ensures c.args.met.now.place c.args.met.now.id s c.requires.met.holds in
     ap (held_id c.args.met.now.place) c.in-Touched.ensures.says.same.held ∙ id
     ∙ sym (has_id_of c.args.met.now.id (after mid.front c.in-Touched.number) c.in-Touched.before
     (subst (λ i. record_of i (after mid.front c.in-Touched.number) ≡ Some c.in-Touched.before) id c.in-Touched.ensures.says.found.fact))
@@ -48,7 +47,7 @@ returns-in-Touched-clause-says g c = λ setup.
     c.requires.met
     (subst (λ id. Touches id c.args.met.now.direction c.args.packet.now.segment c.args.packet.now.moment s mid c.in-Touched.number
     c.in-Touched.before)
-    (only_id c.args.met.now.place c.args.met.now.id s c.requires.met.holds) c.in-Touched.ensures.says)
+    (c.one_hold_has_its_id.ensures c.args.met.now.place c.args.met.now.id s c.requires.met.holds) c.in-Touched.ensures.says)
     (c.follow_payload-ftp.ensures.follows c.in-Touched.number c.in-Touched.ensures.says.made.high))
 
 pub returns-in-Ignored-clause-says : goal.returns-in-Ignored-clause-says
@@ -59,7 +58,7 @@ returns-in-Ignored-clause-says g c = λ setup.
     (class.Ignored c.args.met.now.id c.in-Ignored.at) s new c.args.packet.now c.args.met.now
     c.args.kills c.in-Ignored.at c.requires.few c.touch.ensures.knows c.requires.met
     (subst (λ id. Leaves id c.args.met.now.direction c.args.packet.now.segment c.args.packet.now.moment outcome.Ignore s new c.in-Ignored.at)
-    (only_id c.args.met.now.place c.args.met.now.id s c.requires.met.holds) c.in-Ignored.ensures.says)
+    (c.one_hold_has_its_id.ensures c.args.met.now.place c.args.met.now.id s c.requires.met.holds) c.in-Ignored.ensures.says)
     refl (λ given mark own h. h)
 
 pub returns-in-Invalid-clause-says : goal.returns-in-Invalid-clause-says
@@ -70,7 +69,7 @@ returns-in-Invalid-clause-says g c = λ setup.
     (class.BadState c.args.met.now.id c.in-Invalid.at) s new c.args.packet.now c.args.met.now
     c.args.kills c.in-Invalid.at c.requires.few c.touch.ensures.knows c.requires.met
     (subst (λ id. Leaves id c.args.met.now.direction c.args.packet.now.segment c.args.packet.now.moment outcome.Invalid s new c.in-Invalid.at)
-    (only_id c.args.met.now.place c.args.met.now.id s c.requires.met.holds) c.in-Invalid.ensures.says)
+    (c.one_hold_has_its_id.ensures c.args.met.now.place c.args.met.now.id s c.requires.met.holds) c.in-Invalid.ensures.says)
     refl (λ given mark own h. h)
 
 pub returns-in-Reset-clause-says : goal.returns-in-Reset-clause-says

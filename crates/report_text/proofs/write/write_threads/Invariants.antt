@@ -1,6 +1,7 @@
 use Rattle.std.proofs.Common.{take}
 use Rattle.report_text.specs.Internal.Gathered.{Sent}
-use Rattle.report_text.specs.Report.{texts_from, thread_text}
+use Rattle.report_text.specs.Report.{thread_text}
+use Rattle.report_text.specs.Texts.{texts_from}
 use Rattle.report_text.proofs.write.write_threads.Given as goal
 
 abbrev pub invariant-threads : goal.invariant-threads

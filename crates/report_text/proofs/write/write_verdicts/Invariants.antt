@@ -1,7 +1,7 @@
 use Rattle.std.proofs.Common.{take}
 use Rattle.report_text.specs.Internal.Gathered.{Sent}
 use Rattle.report_text.specs.Line.{verdict_line}
-use Rattle.report_text.specs.Report.{texts_from}
+use Rattle.report_text.specs.Texts.{texts_from}
 use Rattle.report_text.proofs.write.write_verdicts.Given as goal
 
 abbrev pub invariant-verdicts : goal.invariant-verdicts

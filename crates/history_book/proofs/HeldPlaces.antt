@@ -1,11 +1,11 @@
--- The one place that a desk holds while it handles a packet.
+-- The one place that a desk keeps.
 use Rattle.std.proofs.Common.{◌≡◌, ℕ, ◌≤◌, Bool, true, false, cond, List, [], ◌∷◌, length, refl, ap, ◌∙◌, Some, None, arith}
 use Rattle.std.proofs.lemmas.Bool.{eq-eqb}
 use Rattle.history_book.specs.declared.desk.Hold.{Hold}
 use Rattle.history_book.specs.Desk.{KeepsPlace, OwesPlace, RecycleSays}
 use Rattle.history_book.specs.Held.{held_id, is_at, is_held, paid, without}
 use Rattle.history_book.specs.Sight.{Sight}
-use Rattle.packet_path.specs.Internal.Attempt.{HoldsNothing, HoldsOne}
+use Rattle.history_book.specs.Places.{HoldsNothing, HoldsOne}
 
 first_only : (place : ℕ) (h : Hold) (b : Bool) → is_at place h ≡ b → is_held place (h ∷ []) ≡ true → cond b [] (h ∷ []) ≡ []
 first_only place h true is held = refl

@@ -1,13 +1,13 @@
-//! The one place that a desk holds while it handles a packet.
+//! The one place that a desk keeps.
 
 ghost use Rattle.std.specs.Prelude.{◌≡◌, ◌≤◌, true, [], length};
 ghost use Rattle.history_book.specs.Desk.{Saw};
 ghost use Rattle.history_book.specs.Held.{is_held};
 ghost use Rattle.history_book.specs.Sight.{IsKnown};
-ghost use Rattle.packet_path.specs.Internal.Attempt.{HoldsNothing};
+ghost use Rattle.history_book.specs.Places.{HoldsNothing, OneHoldHasItsId};
 
-use history_book::desk::Desk;
-use history_book::outcome::ReleaseOutcome;
+use crate::desk::Desk;
+use crate::outcome::ReleaseOutcome;
 use std::sync::Wait;
 
 /// Gives up the only place that is held.
@@ -24,3 +24,8 @@ pub fn give_up<R: Wait, D: Desk>(rt: &R, desk: &mut D, place: u32)
         ReleaseOutcome::Last => desk.recycle(rt, place),
     }
 }
+
+/// Where one place is held for an entry, its id is the entry's: a law, the contract of a function that does nothing.
+pub fn one_hold_has_its_id()
+    ensures { OneHoldHasItsId }
+{}

@@ -1,5 +1,5 @@
-use Rattle.packet_path.proofs.HeldPlaces.{kept_nothing, recycled_nothing}
-use Rattle.packet_path.proofs.places.give_up.Goals as goal
+use Rattle.history_book.proofs.HeldPlaces.{kept_nothing, recycled_nothing}
+use Rattle.history_book.proofs.places.give_up.Goals as goal
 
 pub returns-in-Kept-clause-empty : goal.returns-in-Kept-clause-empty
 returns-in-Kept-clause-empty g c =

@@ -1,0 +1,23 @@
+-- Which entries a command is for.
+use Rattle.std.specs.Prelude.{ℕ, Bool, true, ◌==◌, ◌&&◌, Option, Some, None}
+use Rattle.tuple_core.specs.Tuple.{number_of}
+use Rattle.tuple_core.specs.declared.Proto.{Proto}
+use Rattle.history_book.specs.declared.filter.Filter.{Filter}
+use Rattle.history_book.specs.declared.record.Record.{Record}
+
+-- no protocol is named, or this one
+abbrev pub is_proto : Option Proto → Proto → Bool
+is_proto None proto = true
+is_proto (Some name) proto = number_of name == number_of proto
+
+-- no number is named, or this one
+abbrev pub is_number : Option ℕ → ℕ → Bool
+is_number None number = true
+is_number (Some name) number = name == number
+
+-- the entry has all that is named: addresses and ports of its original tuple, and addresses of its reply tuple
+abbrev pub passes : Filter → Record → Bool
+passes filter r =
+    is_proto filter.proto r.original.proto && is_number filter.src r.original.src && is_number filter.dst r.original.dst
+    && is_number filter.reply_src r.reply.src && is_number filter.reply_dst r.reply.dst
+    && is_number filter.sport r.original.a && is_number filter.dport r.original.b
