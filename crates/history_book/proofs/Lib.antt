@@ -15,3 +15,4 @@ pub mod Gone
 pub mod HeldPlaces
 pub mod Placed
 pub mod Examples
+pub mod Merging

@@ -147,7 +147,7 @@ EntriesKeepTheirHelper =
     (sizes : Sizes) (log : List Event) (p : ℕ) (id : ℕ) (r : Record) → is_legal sizes log ≡ true
     → record_of id (after log p) ≡ Some r → is_helped_entry id log ≡ r.helper
 
--- an entry that is gone stays so: its id was a number of an event before the point
+-- an id below a point that no live record has there is that of no live record later
 abbrev pub GoneEntriesStayGone : Type 0
 GoneEntriesStayGone =
     (sizes : Sizes) (log : List Event) (p q id : ℕ) → is_legal sizes log ≡ true → id < p → p ≤ q
@@ -170,7 +170,7 @@ abbrev pub ExpectationsAreExpected : Type 0
 ExpectationsAreExpected =
     (sizes : Sizes) (log : List Event) (p : ℕ) → is_legal sizes log ≡ true → All (IsExpected log) (after log p).expects
 
--- an expectation that is gone stays so: its id was a number of an event before the point
+-- an id below a point that no expectation has there is that of no expectation later
 abbrev pub GoneExpectationsStayGone : Type 0
 GoneExpectationsStayGone =
     (sizes : Sizes) (log : List Event) (p q id : ℕ) → is_legal sizes log ≡ true → id < p → p ≤ q

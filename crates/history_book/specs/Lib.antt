@@ -9,6 +9,8 @@ pub mod Find
 pub mod Label
 pub mod Notes
 pub mod Numbered
+pub mod Merge
+pub mod Internal
 pub mod Entry
 pub mod Laws
 pub mod StateLaws

@@ -81,7 +81,7 @@ pub struct Note {
     pub event: Event,
 }
 
-/// An event of the history with its number, and the thread and the packet that made it.
+/// An event of the history with its number, the thread that made it, and the index of the packet or command.
 #[derive(Clone, Copy)]
 pub struct Numbered {
     pub number: u64,

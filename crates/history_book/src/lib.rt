@@ -8,6 +8,7 @@ pub mod filter;
 pub mod find;
 pub mod laws;
 pub mod legality;
+pub mod merge;
 pub mod outcome;
 pub mod places;
 pub mod record;
