@@ -1,7 +1,8 @@
 //! A list with room: pushes within the room take no memory.
 #![tactic(auto)]
 
-ghost use Rattle.std.specs.Prelude.{◌≡◌, ◌==◌, ◌+◌, ◌<◌, ◌≤◌, [], ◌∷◌, ◌++◌, length, remove, IfOk, OnOk, OnErr, slice_get, slice_set};
+ghost use Rattle.std.specs.Prelude.{◌≡◌, ◌==◌, ◌+◌, ◌<◌, ◌≤◌, [], ◌∷◌, ◌++◌, length, remove, IfOk, OnOk, OnErr, slice_get, slice_set, IsPermutation};
+ghost use Rattle.std.specs.List.Sorted.{IsSortedByKeyClosure};
 
 use std::alloc::Global;
 use std::marker::Model;
@@ -133,6 +134,18 @@ impl<T> RoomList<T> {
         ensures room { self.new.room ≡ self.old.room }
     {
         self.items.remove(index)
+    }
+
+    /// Puts the items in order of a key; those of one key in any order. Takes no memory.
+    pub fn sort_unstable_by_key<K: Ord, F: FnMut(&T) -> K>(&mut self, key: F)
+    where
+        K: Drop,
+        requires { F.IsAlwaysCallable key }
+        ensures permutation { IsPermutation self.old.items self.new.items }
+        ensures sorted { IsSortedByKeyClosure F.FnMut K.cmp key self.new.items }
+        ensures room { self.new.room ≡ self.old.room }
+    {
+        self.items.sort_unstable_by_key(key);
     }
 
     /// Takes all items out and keeps the room. Takes no memory.
