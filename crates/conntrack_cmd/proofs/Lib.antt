@@ -1,0 +1,14 @@
+pub mod LineLaws
+pub mod Lawful
+pub mod OptionWords
+pub mod ScriptLines
+pub mod Bounds
+pub mod Ends
+pub mod Said
+pub mod Expiry
+pub mod Growth
+pub mod Lateness
+pub mod Places
+pub mod Speaking
+pub mod Sweeps
+pub mod Visits

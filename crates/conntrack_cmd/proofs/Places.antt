@@ -1,0 +1,203 @@
+-- What a look at one place leaves: facts of the calls, carried to the last front.
+use Rattle.std.proofs.Common.{◌≡◌, ℕ, ◌+◌, ◌≤◌, Bool, true, false, cond, List, [], ◌∷◌, ◌++◌, length, refl, sym, ap, subst, ◌∙◌, ◌⊎◌, inl, inr, Some, None, arith, append_assoc, length-append}
+use Rattle.std.specs.List.{find}
+use Rattle.std.proofs.lemmas.Bool.{eqb-true}
+use Rattle.std.proofs.lemmas.List.{append-nil}
+use Rattle.history_book.specs.declared.answer.Row.{Row}
+use Rattle.history_book.specs.declared.event.Event.{Event}
+use Rattle.history_book.specs.declared.event.Event.TheVariants.{Destroy}
+use Rattle.history_book.specs.declared.event.Note.{Note}
+use Rattle.history_book.specs.declared.event.Why.{Why}
+use Rattle.history_book.specs.declared.filter.Filter.{Filter}
+use Rattle.history_book.specs.declared.record.Record.{Record}
+use Rattle.history_book.specs.declared.desk.Hold.{Hold}
+use Rattle.history_book.specs.Desk.{Destroys, HoldsOneMore, IsLiveIn, IsRecord, Looked, SamePlaces, Saw}
+use Rattle.history_book.specs.Held.{held_id}
+use Rattle.history_book.specs.Places.{HoldsNothing, HoldsOne, OneHoldHasItsId}
+use Rattle.history_book.specs.Filter.{passes}
+use Rattle.history_book.specs.History.{after}
+use Rattle.history_book.specs.Laws.{DestroyedIdsStayDead, EntriesKeepTheirPlace, EventsStay, PlacesNameEntries, StatesStay}
+use Rattle.history_book.specs.Point.{At, StartsWith}
+use Rattle.history_book.specs.Record.{has_id}
+use Rattle.history_book.specs.Sight.{IsKnown, Sight, WasConfirmedIn}
+use Rattle.history_book.specs.State.{State, is_unused, record_of}
+use Rattle.history_book.specs.StateLaws.{UnusedPlacesAreNobodys}
+use Rattle.conntrack_cmd.specs.Answer.{IsRow, has_row, is_live_and}
+use Rattle.conntrack_cmd.specs.Internal.Sweep.{DestroysRow, Missed, Visited}
+use Rattle.conntrack_cmd.proofs.Growth.{at_grows}
+use Rattle.conntrack_cmd.proofs.Visits.{gone_from, own_row, visited_held, visited_unused}
+
+pub starts_refl : (l : List Event) → StartsWith l l
+starts_refl l = ([], sym (append-nil l))
+
+pub starts_trans : (c b a : List Event) → StartsWith c b → StartsWith b a → StartsWith c a
+starts_trans c b a (r, e) (q, f) = (q ++ r, e ∙ ap (λ (l : List Event). l ++ r) f ∙ append_assoc a q r)
+
+pub starts_longer : (b a : List Event) → StartsWith b a → length a ≤ length b
+starts_longer b a (r, e) = omega (arith, ap length e, length-append a r)
+
+pub saw_trans : (a b c : Sight) → Saw a b → Saw b c → Saw a c
+saw_trans a b c s t = record {
+  front = starts_trans c.front b.front a.front t.front s.front;
+  own = t.own ∙ s.own;
+  spare = t.spare ∙ s.spare;
+  sizes = t.sizes ∙ s.sizes;
+}
+
+-- what is found passes the test
+pub found_has : {X : Type 0} (p : X → Bool) (xs : List X) (y : X) → find p xs ≡ Some y → p y ≡ true
+found_has p [] y h = cc
+found_has p (x ∷ xs) y h = first_has p x y xs (p x) refl h (found_has p xs y)
+  where
+    first_has : {X : Type 0} (p : X → Bool) (x y : X) (xs : List X) (b : Bool) → p x ≡ b
+        → cond b (Some x) (find p xs) ≡ Some y → (find p xs ≡ Some y → p y ≡ true) → p y ≡ true
+    first_has p x y xs true e h rest = cc
+    first_has p x y xs false e h rest = rest h
+
+-- a record that is found by its id has it
+pub has_id_of : (id : ℕ) (s : State) (r : Record) → record_of id s ≡ Some r → r.id ≡ id
+has_id_of id s r h = eqb-true r.id id (found_has (has_id id) s.records r h)
+
+module _ (states : StatesStay) (keep : EntriesKeepTheirPlace) (name : PlacesNameEntries) (nobodys : UnusedPlacesAreNobodys)
+    (old new : Sight) (known : IsKnown new) (place : ℕ) where
+  -- no entry was live in the place
+  pub empty_visited : (test : Record → Bool) (at : ℕ) → Looked old new at (λ s. is_unused place s ≡ true)
+      → Visited new.front test place (length old.front) (length new.front) []
+  empty_visited test at looked =
+      visited_unused keep name nobodys new.sizes new.front known.legal test place (length old.front) (length new.front) at []
+      looked.low looked.fact.within looked.fact.fact
+
+  -- one entry was live in the place, and has a row or was missed
+  held_visited : (test : Record → Bool) (mid : Sight) (at id : ℕ) (rows : List Row) → Looked old mid at (IsLiveIn place id)
+      → StartsWith new.front mid.front → (has_row id rows ≡ true) ⊎ Missed new.front test (length old.front) (length new.front) id
+      → Visited new.front test place (length old.front) (length new.front) rows
+  held_visited test mid at id rows looked starts own =
+      let grown : At new.front at (IsLiveIn place id) = at_grows states new.front mid.front at (IsLiveIn place id) starts looked.fact in
+      visited_held keep name nobodys new.sizes new.front known.legal test place (length old.front) (length new.front) at id rows
+      looked.low grown.within grown.fact own
+
+  -- a later look missed the entry
+  missed_at : (test : Record → Bool) (mid then : Sight) (at id : ℕ) (F : State → Type 0) → StartsWith mid.front old.front
+      → Looked mid then at F → StartsWith new.front then.front
+      → ((s : State) → F s → is_live_and test (record_of id s) ≡ false)
+      → Missed new.front test (length old.front) (length new.front) id
+  missed_at test mid then at id F first looked starts none =
+      let grown : At new.front at F = at_grows states new.front then.front at F starts looked.fact in
+      record {
+        at = at;
+        low = omega (arith, starts_longer mid.front old.front first, looked.low);
+        high = grown.within;
+        missed = none (after new.front at) grown.fact;
+      }
+
+  pub gone_visited : (test : Record → Bool) (mid then : Sight) (at gone id : ℕ) → Looked old mid at (IsLiveIn place id)
+      → Looked mid then gone (λ s. record_of id s ≡ None) → StartsWith new.front then.front
+      → Visited new.front test place (length old.front) (length new.front) []
+  gone_visited test mid then at gone id held looked starts =
+      held_visited test mid at id [] held (starts_trans new.front then.front mid.front starts looked.saw.front)
+      (inr (missed_at test mid then gone id (λ s. record_of id s ≡ None) held.saw.front looked starts (λ s e. ap (is_live_and test) e)))
+
+  pub failed_visited : (test : Record → Bool) (mid then : Sight) (at seen id : ℕ) (r : Record) → Looked old mid at (IsLiveIn place id)
+      → Looked mid then seen (IsRecord id r) → StartsWith new.front then.front → test r ≡ false
+      → Visited new.front test place (length old.front) (length new.front) []
+  failed_visited test mid then at seen id r held looked starts fails =
+      held_visited test mid at id [] held (starts_trans new.front then.front mid.front starts looked.saw.front)
+      (inr (missed_at test mid then seen id (IsRecord id r) held.saw.front looked starts (λ s e. ap (is_live_and test) e ∙ fails)))
+
+  pub row_visited : (test : Record → Bool) (mid then : Sight) (at seen id : ℕ) (r : Record) → Looked old mid at (IsLiveIn place id)
+      → Looked mid then seen (IsRecord id r) → StartsWith new.front then.front
+      → Visited new.front test place (length old.front) (length new.front) (record { subject = r; at = seen } ∷ [])
+  row_visited test mid then at seen id r held looked starts =
+      held_visited test mid at id (record { subject = r; at = seen } ∷ []) held (starts_trans new.front then.front mid.front starts looked.saw.front)
+      (inl (own_row id (record { subject = r; at = seen }) (has_id_of id (after then.front seen) r looked.fact.fact)))
+
+  -- the record that was seen has the place
+  placed_at : (mid : Sight) (at p id : ℕ) (r : Record) → Looked old mid at (IsLiveIn place id) → StartsWith new.front mid.front
+      → At new.front p (IsRecord id r) → r.place ≡ place
+  placed_at mid at p id r held starts seen =
+      let grown : At new.front at (IsLiveIn place id) = at_grows states new.front mid.front at (IsLiveIn place id) starts held.fact in
+      let was : WasConfirmedIn new.front grown.fact.subject.place id =
+      (keep new.sizes new.front at id grown.fact.subject known.legal grown.fact.is).0 in
+      (keep new.sizes new.front p id r known.legal seen.fact).1 grown.fact.subject.place was ∙ grown.fact.placed
+
+  pub row_placed : (mid then : Sight) (at seen id : ℕ) (r : Record) → Looked old mid at (IsLiveIn place id)
+      → Looked mid then seen (IsRecord id r) → StartsWith new.front then.front → r.place ≡ place
+  row_placed mid then at seen id r held looked starts =
+      placed_at mid at seen id r held (starts_trans new.front then.front mid.front starts looked.saw.front)
+      (at_grows states new.front then.front seen (IsRecord id r) starts looked.fact)
+
+  pub row_is : (filter : Filter) (mid then : Sight) (at seen id : ℕ) (r : Record) → Looked old mid at (IsLiveIn place id)
+      → Looked mid then seen (IsRecord id r) → StartsWith new.front then.front → passes filter r ≡ true
+      → IsRow new.front filter (length old.front) (length new.front) (record { subject = r; at = seen })
+  row_is filter mid then at seen id r held looked starts passed =
+      let grown : At new.front seen (IsRecord id r) = at_grows states new.front then.front seen (IsRecord id r) starts looked.fact in
+      record {
+        low = omega (arith, starts_longer mid.front old.front held.saw.front, looked.low);
+        high = grown.within;
+        live = subst (λ i. At new.front seen (IsRecord i r)) (sym (has_id_of id (after then.front seen) r looked.fact.fact)) grown;
+        passes = passed;
+      }
+
+  module _ (dead : DestroyedIdsStayDead) (events : EventsStay) (why : Why) (mid then : Sight) (at number id : ℕ) (r : Record)
+      (held : Looked old mid at (IsLiveIn place id)) (d : Destroys id why mid then number r) (saw : Saw then new) where
+    found : At new.front number (IsRecord id r)
+    found = at_grows states new.front then.front number (IsRecord id r) saw.front d.found
+
+    starts : StartsWith new.front mid.front
+    starts = starts_trans new.front then.front mid.front saw.front d.made.front
+
+    same : r.id ≡ id
+    same = has_id_of id (after new.front number) r found.fact
+
+    pub killed_placed : r.place ≡ place
+    killed_placed = placed_at mid at number id r held starts found
+
+    pub killed_visited : (test : Record → Bool) → Visited new.front test place (length old.front) (length new.front) []
+    killed_visited test =
+        let longer : length then.front ≤ length new.front = starts_longer new.front then.front saw.front in
+        let none : record_of id (after new.front (number + 1)) ≡ None =
+        gone_from id (after new.front (number + 1))
+        (dead new.sizes new.front number (number + 1) id why known.legal
+        (events new.front then.front number (Destroy id why) saw.front d.made.happened) (omega arith) (omega (arith, longer, d.made.high))) in
+        held_visited test mid at id [] held starts
+        (inr (record {
+          at = number + 1;
+          low = omega (arith, starts_longer mid.front old.front held.saw.front, d.made.low);
+          high = omega (arith, longer, d.made.high);
+          missed = ap (is_live_and test) none;
+        }))
+
+    pub killed_row : DestroysRow why old new (record { subject = r; at = number })
+    killed_row = record {
+      front = starts_trans new.front mid.front old.front starts held.saw.front;
+      own = saw.own ∙ d.made.own ∙ ap (λ (l : List Note). l ++ record { number = number; event = Destroy id why } ∷ []) held.saw.own
+          ∙ ap (λ (i : ℕ). old.own ++ record { number = number; event = Destroy i why } ∷ []) (sym same);
+      spare = sym held.saw.spare ∙ d.made.spare ∙ ap (λ n. n + 1) (sym saw.spare);
+      sizes = saw.sizes ∙ d.made.sizes ∙ held.saw.sizes;
+      low = omega (arith, starts_longer mid.front old.front held.saw.front, d.made.low);
+      high = omega (arith, starts_longer new.front then.front saw.front, d.made.high);
+      destroyed = record {
+        event = refl;
+        number = refl;
+        found = subst (λ i. At new.front number (IsRecord i r)) (sym same) found;
+      };
+    }
+
+-- the only place that is held is held for the entry
+pub holds_one : (old mid : Sight) (place id : ℕ) → HoldsNothing old → HoldsOneMore old mid place (Some id)
+    → HoldsOne (record { place = place; id = Some id }) mid
+holds_one old mid place id empty more = record {
+  held = more.held ∙ ap (λ (l : List Hold). record { place = place; id = Some id } ∷ l) empty.held;
+  owed = more.owed ∙ empty.owed;
+}
+
+module _ (one : OneHoldHasItsId) (old mid : Sight) (place id : ℕ) (empty : HoldsNothing old) (more : HoldsOneMore old mid place (Some id)) where
+  pub is_held_id : held_id place mid.held ≡ id
+  is_held_id = one place id mid (holds_one old mid place id empty more)
+
+  pub looked_at_one : (then : Sight) (at : ℕ) (F : ℕ → State → Type 0) → Looked mid then at (F (held_id place mid.held)) → Looked mid then at (F id)
+  looked_at_one then at F looked = subst (λ i. Looked mid then at (F i)) is_held_id looked
+
+-- what holds nothing still does where the places are the same
+pub still_empty : (a b : Sight) → SamePlaces a b → HoldsNothing a → HoldsNothing b
+still_empty a b same empty = record { held = same.held ∙ empty.held; owed = same.owed ∙ empty.owed }

@@ -1,0 +1,352 @@
+-- One place more.
+use Rattle.std.proofs.Common.{◌≡◌, ℕ, ◌+◌, ◌<◌, ◌≤◌, Bool, true, false, cond, List, [], ◌∷◌, ◌++◌, length, refl, sym, ap, subst, ◌∙◌, ◌⊎◌, inl, inr, Option, Some, None, arith, append_assoc, length-append}
+use Rattle.std.specs.List.{All, AllByRecursion}
+use Rattle.std.specs.Prelude.{◌==◌, ◌≢◌, ◌||◌, slice_get}
+use Rattle.std.proofs.lemmas.Bool.{eqb-false, eqb-true, ne_eqb}
+use Rattle.std.proofs.lemmas.List.{append-nil}
+use Rattle.std.proofs.lemmas.List.Elements.{recursion_from_All}
+use Rattle.std.proofs.lemmas.List.Folds.{list_any-append}
+use Rattle.std.proofs.lemmas.List.Sums.{sum_by-append, sum_by-cons}
+use Rattle.history_book.specs.declared.answer.Row.{Row}
+use Rattle.history_book.specs.declared.event.Event.{Event}
+use Rattle.history_book.specs.declared.event.Event.TheVariants.{Destroy}
+use Rattle.history_book.specs.declared.event.Note.{Note}
+use Rattle.history_book.specs.declared.event.Why.{Why}
+use Rattle.history_book.specs.declared.filter.Filter.{Filter}
+use Rattle.history_book.specs.declared.record.Record.{Record}
+use Rattle.history_book.specs.declared.sizes.Sizes.{Sizes}
+use Rattle.history_book.specs.Desk.{Saw}
+use Rattle.history_book.specs.Filter.{passes}
+use Rattle.history_book.specs.History.{after, is_legal}
+use Rattle.history_book.specs.Laws.{EntriesKeepTheirPlace, EventsStay, StatesStay}
+use Rattle.history_book.specs.Legality.{is_reason}
+use Rattle.history_book.specs.Notes.{Happened}
+use Rattle.history_book.specs.Places.{HoldsNothing}
+use Rattle.history_book.specs.Point.{StartsWith}
+use Rattle.history_book.specs.Sight.{IsKnown, Sight, WasConfirmedIn}
+use Rattle.history_book.specs.State.{State, record_of}
+use Rattle.conntrack_cmd.specs.Answer.{AreDestroyed, IsDestroyed, IsRow, has_row, is_live_and}
+use Rattle.conntrack_cmd.specs.Internal.Loops.{AreOfPlaces, IsCounting, IsDestroying, IsListing, WasLive, times}
+use Rattle.conntrack_cmd.specs.Internal.Sweep.{AreVisited, DestroysRow, Missed, Visited}
+use Rattle.conntrack_cmd.proofs.Growth.{at_grows, destroyed_grow, happened_grows}
+use Rattle.conntrack_cmd.proofs.Places.{starts_longer, starts_refl, starts_trans, saw_trans}
+
+pub each_push : {X : Type 0} (P : X → Type 0) (xs : List X) (x : X) → AllByRecursion P xs → P x → AllByRecursion P (xs ++ x ∷ [])
+each_push P [] x h p = (p, tt)
+each_push P (y ∷ ys) x (h, hs) p = (h, each_push P ys x hs p)
+
+each_last : {X : Type 0} (P : X → Type 0) (xs : List X) (x : X) → AllByRecursion P (xs ++ x ∷ []) → P x
+each_last P [] x (h, tt) = h
+each_last P (y ∷ ys) x (h, hs) = each_last P ys x hs
+
+pub each_map : {X : Type 0} (P Q : X → Type 0) (xs : List X) → ((x : X) → P x → Q x) → AllByRecursion P xs → AllByRecursion Q xs
+each_map P Q [] f h = tt
+each_map P Q (x ∷ xs) f (h, hs) = (f x h, each_map P Q xs f hs)
+
+times_push : (id : ℕ) (rows : List Row) (row : Row) → times id (rows ++ row ∷ []) ≡ times id rows + cond (row.subject.id == id) 1 0
+times_push id rows row = omega (arith, sum_by-append (λ (r : Row). cond (r.subject.id == id) 1 0) rows (row ∷ []))
+
+times_none : (id : ℕ) (rows : List Row) → AllByRecursion (λ (r : Row). r.subject.id ≢ id) rows → times id rows ≡ 0
+times_none id [] h = refl
+times_none id (r ∷ rs) (h, hs) =
+    omega (arith, sum_by-cons (λ (r : Row). cond (r.subject.id == id) 1 0) r rs, ap {B = ℕ} (λ (b : Bool). cond b 1 0) (ne_eqb r.subject.id id h), times_none id rs hs)
+
+once_push : (rows : List Row) (row : Row) → ((id : ℕ) → times id rows ≤ 1) → times row.subject.id rows ≡ 0
+    → (id : ℕ) → times id (rows ++ row ∷ []) ≤ 1
+once_push rows row once none id = by_same (row.subject.id == id) refl
+  where
+    by_same : (b : Bool) → (row.subject.id == id) ≡ b → times id (rows ++ row ∷ []) ≤ 1
+    by_same true e =
+        omega (arith, times_push id rows row, ap {B = ℕ} (λ (b : Bool). cond b 1 0) e, ap (λ i. times i rows) (sym (eqb-true row.subject.id id e)), none)
+    by_same false e = omega (arith, times_push id rows row, ap {B = ℕ} (λ (b : Bool). cond b 1 0) e, once id)
+
+none_below : (p : ℕ) → p < 0 → ⊥
+none_below p h = omega (arith, h)
+
+any_left : (id : ℕ) (rows more : List Row) → has_row id rows ≡ true → has_row id (rows ++ more) ≡ true
+any_left id rows more h = list_any-append (λ (r : Row). r.subject.id == id) rows more ∙ ap (λ b. b || has_row id more) h
+
+any_right : (id : ℕ) (rows more : List Row) → has_row id more ≡ true → has_row id (rows ++ more) ≡ true
+any_right id rows more h = list_any-append (λ (r : Row). r.subject.id == id) rows more ∙ either (has_row id rows) (has_row id more) h
+  where
+    either : (a b : Bool) → b ≡ true → (a || b) ≡ true
+    either true b e = refl
+    either false b e = e
+
+destroyed_push : (why : Why) (log : List Event) (notes : List Note) (rows : List Row) (note : Note) (row : Row) → AreDestroyed log why notes rows
+    → IsDestroyed log why note row → AreDestroyed log why (notes ++ note ∷ []) (rows ++ row ∷ [])
+destroyed_push why log [] [] note row h one = (one, tt)
+destroyed_push why log [] (r ∷ rs) note row h one = absurd h
+destroyed_push why log (n ∷ ns) [] note row h one = absurd h
+destroyed_push why log (n ∷ ns) (r ∷ rs) note row (h, hs) one = (h, destroyed_push why log ns rs note row hs one)
+
+module _ (states : StatesStay) (keep : EntriesKeepTheirPlace) where
+  module _ (sizes : Sizes) (longer log : List Event) (starts : StartsWith longer log) (legal : is_legal sizes longer ≡ true)
+      (was_legal : is_legal sizes log ≡ true) (test : Record → Bool) where
+    missed_grows : (from to first last id : ℕ) → first ≤ from → to ≤ last → to ≤ length log → Missed log test from to id
+        → Missed longer test first last id
+    missed_grows from to first last id low high within m = record {
+      at = m.at;
+      low = omega (arith, low, m.low);
+      high = omega (arith, high, m.high);
+      missed = ap (λ (s : State). is_live_and test (record_of id s)) (states longer log m.at starts (omega (arith, m.high, within))).1 ∙ m.missed;
+    }
+
+    -- what was looked at between two points was so between others that lie further apart, in a longer history
+    pub visited_grows : (place from to first last : ℕ) (rows all : List Row) → first ≤ from → from ≤ to → to ≤ last → to ≤ length log
+        → ((id : ℕ) → has_row id rows ≡ true → has_row id all ≡ true) → Visited log test place from to rows
+        → Visited longer test place first last all
+    visited_grows place from to first last rows all low order high within more visited id was = by_first (record_of id (after longer first)) refl
+      where
+        by_visit : (has_row id rows ≡ true) ⊎ Missed log test from to id → (has_row id all ≡ true) ⊎ Missed longer test first last id
+        by_visit (inl h) = inl (more id h)
+        by_visit (inr m) = inr (missed_grows from to first last id low high within m)
+
+        by_first : (o : Option Record) → record_of id (after longer first) ≡ o → (has_row id all ≡ true) ⊎ Missed longer test first last id
+        by_first None e = inr (record { at = first; low = omega arith; high = omega (arith, low, order, high); missed = ap (is_live_and test) e })
+        by_first (Some r) e =
+            let was_there : record_of id (after log first) ≡ Some r =
+            ap (λ (s : State). record_of id s) (sym (states longer log first starts (omega (arith, low, order, within))).1) ∙ e in
+            let placed : r.place ≡ place = (keep sizes longer first id r legal e).1 place was in
+            by_visit (visited id (subst (λ p. WasConfirmedIn log p id) placed (keep sizes log first id r was_legal was_there).0))
+
+    pub all_visited_grow : (count from to first last : ℕ) (rows all : List Row) → first ≤ from → from ≤ to → to ≤ last → to ≤ length log
+        → ((id : ℕ) → has_row id rows ≡ true → has_row id all ≡ true) → AreVisited log test count from to rows
+        → AreVisited longer test count first last all
+    all_visited_grow count from to first last rows all low order high within more visited place below =
+        visited_grows place from to first last rows all low order high within more (visited place below)
+
+  -- rows of entries of places stay so
+  places_grow : (longer log : List Event) (count : ℕ) (rows : List Row) → StartsWith longer log → AreOfPlaces log count rows
+      → AreOfPlaces longer (count + 1) rows
+  places_grow longer log count rows starts h = record {
+    live = each_map (WasLive log) (WasLive longer) rows (λ r w. at_grows states longer log r.at _ starts w) h.live;
+    below = each_map (λ (r : Row). r.subject.place < count) (λ (r : Row). r.subject.place < count + 1) rows (λ r lt. omega (arith, lt)) h.below;
+    once = h.once;
+  }
+
+  -- an entry of the next place has no row yet
+  no_row_yet : (sizes : Sizes) (log : List Event) (count : ℕ) (row : Row) → is_legal sizes log ≡ true → WasLive log row
+      → row.subject.place ≡ count → (rows : List Row) → AllByRecursion (WasLive log) rows → AllByRecursion (λ r. r.subject.place < count) rows
+      → AllByRecursion (λ (r : Row). r.subject.id ≢ row.subject.id) rows
+  no_row_yet sizes log count row legal live placed [] h below = tt
+  no_row_yet sizes log count row legal live placed (r ∷ rs) (h, hs) (b, bs) = (
+    (λ e.
+        let was : WasConfirmedIn log r.subject.place r.subject.id = (keep sizes log r.at r.subject.id r.subject legal h.fact).0 in
+        let same : row.subject.place ≡ r.subject.place =
+        (keep sizes log row.at row.subject.id row.subject legal live.fact).1 r.subject.place
+        (subst (λ i. WasConfirmedIn log r.subject.place i) e was) in
+        omega (arith, same, placed, b)),
+    no_row_yet sizes log count row legal live placed rs hs bs,
+  )
+
+  places_push : (sizes : Sizes) (log : List Event) (count : ℕ) (rows : List Row) (row : Row) → is_legal sizes log ≡ true
+      → AreOfPlaces log (count + 1) rows → AllByRecursion (λ r. r.subject.place < count) rows → WasLive log row → row.subject.place ≡ count
+      → AreOfPlaces log (count + 1) (rows ++ row ∷ [])
+  places_push sizes log count rows row legal h below live placed = record {
+    live = each_push (WasLive log) rows row h.live live;
+    below = each_push (λ (r : Row). r.subject.place < count + 1) rows row h.below (omega (arith, placed));
+    once = once_push rows row h.once
+        (times_none row.subject.id rows (no_row_yet sizes log count row legal live placed rows h.live below));
+  }
+
+  module _ (old now new : Sight) (count : ℕ) where
+    -- the visits of earlier places, and that of the next
+    visits_more : (test : Record → Bool) (rows more : List Row) → IsKnown now → IsKnown new → now.sizes ≡ old.sizes → new.sizes ≡ now.sizes
+        → StartsWith now.front old.front → StartsWith new.front now.front
+        → AreVisited now.front test count (length old.front) (length now.front) rows
+        → Visited new.front test count (length now.front) (length new.front) more
+        → AreVisited new.front test (count + 1) (length old.front) (length new.front) (rows ++ more)
+    visits_more test rows more known known' same same' first then earlier visit place below = by_place (place == count) refl
+      where
+        legal : is_legal now.sizes new.front ≡ true
+        legal = subst (λ (z : Sizes). is_legal z new.front ≡ true) same' known'.legal
+
+        low : length old.front ≤ length now.front
+        low = starts_longer now.front old.front first
+
+        high : length now.front ≤ length new.front
+        high = starts_longer new.front now.front then
+
+        by_place : (b : Bool) → (place == count) ≡ b → Visited new.front test place (length old.front) (length new.front) (rows ++ more)
+        by_place true e =
+            visited_grows new.sizes new.front new.front (starts_refl new.front) known'.legal known'.legal test place
+            (length now.front) (length new.front) (length old.front) (length new.front) more (rows ++ more) low high (omega arith) (omega arith)
+            (λ id. any_right id rows more)
+            (subst (λ p. Visited new.front test p (length now.front) (length new.front) more) (sym (eqb-true place count e)) visit)
+        by_place false e =
+            visited_grows now.sizes new.front now.front then legal known.legal test place
+            (length old.front) (length now.front) (length old.front) (length new.front) rows (rows ++ more) (omega arith) low high (omega arith)
+            (λ id. any_left id rows more)
+            (earlier place (omega (arith, below, eqb-false place count e)))
+
+    rows_wider : (filter : Filter) (rows : List Row) → Saw now new
+        → AllByRecursion (IsRow now.front filter (length old.front) (length now.front)) rows
+        → AllByRecursion (IsRow new.front filter (length old.front) (length new.front)) rows
+    rows_wider filter rows saw each =
+        each_map (IsRow now.front filter (length old.front) (length now.front)) (IsRow new.front filter (length old.front) (length new.front)) rows
+        (λ r h. record {
+          low = h.low;
+          high = omega (arith, h.high, starts_longer new.front now.front saw.front);
+          live = at_grows states new.front now.front _ _ saw.front h.live;
+          passes = h.passes;
+        }) each
+
+    pub listing_none : (filter : Filter) (rows : List Row) → IsListing filter old now count rows → Saw now new
+        → Visited new.front (passes filter) count (length now.front) (length new.front) [] → HoldsNothing new → IsKnown new
+        → IsListing filter old new (count + 1) rows
+    listing_none filter rows l saw visit empty known = record {
+      saw = saw_trans old now new l.saw saw;
+      few = omega (arith, l.few);
+      each = rows_wider filter rows saw l.each;
+      places = places_grow new.front now.front count rows saw.front l.places;
+      visited = subst (AreVisited new.front (passes filter) (count + 1) (length old.front) (length new.front)) (append-nil rows)
+          (visits_more (passes filter) rows [] l.known known l.saw.sizes saw.sizes l.saw.front saw.front l.visited visit);
+      empty = empty;
+      known = known;
+    }
+
+    listing_some : (filter : Filter) (rows : List Row) (row : Row) → IsListing filter old now count rows → Saw now new
+        → IsRow new.front filter (length now.front) (length new.front) row → row.subject.place ≡ count
+        → Visited new.front (passes filter) count (length now.front) (length new.front) (row ∷ []) → HoldsNothing new → IsKnown new
+        → IsListing filter old new (count + 1) (rows ++ row ∷ [])
+    listing_some filter rows row l saw is placed visit empty known = record {
+      saw = saw_trans old now new l.saw saw;
+      few = omega (arith, length-append rows (row ∷ []), l.few);
+      each = each_push (IsRow new.front filter (length old.front) (length new.front)) rows row (rows_wider filter rows saw l.each)
+          (record {
+            low = omega (arith, is.low, starts_longer now.front old.front l.saw.front);
+            high = is.high;
+            live = is.live;
+            passes = is.passes;
+          });
+      places = places_push new.sizes new.front count rows row known.legal (places_grow new.front now.front count rows saw.front l.places)
+          l.places.below is.live placed;
+      visited = visits_more (passes filter) rows (row ∷ []) l.known known l.saw.sizes saw.sizes l.saw.front saw.front l.visited visit;
+      empty = empty;
+      known = known;
+    }
+
+    pub listing_pushed : (filter : Filter) (rows more : List Row) (row : Row) → more ≡ rows ++ row ∷ [] → IsListing filter old now count rows
+        → Saw now new → IsRow new.front filter (length now.front) (length new.front) row → row.subject.place ≡ count
+        → Visited new.front (passes filter) count (length now.front) (length new.front) (row ∷ []) → HoldsNothing new → IsKnown new
+        → IsListing filter old new (count + 1) more
+    listing_pushed filter rows more row pushed l saw is placed visit empty known =
+        subst (IsListing filter old new (count + 1)) (sym pushed) (listing_some filter rows row l saw is placed visit empty known)
+
+    module _ (events : EventsStay) (why : Why) (rows : List Row) (d : IsDestroying why old now count rows) where
+      made_wider : StartsWith new.front now.front
+          → AllByRecursion (λ n. Happened new.front (length old.front) n × (n.number < length new.front)) d.notes
+      made_wider then =
+          each_map (λ (n : Note). Happened new.front (length old.front) n × (n.number < length now.front))
+          (λ (n : Note). Happened new.front (length old.front) n × (n.number < length new.front)) d.notes
+          (λ n h. (h.0, omega (arith, h.1, starts_longer new.front now.front then)))
+          (happened_grows events states new.front now.front then (length old.front) (length now.front) d.notes d.made.happened)
+
+      pub destroying_none : Saw now new → Visited new.front (is_reason why) count (length now.front) (length new.front) [] → HoldsNothing new
+          → IsKnown new → IsDestroying why old new (count + 1) rows
+      destroying_none saw visit empty known = record {
+        notes = d.notes;
+        made = record {
+          front = starts_trans new.front now.front old.front saw.front d.made.front;
+          sizes = saw.sizes ∙ d.made.sizes;
+          own = saw.own ∙ d.made.own;
+          spare = omega (arith, d.made.spare, saw.spare);
+          happened = made_wider saw.front;
+        };
+        few = omega (arith, d.few);
+        as_many = d.as_many;
+        each = destroyed_grow events states new.front now.front saw.front why d.notes rows d.each;
+        places = places_grow new.front now.front count rows saw.front d.places;
+        visited = visits_more (is_reason why) [] [] d.known known d.made.sizes saw.sizes d.made.front saw.front d.visited visit;
+        empty = empty;
+        known = known;
+      }
+
+      was_made : (row : Row) → DestroysRow why now new row → IsKnown new → slice_get new.front row.at ≡ Some (Destroy row.subject.id why)
+      was_made row k known =
+          let note : Note = record { number = row.at; event = Destroy row.subject.id why } in
+          each_last (λ (n : Note). slice_get new.front n.number ≡ Some n.event) now.own note
+          (recursion_from_All (λ (n : Note). slice_get new.front n.number ≡ Some n.event) (now.own ++ note ∷ [])
+          (subst (All (λ (n : Note). slice_get new.front n.number ≡ Some n.event)) k.own known.own))
+
+      destroying_some : (row : Row) → DestroysRow why now new row → row.subject.place ≡ count
+          → Visited new.front (is_reason why) count (length now.front) (length new.front) [] → HoldsNothing new
+          → IsKnown new → IsDestroying why old new (count + 1) (rows ++ row ∷ [])
+      destroying_some row k placed visit empty known =
+          let note : Note = record { number = row.at; event = Destroy row.subject.id why } in
+          record {
+            notes = d.notes ++ note ∷ [];
+            made = record {
+              front = starts_trans new.front now.front old.front k.front d.made.front;
+              sizes = k.sizes ∙ d.made.sizes;
+              own = k.own ∙ ap (λ (l : List Note). l ++ note ∷ []) d.made.own ∙ append_assoc old.own d.notes (note ∷ []);
+              spare = omega (arith, d.made.spare, k.spare, length-append d.notes (note ∷ []));
+              happened = each_push (λ (n : Note). Happened new.front (length old.front) n × (n.number < length new.front)) d.notes note
+                  (made_wider k.front)
+                  (record { event = was_made row k known; later = omega (arith, k.low, starts_longer now.front old.front d.made.front) }, k.high);
+            };
+            few = omega (arith, length-append rows (row ∷ []), d.few);
+            as_many = length-append d.notes (note ∷ []) ∙ ap (λ n. n + 1) d.as_many ∙ sym (length-append rows (row ∷ []));
+            each = destroyed_push why new.front d.notes rows note row
+                (destroyed_grow events states new.front now.front k.front why d.notes rows d.each) k.destroyed;
+            places = places_push new.sizes new.front count rows row known.legal (places_grow new.front now.front count rows k.front d.places)
+                d.places.below k.destroyed.found placed;
+            visited = visits_more (is_reason why) [] [] d.known known d.made.sizes k.sizes d.made.front k.front d.visited visit;
+            empty = empty;
+            known = known;
+          }
+
+    pub destroying_pushed : (events : EventsStay) (why : Why) (rows more : List Row) (row : Row) → more ≡ rows ++ row ∷ []
+        → IsDestroying why old now count rows → DestroysRow why now new row → row.subject.place ≡ count
+        → Visited new.front (is_reason why) count (length now.front) (length new.front) [] → HoldsNothing new → IsKnown new
+        → IsDestroying why old new (count + 1) more
+    destroying_pushed events why rows more row pushed d k placed visit empty known =
+        subst (IsDestroying why old new (count + 1)) (sym pushed) (destroying_some events why rows d row k placed visit empty known)
+
+    pub counting_none : (events : EventsStay) (why : Why) (ended : ℕ) → IsCounting why old now count ended
+        → Saw now new → Visited new.front (is_reason why) count (length now.front) (length new.front) [] → HoldsNothing new → IsKnown new
+        → IsCounting why old new (count + 1) ended
+    counting_none events why ended c saw visit empty known = record {
+      rows = c.rows;
+      destroying = destroying_none events why c.rows c.destroying saw visit empty known;
+      exact = c.exact;
+    }
+
+    pub counting_some : (events : EventsStay) (why : Why) (ended : ℕ) (row : Row) → IsCounting why old now count ended
+        → DestroysRow why now new row → row.subject.place ≡ count
+        → Visited new.front (is_reason why) count (length now.front) (length new.front) [] → HoldsNothing new → IsKnown new
+        → IsCounting why old new (count + 1) (ended + 1)
+    counting_some events why ended row c k placed visit empty known = record {
+      rows = c.rows ++ row ∷ [];
+      destroying = destroying_some events why c.rows c.destroying row k placed visit empty known;
+      exact = ap (λ n. n + 1) c.exact ∙ sym (length-append c.rows (row ∷ []));
+    }
+
+-- before the first place
+pub listing_start : (filter : Filter) (s : Sight) → HoldsNothing s → IsKnown s → IsListing filter s s 0 []
+listing_start filter s empty known = record {
+  saw = record { front = starts_refl s.front; own = refl; spare = refl; sizes = refl };
+  few = omega arith;
+  each = tt;
+  places = record { live = tt; below = tt; once = λ id. omega arith };
+  visited = λ place below. absurd (none_below place below);
+  empty = empty;
+  known = known;
+}
+
+pub destroying_start : (why : Why) (s : Sight) → HoldsNothing s → IsKnown s → IsDestroying why s s 0 []
+destroying_start why s empty known = record {
+  notes = [];
+  made = record { front = starts_refl s.front; sizes = refl; own = sym (append-nil s.own); spare = omega arith; happened = tt };
+  few = omega arith;
+  as_many = refl;
+  each = tt;
+  places = record { live = tt; below = tt; once = λ id. omega arith };
+  visited = λ place below. absurd (none_below place below);
+  empty = empty;
+  known = known;
+}
+
+pub counting_start : (why : Why) (s : Sight) → HoldsNothing s → IsKnown s → IsCounting why s s 0 0
+counting_start why s empty known = record { rows = []; destroying = destroying_start why s empty known; exact = refl }

@@ -1,0 +1,14 @@
+-- What private functions keep for the clauses of the public ones. A reader of those need not open it.
+pub mod Late
+pub mod Loops
+pub mod Spoken
+pub mod Sweep
+use Rattle.std.specs.Prelude.{ℕ, Option, Some}
+use Rattle.conntrack_cmd.specs.declared.command.Saying.{Saying}
+use Rattle.conntrack_cmd.specs.declared.command.Saying.TheVariants as saying
+
+-- the number of commands before `wait`, if one was said before this or is said by it, behind so many commands
+abbrev pub wait_after : Option ℕ → Saying → ℕ → Option ℕ
+wait_after wait saying.Nothing count = wait
+wait_after wait (saying.Command c) count = wait
+wait_after wait saying.Wait count = Some count

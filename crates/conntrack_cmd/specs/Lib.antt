@@ -1,0 +1,9 @@
+pub mod Options
+pub mod Line
+pub mod Script
+pub mod ScriptLaws
+pub mod Answer
+pub mod Moment
+pub mod Performed
+pub mod Laws
+pub mod Internal

@@ -1,0 +1,109 @@
+//! Looks at one place of the pool: its entry is listed, or destroyed.
+
+ghost use Rattle.std.specs.Prelude.{◌≡◌, ◌+◌, ◌<◌, ◌≤◌, ◌^◌, ℕ, true, [], length, IfSome, option_to_list};
+ghost use Rattle.history_book.specs.Desk.{Saw};
+ghost use Rattle.history_book.specs.Filter.{passes};
+ghost use Rattle.history_book.specs.Legality.{is_reason, reason_moment_of};
+ghost use Rattle.history_book.specs.Places.{HoldsNothing};
+ghost use Rattle.history_book.specs.Sight.{IsKnown};
+ghost use Rattle.conntrack_cmd.specs.Answer.{IsRow};
+ghost use Rattle.conntrack_cmd.specs.Internal.Sweep.{DestroysOrSaw, names_no_segment, Visited};
+
+use history_book::answer::Row;
+use history_book::desk::Desk;
+use history_book::event::Why;
+use history_book::filter::{Filter, passes};
+use history_book::laws::{
+    destroyed_ids_stay_dead, entries_keep_their_place, events_stay, places_name_entries,
+    states_stay, unused_places_are_nobodys,
+};
+use history_book::outcome::{HoldOutcome, KillOutcome, PeekOutcome};
+use history_book::places::{give_up, one_hold_has_its_id};
+use std::sync::Wait;
+
+/// The row of the entry that is live in the place, if one is and it passes the filter.
+pub fn list_place<R: Wait, D: Desk>(
+    rt: &R,
+    desk: &mut D,
+    filter: &Filter,
+    place: u32,
+) -> Option<Row>
+    requires below { place < (D.sight desk.old).sizes.entries }
+    requires empty { HoldsNothing (D.sight desk.old) }
+    ensures saw { Saw (D.sight desk.old) (D.sight desk.new) }
+    ensures row { IfSome result (IsRow (D.sight desk.new).front filter.now
+        (length (D.sight desk.old).front) (length (D.sight desk.new).front)) }
+    ensures placed { IfSome result (λ r. r.subject.place ≡ place) }
+    ensures visited { Visited (D.sight desk.new).front (passes filter.now) place
+        (length (D.sight desk.old).front) (length (D.sight desk.new).front) (option_to_list result) }
+    ensures empty { HoldsNothing (D.sight desk.new) }
+    ensures knows { IsKnown (D.sight desk.new) }
+{
+    entries_keep_their_place();
+    events_stay();
+    one_hold_has_its_id();
+    places_name_entries();
+    states_stay();
+    unused_places_are_nobodys();
+    match desk.hold(rt, place) {
+        HoldOutcome::Empty { .. } => None,
+        HoldOutcome::Held { .. } => match desk.peek(rt, place) {
+            PeekOutcome::Gone { .. } => {
+                give_up(rt, desk, place);
+                None
+            }
+            PeekOutcome::Seen { subject, at } => {
+                give_up(rt, desk, place);
+                if passes(filter, &subject) {
+                    Some(Row { subject, at })
+                } else {
+                    None
+                }
+            }
+        },
+    }
+}
+
+/// Destroys the entry that is live in the place, if one is and the reason holds of it; the row is the entry as it was
+/// found, with the number of the event.
+pub fn destroy_place<R: Wait, D: Desk>(rt: &R, desk: &mut D, why: Why, place: u32) -> Option<Row>
+    requires below { place < (D.sight desk.old).sizes.entries }
+    requires empty { HoldsNothing (D.sight desk.old) }
+    requires suits { names_no_segment why ≡ true }
+    requires timely { reason_moment_of why ≤ 10 ^ 16 }
+    requires spare { 1 ≤ (D.sight desk.old).spare }
+    ensures made { DestroysOrSaw why (D.sight desk.old) (D.sight desk.new) result }
+    ensures placed { IfSome result (λ r. r.subject.place ≡ place) }
+    ensures visited { Visited (D.sight desk.new).front (is_reason why) place
+        (length (D.sight desk.old).front) (length (D.sight desk.new).front) [] }
+    ensures empty { HoldsNothing (D.sight desk.new) }
+    ensures knows { IsKnown (D.sight desk.new) }
+{
+    destroyed_ids_stay_dead();
+    entries_keep_their_place();
+    events_stay();
+    one_hold_has_its_id();
+    places_name_entries();
+    states_stay();
+    unused_places_are_nobodys();
+    match desk.hold(rt, place) {
+        HoldOutcome::Empty { .. } => None,
+        HoldOutcome::Held { .. } => match desk.kill(rt, place, why) {
+            KillOutcome::Killed { number, subject } => {
+                give_up(rt, desk, place);
+                Some(Row {
+                    subject,
+                    at: number,
+                })
+            }
+            KillOutcome::Gone { .. } => {
+                give_up(rt, desk, place);
+                None
+            }
+            KillOutcome::Not { .. } => {
+                give_up(rt, desk, place);
+                None
+            }
+        },
+    }
+}
