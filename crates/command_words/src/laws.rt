@@ -1,0 +1,28 @@
+//! What words ask for: each law is the contract of a function that does nothing.
+
+ghost use Rattle.command_words.specs.WordsLaws.{CapturesAlone, CapturesOfAnyName, CapturesWithRules, WordsWantNoMemory, WordsWithoutCaptures};
+
+/// A capture whose name does not begin with `-` is asked for by its name alone.
+pub fn captures_alone()
+    ensures { CapturesAlone }
+{}
+
+/// A capture of any name is asked for behind `--`.
+pub fn captures_of_any_name()
+    ensures { CapturesOfAnyName }
+{}
+
+/// It is asked for so with a file of rules of any name behind `--rules=`.
+pub fn captures_with_rules()
+    ensures { CapturesWithRules }
+{}
+
+/// Words without a capture are not of the form.
+pub fn words_without_captures()
+    ensures { WordsWithoutCaptures }
+{}
+
+/// Words ask for something, are not of the form, or pass a limit.
+pub fn words_want_no_memory()
+    ensures { WordsWantNoMemory }
+{}

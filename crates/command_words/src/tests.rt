@@ -1,0 +1,387 @@
+//! Command lines, and what they ask for.
+
+use crate::{Asked, WordsError, WordsLimit, read_words};
+use std::alloc::{AllocError, Global};
+use std::test::Fail;
+
+/// The words of a line, which stand between single spaces.
+fn split(alloc: Global, line: &str) -> Result<Vec<String>, AllocError> {
+    let mut words = Vec::new(alloc);
+    for word in line.split(' ') {
+        words.push(String::from_str(alloc, word)?)?;
+    }
+    Ok(words)
+}
+
+/// The answer to a line that asks for nothing.
+fn fault(alloc: Global, line: &str) -> Result<Option<WordsError>, AllocError> {
+    let words = split(alloc, line)?;
+    match read_words(alloc, words.as_slice()) {
+        Ok(_) => Ok(None),
+        Err(why) => Ok(Some(why)),
+    }
+}
+
+/// What a line asks for.
+#[derive(Drop)]
+struct Wanted<'a> {
+    rules: Option<&'a str>,
+    script: Option<&'a str>,
+    captures: &'a [&'a str],
+    entries: u32,
+    buckets: u32,
+    ftp: &'a [u16],
+}
+
+/// What is wanted of a line without options.
+const USUAL: Wanted<'static> = Wanted {
+    rules: None,
+    script: None,
+    captures: &["c"],
+    entries: 65_536,
+    buckets: 16_384,
+    ftp: &[21],
+};
+
+/// Whether it is what is wanted.
+fn is_wanted(asked: &Asked<'_>, wanted: &Wanted<'_>) -> bool {
+    asked.rules == wanted.rules
+        && asked.script == wanted.script
+        && asked.captures.as_slice() == wanted.captures
+        && asked.entries == wanted.entries
+        && asked.buckets == wanted.buckets
+        && asked.ftp.as_slice() == wanted.ftp
+}
+
+/// Whether the line asks for what is wanted.
+fn asks(alloc: Global, line: &str, wanted: &Wanted<'_>) -> Result<bool, AllocError> {
+    let words = split(alloc, line)?;
+    match read_words(alloc, words.as_slice()) {
+        Ok(asked) => Ok(is_wanted(&asked, wanted)),
+        Err(_) => Ok(false),
+    }
+}
+
+#[test]
+fn missing_words(rt: HostRuntime) -> Result<(), Fail> {
+    let lines = [
+        "ctreplay",
+        "c.pcap",
+        "ctreplay --rules",
+        "ctreplay --rules f",
+        "ctreplay c --rules",
+        "ctreplay c --script",
+        "ctreplay c --entries",
+        "ctreplay c --buckets",
+        "ctreplay c --ftp",
+    ];
+    for line in lines {
+        assert!(rt;
+            fault(rt.alloc(), line)? == Some(WordsError::Usage),
+            "{line}"
+        );
+    }
+    Ok(())
+}
+
+#[test]
+fn repeated_and_unknown_options(rt: HostRuntime) -> Result<(), Fail> {
+    let lines = [
+        "ctreplay --rules --script s c",
+        "ctreplay --rules a --rules b c",
+        "ctreplay --script a --script a c",
+        "ctreplay --entries 5 --entries=5 c",
+        "ctreplay --buckets 4 c --buckets 4",
+        "ctreplay --ftp 21 --ftp 21 c",
+        "ctreplay --rule f c",
+        "ctreplay --Rules f c",
+        "ctreplay -rules f c",
+        "ctreplay -r f c",
+        "ctreplay -c",
+    ];
+    for line in lines {
+        assert!(rt;
+            fault(rt.alloc(), line)? == Some(WordsError::Usage),
+            "{line}"
+        );
+    }
+    Ok(())
+}
+
+#[test]
+fn other_options(rt: HostRuntime) -> Result<(), Fail> {
+    let lines = [
+        "ctreplay -1",
+        "ctreplay --help",
+        "ctreplay -h",
+        "ctreplay --version c",
+        "ctreplay -V c",
+        "ctreplay --",
+        "ctreplay --rules -- c",
+        "ctreplay --rules -f c",
+        "ctreplay --captures c",
+    ];
+    for line in lines {
+        assert!(rt;
+            fault(rt.alloc(), line)? == Some(WordsError::Usage),
+            "{line}"
+        );
+    }
+    Ok(())
+}
+
+#[test]
+fn no_entries(rt: HostRuntime) -> Result<(), Fail> {
+    let lines = [
+        "ctreplay --entries  c",
+        "ctreplay --entries= c",
+        "ctreplay --entries x c",
+        "ctreplay --entries +5 c",
+        "ctreplay --entries=-5 c",
+        "ctreplay --entries 0x10 c",
+        "ctreplay --entries 5. c",
+        "ctreplay --entries 00000000005 c",
+        "ctreplay --entries 99999999999 c",
+    ];
+    for line in lines {
+        assert!(rt;
+            fault(rt.alloc(), line)? == Some(WordsError::Usage),
+            "{line}"
+        );
+    }
+    Ok(())
+}
+
+#[test]
+fn no_powers_of_two(rt: HostRuntime) -> Result<(), Fail> {
+    let lines = [
+        "ctreplay --buckets 0 c",
+        "ctreplay --buckets 3 c",
+        "ctreplay --buckets 65535 c",
+        "ctreplay --buckets 65537 c",
+        "ctreplay --buckets 4294967295 c",
+        "ctreplay --buckets 00000000016 c",
+        "ctreplay --buckets= c",
+    ];
+    for line in lines {
+        assert!(rt;
+            fault(rt.alloc(), line)? == Some(WordsError::Usage),
+            "{line}"
+        );
+    }
+    Ok(())
+}
+
+#[test]
+fn no_ports(rt: HostRuntime) -> Result<(), Fail> {
+    let lines = [
+        "ctreplay --ftp= c",
+        "ctreplay --ftp  c",
+        "ctreplay --ftp , c",
+        "ctreplay --ftp 21, c",
+        "ctreplay --ftp ,21 c",
+        "ctreplay --ftp 21,,22 c",
+        "ctreplay --ftp 0 c",
+        "ctreplay --ftp 65536 c",
+        "ctreplay --ftp 000021 c",
+        "ctreplay --ftp 21,x c",
+        "ctreplay --ftp 21;22 c",
+        "ctreplay --ftp 1,2,3,4,5,6,7,8,9 c",
+        "ctreplay --ftp 1,2,3,4,5,6,7,8, c",
+    ];
+    for line in lines {
+        assert!(rt;
+            fault(rt.alloc(), line)? == Some(WordsError::Usage),
+            "{line}"
+        );
+    }
+    Ok(())
+}
+
+#[test]
+fn form_before_limits(rt: HostRuntime) -> Result<(), Fail> {
+    let lines = [
+        "ctreplay --entries 0 --buckets 3 c",
+        "ctreplay --entries 65537 --ftp 0 c",
+        "ctreplay --entries 0",
+        "ctreplay --buckets 131072 --ftp 21,0 c",
+    ];
+    for line in lines {
+        assert!(rt;
+            fault(rt.alloc(), line)? == Some(WordsError::Usage),
+            "{line}"
+        );
+    }
+    Ok(())
+}
+
+#[test]
+fn no_words(rt: HostRuntime) {
+    let answer = read_words(rt.alloc(), &[]);
+    assert!(rt; matches!(answer, Err(WordsError::Usage)));
+}
+
+#[test]
+fn limits(rt: HostRuntime) -> Result<(), Fail> {
+    let cases = [
+        ("ctreplay --entries 0 c", WordsLimit::Entries),
+        ("ctreplay --entries 0000000000 c", WordsLimit::Entries),
+        ("ctreplay --entries 65537 c", WordsLimit::Entries),
+        ("ctreplay --entries 4294967297 c", WordsLimit::Entries),
+        ("ctreplay --entries 9999999999 c", WordsLimit::Entries),
+        ("ctreplay --buckets 131072 c", WordsLimit::Buckets),
+        ("ctreplay --buckets 4294967296 c", WordsLimit::Buckets),
+        ("ctreplay --buckets 8589934592 c", WordsLimit::Buckets),
+        // The first that is passed is told.
+        (
+            "ctreplay --buckets 131072 c --entries 0",
+            WordsLimit::Entries,
+        ),
+    ];
+    for (line, limit) in cases {
+        assert!(rt;
+            fault(rt.alloc(), line)? == Some(WordsError::Limit(limit)),
+            "{line}"
+        );
+    }
+    Ok(())
+}
+
+/// The answer to a line with these options and so many captures.
+fn fault_with(
+    alloc: Global,
+    options: &str,
+    captures: u32,
+) -> Result<Option<WordsError>, AllocError> {
+    let mut line = String::from_str(alloc, options)?;
+    for _ in 0..captures {
+        line.push_str(" c")?;
+    }
+    fault(alloc, line.as_str())
+}
+
+#[test]
+fn many_captures(rt: HostRuntime) -> Result<(), Fail> {
+    let alloc = rt.alloc();
+    let too_many = Some(WordsError::Limit(WordsLimit::Captures));
+    let too_many_buckets = Some(WordsError::Limit(WordsLimit::Buckets));
+    assert!(rt; fault_with(alloc, "ctreplay", 63)?.is_none());
+    assert!(rt; fault_with(alloc, "ctreplay", 64)? == too_many);
+    assert!(rt; fault_with(alloc, "ctreplay --ftp 1 --", 64)? == too_many);
+    assert!(rt; fault_with(alloc, "ctreplay --ftp 0", 64)? == Some(WordsError::Usage));
+    assert!(rt; fault_with(alloc, "ctreplay --buckets 131072", 64)? == too_many_buckets);
+    Ok(())
+}
+
+#[test]
+fn captures(rt: HostRuntime) -> Result<(), Fail> {
+    let cases = [
+        ("ctreplay c", ["c"].as_slice()),
+        ("ctreplay -- c", ["c"].as_slice()),
+        ("ctreplay c --", ["c"].as_slice()),
+        ("ctreplay -- -c", ["-c"].as_slice()),
+        ("ctreplay -- --rules", ["--rules"].as_slice()),
+        ("ctreplay -- --", ["--"].as_slice()),
+        ("ctreplay -", ["-"].as_slice()),
+        ("ctreplay ", [""].as_slice()),
+        ("ctreplay a b a", ["a", "b", "a"].as_slice()),
+        ("ctreplay b  a", ["b", "", "a"].as_slice()),
+        ("ctreplay rules help", ["rules", "help"].as_slice()),
+        // The first word is not looked at.
+        ("--rules c", ["c"].as_slice()),
+        (" c", ["c"].as_slice()),
+    ];
+    for (line, captures) in cases {
+        let wanted = Wanted { captures, ..USUAL };
+        assert!(rt; asks(rt.alloc(), line, &wanted)?, "{line}");
+    }
+    Ok(())
+}
+
+#[test]
+fn names(rt: HostRuntime) -> Result<(), Fail> {
+    let cases = [
+        ("ctreplay --rules f c", Some("f"), None),
+        ("ctreplay --rules=f c", Some("f"), None),
+        ("ctreplay c --rules f", Some("f"), None),
+        ("ctreplay --rules= c", Some(""), None),
+        ("ctreplay --rules  c", Some(""), None),
+        ("ctreplay --rules=-f c", Some("-f"), None),
+        ("ctreplay --rules==f c", Some("=f"), None),
+        ("ctreplay --rules - c", Some("-"), None),
+        ("ctreplay --rules=-- c", Some("--"), None),
+        ("ctreplay --rules=--script c", Some("--script"), None),
+        ("ctreplay --script s c", None, Some("s")),
+        ("ctreplay c --script=s", None, Some("s")),
+        ("ctreplay --script s --rules f c", Some("f"), Some("s")),
+        ("ctreplay --rules f c --script s", Some("f"), Some("s")),
+    ];
+    for (line, rules, script) in cases {
+        let wanted = Wanted {
+            rules,
+            script,
+            ..USUAL
+        };
+        assert!(rt; asks(rt.alloc(), line, &wanted)?, "{line}");
+    }
+    Ok(())
+}
+
+#[test]
+fn sizes(rt: HostRuntime) -> Result<(), Fail> {
+    let cases = [
+        ("ctreplay --entries=16 c", 16, 16_384),
+        ("ctreplay --entries 1 c", 1, 16_384),
+        ("ctreplay --entries 65536 c", 65_536, 16_384),
+        ("ctreplay c --entries 0000000005", 5, 16_384),
+        ("ctreplay --buckets 1 c", 65_536, 1),
+        ("ctreplay --buckets=2 c", 65_536, 2),
+        ("ctreplay --buckets 65536 c", 65_536, 65_536),
+        ("ctreplay --buckets 0000032768 c", 65_536, 32_768),
+        ("ctreplay --buckets 8 c --entries 7", 7, 8),
+    ];
+    for (line, entries, buckets) in cases {
+        let wanted = Wanted {
+            entries,
+            buckets,
+            ..USUAL
+        };
+        assert!(rt; asks(rt.alloc(), line, &wanted)?, "{line}");
+    }
+    Ok(())
+}
+
+#[test]
+fn ports(rt: HostRuntime) -> Result<(), Fail> {
+    let cases = [
+        ("ctreplay --ftp 1 c", [1].as_slice()),
+        ("ctreplay --ftp=65535 c", [65_535].as_slice()),
+        ("ctreplay --ftp 00021 c", [21].as_slice()),
+        ("ctreplay --ftp 21,21 c", [21, 21].as_slice()),
+        ("ctreplay c --ftp 2121,21", [2121, 21].as_slice()),
+        (
+            "ctreplay --ftp 8,7,6,5,4,3,2,1 c",
+            [8, 7, 6, 5, 4, 3, 2, 1].as_slice(),
+        ),
+    ];
+    for (line, ftp) in cases {
+        let wanted = Wanted { ftp, ..USUAL };
+        assert!(rt; asks(rt.alloc(), line, &wanted)?, "{line}");
+    }
+    Ok(())
+}
+
+#[test]
+fn all_options(rt: HostRuntime) -> Result<(), Fail> {
+    let wanted = Wanted {
+        rules: Some("f"),
+        script: Some("s"),
+        captures: &["a", "b", "-x"],
+        entries: 10,
+        buckets: 32,
+        ftp: &[2121],
+    };
+    let line = "ctreplay a --ftp 2121 --script s --buckets 32 b --rules f --entries 10 -- -x";
+    assert!(rt; asks(rt.alloc(), line, &wanted)?);
+    Ok(())
+}
