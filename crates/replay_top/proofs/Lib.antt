@@ -1,4 +1,3 @@
-pub mod BusyDesk
 pub mod Collecting
 pub mod Findings
 pub mod Flaws

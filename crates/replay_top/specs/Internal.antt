@@ -1,6 +1,5 @@
 -- What private functions keep for the clauses of the public ones. A reader of those need not open it.
 pub mod Asked
-pub mod Busy
 pub mod Ending
 pub mod Naming
 pub mod Replayed

@@ -1,8 +1,6 @@
 //! The whole program as one call.
 #![tactic(auto)]
 
-#[cfg(test)]
-mod busy_desk;
 mod command_line;
 mod ending;
 mod error_line;

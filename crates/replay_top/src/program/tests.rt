@@ -315,7 +315,6 @@ script 0
 
 mod builder;
 mod captures;
-mod desk;
 mod flows;
 mod ftp;
 mod rules;

@@ -1,0 +1,611 @@
+-- What a pass of two knows and answers, where the other pass came between.
+use Rattle.std.proofs.Common.{◌≡◌, ℕ, ◌+◌, ◌-◌, ◌<◌, ◌≤◌, Bool, true, false, cond, List, [], ◌∷◌, ◌++◌, length, Option, Some, None, refl, sym, ap, subst, ◌∙◌, arith, append_assoc, length-append, zero, suc}
+use Rattle.std.specs.List.{find as find_in, slice_get}
+use Rattle.std.specs.Prelude.{◌&&◌, ◌||◌}
+use Rattle.std.proofs.lemmas.Bool.{eq-eqb, eqb-true}
+use Rattle.std.proofs.lemmas.List.{append-nil}
+use Rattle.std.proofs.lemmas.List.Elements.{All-push}
+use Rattle.std.proofs.lemmas.List.Quantifiers.{all_pairs_push}
+use Rattle.std.proofs.lemmas.Option.{slice_get_within}
+use Rattle.expect_table.specs.declared.expectation.Expectation.{Expectation}
+use Rattle.expect_table.specs.declared.expectation.Want.{Want}
+use Rattle.tuple_core.specs.declared.Direction.{Direction}
+use Rattle.tuple_core.specs.declared.Segment.{Segment}
+use Rattle.tuple_core.specs.declared.Tuple.{Tuple}
+use Rattle.history_book.specs.declared.desk.Hold.{Hold}
+use Rattle.history_book.specs.declared.event.Event.{Event}
+use Rattle.history_book.specs.declared.event.Note.{Note}
+use Rattle.history_book.specs.declared.event.Why.{Why}
+use Rattle.history_book.specs.declared.outcome.ConfirmOutcome.{ConfirmOutcome}
+use Rattle.history_book.specs.declared.outcome.ConfirmOutcome.TheVariants as confirm
+use Rattle.history_book.specs.declared.outcome.ExpectOutcome.{ExpectOutcome}
+use Rattle.history_book.specs.declared.outcome.ExpectOutcome.TheVariants as expect
+use Rattle.history_book.specs.declared.outcome.FindOutcome.{FindOutcome}
+use Rattle.history_book.specs.declared.outcome.FindOutcome.TheVariants as find
+use Rattle.history_book.specs.declared.outcome.HoldOutcome.{HoldOutcome}
+use Rattle.history_book.specs.declared.outcome.HoldOutcome.TheVariants as hold
+use Rattle.history_book.specs.declared.outcome.PeekOutcome.{PeekOutcome}
+use Rattle.history_book.specs.declared.outcome.PeekOutcome.TheVariants as peek
+use Rattle.history_book.specs.declared.outcome.ReleaseOutcome.{ReleaseOutcome}
+use Rattle.history_book.specs.declared.outcome.ReleaseOutcome.TheVariants as release
+use Rattle.history_book.specs.declared.outcome.KillOutcome.{KillOutcome}
+use Rattle.history_book.specs.declared.outcome.KillOutcome.TheVariants as kill
+use Rattle.history_book.specs.declared.outcome.TakeOutcome.{TakeOutcome}
+use Rattle.history_book.specs.declared.outcome.TakeOutcome.TheVariants as take
+use Rattle.history_book.specs.declared.outcome.TouchOutcome.{TouchOutcome}
+use Rattle.history_book.specs.declared.outcome.TouchOutcome.TheVariants as touch
+use Rattle.history_book.specs.declared.record.Flow.{Flow}
+use Rattle.history_book.specs.declared.sizes.Sizes.{Sizes}
+use Rattle.history_book.specs.Desk.{ConfirmSays, Destroys, FindSays, HoldSays, HoldsOneMore, KeepsPlace, KillSays, PeekSays, ReleaseSays, Looked, MadeEvent, OwesPlace, RecycleSays, SamePlaces, Saw, TakeSays, Takes, TouchSays, Touches}
+use Rattle.history_book.specs.DeskExpectations.{ExpectSays, MakesExpect, expectation_at}
+use Rattle.history_book.specs.Entry.{confirmed_by, is_helped_entry}
+use Rattle.history_book.specs.Held.{held_for, held_id, is_at, is_held, paid, without}
+use Rattle.history_book.specs.Point.{StartsWith}
+use Rattle.history_book.specs.Sight.{IsKnown, Sight}
+use Rattle.history_book.specs.Record.{has_id}
+use Rattle.history_book.specs.History.{after, is_legal, is_legal_from}
+use Rattle.history_book.specs.Legality.{has_helper, may_happen}
+use Rattle.history_book.specs.State.{State, empty_state, next, record_of}
+use Rattle.history_book.specs.declared.event.Event.TheVariants.{Claim, Confirm, Destroy, Expect, Touch, Unexpect}
+use Rattle.history_book.specs.declared.record.Record.{Record}
+use Rattle.proto_rules.specs.declared.Outcome.TheVariants.{Accept}
+use Rattle.proto_rules.specs.declared.Part.{Part}
+use Rattle.proto_rules.specs.Step.{step_of}
+use Rattle.desk_tests.specs.Busy.{IsBusy, Went, seen_by}
+
+starts_refl : (l : List Event) → StartsWith l l
+starts_refl l = ([], sym (append-nil l))
+
+starts_trans : (c b a : List Event) → StartsWith c b → StartsWith b a → StartsWith c a
+starts_trans c b a (r, e) (q, f) = (q ++ r, e ∙ ap (λ (l : List Event). l ++ r) f ∙ append_assoc a q r)
+
+starts_longer : (b a : List Event) → StartsWith b a → length a ≤ length b
+starts_longer b a (r, e) = omega (arith, ap length e, length-append a r)
+
+get_append : {X : Type 0} (xs ys : List X) (i : ℕ) (x : X) → slice_get xs i ≡ Some x → slice_get (xs ++ ys) i ≡ Some x
+get_append [] ys i x h = cc
+get_append (y ∷ xs) ys zero x h = h
+get_append (y ∷ xs) ys (suc i) x h = get_append xs ys i x h
+
+get_grows : (b a : List Event) (i : ℕ) (e : Event) → StartsWith b a → slice_get a i ≡ Some e → slice_get b i ≡ Some e
+get_grows b a i e (r, same) h = ap (λ (l : List Event). slice_get l i) same ∙ get_append a r i e h
+
+-- The other pass's calls.
+
+pub went_refl : (s : Sight) (b a : ℕ) → a ≤ b → IsKnown s → Went s s b a
+went_refl s b a le known = record {
+  known = known;
+  front = starts_refl s.front;
+  held = refl;
+  owed = refl;
+  sizes = refl;
+  fewer = le;
+  spare = omega (arith, le);
+}
+
+pub went_saw : (old new : Sight) → Saw old new → SamePlaces old new → IsKnown new → Went old new 1 0
+went_saw old new saw same known = record {
+  known = known;
+  front = saw.front;
+  held = same.held;
+  owed = same.owed;
+  sizes = saw.sizes;
+  fewer = omega arith;
+  spare = omega (arith, saw.spare);
+}
+
+pub went_made : (old new : Sight) (n : ℕ) (e : Event) → MadeEvent old new n e → SamePlaces old new → IsKnown new → Went old new 1 0
+went_made old new n e made same known = record {
+  known = known;
+  front = made.front;
+  held = same.held;
+  owed = same.owed;
+  sizes = made.sizes;
+  fewer = omega arith;
+  spare = omega (arith, made.spare);
+}
+
+pub went_after : (old mid new : Sight) (b a : ℕ) → Saw old mid → SamePlaces old mid → Went mid new b a → Went old new b a
+went_after old mid new b a saw same went = record {
+  known = went.known;
+  front = starts_trans new.front mid.front old.front went.front saw.front;
+  held = went.held ∙ same.held;
+  owed = went.owed ∙ same.owed;
+  sizes = went.sizes ∙ saw.sizes;
+  fewer = went.fewer;
+  spare = omega (arith, went.spare, saw.spare);
+}
+
+pub went_less : (old new : Sight) (b a : ℕ) → Went old new 1 0 → b ≡ a + 1 → Went old new b a
+went_less old new b a went one = record {
+  known = went.known;
+  front = went.front;
+  held = went.held;
+  owed = went.owed;
+  sizes = went.sizes;
+  fewer = omega (arith, one);
+  spare = omega (arith, went.spare, one);
+}
+
+pub went_touch : (place : ℕ) (d : Direction) (segment : Segment) (moment : ℕ) (old new : Sight) (r : TouchOutcome)
+    → TouchSays place d segment moment old new r → IsKnown new → Went old new 1 0
+went_touch place d segment moment old new (touch.Touched n before) says known = went_made old new n _ says.made says.same known
+went_touch place d segment moment old new (touch.Ignored at) says known = went_saw old new says.0.saw says.1 known
+went_touch place d segment moment old new (touch.Invalid at) says known = went_saw old new says.0.saw says.1 known
+went_touch place d segment moment old new (touch.Reopen at) says known = went_saw old new says.0.saw says.1 known
+went_touch place d segment moment old new (touch.Reset at) says known = went_saw old new says.0.saw says.1 known
+went_touch place d segment moment old new (touch.Expired at) says known = went_saw old new says.0.saw says.1 known
+went_touch place d segment moment old new (touch.Gone at) says known = went_saw old new says.0.saw says.1 known
+
+pub went_expect : (place : ℕ) (want : Want) (moment : ℕ) (old new : Sight) (r : ExpectOutcome) → ExpectSays place want moment old new r
+    → IsKnown new → Went old new 1 0
+went_expect place want moment old new (expect.Expected id replaced) says known = went_made old new id _ says.0 says.1 known
+went_expect place want moment old new (expect.MasterGone at) says known = went_saw old new says.0.saw says.1 known
+went_expect place want moment old new (expect.Clash id at) says known = went_saw old new says.0.saw says.1 known
+went_expect place want moment old new (expect.ExpectFull at) says known = went_saw old new says.0.saw says.1 known
+
+pub went_then : (old mid new : Sight) (b a : ℕ) → Went old mid b a → Saw mid new → SamePlaces mid new → IsKnown new → Went old new b a
+went_then old mid new b a went saw same known = record {
+  known = known;
+  front = starts_trans new.front mid.front old.front saw.front went.front;
+  held = same.held ∙ went.held;
+  owed = same.owed ∙ went.owed;
+  sizes = saw.sizes ∙ went.sizes;
+  fewer = went.fewer;
+  spare = omega (arith, went.spare, saw.spare);
+}
+
+pub went_kill : (place : ℕ) (w : Why) (old new : Sight) (r : KillOutcome) → KillSays place w old new r → IsKnown new → Went old new 1 0
+went_kill place w old new (kill.Killed n subject) says known = went_made old new n _ says.made says.same known
+went_kill place w old new (kill.Gone at) says known = went_saw old new says.0.saw says.1 known
+went_kill place w old new (kill.Not subject at) says known = went_saw old new says.0.saw says.2 known
+
+-- the other pass holds one place more
+pub record Holding (place : ℕ) (old s : Sight) : Type 0 where
+  pub front : StartsWith s.front old.front
+  pub id : Option ℕ
+  pub held : s.held ≡ record { place = place; id = id } ∷ old.held
+  pub owed : s.owed ≡ old.owed
+  pub sizes : s.sizes ≡ old.sizes
+  pub spare : old.spare ≤ s.spare + 1
+
+-- references to other places stay as they are
+for_others : (place id : ℕ) (held : List Hold) → is_held place held ≡ false → held_for place id held ≡ held
+for_others place id [] none = refl
+for_others place id (h ∷ hs) none = first (is_at place h) refl none (for_others place id hs)
+  where
+    first : (b : Bool) → is_at place h ≡ b → (b || is_held place hs) ≡ false
+        → (is_held place hs ≡ false → held_for place id hs ≡ hs) → held_for place id (h ∷ hs) ≡ h ∷ hs
+    first true e none rest = cc
+    first false e none rest =
+        ap (λ (b : Bool). cond b (record h { id = Some id }) h ∷ held_for place id hs) e
+        ∙ ap (λ (l : List Hold). h ∷ l) (rest none)
+
+pub holding_confirmed : (place : ℕ) (flow : Flow) (old mid new : Sight) (r : ConfirmOutcome) → Takes old mid place
+    → ConfirmSays place flow mid new r → Holding place old new
+holding_confirmed place flow old mid new (confirm.Confirmed id) taken says = record {
+  front = starts_trans new.front mid.front old.front says.made.front taken.saw.front;
+  id = Some id;
+  held = says.held ∙ ap (held_for place id) taken.holds.held
+      ∙ ap (λ (b : Bool). cond b (record { place = place; id = Some id }) (record { place = place; id = None }) ∷ held_for place id old.held) (eq-eqb place place refl)
+      ∙ ap (λ (l : List Hold). record { place = place; id = Some id } ∷ l) (for_others place id old.held taken.unheld);
+  owed = says.owed ∙ taken.holds.owed;
+  sizes = says.made.sizes ∙ taken.saw.sizes;
+  spare = omega (arith, says.made.spare, taken.saw.spare);
+}
+holding_confirmed place flow old mid new (confirm.Clash id d both at) taken says = record {
+  front = starts_trans new.front mid.front old.front says.0.saw.front taken.saw.front;
+  id = None;
+  held = says.1.held ∙ taken.holds.held;
+  owed = says.1.owed ∙ taken.holds.owed;
+  sizes = says.0.saw.sizes ∙ taken.saw.sizes;
+  spare = omega (arith, says.0.saw.spare, taken.saw.spare);
+}
+
+pub holding_found : (t : Tuple) (place id : ℕ) (d : Direction) (at : ℕ) (old mid new : Sight)
+    → FindSays t old mid (find.Found place id d at) → Went mid new 1 0 → Holding place old new
+holding_found t place id d at old mid new says went = record {
+  front = starts_trans new.front mid.front old.front went.front says.0.saw.front;
+  id = Some id;
+  held = went.held ∙ says.1.held;
+  owed = went.owed ∙ says.1.owed;
+  sizes = went.sizes ∙ says.0.saw.sizes;
+  spare = omega (arith, went.spare, says.0.saw.spare);
+}
+
+let_go : (place : ℕ) (id : Option ℕ) (held : List Hold) → without place (record { place = place; id = id } ∷ held) ≡ held
+let_go place id held = ap (λ (b : Bool). cond b held (record { place = place; id = id } ∷ without place held)) (eq-eqb place place refl)
+
+paid_first : (place : ℕ) (owed : List ℕ) → paid place (place ∷ owed) ≡ owed
+paid_first place owed = ap (λ (b : Bool). cond b owed (place ∷ paid place owed)) (eq-eqb place place refl)
+
+pub went_kept : (place : ℕ) (old mid new : Sight) → Holding place old mid → KeepsPlace place mid new → IsKnown new → Went old new 1 0
+went_kept place old mid new holds keeps known = record {
+  known = known;
+  front = starts_trans new.front mid.front old.front keeps.saw.front holds.front;
+  held = keeps.held ∙ ap (without place) holds.held ∙ let_go place holds.id old.held;
+  owed = keeps.owed ∙ holds.owed;
+  sizes = keeps.saw.sizes ∙ holds.sizes;
+  fewer = omega arith;
+  spare = omega (arith, keeps.saw.spare, holds.spare);
+}
+
+pub went_recycled : (place : ℕ) (old mid late new : Sight) → Holding place old mid → OwesPlace place mid late → RecycleSays place late new
+    → IsKnown new → Went old new 1 0
+went_recycled place old mid late new holds owes says known = record {
+  known = known;
+  front = starts_trans new.front late.front old.front says.saw.front
+      (starts_trans late.front mid.front old.front owes.saw.front holds.front);
+  held = says.held ∙ owes.held ∙ ap (without place) holds.held ∙ let_go place holds.id old.held;
+  owed = says.owed ∙ ap (paid place) (owes.owed ∙ ap (λ (l : List ℕ). place ∷ l) holds.owed) ∙ paid_first place old.owed;
+  sizes = says.saw.sizes ∙ owes.saw.sizes ∙ holds.sizes;
+  fewer = omega arith;
+  spare = omega (arith, says.saw.spare, owes.saw.spare, holds.spare);
+}
+
+-- This pass's calls.
+
+-- a desk that saw further events
+abbrev pub moved : Sight → List Event → List Note → ℕ → Sight
+moved old front own spare = record {
+  front = front;
+  own = own;
+  held = old.held;
+  owed = old.owed;
+  spare = spare;
+  sizes = old.sizes;
+}
+
+pub moved_by : (old mid : Sight) (b a : ℕ) → Went old mid b a → mid ≡ moved old mid.front mid.own mid.spare
+moved_by old mid b a went =
+    ap (λ (h : List Hold). record { front = mid.front; own = mid.own; held = h; owed = mid.owed; spare = mid.spare; sizes = mid.sizes }) went.held
+    ∙ ap (λ (l : List ℕ). record { front = mid.front; own = mid.own; held = old.held; owed = l; spare = mid.spare; sizes = mid.sizes }) went.owed
+    ∙ ap (λ (z : Sizes). record { front = mid.front; own = mid.own; held = old.held; owed = old.owed; spare = mid.spare; sizes = z }) went.sizes
+
+found_has : {X : Type 0} (p : X → Bool) (xs : List X) (y : X) → find_in p xs ≡ Some y → p y ≡ true
+found_has p [] y h = cc
+found_has p (x ∷ xs) y h = first_has p x y xs (p x) refl h (found_has p xs y)
+  where
+    first_has : {X : Type 0} (p : X → Bool) (x y : X) (xs : List X) (b : Bool) → p x ≡ b
+        → cond b (Some x) (find_in p xs) ≡ Some y → (find_in p xs ≡ Some y → p y ≡ true) → p y ≡ true
+    first_has p x y xs true e h rest = cc
+    first_has p x y xs false e h rest = rest h
+
+has_id_of : (id : ℕ) (s : State) (r : Record) → record_of id s ≡ Some r → r.id ≡ id
+has_id_of id s r h = eqb-true r.id id (found_has (has_id id) s.records r h)
+
+accepted : (p q : Part) → Accept p ≡ Accept q → p ≡ q
+accepted p q e = cc
+
+module _ (old : Sight) (f : List Event) (o : List Note) (k : ℕ) (start : StartsWith f old.front) (lone : old.sizes.passes ≡ 1)
+    (new : Sight) (notes : List Note) (spare : ℕ) where
+  saw : Saw (moved old f o k) new → Saw (seen_by old notes spare) (seen_by new notes spare)
+  saw s = record {
+    front = starts_trans new.front f old.front s.front start;
+    own = refl;
+    spare = refl;
+    sizes = ap (λ (z : Sizes). record z { passes = 2 }) s.sizes;
+  }
+
+  looked : (at : ℕ) (F : State → Type 0) → Looked (moved old f o k) new at F → Looked (seen_by old notes spare) (seen_by new notes spare) at F
+  looked at F l = record {
+    saw = saw l.saw;
+    low = omega (arith, l.low, starts_longer f old.front start);
+    fact = l.fact;
+  }
+
+  same : SamePlaces (moved old f o k) new → SamePlaces (seen_by old notes spare) (seen_by new notes spare)
+  same s = record { held = s.held; owed = s.owed }
+
+  more : (place : ℕ) (id : Option ℕ) → HoldsOneMore (moved old f o k) new place id
+      → HoldsOneMore (seen_by old notes spare) (seen_by new notes spare) place id
+  more place id h = record { held = h.held; owed = h.owed }
+
+  made : (spare' n : ℕ) (e : Event) → MadeEvent (moved old f o k) new n e → spare ≡ spare' + 1
+      → MadeEvent (seen_by old notes spare) (seen_by new (notes ++ record { number = n; event = e } ∷ []) spare') n e
+  made spare' n e m one = record {
+    front = starts_trans new.front f old.front m.front start;
+    own = refl;
+    spare = one;
+    sizes = ap (λ (z : Sizes). record z { passes = 2 }) m.sizes;
+    low = omega (arith, m.low, starts_longer f old.front start);
+    high = m.high;
+    happened = m.happened;
+  }
+
+  pub moved_take : (r : TakeOutcome) → TakeSays (moved old f o k) new r → TakeSays (seen_by old notes spare) (seen_by new notes spare) r
+  moved_take (take.Taken place) says = record {
+    saw = saw says.saw;
+    below = says.below;
+    unheld = says.unheld;
+    unowed = says.unowed;
+    holds = more place None says.holds;
+    alone = λ one. absurd (omega (arith, one));
+  }
+  moved_take (take.Full at) says = record {
+    looked = record {
+      saw = saw says.looked.saw;
+      low = omega (arith, says.looked.low, starts_longer f old.front start);
+      fact = record { within = says.looked.fact.within; fact = omega (arith, says.looked.fact.fact, lone) };
+    };
+    same = same says.same;
+    alone = λ one place below. absurd (omega (arith, one));
+  }
+
+  pub moved_touched : (id : ℕ) (d : Direction) (segment : Segment) (moment n spare' : ℕ) (before : Record) (later : Part)
+      → Touches id d segment moment (moved old f o k) new n before → step_of before.part d segment moment ≡ Accept later
+      → spare ≡ spare' + 1
+      → Touches id d segment moment (seen_by old notes spare)
+      (seen_by new (notes ++ record { number = n; event = Touch before.id d segment moment later } ∷ []) spare') n before
+  moved_touched id d segment moment n spare' before later says step one =
+      let named : before.id ≡ id = has_id_of id (after new.front n) before says.found.fact in
+      let parts : says.after ≡ later = accepted says.after later (sym says.step ∙ step) in
+      let event : Touch id d segment moment says.after ≡ Touch before.id d segment moment later =
+      ap (λ i. Touch i d segment moment says.after) (sym named) ∙ ap (Touch before.id d segment moment) parts in
+      record {
+        after = later;
+        made = subst
+            (λ i. MadeEvent (seen_by old notes spare)
+            (seen_by new (notes ++ record { number = n; event = Touch before.id d segment moment later } ∷ []) spare') n (Touch i d segment moment later))
+            named
+            (made spare' n (Touch before.id d segment moment later) (subst (MadeEvent (moved old f o k) new n) event says.made) one);
+        found = says.found;
+        step = step;
+        same = record { held = says.same.held; owed = says.same.owed };
+      }
+
+  pub moved_killed : (id : ℕ) (w : Why) (n spare' : ℕ) (subject : Record) → Destroys id w (moved old f o k) new n subject
+      → spare ≡ spare' + 1
+      → Destroys id w (seen_by old notes spare)
+      (seen_by new (notes ++ record { number = n; event = Destroy subject.id w } ∷ []) spare') n subject
+  moved_killed id w n spare' subject says one =
+      let named : subject.id ≡ id = has_id_of id (after new.front n) subject says.found.fact in
+      record {
+        made = subst
+            (λ i. MadeEvent (seen_by old notes spare)
+            (seen_by new (notes ++ record { number = n; event = Destroy subject.id w } ∷ []) spare') n (Destroy i w))
+            named
+            (made spare' n (Destroy subject.id w)
+            (subst (λ i. MadeEvent (moved old f o k) new n (Destroy i w)) (sym named) says.made) one);
+        found = says.found;
+        reason = says.reason;
+        same = record { held = says.same.held; owed = says.same.owed };
+      }
+
+  pub moved_made : (spare' n : ℕ) (e : Event) → MadeEvent (moved old f o k) new n e → SamePlaces (moved old f o k) new
+      → spare ≡ spare' + 1
+      → MadeEvent (seen_by old notes spare) (seen_by new (notes ++ record { number = n; event = e } ∷ []) spare') n e
+      × SamePlaces (seen_by old notes spare) (seen_by new (notes ++ record { number = n; event = e } ∷ []) spare')
+  moved_made spare' n e m places one = (made spare' n e m one, record { held = places.held; owed = places.owed })
+
+pub take_went : (old mid new : Sight) (notes : List Note) (spare b a : ℕ) (r : TakeOutcome) → Went old mid b a
+    → old.sizes.passes ≡ 1 → TakeSays mid new r → TakeSays (seen_by old notes spare) (seen_by new notes spare) r
+take_went old mid new notes spare b a r went lone says =
+    moved_take old mid.front mid.own mid.spare went.front lone new notes spare r
+    (subst (λ (m : Sight). TakeSays m new r) (moved_by old mid b a went) says)
+
+pub take_saw : (mid new : Sight) (r : TakeOutcome) → TakeSays mid new r → Saw mid new
+take_saw mid new (take.Taken place) says = says.saw
+take_saw mid new (take.Full at) says = says.looked.saw
+
+-- which events may happen does not depend on the number of passes
+may_two : (z : Sizes) (k : ℕ) (s : State) (n : ℕ) (e : Event) → may_happen (record z { passes = k }) s n e ≡ may_happen z s n e
+may_two z k s n (Confirm r) = refl
+may_two z k s n (Touch id direction segment moment after) = refl
+may_two z k s n (Destroy id why) = refl
+may_two z k s n (Expect expectation replaced moment) = refl
+may_two z k s n (Claim expectation master tuple moment) = refl
+may_two z k s n (Unexpect expectation moment) = refl
+
+legal_from_two : (z : Sizes) (k : ℕ) (s : State) (n : ℕ) (log : List Event)
+    → is_legal_from (record z { passes = k }) s n log ≡ is_legal_from z s n log
+legal_from_two z k s n [] = refl
+legal_from_two z k s n (e ∷ es) =
+    ap (λ b. b && is_legal_from (record z { passes = k }) (next s e) (n + 1) es) (may_two z k s n e)
+    ∙ ap (λ b. may_happen z s n e && b) (legal_from_two z k (next s e) (n + 1) es)
+
+legal_two : (z : Sizes) (k : ℕ) (log : List Event) → is_legal (record z { passes = k }) log ≡ is_legal z log
+unfolding is_legal
+legal_two z k log = legal_from_two z k empty_state 0 log
+
+-- the front is a legal history of a tracker of two passes too
+pub legal_seen : (z : Sizes) (log : List Event) → is_legal z log ≡ true → is_legal (record z { passes = 2 }) log ≡ true
+legal_seen z log legal = legal_two z 2 log ∙ legal
+
+-- What this pass knows.
+
+pub known_seen : (inner : Sight) (notes : List Note) (capacity spare others : ℕ) → IsBusy inner notes capacity spare others
+    → IsKnown (seen_by inner notes spare)
+known_seen inner notes capacity spare others b = record {
+  legal = legal_seen inner.sizes inner.front b.known.legal;
+  few = b.known.few;
+  own = b.own;
+  ordered = b.ordered;
+  held = b.known.held;
+  agreed = b.known.agreed;
+  owed = b.known.owed;
+  unowed = b.known.unowed;
+  once = b.known.once;
+  places = b.known.places;
+  spared = b.few;
+  alone = λ one. absurd (omega (arith, one));
+}
+
+pub busy_went : (old new : Sight) (notes : List Note) (capacity spare b a : ℕ) → IsBusy old notes capacity spare b → Went old new b a
+    → IsBusy new notes capacity spare a
+busy_went old new notes capacity spare b a busy went = record {
+  known = went.known;
+  lone = ap (λ (z : Sizes). z.passes) went.sizes ∙ busy.lone;
+  own = λ i d h. get_grows new.front old.front _ _ went.front (busy.own i d h);
+  ordered = busy.ordered;
+  room = busy.room;
+  few = busy.few;
+  left = omega (arith, busy.left, went.spare);
+}
+
+pub busy_saw : (old new : Sight) (notes : List Note) (capacity spare a : ℕ) → IsBusy old notes capacity spare a → Saw old new
+    → IsKnown new → IsBusy new notes capacity spare a
+busy_saw old new notes capacity spare a busy saw known = record {
+  known = known;
+  lone = ap (λ (z : Sizes). z.passes) saw.sizes ∙ busy.lone;
+  own = λ i d h. get_grows new.front old.front _ _ saw.front (busy.own i d h);
+  ordered = busy.ordered;
+  room = busy.room;
+  few = busy.few;
+  left = omega (arith, busy.left, saw.spare);
+}
+
+pub busy_made : (old new : Sight) (notes : List Note) (capacity spare spare' a n : ℕ) (e : Event) → IsBusy old notes capacity spare a
+    → MadeEvent old new n e → IsKnown new → spare ≡ spare' + 1
+    → IsBusy new (notes ++ record { number = n; event = e } ∷ []) capacity spare' a
+busy_made old new notes capacity spare spare' a n e busy made known one =
+    let longer : length (notes ++ record { number = n; event = e } ∷ []) ≡ length notes + 1 =
+    length-append notes (record { number = n; event = e } ∷ []) in
+    record {
+      known = known;
+      lone = ap (λ (z : Sizes). z.passes) made.sizes ∙ busy.lone;
+      own = All-push (λ (x : Note). slice_get new.front x.number ≡ Some x.event) notes (record { number = n; event = e })
+          (λ i d h. get_grows new.front old.front _ _ made.front (busy.own i d h)) made.happened;
+      ordered = all_pairs_push (λ (x y : Note). x.number < y.number) notes (record { number = n; event = e }) busy.ordered
+          (λ i d h. omega (arith, slice_get_within old.front _ _ (busy.own i d h), made.low));
+      room = omega (arith, busy.room, longer, one);
+      few = omega (arith, busy.few, longer, one);
+      left = omega (arith, busy.left, made.spare, one);
+    }
+
+-- After the other pass's turn and a call of this one.
+
+pub busy_silent : (old mid new : Sight) (notes : List Note) (capacity spare b a : ℕ) → IsBusy old notes capacity spare b → Went old mid b a
+    → Saw mid new → IsKnown new → IsBusy new notes capacity spare a
+busy_silent old mid new notes capacity spare b a busy went saw known =
+    busy_saw mid new notes capacity spare a (busy_went old mid notes capacity spare b a busy went) saw known
+
+pub busy_pushed : (old mid new : Sight) (notes items : List Note) (capacity room spare spare' b a n : ℕ) (e : Event)
+    → IsBusy old notes capacity spare b → Went old mid b a → MadeEvent mid new n e → IsKnown new
+    → items ≡ notes ++ record { number = n; event = e } ∷ [] → room ≡ capacity → spare ≡ spare' + 1
+    → IsBusy new items room spare' a
+busy_pushed old mid new notes items capacity room spare spare' b a n e busy went made known pushed same one =
+    subst (λ (l : List Note). IsBusy new l room spare' a) (sym pushed)
+    (subst (λ (r : ℕ). IsBusy new (notes ++ record { number = n; event = e } ∷ []) r spare' a) (sym same)
+    (busy_made mid new notes capacity spare spare' a n e (busy_went old mid notes capacity spare b a busy went) made known one))
+
+pub touch_made : (id : ℕ) (d : Direction) (segment : Segment) (moment : ℕ) (mid new : Sight) (n : ℕ) (before : Record) (later : Part)
+    → Touches id d segment moment mid new n before → step_of before.part d segment moment ≡ Accept later
+    → MadeEvent mid new n (Touch before.id d segment moment later)
+touch_made id d segment moment mid new n before later says step =
+    subst (λ i. MadeEvent mid new n (Touch i d segment moment later)) (sym (has_id_of id (after new.front n) before says.found.fact))
+    (subst (λ (p : Part). MadeEvent mid new n (Touch id d segment moment p)) (accepted says.after later (sym says.step ∙ step)) says.made)
+
+pub kill_made : (id : ℕ) (w : Why) (mid new : Sight) (n : ℕ) (subject : Record) → Destroys id w mid new n subject
+    → MadeEvent mid new n (Destroy subject.id w)
+kill_made id w mid new n subject says =
+    subst (λ i. MadeEvent mid new n (Destroy i w)) (sym (has_id_of id (after new.front n) subject says.found.fact)) says.made
+
+pub touched_went : (place : ℕ) (old mid new : Sight) (notes items : List Note) (spare spare' b a : ℕ) (d : Direction) (segment : Segment)
+    (moment n : ℕ) (before : Record) (later : Part) → Went old mid b a → old.sizes.passes ≡ 1
+    → Touches (held_id place mid.held) d segment moment mid new n before → step_of before.part d segment moment ≡ Accept later
+    → items ≡ notes ++ record { number = n; event = Touch before.id d segment moment later } ∷ [] → spare ≡ spare' + 1
+    → Touches (held_id place old.held) d segment moment (seen_by old notes spare) (seen_by new items spare') n before
+touched_went place old mid new notes items spare spare' b a d segment moment n before later went lone says step pushed one =
+    subst (λ (l : List Note). Touches (held_id place old.held) d segment moment (seen_by old notes spare) (seen_by new l spare') n before)
+    (sym pushed)
+    (moved_touched old mid.front mid.own mid.spare went.front lone new notes spare (held_id place old.held) d segment moment n spare' before later
+    (subst (λ (m : Sight). Touches (held_id place m.held) d segment moment m new n before) (moved_by old mid b a went) says) step one)
+
+pub killed_went : (place : ℕ) (old mid new : Sight) (notes items : List Note) (spare spare' b a : ℕ) (w : Why) (n : ℕ)
+    (subject : Record) → Went old mid b a → old.sizes.passes ≡ 1 → Destroys (held_id place mid.held) w mid new n subject
+    → items ≡ notes ++ record { number = n; event = Destroy subject.id w } ∷ [] → spare ≡ spare' + 1
+    → Destroys (held_id place old.held) w (seen_by old notes spare) (seen_by new items spare') n subject
+killed_went place old mid new notes items spare spare' b a w n subject went lone says pushed one =
+    subst (λ (l : List Note). Destroys (held_id place old.held) w (seen_by old notes spare) (seen_by new l spare') n subject)
+    (sym pushed)
+    (moved_killed old mid.front mid.own mid.spare went.front lone new notes spare (held_id place old.held) w n spare' subject
+    (subst (λ (m : Sight). Destroys (held_id place m.held) w m new n subject) (moved_by old mid b a went) says) one)
+
+-- an event of this pass after the other's turn
+pub made_went : (old mid new : Sight) (notes items : List Note) (spare spare' b a n : ℕ) (e : Event) → Went old mid b a
+    → old.sizes.passes ≡ 1 → MadeEvent mid new n e → SamePlaces mid new
+    → items ≡ notes ++ record { number = n; event = e } ∷ [] → spare ≡ spare' + 1
+    → MadeEvent (seen_by old notes spare) (seen_by new items spare') n e × SamePlaces (seen_by old notes spare) (seen_by new items spare')
+made_went old mid new notes items spare spare' b a n e went lone event same pushed one =
+    subst (λ (l : List Note). MadeEvent (seen_by old notes spare) (seen_by new l spare') n e
+    × SamePlaces (seen_by old notes spare) (seen_by new l spare')) (sym pushed)
+    (moved_made old mid.front mid.own mid.spare went.front lone new notes spare spare' n e
+    (subst (λ (m : Sight). MadeEvent m new n e) (moved_by old mid b a went) event)
+    (subst (λ (m : Sight). SamePlaces m new) (moved_by old mid b a went) same) one)
+
+-- the id of what was read is that for which the place is held
+pub read_id : (place : ℕ) (mid seen : Sight) (subject : Record) (at : ℕ) → PeekSays place mid seen (peek.Seen subject at)
+    → held_id place seen.held ≡ subject.id
+read_id place mid seen subject at says =
+    ap (held_id place) says.1.held
+    ∙ sym (has_id_of (held_id place mid.held) (after seen.front at) subject says.0.fact.fact)
+
+pub expect_made : (place : ℕ) (want : Want) (moment : ℕ) (mid seen new : Sight) (subject : Record) (at id : ℕ) (replaced : Option ℕ)
+    → PeekSays place mid seen (peek.Seen subject at) → ExpectSays place want moment seen new (expect.Expected id replaced)
+    → MadeEvent seen new id (Expect (expectation_at id subject.id want moment) replaced moment)
+expect_made place want moment mid seen new subject at id replaced read says =
+    subst (λ m. MadeEvent seen new id (Expect (expectation_at id m want moment) replaced moment))
+    (read_id place mid seen subject at read) says.0
+
+-- the note of what is expected
+pub expect_noted : (items notes : List Note) (id : ℕ) (noted e : Expectation) (replaced : Option ℕ) (moment : ℕ)
+    → items ≡ notes ++ record { number = id; event = Expect noted replaced moment } ∷ [] → noted ≡ e
+    → items ≡ notes ++ record { number = id; event = Expect e replaced moment } ∷ []
+expect_noted items notes id noted e replaced moment pushed same =
+    pushed ∙ ap (λ (x : Expectation). notes ++ record { number = id; event = Expect x replaced moment } ∷ []) same
+
+pub expected_went : (place : ℕ) (want : Want) (moment : ℕ) (old mid seen new : Sight) (notes items : List Note) (spare spare' b a : ℕ)
+    (subject : Record) (at id : ℕ) (replaced : Option ℕ) → Went old mid b a → old.sizes.passes ≡ 1 → IsKnown seen
+    → PeekSays place mid seen (peek.Seen subject at) → ExpectSays place want moment seen new (expect.Expected id replaced)
+    → items ≡ notes ++ record { number = id; event = Expect (expectation_at id subject.id want moment) replaced moment } ∷ []
+    → spare ≡ spare' + 1
+    → MakesExpect (held_id place old.held) want moment (seen_by old notes spare) (seen_by new items spare') id replaced
+expected_went place want moment old mid seen new notes items spare spare' b a subject at id replaced went lone known read says pushed one =
+    let named : subject.id ≡ held_id place old.held =
+    sym (read_id place mid seen subject at read) ∙ ap (held_id place) (read.1.held ∙ went.held) in
+    subst (λ m. MakesExpect m want moment (seen_by old notes spare) (seen_by new items spare') id replaced) named
+    (made_went old seen new notes items spare spare' b a id (Expect (expectation_at id subject.id want moment) replaced moment)
+    (went_then old mid seen b a went read.0.saw read.1 known) lone
+    (expect_made place want moment mid seen new subject at id replaced read says) says.1 pushed one)
+
+-- an entry that has the helper is one that has it when the history goes on
+helped_grows : (id : ℕ) (log front : List Event) → StartsWith log front → is_helped_entry id front ≡ true → is_helped_entry id log ≡ true
+helped_grows id log front start helped = by_event (slice_get front id) refl helped
+  where
+    by_event : (o : Option Event) → slice_get front id ≡ o → has_helper (confirmed_by o) ≡ true → is_helped_entry id log ≡ true
+    by_event None same helped = cc
+    by_event (Some e) same helped = ap (λ (x : Option Event). has_helper (confirmed_by x)) (get_grows log front id e start same) ∙ helped
+
+pub still_helped : (place : ℕ) (old mid seen : Sight) (b a : ℕ) → Went old mid b a → Saw mid seen → SamePlaces mid seen
+    → is_helped_entry (held_id place old.held) old.front ≡ true → is_helped_entry (held_id place seen.held) seen.front ≡ true
+still_helped place old mid seen b a went saw same helped =
+    subst (λ (held : List Hold). is_helped_entry (held_id place held) seen.front ≡ true) (sym (same.held ∙ went.held))
+    (helped_grows (held_id place old.held) seen.front old.front (starts_trans seen.front mid.front old.front saw.front went.front) helped)
+
+pub one_less : (seen : Sight) (spare : ℕ) → spare ≡ seen.spare → 1 ≤ seen.spare → spare ≡ (spare - 1) + 1
+one_less seen spare same some = omega (arith, same, some)
+
+-- A call that makes no event of this pass.
+
+pub find_saw : (t : Tuple) (old new : Sight) (r : FindOutcome) → FindSays t old new r → Saw old new
+find_saw t old new (find.Found place id d at) says = says.0.saw
+find_saw t old new (find.Absent at) says = says.0.saw
+
+pub peek_saw : (place : ℕ) (old new : Sight) (r : PeekOutcome) → PeekSays place old new r → Saw old new
+peek_saw place old new (peek.Seen subject at) says = says.0.saw
+peek_saw place old new (peek.Gone at) says = says.0.saw
+
+pub hold_saw : (place : ℕ) (old new : Sight) (r : HoldOutcome) → HoldSays place old new r → Saw old new
+hold_saw place old new (hold.Held id at) says = says.0.saw
+hold_saw place old new (hold.Empty at) says = says.0.saw
+
+pub release_saw : (place : ℕ) (old new : Sight) (r : ReleaseOutcome) → ReleaseSays place old new r → Saw old new
+release_saw place old new release.Kept says = says.saw
+release_saw place old new release.Last says = says.saw
+
+-- what this pass knows after such a call
+pub known_saw : (old new : Sight) (notes : List Note) (capacity spare a : ℕ) → IsBusy old notes capacity spare a → Saw old new
+    → IsKnown new → IsKnown (seen_by new notes spare)
+known_saw old new notes capacity spare a busy saw known =
+    known_seen new notes capacity spare a (busy_saw old new notes capacity spare a busy saw known)

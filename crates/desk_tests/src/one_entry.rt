@@ -1,0 +1,84 @@
+//! Packets over a desk of one entry, which is ended by hand between them.
+
+ghost use Rattle.std.specs.Prelude.{◌≡◌, ◌+◌, ◌≤◌, ◌^◌};
+ghost use Rattle.history_book.specs.Sizes.{AreWithinLimits};
+
+use book_desk::desk::PlainDesk;
+use history_book::desk::Desk;
+use history_book::event::Why;
+use history_book::outcome::{HoldOutcome, KillOutcome, ReleaseOutcome};
+use history_book::sizes::Sizes;
+use history_book::verdict::Class;
+use nat_setup::rule::Rules;
+use packet_headers::frame::{Frame, Link};
+use packet_path::handle::handle;
+use packet_path::setup::{Ports, Setup};
+use std::test::Fail;
+
+/// A query of UDP from 10.0.0.1:5000 to 10.0.0.2:53.
+const QUERY: [u8; 32] = [
+    0x45, 0, 0, 0x20, 0, 0, 0, 0, 0x40, 0x11, 0, 0, 10, 0, 0, 1, 10, 0, 0, 2, 0x13, 0x88, 0, 0x35,
+    0, 0x0c, 0, 0, 0, 0, 0, 0,
+];
+
+/// A query of UDP from 10.0.0.3:5000 to 10.0.0.2:53.
+const ANOTHER: [u8; 32] = [
+    0x45, 0, 0, 0x20, 0, 0, 0, 0, 0x40, 0x11, 0, 0, 10, 0, 0, 3, 10, 0, 0, 2, 0x13, 0x88, 0, 0x35,
+    0, 0x0c, 0, 0, 0, 0, 0, 0,
+];
+
+/// A pool of one place.
+fn sizes() -> Sizes
+    ensures { AreWithinLimits result }
+{
+    Sizes {
+        entries: 1,
+        buckets: 1,
+        seed: 1,
+        passes: 1,
+        expectations: 0,
+    }
+}
+
+/// The frame of 32 bytes at this moment, in microseconds.
+fn frame(moment: u32) -> Frame
+    ensures inside { result.start + result.captured ≡ 32 }
+    ensures timely { result.moment ≤ 10 ^ 16 }
+{
+    Frame {
+        moment: u64::from(moment),
+        start: 0,
+        captured: 32,
+        original: 32,
+        link: Link::Raw,
+    }
+}
+
+#[test]
+fn an_entry_ended_by_hand_makes_room(rt: HostRuntime) -> Result<(), Fail> {
+    let mut desk = PlainDesk::new(rt.alloc(), sizes())?;
+    desk.ready(64)?;
+    let setup = Setup {
+        rules: Rules::new(rt.alloc(), 0)?,
+        ftp: Ports::new(rt.alloc(), 0)?,
+    };
+    let first = handle(&rt, &mut desk, &QUERY, &frame(1_000_000), &setup)?;
+    assert!(rt; matches!(first.class, Class::Made { id: 0, at: 1, .. }));
+    let full = handle(&rt, &mut desk, &ANOTHER, &frame(2_000_000), &setup)?;
+    assert!(rt; matches!(full.class, Class::Full { at: 1 }));
+    let HoldOutcome::Held { id, at } = desk.hold(&rt, 0) else {
+        panic!(rt; "the place is empty");
+    };
+    assert_eq!(rt; (id, at), (0, 1));
+    let why = Why::Expired { moment: 31_000_000 };
+    let killed = desk.kill(&rt, 0, why);
+    assert!(rt; matches!(killed, KillOutcome::Killed { number: 1, .. }));
+    let ReleaseOutcome::Last = desk.release(&rt, 0) else {
+        panic!(rt; "the place is kept");
+    };
+    desk.recycle(&rt, 0);
+    let again = handle(&rt, &mut desk, &ANOTHER, &frame(32_000_000), &setup)?;
+    assert!(rt; matches!(again.class, Class::Made { id: 2, at: 3, .. }));
+    assert_eq!(rt; (again.first, again.made), (2, 1));
+    Ok(())
+}
