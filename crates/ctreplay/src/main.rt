@@ -1,4 +1,5 @@
-//! Replays a capture through the connection tracker, and prints every event and one verdict per packet.
+//! Replays captures through the connection tracker and performs the commands of a script, and prints every event, one
+//! verdict per packet and one answer per command.
 #![tactic(auto)]
 
 use ct_io::{NoGate, StdFiles, StdSink};

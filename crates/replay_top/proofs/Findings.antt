@@ -1,187 +1,301 @@
 -- What the inputs are decides how a run ends.
-use Rattle.std.proofs.Common.{◌≡◌, ℕ, zero, suc, Option, Some, None, List, [], ◌∷◌, refl, sym, ap, subst, inl, inr, arith}
-use Rattle.std.specs.Option.{option_map_or}
-use Rattle.std.specs.Prelude.{IfSome, IsSomeAnd}
-use Rattle.std.proofs.lemmas.Bool.{cases_order}
+use Rattle.std.proofs.Common.{◌≡◌, ℕ, ◌<◌, zero, suc, Option, Some, None, Ok, Err, List, [], ◌∷◌, length, refl, sym, ap, subst, ◌∙◌, inl, inr, arith}
+use Rattle.std.specs.Prelude.{IfSome}
+use Rattle.command_words.specs.Words.{asked_of, Request}
+use Rattle.command_words.specs.declared.WordsError.{WordsError}
+use Rattle.command_words.specs.declared.WordsError.TheVariants as unasked
+use Rattle.command_words.specs.declared.WordsLimit.{WordsLimit}
 use Rattle.ct_io.specs.Counts.{Rose}
 use Rattle.ct_io.specs.Source.{Source}
 use Rattle.ct_io.specs.Tape.{Tape}
-use Rattle.packet_path.specs.Packet.{Given}
 use Rattle.history_book.specs.declared.report.Report.{Report}
-use Rattle.nat_setup.specs.declared.rule.Rule.{Rule}
-use Rattle.replay_top.specs.declared.flaw.FileKind.TheVariants as kind
 use Rattle.replay_top.specs.declared.flaw.Flaw.{Flaw}
-use Rattle.replay_top.specs.declared.flaw.Flaw.TheVariants.{Capture, Rules, TooLong}
+use Rattle.replay_top.specs.declared.flaw.Flaw.TheVariants as flaw
 use Rattle.replay_top.specs.declared.flaw.Refusal.{Refusal}
-use Rattle.replay_top.specs.declared.flaw.Refusal.TheVariants.{Flawed, Misused, NoMemory, NotOpened, NotRead}
-use Rattle.replay_top.specs.Causes.{Answers, FilesFailed, HasCause, OthersStand, OthersStandBeside, refusal_status}
-use Rattle.replay_top.specs.Flaw.{flaw_status, HasFlaw, IsRead}
-use Rattle.replay_top.specs.Inputs.{AreAllRead, clean, Finding, Finds, FirstFlaw, flawed, IsFlawed, misused, ReadsWell}
-use Rattle.replay_top.specs.Internal.Ending.{HasCauseAt}
-use Rattle.replay_top.specs.Laws.{FlawsAreUnique, ReadFilesHaveNoFlaw}
-use Rattle.replay_top.specs.Replay.{GaveEach, GaveRules, GaveRulesOf, IsReplay}
-use Rattle.replay_top.specs.Words.{Command, command_of, file_at, files_named, files_of, files_of_kind, InputFile, Named}
+use Rattle.replay_top.specs.declared.flaw.Refusal.TheVariants.{Flawed, Misused, NoMemory, NotOpened, NotRead, PastLimit}
+use Rattle.replay_top.specs.Causes.{StatusFits, FailedToOpen, FilesFailed, HasCause, OthersStand, OthersStandBeside, refusal_status}
+use Rattle.replay_top.specs.Content.{Content, totals_with, IsRead, no_totals, Totals}
+use Rattle.replay_top.specs.ErrorLine.{line_of}
+use Rattle.replay_top.specs.Flaw.{flaw_status, HasFlaw}
+use Rattle.replay_top.specs.Inputs.{AreGiven, AreRead, AreReadFrom, AreTold, clean, Finding, Finds, FirstFlaw, FirstFlawFrom, flawed, misused, past, ReachesFrom}
+use Rattle.replay_top.specs.Internal.Ending.{line_about, name_among, refusal_for}
+use Rattle.replay_top.specs.Internal.Reading.{HasCauseFrom}
+use Rattle.replay_top.specs.Laws.{ContentsAreUnique, FlawsAreUnique, ReadFilesHaveNoFlaw}
+use Rattle.replay_top.specs.Replay.{IsReplay, IsReplayOf}
+use Rattle.replay_top.specs.Files.{file_at, files_asked, files_named, files_of, InputFile, AskFor}
 
--- what holds of the bytes that were handed over holds of the contents, where they are told
-pub told_of : (told : Option (List ℕ)) (bytes : List ℕ) (P : List ℕ → Type 0) → IfSome told (λ c. bytes ≡ c) → P bytes → IfSome told P
-told_of None bytes P same of = tt
-told_of (Some contents) bytes P same of = subst P same of
+-- ---- bytes that are told
 
--- the cause of a refusal, where the words ask for this command
-pub has_cause : (words : List (List ℕ)) (command : Command) (files files' : Source) (why : Refusal) → command_of words ≡ Some command
-    → HasCauseAt command files files' why → HasCause words files files' why
-has_cause words command files files' Misused asked cause = absurd cause
-has_cause words command files files' (Flawed file flaw) asked cause = record { command = command; asked = asked; holds = cause }
-has_cause words command files files' (NotOpened file) asked cause = record { command = command; asked = asked; holds = cause }
-has_cause words command files files' (NotRead file) asked cause = record { command = command; asked = asked; holds = cause }
-has_cause words command files files' NoMemory asked cause = tt
+-- lists of bytes are the same as far as both go
+abbrev pub Agree : List (List ℕ) → List (List ℕ) → Type 0
+Agree [] others = Unit {0}
+Agree (b ∷ bytes) [] = Unit {0}
+Agree (b ∷ bytes) (o ∷ others) = (b ≡ o) × Agree bytes others
 
-not_three : (flaw : Flaw) → flaw_status flaw ≡ 3 → ⊥
-not_three (TooLong kind) three = omega (arith, three)
-not_three (Rules fault) three = omega (arith, three)
-not_three (Capture fault) three = omega (arith, three)
+agree_sym : (bytes others : List (List ℕ)) → Agree bytes others → Agree others bytes
+agree_sym [] [] same = tt
+agree_sym [] (o ∷ others) same = tt
+agree_sym (b ∷ bytes) [] same = tt
+agree_sym (b ∷ bytes) (o ∷ others) same = (sym same.0, agree_sym bytes others same.1)
 
--- what stands beside the files of the command stands beside those that the words name
-pub others_named : (words : List (List ℕ)) (command : Command) (files files' : Source) → command_of words ≡ Some command
-    → OthersStandBeside (files_of command) files files' → OthersStand words files files'
-others_named words command files files' asked stand =
-    let same : files_named words ≡ files_of command = ap (λ (o : Option Command). option_map_or files_of o []) asked in
-    subst (λ (inputs : List InputFile). OthersStandBeside inputs files files') (sym same) stand
+-- what is given of contents is what is told of them
+given_told : (told : Option (List ℕ)) (b o : List ℕ) → IfSome told (λ contents. b ≡ contents) → told ≡ Some o → b ≡ o
+given_told None b o given is = absurd (subst (λ (t : Option (List ℕ)). IfSome t (λ contents. ⊥)) is tt)
+given_told (Some contents) b o given is =
+    given ∙ subst (λ (t : Option (List ℕ)). IfSome t (λ found. contents ≡ found)) is refl
+
+pub agree : (files : Source) (inputs : List InputFile) (bytes others : List (List ℕ)) → AreGiven files inputs bytes
+    → AreTold files inputs others → Agree bytes others
+agree files inputs [] others given told = tt
+agree files inputs (b ∷ bytes) [] given told = tt
+agree files [] (b ∷ bytes) (o ∷ others) given told = absurd given
+agree files (input ∷ inputs) (b ∷ bytes) (o ∷ others) given told =
+    (given_told (files.contents input.name) b o given.0 told.0, agree files inputs bytes others given.1 told.1)
+
+-- ---- of files with such bytes, one thing holds
+
+module _ (clean_files : ReadFilesHaveNoFlaw) (one : ContentsAreUnique) where
+  -- files that are all read have no first flaw
+  pub read_clean : (before : Totals) (inputs : List InputFile) (bytes others : List (List ℕ)) (contents : List Content) (k : ℕ) (f : Flaw)
+      → Agree bytes others → AreReadFrom before inputs bytes contents → FirstFlawFrom before inputs others k f → ⊥
+  read_clean before [] bytes others contents k f same read found = found
+  read_clean before (input ∷ inputs) [] others contents k f same read found = read
+  read_clean before (input ∷ inputs) (b ∷ bytes) others [] k f same read found = read
+  read_clean before (input ∷ inputs) (b ∷ bytes) [] (c ∷ contents) k f same read found = found
+  read_clean before (input ∷ inputs) (b ∷ bytes) (o ∷ others) (c ∷ contents) zero f same read found =
+      clean_files input.kind before o c f (subst (λ x. IsRead input.kind before x c) same.0 read.0) found
+  read_clean before (input ∷ inputs) (b ∷ bytes) (o ∷ others) (c ∷ contents) (suc k) f same read found =
+      let here : IsRead input.kind before o c = subst (λ x. IsRead input.kind before x c) same.0 read.0 in
+      let content : c ≡ found.0 = one input.kind before o c found.0 here found.1 in
+      let total : totals_with before b c ≡ totals_with before o found.0 = rw (same.0, content) refl in
+      read_clean (totals_with before o found.0) inputs bytes others contents k f same.1
+      (subst (λ (t : Totals). AreReadFrom t inputs bytes contents) total read.1) found.2
+
+  -- there is one first flaw
+  pub one_first : FlawsAreUnique → (before : Totals) (inputs : List InputFile) (bytes others : List (List ℕ)) (k l : ℕ) (f g : Flaw)
+      → Agree bytes others → FirstFlawFrom before inputs bytes k f → FirstFlawFrom before inputs others l g → f ≡ g
+  one_first unique before [] bytes others k l f g same found also = absurd found
+  one_first unique before (input ∷ inputs) [] others k l f g same found also = absurd found
+  one_first unique before (input ∷ inputs) (b ∷ bytes) [] k l f g same found also = absurd also
+  one_first unique before (input ∷ inputs) (b ∷ bytes) (o ∷ others) zero zero f g same found also =
+      unique input.kind before o f g (subst (λ x. HasFlaw input.kind before x f) same.0 found) also
+  one_first unique before (input ∷ inputs) (b ∷ bytes) (o ∷ others) zero (suc l) f g same found also =
+      absurd (clean_files input.kind before o also.0 f also.1 (subst (λ x. HasFlaw input.kind before x f) same.0 found))
+  one_first unique before (input ∷ inputs) (b ∷ bytes) (o ∷ others) (suc k) zero f g same found also =
+      absurd (clean_files input.kind before o found.0 g (subst (λ x. IsRead input.kind before x found.0) same.0 found.1) also)
+  one_first unique before (input ∷ inputs) (b ∷ bytes) (o ∷ others) (suc k) (suc l) f g same found also =
+      let here : IsRead input.kind before o found.0 = subst (λ x. IsRead input.kind before x found.0) same.0 found.1 in
+      let content : found.0 ≡ also.0 = one input.kind before o found.0 also.0 here also.1 in
+      let total : totals_with before b found.0 ≡ totals_with before o also.0 = rw (same.0, content) refl in
+      one_first unique (totals_with before o also.0) inputs bytes others k l f g same.1
+      (subst (λ (t : Totals). FirstFlawFrom t inputs bytes k f) total found.2) also.2
+
+-- ---- causes
+
+-- what is reached is one of the files
+reached_within : (before : Totals) (inputs : List InputFile) (bytes : List (List ℕ)) (k : ℕ) → ReachesFrom before inputs bytes k → k < length inputs
+reached_within before [] bytes k reached = absurd reached
+reached_within before (input ∷ inputs) bytes zero reached = omega arith
+reached_within before (input ∷ inputs) [] (suc k) reached = absurd reached
+reached_within before (input ∷ inputs) (b ∷ bytes) (suc k) reached =
+    omega (arith, reached_within (totals_with before b reached.0) inputs bytes k reached.2)
+
+module _ (words : List (List ℕ)) (asked : Request) (says : asked_of words ≡ Ok asked) where
+  -- the cause of a refusal of what is asked for is the run's
+  pub has_cause : (files files' : Source) (why : Refusal) → HasCauseFrom no_totals 0 (files_of asked) files files' why → HasCause words files files' why
+  has_cause files files' Misused cause = absurd cause
+  has_cause files files' (PastLimit limit) cause = absurd cause
+  has_cause files files' (Flawed file f) cause =
+      let same : cause.index ≡ file = omega (arith, cause.number) in
+      record {
+        asked = asked;
+        says = says;
+        holds = record {
+          bytes = cause.bytes;
+          given = cause.given;
+          first = subst (λ k. FirstFlawFrom no_totals (files_of asked) cause.bytes k f) same cause.found;
+        };
+      }
+  has_cause files files' (NotOpened file) cause =
+      let same : cause.index ≡ file = omega (arith, cause.number) in
+      record {
+        asked = asked;
+        says = says;
+        holds = record {
+          reached = record {
+            bytes = cause.bytes;
+            given = cause.given;
+            reached = subst (λ k. ReachesFrom no_totals (files_of asked) cause.bytes k) same cause.reached;
+          };
+          rose = subst (λ k. FailedToOpen files files' (file_at (files_of asked) k)) same cause.holds;
+        };
+      }
+  has_cause files files' (NotRead file) cause =
+      let same : cause.index ≡ file = omega (arith, cause.number) in
+      record {
+        asked = asked;
+        says = says;
+        holds = record {
+          reached = record {
+            bytes = cause.bytes;
+            given = cause.given;
+            reached = subst (λ k. ReachesFrom no_totals (files_of asked) cause.bytes k) same cause.reached;
+          };
+          rose = cause.holds;
+        };
+      }
+  has_cause files files' NoMemory cause = tt
+
+  same_files : files_named words ≡ files_of asked
+  same_files = ap files_asked says
+
+  -- what stands beside the files that are asked for stands beside those that the words name
+  pub others_named : (files files' : Source) → OthersStandBeside (files_of asked) files files' → OthersStand words files files'
+  others_named files files' stand =
+      subst (λ (inputs : List InputFile). OthersStandBeside inputs files files') (sym same_files) stand
+
+  -- the line
+  pub line_named : (why : Refusal) → line_of words why ≡ line_about (name_among (files_of asked) why) why
+  line_named why = line_by why ∙ ap (λ (inputs : List InputFile). line_about (name_among inputs why) why) same_files where
+    line_by : (why : Refusal) → line_of words why ≡ line_about (name_among (files_named words) why) why
+    line_by Misused = refl
+    line_by (PastLimit limit) = refl
+    line_by (Flawed file f) = refl
+    line_by (NotOpened file) = refl
+    line_by (NotRead file) = refl
+    line_by NoMemory = refl
+
+-- why words ask for nothing
+abbrev pub CauseOf : List (List ℕ) → WordsError → Type 0
+CauseOf words unasked.Usage = asked_of words ≡ Err unasked.Usage
+CauseOf words (unasked.Limit limit) = asked_of words ≡ Err (unasked.Limit limit)
+CauseOf words unasked.NoMemory = Unit {0}
+
+-- the cause of a refusal of words that ask for nothing
+pub words_cause : (words : List (List ℕ)) (error : WordsError) (files files' : Source) → CauseOf words error → HasCause words files files' (refusal_for error)
+words_cause words unasked.Usage files files' cause = cause
+words_cause words (unasked.Limit limit) files files' cause = cause
+words_cause words unasked.NoMemory files files' cause = tt
+
+-- its line names no file
+pub words_line : (words : List (List ℕ)) (error : WordsError) → line_of words (refusal_for error) ≡ line_about [] (refusal_for error)
+words_line words unasked.Usage = refl
+words_line words (unasked.Limit limit) = refl
+words_line words unasked.NoMemory = refl
+
+-- its status is not that of a failure
+pub words_status : (error : WordsError) → refusal_status (refusal_for error) ≡ 3 → ⊥
+words_status unasked.Usage three = omega (arith, three)
+words_status (unasked.Limit limit) three = omega (arith, three)
+words_status unasked.NoMemory three = omega (arith, three)
+
+not_three : (f : Flaw) → flaw_status f ≡ 3 → ⊥
+not_three (flaw.TooLong kind) three = omega (arith, three)
+not_three flaw.AllTooLong three = omega (arith, three)
+not_three (flaw.Rules fault) three = omega (arith, three)
+not_three (flaw.Script fault) three = omega (arith, three)
+not_three (flaw.Capture fault) three = omega (arith, three)
+not_three flaw.TooManyPackets three = omega (arith, three)
 
 -- the status 3 comes of a failure of the files
 pub failed_files : (words : List (List ℕ)) (files files' : Source) (why : Refusal) → HasCause words files files' why
     → refusal_status why ≡ 3 → FilesFailed words files files'
 failed_files words files files' Misused cause three = absurd (omega (arith, three))
-failed_files words files files' (Flawed file flaw) cause three = absurd (not_three flaw three)
+failed_files words files files' (PastLimit limit) cause three = absurd (omega (arith, three))
+failed_files words files files' (Flawed file f) cause three = absurd (not_three f three)
 failed_files words files files' (NotOpened file) cause three = inl (record {
-  command = cause.command;
   asked = cause.asked;
-  holds = (file, cause.holds.reached.within, cause.holds.rose);
+  says = cause.says;
+  holds = (
+    file,
+    reached_within no_totals (files_of cause.asked) cause.holds.reached.bytes file cause.holds.reached.reached,
+    cause.holds.rose,
+  );
 })
 failed_files words files files' (NotRead file) cause three = inr cause.holds.rose
 failed_files words files files' NoMemory cause three = absurd (omega (arith, three))
 
--- contents that are told and have one fact, and have another where they are told, have both
-both_told : (told : Option (List ℕ)) (P Q : List ℕ → Type 0) (R : Type 0) → IsSomeAnd told P → IfSome told Q
-    → ((bytes : List ℕ) → P bytes → Q bytes → R) → R
-both_told None P Q R is of then = absurd is
-both_told (Some bytes) P Q R is of then = then bytes is of
+-- ---- findings
 
-same_command : (words : List (List ℕ)) (command other : Command) → command_of words ≡ Some command → command_of words ≡ Some other → command ≡ other
-same_command words command other h k = cc
+-- the words ask for one thing
+same_request : (words : List (List ℕ)) (asked other : Request) → asked_of words ≡ Ok asked → asked_of words ≡ Ok other → asked ≡ other
+same_request words asked other h k = cc
 
-not_asked : (words : List (List ℕ)) (command : Command) → command_of words ≡ None → command_of words ≡ Some command → ⊥
-not_asked words command none some = cc
+pub two_errors : (words : List (List ℕ)) (limit : WordsLimit) → asked_of words ≡ Err unasked.Usage → asked_of words ≡ Err (unasked.Limit limit) → ⊥
+two_errors words limit misuse past_one = cc
 
--- each capture is that of a file that is read
-captures_read : (files : Source) (names : List (List ℕ)) (captures : List (List Given)) → GaveEach files names captures
-    → AreAllRead IfSome files (files_of_kind kind.Capture names)
-captures_read files [] [] gave k within = absurd (omega (arith, within))
-captures_read files [] (a ∷ more) gave k within = absurd gave
-captures_read files (name ∷ names) [] gave k within = absurd gave
-captures_read files (name ∷ names) (given ∷ more) (first, others) zero within =
-    told_of (files.contents name) first.bytes (IsRead kind.Capture) first.told (first.frames, first.capture)
-captures_read files (name ∷ names) (given ∷ more) (first, others) (suc k) within =
-    captures_read files names more others k (omega arith)
+pub at_asked : (words : List (List ℕ)) (asked : Request) (P : Request → Type 0) → asked_of words ≡ Ok asked → AskFor words P → P asked
+at_asked words asked P says of = subst P (same_request words of.asked asked of.says says) of.holds
 
--- the rules are those of a file that is read
-pub rules_read : (files : Source) (name : List ℕ) (rules : List Rule) → GaveRulesOf files name rules
-    → ReadsWell IfSome files (record { kind = kind.Rules; name = name })
-rules_read files name rules gave = told_of (files.contents name) gave.bytes (IsRead kind.Rules) gave.told (rules, gave.file)
+pub not_asked : (words : List (List ℕ)) (asked : Request) (error : WordsError) → asked_of words ≡ Err error → asked_of words ≡ Ok asked → ⊥
+not_asked words asked error none some = cc
 
--- all files of a command whose report was made are read
-each_read : (files : Source) (name : Option (List ℕ)) (rules : List Rule) (names : List (List ℕ)) (captures : List (List Given))
-    → GaveRules files name rules → GaveEach files names captures
-    → AreAllRead IfSome files (files_of (record { rules = name; captures = names }))
-each_read files None rules names captures first gave k within = captures_read files names captures gave k within
-each_read files (Some name) rules names captures first gave zero within = rules_read files name rules first
-each_read files (Some name) rules names captures first gave (suc k) within = captures_read files names captures gave k (omega arith)
+module _ (clean_files : ReadFilesHaveNoFlaw) (one : ContentsAreUnique) (unique : FlawsAreUnique) (words : List (List ℕ))
+    (files files' : Source) (out out' : Tape) where
+  -- where a report was made, no file has a flaw
+  replayed_clean : (report : Report) (file : ℕ) (f : Flaw) → IsReplay words files report
+      → AskFor words (λ asked. FirstFlaw AreTold files (files_of asked) file f) → ⊥
+  replayed_clean report file f of first =
+      let replay : IsReplayOf files first.asked report = at_asked words first.asked (λ (asked : Request). IsReplayOf files asked report) first.says of in
+      read_clean clean_files one no_totals (files_of first.asked) replay.bytes first.holds.bytes replay.contents file f
+      (agree files (files_of first.asked) replay.bytes first.holds.bytes replay.given first.holds.given) replay.read first.holds.first
 
-module _ (clean_files : ReadFilesHaveNoFlaw) (unique : FlawsAreUnique) (files : Source) (inputs : List InputFile) where
-  -- files that were all read have no first flaw
-  all_read : (file : ℕ) (flaw : Flaw) → AreAllRead IfSome files inputs → FirstFlaw IsSomeAnd files inputs file flaw → ⊥
-  all_read file flaw all first =
-      let input : InputFile = file_at inputs file in
-      both_told (files.contents input.name) (λ bytes. HasFlaw input.kind bytes flaw) (IsRead input.kind) ⊥ first.has
-      (all file first.reached.within) (λ bytes has read. clean_files input.kind bytes flaw read has)
+  -- where all files are read, none was found to have a flaw
+  clean_unflawed : (file : ℕ) (f : Flaw) → AskFor words (λ asked. FirstFlaw AreGiven files (files_of asked) file f)
+      → AskFor words (λ asked. (contents : List Content) × AreRead files (files_of asked) contents) → ⊥
+  clean_unflawed file f first all =
+      let found : FirstFlaw AreGiven files (files_of all.asked) file f =
+      at_asked words all.asked (λ (asked : Request). FirstFlaw AreGiven files (files_of asked) file f) all.says first in
+      let read = all.holds.1 in
+      read_clean clean_files one no_totals (files_of all.asked) read.bytes found.bytes all.holds.0 file f
+      (agree_sym found.bytes read.bytes (agree files (files_of all.asked) found.bytes read.bytes found.given read.told)) read.read found.first
 
-  -- nor do files that are all read have one
-  none_first : (file : ℕ) (flaw : Flaw) → AreAllRead IsSomeAnd files inputs → FirstFlaw IfSome files inputs file flaw → ⊥
-  none_first file flaw all first =
-      let input : InputFile = file_at inputs file in
-      both_told (files.contents input.name) (IsRead input.kind) (λ bytes. HasFlaw input.kind bytes flaw) ⊥
-      (all file first.reached.within) first.has (λ bytes read has. clean_files input.kind bytes flaw read has)
+  -- the first flaw that was found is the one that is there
+  same_flaw : (k file : ℕ) (f g : Flaw) → AskFor words (λ asked. FirstFlaw AreGiven files (files_of asked) k f)
+      → AskFor words (λ asked. FirstFlaw AreTold files (files_of asked) file g) → f ≡ g
+  same_flaw k file f g first told =
+      let found : FirstFlaw AreGiven files (files_of told.asked) k f =
+      at_asked words told.asked (λ (asked : Request). FirstFlaw AreGiven files (files_of asked) k f) told.says first in
+      one_first clean_files one unique no_totals (files_of told.asked) found.bytes told.holds.bytes k file f g
+      (agree files (files_of told.asked) found.bytes told.holds.bytes found.given told.holds.given) found.first told.holds.first
 
-  -- there is one first flaw
-  one_first : (file other : ℕ) (flaw more : Flaw) → FirstFlaw IsSomeAnd files inputs file flaw
-      → FirstFlaw IfSome files inputs other more → more ≡ flaw
-  one_first file other flaw more first found =
-      let input : InputFile = file_at inputs file in
-      let another : InputFile = file_at inputs other in
-      elim (cases_order file other) [
-        | inl same ↦ both_told (files.contents input.name) (λ bytes. HasFlaw input.kind bytes flaw)
-            (λ bytes. HasFlaw input.kind bytes more) (more ≡ flaw) first.has
-            (subst (λ k. IsFlawed IfSome files (file_at inputs k) more) (sym same) found.has)
-            (λ bytes has also. unique input.kind bytes more flaw also has)
-        | inr (inl below) ↦ absurd (both_told (files.contents input.name) (λ bytes. HasFlaw input.kind bytes flaw) (IsRead input.kind) ⊥ first.has
-            (found.reached.before file below) (λ bytes has read. clean_files input.kind bytes flaw read has))
-        | inr (inr above) ↦ absurd (both_told (files.contents another.name) (IsRead another.kind) (λ bytes. HasFlaw another.kind bytes more) ⊥
-            (first.reached.before other above) found.has (λ bytes read has. clean_files another.kind bytes more read has))
-      ]
-
--- the command is the one that the words ask for
-at_command : (words : List (List ℕ)) (command : Command) (P : Command → Type 0) → command_of words ≡ Some command → Named words P → P command
-at_command words command P asked of = subst P (same_command words of.command command of.asked asked) of.holds
-
-module _ (clean_files : ReadFilesHaveNoFlaw) (unique : FlawsAreUnique) (words : List (List ℕ)) (files files' : Source) (out out' : Tape) where
-  read_all : (report : Report) → IsReplay words files report → Named words (λ command. AreAllRead IfSome files (files_of command))
-  read_all report of = record {
-    command = of.command;
-    asked = of.asked;
-    holds = each_read files of.command.rules of.holds.setup.rules.items of.command.captures of.holds.captures of.holds.gave_rules of.holds.gave;
-  }
-
-  -- where a report was made, the inputs have no flaw
-  replayed_clean : (report : Report) (file : ℕ) (flaw : Flaw) → IsReplay words files report
-      → Named words (λ command. FirstFlaw IsSomeAnd files (files_of command) file flaw) → ⊥
-  replayed_clean report file flaw of first =
-      all_read clean_files unique files (files_of first.command) file flaw
-      (at_command words first.command (λ command. AreAllRead IfSome files (files_of command)) first.asked (read_all report of)) first.holds
-
-  pub answers_done : (report : Report) (found : Finding) → IsReplay words files report → Finds IsSomeAnd words files found
-      → Answers words files files' out out' 0 found
-  answers_done report misused of finds = absurd (not_asked words of.command finds of.asked)
-  answers_done report (flawed file flaw) of finds = absurd (replayed_clean report file flaw of finds)
+  pub answers_done : (report : Report) (found : Finding) → IsReplay words files report → Finds words files found
+      → StatusFits words files files' out out' 0 found
+  answers_done report misused of finds = absurd (not_asked words of.asked unasked.Usage finds of.says)
+  answers_done report (past limit) of finds = absurd (not_asked words of.asked (unasked.Limit limit) finds of.says)
+  answers_done report (flawed file f) of finds = absurd (replayed_clean report file f of finds)
   answers_done report clean of finds = inl (inl refl)
 
   pub answers_not_written : (report : Report) (found : Finding) → IsReplay words files report → Rose out.faults out'.faults
-      → Finds IsSomeAnd words files found → Answers words files files' out out' 4 found
-  answers_not_written report misused of rose finds = absurd (not_asked words of.command finds of.asked)
-  answers_not_written report (flawed file flaw) of rose finds = absurd (replayed_clean report file flaw of finds)
+      → Finds words files found → StatusFits words files files' out out' 4 found
+  answers_not_written report misused of rose finds = absurd (not_asked words of.asked unasked.Usage finds of.says)
+  answers_not_written report (past limit) of rose finds = absurd (not_asked words of.asked (unasked.Limit limit) finds of.says)
+  answers_not_written report (flawed file f) of rose finds = absurd (replayed_clean report file f of finds)
   answers_not_written report clean of rose finds = inr (inr (refl, rose))
 
-  pub answers_refused : (why : Refusal) (found : Finding) → HasCause words files files' why → Finds IsSomeAnd words files found
-      → Answers words files files' out out' (refusal_status why) found
+  pub answers_refused : (why : Refusal) (found : Finding) → HasCause words files files' why → Finds words files found
+      → StatusFits words files files' out out' (refusal_status why) found
   answers_refused Misused misused cause finds = inl refl
-  answers_refused Misused (flawed file flaw) cause finds = absurd (not_asked words finds.command cause finds.asked)
-  answers_refused Misused clean cause finds = absurd (not_asked words finds.command cause finds.asked)
-  answers_refused (Flawed k f) misused cause finds = absurd (not_asked words cause.command finds cause.asked)
-  answers_refused (Flawed k f) (flawed file flaw) cause finds =
-      inl (inl (ap flaw_status (one_first clean_files unique files (files_of finds.command) file k flaw f finds.holds
-      (at_command words finds.command (λ command. FirstFlaw IfSome files (files_of command) k f) finds.asked cause))))
-  answers_refused (Flawed k f) clean cause finds =
-      absurd (none_first clean_files unique files (files_of finds.command) k f finds.holds
-      (at_command words finds.command (λ command. FirstFlaw IfSome files (files_of command) k f) finds.asked cause))
-  answers_refused (NotOpened k) misused cause finds = absurd (not_asked words cause.command finds cause.asked)
-  answers_refused (NotOpened k) (flawed file flaw) cause finds =
-      inr (refl, failed_files words files files' (NotOpened k) cause refl)
-  answers_refused (NotOpened k) clean cause finds =
-      inr (inl (refl, failed_files words files files' (NotOpened k) cause refl))
-  answers_refused (NotRead k) misused cause finds = absurd (not_asked words cause.command finds cause.asked)
-  answers_refused (NotRead k) (flawed file flaw) cause finds =
-      inr (refl, failed_files words files files' (NotRead k) cause refl)
-  answers_refused (NotRead k) clean cause finds =
-      inr (inl (refl, failed_files words files files' (NotRead k) cause refl))
+  answers_refused Misused (past limit) cause finds = absurd (two_errors words limit cause finds)
+  answers_refused Misused (flawed file g) cause finds = absurd (not_asked words finds.asked unasked.Usage cause finds.says)
+  answers_refused Misused clean cause finds = absurd (not_asked words finds.asked unasked.Usage cause finds.says)
+  answers_refused (PastLimit l) misused cause finds = absurd (two_errors words l finds cause)
+  answers_refused (PastLimit l) (past limit) cause finds = inl refl
+  answers_refused (PastLimit l) (flawed file g) cause finds = absurd (not_asked words finds.asked (unasked.Limit l) cause finds.says)
+  answers_refused (PastLimit l) clean cause finds = absurd (not_asked words finds.asked (unasked.Limit l) cause finds.says)
+  answers_refused (Flawed k f) misused cause finds = absurd (not_asked words cause.asked unasked.Usage finds cause.says)
+  answers_refused (Flawed k f) (past limit) cause finds = absurd (not_asked words cause.asked (unasked.Limit limit) finds cause.says)
+  answers_refused (Flawed k f) (flawed file g) cause finds = inl (inl (ap flaw_status (same_flaw k file f g cause finds)))
+  answers_refused (Flawed k f) clean cause finds = absurd (clean_unflawed k f cause finds)
+  answers_refused (NotOpened k) misused cause finds = absurd (not_asked words cause.asked unasked.Usage finds cause.says)
+  answers_refused (NotOpened k) (past limit) cause finds = absurd (not_asked words cause.asked (unasked.Limit limit) finds cause.says)
+  answers_refused (NotOpened k) (flawed file g) cause finds = inr (refl, failed_files words files files' (NotOpened k) cause refl)
+  answers_refused (NotOpened k) clean cause finds = inr (inl (refl, failed_files words files files' (NotOpened k) cause refl))
+  answers_refused (NotRead k) misused cause finds = absurd (not_asked words cause.asked unasked.Usage finds cause.says)
+  answers_refused (NotRead k) (past limit) cause finds = absurd (not_asked words cause.asked (unasked.Limit limit) finds cause.says)
+  answers_refused (NotRead k) (flawed file g) cause finds = inr (refl, failed_files words files files' (NotRead k) cause refl)
+  answers_refused (NotRead k) clean cause finds = inr (inl (refl, failed_files words files files' (NotRead k) cause refl))
   answers_refused NoMemory misused cause finds = inr refl
-  answers_refused NoMemory (flawed file flaw) cause finds = inl (inr refl)
+  answers_refused NoMemory (past limit) cause finds = inr refl
+  answers_refused NoMemory (flawed file g) cause finds = inl (inr refl)
   answers_refused NoMemory clean cause finds = inl (inr refl)

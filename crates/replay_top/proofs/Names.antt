@@ -1,106 +1,168 @@
--- What naming does to a thread's events.
-use Rattle.std.proofs.Common.{◌≡◌, ℕ, ◌+◌, ◌≤◌, List, [], ◌∷◌, ◌++◌, length, take, drop, refl, sym, ap, subst, ◌∙◌, arith, length-append, length-drop}
+-- The events of several threads, each named by the thread and the packet or command that made it.
+use Rattle.std.proofs.Common.{◌≡◌, ℕ, zero, suc, ◌+◌, ◌<◌, ◌≤◌, List, [], ◌∷◌, ◌++◌, length, map, take, drop, Some, slice_get, refl, sym, ap, subst, ◌∙◌, arith, length-drop}
 use Rattle.std.specs.List.{AllByRecursion}
-use Rattle.std.proofs.lemmas.List.{length-map, length-take-le, map-append, take-append-drop}
-use Rattle.std.proofs.Math.Seq.{drop-append_seam, take-append_seam}
-use Rattle.history_book.specs.declared.event.Event.{Event}
+use Rattle.std.proofs.lemmas.List.{length-map, map-append, take-append-drop}
+use Rattle.room_list.specs.Roomed.{Roomed}
 use Rattle.history_book.specs.declared.event.Note.{Note}
 use Rattle.history_book.specs.declared.event.Numbered.{Numbered}
-use Rattle.history_book.specs.declared.verdict.Verdict.{Verdict}
-use Rattle.history_book.specs.Numbered.{notes_of}
-use Rattle.packet_path.specs.Packet.{Given}
-use Rattle.packet_path.specs.Verdict.{FitsFrame}
-use Rattle.replay_top.specs.Internal.Naming.{all_named, made_in, named}
-use Rattle.replay_top.specs.Internal.Replayed.{mark_beyond, NoteFits, NotesFit}
-use Rattle.replay_top.specs.Report.{Tracker, mark_after, VerdictFits, VerdictsFit}
+use Rattle.history_book.specs.Merge.{all_notes, CoverEach, CoverFrom, IsMerged, EventSpan}
+use Rattle.history_book.specs.Numbered.{IsNumberedFrom, notes_of}
+
+abbrev pub name_of : ℕ → ℕ → Note → Numbered
+name_of thread index n = record { number = n.number; thread = thread; index = index; event = n.event }
+
+-- the packet or command of this index of the thread made these events
+abbrev pub named : ℕ → ℕ → List Note → List Numbered
+named thread index notes = map (name_of thread index) notes
+
+-- each span has the next of these events, from this index on
+abbrev pub named_in : ℕ → ℕ → List Note → List EventSpan → List Numbered
+named_in thread index notes [] = []
+named_in thread index notes (s ∷ ss) =
+    named thread index (take s.made notes) ++ named_in thread (index + 1) (drop s.made notes) ss
+
+-- the events of each thread, from this one on
+abbrev pub all_named : ℕ → List (Roomed Note) → List (List EventSpan) → List Numbered
+all_named thread [] sss = []
+all_named thread (notes ∷ lists) [] = []
+all_named thread (notes ∷ lists) (ss ∷ sss) = named_in thread 0 notes.items ss ++ all_named (thread + 1) lists sss
 
 -- naming leaves the events as they are
-named_notes : (index : ℕ) (notes : List Note) → notes_of (named index notes) ≡ notes
-named_notes index [] = refl
-named_notes index (n ∷ ns) = ap (λ xs. n ∷ xs) (named_notes index ns)
+pub named_notes : (thread index : ℕ) (notes : List Note) → notes_of (named thread index notes) ≡ notes
+named_notes thread index [] = refl
+named_notes thread index (n ∷ ns) = ap (λ xs. n ∷ xs) (named_notes thread index ns)
 
--- each names the packet
-named_each : (index : ℕ) (notes : List Note) → AllByRecursion (λ (n : Numbered). n.index ≡ index) (named index notes)
-named_each index [] = tt
-named_each index (n ∷ ns) = (refl, named_each index ns)
+notes_of-append : (xs ys : List Numbered) → notes_of (xs ++ ys) ≡ notes_of xs ++ notes_of ys
+notes_of-append xs ys = map-append (λ (n : Numbered). record { number = n.number; event = n.event }) xs ys
 
--- and the one thread
-named_thread : (index : ℕ) (notes : List Note) (rest : List Numbered) → AllByRecursion (λ (n : Numbered). n.thread ≡ 0) rest
-    → AllByRecursion (λ (n : Numbered). n.thread ≡ 0) (named index notes ++ rest)
-named_thread index [] rest h = h
-named_thread index (n ∷ ns) rest h = (refl, named_thread index ns rest h)
+-- spans end no earlier than they begin
+cover_le : (at total : ℕ) (ss : List EventSpan) → CoverFrom at total ss → at ≤ total
+cover_le at total [] covers = omega (arith, covers)
+cover_le at total (s ∷ ss) (here, covers) = omega (arith, cover_le (at + s.made) total ss covers)
 
--- all named events are those of the one thread
-pub threads_named : (index : ℕ) (notes : List Note) (vs : List Verdict)
-    → AllByRecursion (λ (n : Numbered). n.thread ≡ 0) (all_named index notes vs)
-threads_named index notes [] = tt
-threads_named index notes (v ∷ vs) =
-    named_thread index (take v.made notes) (all_named (index + 1) (drop v.made notes) vs) (threads_named (index + 1) (drop v.made notes) vs)
+-- the spans have all of the events
+pub named_in_notes : (thread index at total : ℕ) (notes : List Note) (ss : List EventSpan) → CoverFrom at total ss
+    → total ≡ at + length notes → notes_of (named_in thread index notes ss) ≡ notes
+named_in_notes thread index at total [] [] covers long = refl
+named_in_notes thread index at total (n ∷ notes) [] covers long = absurd (omega (arith, covers))
+named_in_notes thread index at total notes (s ∷ ss) (here, covers) long =
+    let within : s.made ≤ length notes = omega (arith, cover_le (at + s.made) total ss covers) in
+    notes_of-append (named thread index (take s.made notes)) (named_in thread (index + 1) (drop s.made notes) ss)
+    ∙ ap (λ xs. xs ++ notes_of (named_in thread (index + 1) (drop s.made notes) ss)) (named_notes thread index (take s.made notes))
+    ∙ ap (λ xs. take s.made notes ++ xs)
+    (named_in_notes thread (index + 1) (at + s.made) total (drop s.made notes) ss covers (omega (arith, long, within, length-drop s.made notes)))
+    ∙ take-append-drop s.made notes
 
--- the verdict's own named events come first
-named_length : (index k : ℕ) (mine : List Note) → k ≤ length mine → length (named index (take k mine)) ≡ k
-named_length index k mine le =
-    length-map (take k mine) (λ (n : Note). record { number = n.number; thread = 0; index = index; event = n.event })
-    ∙ length-take-le k mine le
+-- so have those of all threads
+pub all_named_notes : (thread : ℕ) (lists : List (Roomed Note)) (sss : List (List EventSpan)) → CoverEach lists sss
+    → notes_of (all_named thread lists sss) ≡ all_notes lists
+all_named_notes thread [] sss covers = refl
+all_named_notes thread (l ∷ lists) [] covers = absurd covers
+all_named_notes thread (l ∷ lists) (ss ∷ sss) (here, covers) =
+    notes_of-append (named_in thread 0 l.items ss) (all_named (thread + 1) lists sss)
+    ∙ ap (λ xs. xs ++ notes_of (all_named (thread + 1) lists sss))
+    (named_in_notes thread 0 0 (length l.items) l.items ss here (omega arith))
+    ∙ ap (λ xs. l.items ++ xs) (all_named_notes (thread + 1) lists sss covers)
 
-module _ (tracker : Tracker) (log : List Event) where
-  -- verdicts that fit a thread's events made all of them
-  pub made_all : (mine : List Note) (first mark : ℕ) (ps : List Given) (vs : List Verdict)
-      → NotesFit tracker log mine first mark ps vs → made_in vs ≡ length mine
-  made_all mine first mark [] [] fit = sym (ap length fit)
-  made_all mine first mark [] (w ∷ vs) fit = absurd fit
-  made_all mine first mark (q ∷ ps) [] fit = absurd fit
-  made_all mine first mark (q ∷ ps) (w ∷ vs) (f, fs) =
-      omega (
-        arith,
-        made_all (drop w.made mine) (first + w.made) (mark_beyond mark (take w.made mine) w.class) ps vs fs,
-        length-drop w.made mine,
-        f.within,
-      )
+-- what holds of each of two lists holds of both together
+pub each_append : {X : Type 0} (P : X → Type 0) (xs ys : List X) → AllByRecursion P xs → AllByRecursion P ys → AllByRecursion P (xs ++ ys)
+each_append P [] ys h k = k
+each_append P (x ∷ xs) ys (h, hs) k = (h, each_append P xs ys hs k)
 
-  -- and naming keeps all of them
-  pub notes_named : (mine : List Note) (first index mark : ℕ) (ps : List Given) (vs : List Verdict)
-      → NotesFit tracker log mine first mark ps vs → notes_of (all_named index mine vs) ≡ mine
-  notes_named mine first index mark [] [] fit = sym fit
-  notes_named mine first index mark [] (w ∷ vs) fit = absurd fit
-  notes_named mine first index mark (q ∷ ps) [] fit = absurd fit
-  notes_named mine first index mark (q ∷ ps) (w ∷ vs) (f, fs) =
-      map-append (λ (n : Numbered). record { number = n.number; event = n.event })
-      (named index (take w.made mine)) (all_named (index + 1) (drop w.made mine) vs)
-      ∙ ap (λ xs. xs ++ notes_of (all_named (index + 1) (drop w.made mine) vs)) (named_notes index (take w.made mine))
-      ∙ ap (λ xs. take w.made mine ++ xs)
-      (notes_named (drop w.made mine) (first + w.made) (index + 1) (mark_beyond mark (take w.made mine) w.class) ps vs fs)
-      ∙ take-append-drop w.made mine
+get-drop : {X : Type 0} (m k l : ℕ) (xs : List X) → l ≡ m + k → slice_get (drop m xs) k ≡ slice_get xs l
+get-drop zero k l xs e = ap (slice_get xs) (omega arith)
+get-drop (suc m) k l [] e = refl
+get-drop (suc m) k zero (x ∷ xs) e = absurd (omega arith)
+get-drop (suc m) k (suc l) (x ∷ xs) e = get-drop m k l xs (omega arith)
 
-  -- a verdict fits its named events, whatever comes after them
-  verdict_named : (mine : List Note) (first index mark : ℕ) (p : Given) (v : Verdict) (events rest : List Numbered)
-      → NoteFits tracker log mine first mark p v → events ≡ named index (take v.made mine) → take v.made (events ++ rest) ≡ events
-      → v.made ≤ length (events ++ rest) → VerdictFits tracker log (events ++ rest) first index mark p v
-  verdict_named mine first index mark p v events rest f same taken within = record {
-    starts = f.starts;
-    within = within;
-    named = subst (λ xs. AllByRecursion (λ (n : Numbered). n.index ≡ index) xs) (sym (taken ∙ same)) (named_each index (take v.made mine));
-    fits = subst (λ xs. FitsFrame tracker.setup tracker.sizes log mark p xs v.class)
-        (sym (ap notes_of (taken ∙ same) ∙ named_notes index (take v.made mine))) f.fits;
-  }
+-- what holds of the name of each of the first events holds of their names
+each_of_share : (P : Numbered → Type 0) (thread index m : ℕ) (notes : List Note)
+    → ((k : ℕ) (note : Note) → k < m → slice_get notes k ≡ Some note → P (name_of thread index note))
+    → AllByRecursion P (named thread index (take m notes))
+each_of_share P thread index zero notes h = tt
+each_of_share P thread index (suc m) [] h = tt
+each_of_share P thread index (suc m) (n ∷ notes) h = (
+  h zero n (omega arith) refl,
+  each_of_share P thread index m notes (λ k note below is. h (suc k) note (omega (arith, below)) is),
+)
 
-  -- the verdicts fit the named events
-  pub verdicts_named : (mine : List Note) (first index mark : ℕ) (ps : List Given) (vs : List Verdict)
-      → NotesFit tracker log mine first mark ps vs → VerdictsFit tracker log (all_named index mine vs) first index mark ps vs
-  verdicts_named mine first index mark [] [] fit = refl
-  verdicts_named mine first index mark [] (w ∷ vs) fit = absurd fit
-  verdicts_named mine first index mark (q ∷ ps) [] fit = absurd fit
-  verdicts_named mine first index mark (q ∷ ps) (w ∷ vs) (f, fs) =
-      let events : List Numbered = named index (take w.made mine) in
-      let rest : List Numbered = all_named (index + 1) (drop w.made mine) vs in
-      let long : length events ≡ w.made = named_length index w.made mine f.within in
-      let taken : take w.made (events ++ rest) ≡ events = ap (λ k. take k (events ++ rest)) (sym long) ∙ take-append_seam events rest in
-      let dropped : drop w.made (events ++ rest) ≡ rest = ap (λ k. drop k (events ++ rest)) (sym long) ∙ drop-append_seam events rest in
-      let own : notes_of (take w.made (events ++ rest)) ≡ take w.made mine = ap notes_of taken ∙ named_notes index (take w.made mine) in (
-        verdict_named mine first index mark q w events rest f refl taken (omega (arith, long, length-append events rest)),
-        subst (λ xs. VerdictsFit tracker log xs (first + w.made) (index + 1) (mark_after mark (take w.made (events ++ rest)) w.class) ps vs)
-            (sym dropped)
-            (subst (λ m. VerdictsFit tracker log rest (first + w.made) (index + 1) m ps vs)
-            (ap (λ xs. mark_beyond mark xs w.class) (sym own))
-            (verdicts_named (drop w.made mine) (first + w.made) (index + 1) (mark_beyond mark (take w.made mine) w.class) ps vs fs)),
-      )
+-- what holds of the name of each event of each span holds of the names of all
+each_of_shares : (P : Numbered → Type 0) (thread from at total : ℕ) (notes : List Note) (ss : List EventSpan) → CoverFrom at total ss
+    → ((k j index : ℕ) (note : Note) (span : EventSpan) → index ≡ from + j → slice_get notes k ≡ Some note → slice_get ss j ≡ Some span
+    → span.first ≤ at + k → at + k < span.first + span.made → P (name_of thread index note))
+    → AllByRecursion P (named_in thread from notes ss)
+each_of_shares P thread from at total notes [] covers h = tt
+each_of_shares P thread from at total notes (s ∷ ss) (here, covers) h =
+    each_append P (named thread from (take s.made notes)) (named_in thread (from + 1) (drop s.made notes) ss)
+    (each_of_share P thread from s.made notes
+    (λ k note below is. h k 0 from note s (omega arith) is refl (omega (arith, here)) (omega (arith, here, below))))
+    (each_of_shares P thread (from + 1) (at + s.made) total (drop s.made notes) ss covers
+    (λ k j index note span e is_note is_share low high.
+    h (s.made + k) (suc j) index note span (omega (arith, e))
+    (sym (get-drop s.made k (s.made + k) notes refl) ∙ is_note) is_share (omega (arith, low)) (omega (arith, high))))
+
+-- and of those of all threads
+each_of_threads : (P : Numbered → Type 0) (from : ℕ) (lists : List (Roomed Note)) (sss : List (List EventSpan)) → CoverEach lists sss
+    → ((t at index thread : ℕ) (notes : Roomed Note) (note : Note) (ss : List EventSpan) (span : EventSpan) → thread ≡ from + t
+    → slice_get lists t ≡ Some notes → slice_get notes.items at ≡ Some note → slice_get sss t ≡ Some ss → slice_get ss index ≡ Some span
+    → span.first ≤ at → at < span.first + span.made → P (name_of thread index note))
+    → AllByRecursion P (all_named from lists sss)
+each_of_threads P from [] sss covers h = tt
+each_of_threads P from (l ∷ lists) [] covers h = absurd covers
+each_of_threads P from (l ∷ lists) (ss ∷ sss) (here, covers) h =
+    each_append P (named_in from 0 l.items ss) (all_named (from + 1) lists sss)
+    (each_of_shares P from 0 0 (length l.items) l.items ss here
+    (λ k j index note span e is_note is_share low high.
+    let same : j ≡ index = omega (arith, e) in
+    h 0 k index from l note ss span (omega arith) refl is_note refl (subst (λ (i : ℕ). slice_get ss i ≡ Some span) same is_share)
+    (omega (arith, low)) (omega (arith, high))))
+    (each_of_threads P (from + 1) lists sss covers
+    (λ t at index thread notes note us span e is_list is_note is_shares is_share low high.
+    h (suc t) at index thread notes note us span (omega (arith, e)) is_list is_note is_shares is_share low high))
+
+-- each event that a thread made stands in the merged history
+each_stands : (lists : List (Roomed Note)) (sss : List (List EventSpan)) (history : List Numbered) → CoverEach lists sss
+    → IsMerged lists sss history → AllByRecursion (λ (n : Numbered). slice_get history n.number ≡ Some n) (all_named 0 lists sss)
+each_stands lists sss history covers merged =
+    each_of_threads (λ (n : Numbered). slice_get history n.number ≡ Some n) 0 lists sss covers
+    (λ t at index thread notes note ss span e is_list is_note is_shares is_share low high.
+    let same : t ≡ thread = omega (arith, e) in
+    (merged.each thread at index notes note ss span
+    (subst (λ (i : ℕ). slice_get lists i ≡ Some notes) same is_list) is_note
+    (subst (λ (i : ℕ). slice_get sss i ≡ Some ss) same is_shares) is_share low high).stands)
+
+-- a list of which these are the items at their numbers, which are all numbers from n on, is these
+same_items : (n : ℕ) (history names : List Numbered) → IsNumberedFrom n names → length history ≡ length names
+    → AllByRecursion (λ (x : Numbered). (k : ℕ) → x.number ≡ n + k → slice_get history k ≡ Some x) names → history ≡ names
+same_items n [] [] numbers long h = refl
+same_items n [] (x ∷ names) numbers long h = absurd (omega (arith, long))
+same_items n (y ∷ history) [] numbers long h = absurd (omega (arith, long))
+same_items n (y ∷ history) (x ∷ names) (here, numbers) long (h, hs) =
+    let first : slice_get (y ∷ history) 0 ≡ Some x = h 0 (omega (arith, here)) in
+    let same : y ≡ x = cc first in
+    ap (λ z. z ∷ history) same
+    ∙ ap (λ zs. x ∷ zs) (same_items (n + 1) history names numbers (omega (arith, long)) (later n y history names hs))
+  where
+    later : (n : ℕ) (y : Numbered) (history names : List Numbered)
+        → AllByRecursion (λ (x : Numbered). (k : ℕ) → x.number ≡ n + k → slice_get (y ∷ history) k ≡ Some x) names
+        → AllByRecursion (λ (x : Numbered). (k : ℕ) → x.number ≡ (n + 1) + k → slice_get history k ≡ Some x) names
+    later n y history [] hs = tt
+    later n y history (z ∷ zs) (g, gs) = ((λ k e. g (suc k) (omega (arith, e))), later n y history zs gs)
+
+-- the merged history is the named events of each thread, one thread after the other, where their numbers are 0, 1, 2 and so on
+pub merged_in_order : (lists : List (Roomed Note)) (sss : List (List EventSpan)) (history : List Numbered) → CoverEach lists sss
+    → IsMerged lists sss history → IsNumberedFrom 0 (all_named 0 lists sss) → history ≡ all_named 0 lists sss
+merged_in_order lists sss history covers merged numbers =
+    let names : List Numbered = all_named 0 lists sss in
+    let long : length history ≡ length names =
+    merged.whole ∙ ap length (sym (all_named_notes 0 lists sss covers))
+    ∙ length-map names (λ (n : Numbered). record { number = n.number; event = n.event }) in
+    same_items 0 history names numbers long (at_number history names (each_stands lists sss history covers merged))
+  where
+    at_number : (history names : List Numbered) → AllByRecursion (λ (n : Numbered). slice_get history n.number ≡ Some n) names
+        → AllByRecursion (λ (x : Numbered). (k : ℕ) → x.number ≡ 0 + k → slice_get history k ≡ Some x) names
+    at_number history [] h = tt
+    at_number history (x ∷ xs) (h, hs) = (
+      (λ k e. let same : x.number ≡ k = omega (arith, e) in subst (λ (i : ℕ). slice_get history i ≡ Some x) same h),
+      at_number history xs hs,
+    )

@@ -1,14 +1,16 @@
 -- Why a run is refused, and which status the inputs call for.
-use Rattle.std.specs.Prelude.{All, false, ◌≡◌, ℕ, ◌<◌, ◌⊎◌, None, List, length, IfSome}
+use Rattle.std.specs.Prelude.{All, false, ◌≡◌, ℕ, ◌<◌, ◌⊎◌, Err, List, length}
+use Rattle.command_words.specs.Words.{asked_of}
+use Rattle.command_words.specs.declared.WordsError.TheVariants.{Limit, Usage}
 use Rattle.ct_io.specs.Counts.{Rose}
 use Rattle.ct_io.specs.Source.{Source}
 use Rattle.ct_io.specs.Tape.{Tape}
 use Rattle.replay_top.specs.declared.flaw.Refusal.{Refusal}
-use Rattle.replay_top.specs.declared.flaw.Refusal.TheVariants.{Flawed, Misused, NoMemory, NotOpened, NotRead}
+use Rattle.replay_top.specs.declared.flaw.Refusal.TheVariants.{Flawed, Misused, NoMemory, NotOpened, NotRead, PastLimit}
 use Rattle.replay_top.specs.ErrorLine.{line_of, Tells}
 use Rattle.replay_top.specs.Flaw.{flaw_status}
-use Rattle.replay_top.specs.Inputs.{clean, Finding, FirstFlaw, flawed, misused, Reaches}
-use Rattle.replay_top.specs.Words.{command_of, file_at, files_named, files_of, InputFile, Named}
+use Rattle.replay_top.specs.Inputs.{AreGiven, clean, Finding, FirstFlaw, flawed, misused, past, Reaches}
+use Rattle.replay_top.specs.Files.{file_at, files_named, files_of, InputFile, AskFor}
 
 -- opening the file failed
 abbrev pub FailedToOpen : Source → Source → InputFile → Type 0
@@ -16,25 +18,27 @@ FailedToOpen files files' input = Rose (files.open_faults input.name) (files'.op
 
 -- one of the files was reached, and its opening failed
 pub record FailsToOpen (files files' : Source) (inputs : List InputFile) (file : ℕ) : Type 0 where
-  pub reached : Reaches IfSome files inputs file
+  pub reached : Reaches files inputs file
   pub rose : FailedToOpen files files' (file_at inputs file)
 
 -- one of the files was reached, and the one count of failed reads rose
 pub record FailsToRead (files files' : Source) (inputs : List InputFile) (file : ℕ) : Type 0 where
-  pub reached : Reaches IfSome files inputs file
+  pub reached : Reaches files inputs file
   pub rose : Rose files.read_faults files'.read_faults
 
 -- the cause of a refusal, of a run that began with these files and left them so
 abbrev pub HasCause : List (List ℕ) → Source → Source → Refusal → Type 0
-HasCause words files files' Misused = command_of words ≡ None
-HasCause words files files' (Flawed file flaw) = Named words (λ command. FirstFlaw IfSome files (files_of command) file flaw)
-HasCause words files files' (NotOpened file) = Named words (λ command. FailsToOpen files files' (files_of command) file)
-HasCause words files files' (NotRead file) = Named words (λ command. FailsToRead files files' (files_of command) file)
+HasCause words files files' Misused = asked_of words ≡ Err Usage
+HasCause words files files' (PastLimit limit) = asked_of words ≡ Err (Limit limit)
+HasCause words files files' (Flawed file flaw) = AskFor words (λ asked. FirstFlaw AreGiven files (files_of asked) file flaw)
+HasCause words files files' (NotOpened file) = AskFor words (λ asked. FailsToOpen files files' (files_of asked) file)
+HasCause words files files' (NotRead file) = AskFor words (λ asked. FailsToRead files files' (files_of asked) file)
 HasCause words files files' NoMemory = Unit {0}
 
 -- the status of a refusal
 abbrev pub refusal_status : Refusal → ℕ
 refusal_status Misused = 1
+refusal_status (PastLimit limit) = 5
 refusal_status (Flawed file flaw) = flaw_status flaw
 refusal_status (NotOpened file) = 3
 refusal_status (NotRead file) = 3
@@ -50,21 +54,22 @@ pub record IsRefused (words : List (List ℕ)) (files files' : Source) (err err'
 -- opening a file that the words name failed, or a read did
 abbrev pub FilesFailed : List (List ℕ) → Source → Source → Type 0
 FilesFailed words files files' =
-    Named words (λ command. (file : ℕ) × (file < length (files_of command)) × FailedToOpen files files' (file_at (files_of command) file))
+    AskFor words (λ asked. (file : ℕ) × (file < length (files_of asked)) × FailedToOpen files files' (file_at (files_of asked) file))
     ⊎ Rose files.read_faults files'.read_faults
 
 -- this status, or that of want of memory
-abbrev pub IsOrMemory : ℕ → ℕ → Type 0
-IsOrMemory status expected = (status ≡ expected) ⊎ (status ≡ 6)
+abbrev pub IsStatusOrMemory : ℕ → ℕ → Type 0
+IsStatusOrMemory status expected = (status ≡ expected) ⊎ (status ≡ 6)
 
 -- The status of a run on inputs of which this was found: the one that they call for, or want of memory;
 -- or a file was to be read and that failed; or the report was to be written and that failed.
-abbrev pub Answers : List (List ℕ) → Source → Source → Tape → Tape → ℕ → Finding → Type 0
-Answers words files files' out out' status misused = IsOrMemory status 1
-Answers words files files' out out' status (flawed file flaw) =
-    IsOrMemory status (flaw_status flaw) ⊎ (status ≡ 3) × FilesFailed words files files'
-Answers words files files' out out' status clean =
-    IsOrMemory status 0 ⊎ (status ≡ 3) × FilesFailed words files files' ⊎ (status ≡ 4) × Rose out.faults out'.faults
+abbrev pub StatusFits : List (List ℕ) → Source → Source → Tape → Tape → ℕ → Finding → Type 0
+StatusFits words files files' out out' status misused = IsStatusOrMemory status 1
+StatusFits words files files' out out' status (past limit) = IsStatusOrMemory status 5
+StatusFits words files files' out out' status (flawed file flaw) =
+    IsStatusOrMemory status (flaw_status flaw) ⊎ (status ≡ 3) × FilesFailed words files files'
+StatusFits words files files' out out' status clean =
+    IsStatusOrMemory status 0 ⊎ (status ≡ 3) × FilesFailed words files files' ⊎ (status ≡ 4) × Rose out.faults out'.faults
 
 -- the count of opening a name stands, unless one of these files shares it, or reads are counted in it too
 abbrev pub OthersStandBeside : List InputFile → Source → Source → Type 0

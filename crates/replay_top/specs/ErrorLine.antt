@@ -2,9 +2,14 @@
 use Rattle.std.specs.Prelude.{decimal, ◌≡◌, ℕ, ◌⊎◌, List, [], ◌++◌, codes}
 use Rattle.ct_io.specs.Counts.{Rose}
 use Rattle.ct_io.specs.Tape.{Tape}
+use Rattle.command_words.specs.declared.WordsLimit.{WordsLimit}
+use Rattle.command_words.specs.declared.WordsLimit.TheVariants as limit
+use Rattle.conntrack_cmd.specs.declared.read.ScriptFault.{ScriptFault}
+use Rattle.conntrack_cmd.specs.declared.read.ScriptKind.{ScriptKind}
+use Rattle.conntrack_cmd.specs.declared.read.ScriptKind.TheVariants as script_kind
 use Rattle.nat_setup.specs.declared.read.RuleFault.{RuleFault}
 use Rattle.nat_setup.specs.declared.read.RuleKind.{RuleKind}
-use Rattle.nat_setup.specs.declared.read.RuleKind.TheVariants as wrong
+use Rattle.nat_setup.specs.declared.read.RuleKind.TheVariants as rule_kind
 use Rattle.packet_headers.specs.declared.capture.CaptureFault.{CaptureFault}
 use Rattle.packet_headers.specs.declared.capture.CaptureFault.TheVariants as fault
 use Rattle.replay_top.specs.declared.flaw.FileKind.{FileKind}
@@ -13,7 +18,7 @@ use Rattle.replay_top.specs.declared.flaw.Flaw.{Flaw}
 use Rattle.replay_top.specs.declared.flaw.Flaw.TheVariants as flaw
 use Rattle.replay_top.specs.declared.flaw.Refusal.{Refusal}
 use Rattle.replay_top.specs.declared.flaw.Refusal.TheVariants as refusal
-use Rattle.replay_top.specs.Words.{name_of}
+use Rattle.replay_top.specs.Files.{name_of}
 use Rattle.report_text.specs.Wrote.{followed_by, WroteFront}
 
 -- the program's name, what the line is about, and the problem
@@ -33,30 +38,53 @@ fault_text (fault.Fraction index) = codes ": record " ++ decimal index ++ codes 
 
 -- what is wrong with a line of a file of rules
 abbrev pub rule_kind_text : RuleKind → List ℕ
-rule_kind_text wrong.Word = codes ": word\n"
-rule_kind_text wrong.Address = codes ": address\n"
-rule_kind_text wrong.Prefix = codes ": prefix\n"
-rule_kind_text wrong.Range = codes ": range\n"
-rule_kind_text wrong.TooMany = codes ": too many\n"
+rule_kind_text rule_kind.Word = codes ": word\n"
+rule_kind_text rule_kind.Address = codes ": address\n"
+rule_kind_text rule_kind.Prefix = codes ": prefix\n"
+rule_kind_text rule_kind.Range = codes ": range\n"
+rule_kind_text rule_kind.TooMany = codes ": too many\n"
 
 -- a fault of a file of rules, in words
 abbrev pub rule_fault_text : RuleFault → List ℕ
 rule_fault_text fault = codes ": line " ++ decimal fault.line ++ rule_kind_text fault.kind
 
+-- what is wrong with a line of a script
+abbrev pub script_kind_text : ScriptKind → List ℕ
+script_kind_text script_kind.Command = codes ": command\n"
+script_kind_text script_kind.Option = codes ": option\n"
+script_kind_text script_kind.Value = codes ": value\n"
+script_kind_text script_kind.Repeat = codes ": repeat\n"
+script_kind_text script_kind.TooMany = codes ": too many\n"
+
+-- a fault of a script, in words
+abbrev pub script_fault_text : ScriptFault → List ℕ
+script_fault_text fault = codes ": line " ++ decimal fault.line ++ script_kind_text fault.kind
+
+-- a limit of the words, in words
+abbrev pub words_limit_text : WordsLimit → List ℕ
+words_limit_text limit.Entries = codes "limit: entries\n"
+words_limit_text limit.Buckets = codes "limit: buckets\n"
+words_limit_text limit.Captures = codes "limit: captures\n"
+
 -- a limit of a kind of file, in words
 abbrev pub limit_text : FileKind → List ℕ
 limit_text kind.Rules = codes "limit: rules bytes\n"
+limit_text kind.Script = codes "limit: script bytes\n"
 limit_text kind.Capture = codes "limit: capture bytes\n"
 
 -- the line of a flaw of the file of this name; a limit names no file
 abbrev pub flaw_line : List ℕ → Flaw → List ℕ
 flaw_line name (flaw.TooLong kind) = error_line [] (limit_text kind)
+flaw_line name flaw.AllTooLong = error_line [] (codes "limit: all capture bytes\n")
 flaw_line name (flaw.Rules fault) = error_line name (rule_fault_text fault)
+flaw_line name (flaw.Script fault) = error_line name (script_fault_text fault)
 flaw_line name (flaw.Capture fault) = error_line name (fault_text fault)
+flaw_line name flaw.TooManyPackets = error_line [] (codes "limit: all packets\n")
 
 -- the line of a refusal of a run with these words
 abbrev pub line_of : List (List ℕ) → Refusal → List ℕ
 line_of words refusal.Misused = error_line [] (codes "the words are not of the stated form\n")
+line_of words (refusal.PastLimit limit) = error_line [] (words_limit_text limit)
 line_of words (refusal.Flawed file flaw) = flaw_line (name_of words file) flaw
 line_of words (refusal.NotOpened file) = error_line (name_of words file) (codes ": open failed\n")
 line_of words (refusal.NotRead file) = error_line (name_of words file) (codes ": read failed\n")

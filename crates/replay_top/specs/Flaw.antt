@@ -1,29 +1,45 @@
 -- What is wrong with a file that is not read.
-use Rattle.std.specs.Prelude.{◌≡◌, ℕ, ◌<◌, ◌≤◌, List, length}
-use Rattle.nat_setup.specs.declared.rule.Rule.{Rule}
+use Rattle.std.specs.Prelude.{◌≡◌, ℕ, ◌+◌, ◌<◌, ◌≤◌, List, length}
+use Rattle.conntrack_cmd.specs.Script as script
 use Rattle.nat_setup.specs.RuleFile as rules
 use Rattle.packet_headers.specs.declared.frame.Frame.{Frame}
 use Rattle.packet_headers.specs.Capture as capture
 use Rattle.replay_top.specs.declared.flaw.FileKind.{FileKind}
 use Rattle.replay_top.specs.declared.flaw.FileKind.TheVariants as kind
 use Rattle.replay_top.specs.declared.flaw.Flaw.{Flaw}
-use Rattle.replay_top.specs.declared.flaw.Flaw.TheVariants.{Capture, Rules, TooLong}
-use Rattle.replay_top.specs.Readable.{IsReadable, IsReadableRules, most_bytes}
+use Rattle.replay_top.specs.declared.flaw.Flaw.TheVariants.{AllTooLong, Capture, Rules, Script, TooLong, TooManyPackets}
+use Rattle.replay_top.specs.Content.{IsShortEnough, Totals, bytes_left, most_bytes, most_packets}
 
--- the bytes are a file of this kind that is read, and nothing is wrong with them
-abbrev pub IsRead : FileKind → List ℕ → Type 0
-IsRead kind.Rules bytes = (rules : List Rule) × IsReadableRules bytes rules
-IsRead kind.Capture bytes = (frames : List Frame) × IsReadable bytes frames
+-- a file has too many bytes of its kind, and no limit of all captures is passed by an earlier byte
+abbrev pub IsTooLong : FileKind → Totals → List ℕ → Type 0
+IsTooLong kind.Rules before bytes = most_bytes kind.Rules < length bytes
+IsTooLong kind.Script before bytes = most_bytes kind.Script < length bytes
+IsTooLong kind.Capture before bytes = (most_bytes kind.Capture < length bytes) × (most_bytes kind.Capture ≤ bytes_left before)
 
--- a file of this kind with these bytes has this flaw; only where there are not too many bytes is one
--- looked for in them
-abbrev pub HasFlaw : FileKind → List ℕ → Flaw → Type 0
-HasFlaw of bytes (TooLong kind) = (of ≡ kind) × (most_bytes kind < length bytes)
-HasFlaw of bytes (Rules fault) = (of ≡ kind.Rules) × (length bytes ≤ most_bytes kind.Rules) × rules.HasFault bytes fault
-HasFlaw of bytes (Capture fault) = (of ≡ kind.Capture) × (length bytes ≤ most_bytes kind.Capture) × capture.HasFault bytes fault
+-- the bytes are a capture with which all captures have too many packets
+pub record HasTooManyPackets (before : Totals) (bytes : List ℕ) : Type 0 where
+  pub frames : List Frame
+  pub capture : capture.IsCapture bytes frames
+  pub many : most_packets < before.packets + length frames
+
+-- A file of this kind with these bytes, behind captures of this total, has this flaw. Only where there are not too many
+-- bytes is one looked for in them, and only in a capture without another flaw are packets counted.
+abbrev pub HasFlaw : FileKind → Totals → List ℕ → Flaw → Type 0
+HasFlaw of before bytes (TooLong kind) = (of ≡ kind) × IsTooLong kind before bytes
+HasFlaw of before bytes AllTooLong =
+    (of ≡ kind.Capture) × (bytes_left before < length bytes) × (bytes_left before < most_bytes kind.Capture)
+HasFlaw of before bytes (Rules fault) = (of ≡ kind.Rules) × IsShortEnough kind.Rules before bytes × rules.HasFault bytes fault
+HasFlaw of before bytes (Script fault) = (of ≡ kind.Script) × IsShortEnough kind.Script before bytes × script.HasFault bytes fault
+HasFlaw of before bytes (Capture fault) =
+    (of ≡ kind.Capture) × IsShortEnough kind.Capture before bytes × capture.HasFault bytes fault
+HasFlaw of before bytes TooManyPackets =
+    (of ≡ kind.Capture) × IsShortEnough kind.Capture before bytes × HasTooManyPackets before bytes
 
 -- the status of a run that ends with the flaw
 abbrev pub flaw_status : Flaw → ℕ
 flaw_status (TooLong kind) = 5
+flaw_status AllTooLong = 5
 flaw_status (Rules fault) = 2
+flaw_status (Script fault) = 2
 flaw_status (Capture fault) = 2
+flaw_status TooManyPackets = 5

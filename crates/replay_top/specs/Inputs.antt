@@ -1,46 +1,93 @@
--- What the inputs of a run are. Files are read in the order in which the words name them, those of rules
--- first, and the first flaw decides.
-use Rattle.std.specs.Prelude.{◌≡◌, ℕ, ◌<◌, Option, None, List, length}
+-- What the inputs of a run are. Files are read in the order of rules, script and captures, and the first flaw decides.
+use Rattle.std.specs.Prelude.{◌≡◌, ℕ, suc, zero, Some, Err, List, [], ◌∷◌, IfSome}
 use Rattle.ct_io.specs.Source.{Source}
+use Rattle.command_words.specs.Words.{asked_of}
+use Rattle.command_words.specs.declared.WordsError.TheVariants.{Limit, Usage}
+use Rattle.command_words.specs.declared.WordsLimit.{WordsLimit}
 use Rattle.replay_top.specs.declared.flaw.Flaw.{Flaw}
-use Rattle.replay_top.specs.Flaw.{HasFlaw, IsRead}
-use Rattle.replay_top.specs.Words.{command_of, file_at, files_of, InputFile, Named}
+use Rattle.replay_top.specs.Content.{Content, IsRead, Totals, totals_with, no_totals}
+use Rattle.replay_top.specs.Flaw.{HasFlaw}
+use Rattle.replay_top.specs.Files.{files_of, InputFile, AskFor}
 
--- How contents that may not be told have a fact: where they are told (`IfSome`), or they are told and
--- have it (`IsSomeAnd`).
-abbrev pub Telling : Type 1
-Telling = Option (List ℕ) → (List ℕ → Type 0) → Type 0
+-- ---- the bytes of the first files
 
--- the file is one that is read
-abbrev pub ReadsWell : Telling → Source → InputFile → Type 0
-ReadsWell of files input = of (files.contents input.name) (IsRead input.kind)
+-- these are their contents, which are told
+abbrev pub AreTold : Source → List InputFile → List (List ℕ) → Type 0
+AreTold files inputs [] = Unit {0}
+AreTold files [] (bytes ∷ more) = ⊥
+AreTold files (input ∷ inputs) (bytes ∷ more) = (files.contents input.name ≡ Some bytes) × AreTold files inputs more
 
--- the file has this flaw
-abbrev pub IsFlawed : Telling → Source → InputFile → Flaw → Type 0
-IsFlawed of files input flaw = of (files.contents input.name) (λ bytes. HasFlaw input.kind bytes flaw)
+-- these are their contents where those are told; of others no more is said
+abbrev pub AreGiven : Source → List InputFile → List (List ℕ) → Type 0
+AreGiven files inputs [] = Unit {0}
+AreGiven files [] (bytes ∷ more) = ⊥
+AreGiven files (input ∷ inputs) (bytes ∷ more) =
+    IfSome (files.contents input.name) (λ contents. bytes ≡ contents) × AreGiven files inputs more
 
--- this one of the files is reached: each one before it is read
-pub record Reaches (of : Telling) (files : Source) (inputs : List InputFile) (file : ℕ) : Type 0 where
-  pub within : file < length inputs
-  pub before : (k : ℕ) → k < file → ReadsWell of files (file_at inputs k)
+-- ---- what such bytes are, behind captures of some total
 
--- it is the first of them that has a flaw, and has this one
-pub record FirstFlaw (of : Telling) (files : Source) (inputs : List InputFile) (file : ℕ) (flaw : Flaw) : Type 0 where
-  pub reached : Reaches of files inputs file
-  pub has : IsFlawed of files (file_at inputs file) flaw
+-- all of the files are read, and say this
+abbrev pub AreReadFrom : Totals → List InputFile → List (List ℕ) → List Content → Type 0
+AreReadFrom before [] [] [] = Unit {0}
+AreReadFrom before [] [] (content ∷ contents) = ⊥
+AreReadFrom before [] (bytes ∷ more) contents = ⊥
+AreReadFrom before (input ∷ inputs) [] contents = ⊥
+AreReadFrom before (input ∷ inputs) (bytes ∷ more) [] = ⊥
+AreReadFrom before (input ∷ inputs) (bytes ∷ more) (content ∷ contents) =
+    IsRead input.kind before bytes content × AreReadFrom (totals_with before bytes content) inputs more contents
 
--- all of them are read
-abbrev pub AreAllRead : Telling → Source → List InputFile → Type 0
-AreAllRead of files inputs = (k : ℕ) → k < length inputs → ReadsWell of files (file_at inputs k)
+-- the file of this number is reached: each one before it is read
+abbrev pub ReachesFrom : Totals → List InputFile → List (List ℕ) → ℕ → Type 0
+ReachesFrom before [] more file = ⊥
+ReachesFrom before (input ∷ inputs) more zero = Unit {0}
+ReachesFrom before (input ∷ inputs) [] (suc file) = ⊥
+ReachesFrom before (input ∷ inputs) (bytes ∷ more) (suc file) =
+    (content : Content) × IsRead input.kind before bytes content
+    × ReachesFrom (totals_with before bytes content) inputs more file
 
--- what the inputs are: the words are misused; or a file is the first with a flaw; or nothing is wrong
+-- the file of this number is the first with a flaw, and has this one
+abbrev pub FirstFlawFrom : Totals → List InputFile → List (List ℕ) → ℕ → Flaw → Type 0
+FirstFlawFrom before [] more file flaw = ⊥
+FirstFlawFrom before (input ∷ inputs) [] file flaw = ⊥
+FirstFlawFrom before (input ∷ inputs) (bytes ∷ more) zero flaw = HasFlaw input.kind before bytes flaw
+FirstFlawFrom before (input ∷ inputs) (bytes ∷ more) (suc file) flaw =
+    (content : Content) × IsRead input.kind before bytes content
+    × FirstFlawFrom (totals_with before bytes content) inputs more file flaw
+
+-- ---- of files
+
+-- the files are all read, with the contents that are told, and say this
+pub record AreRead (files : Source) (inputs : List InputFile) (contents : List Content) : Type 0 where
+  pub bytes : List (List ℕ)
+  pub told : AreTold files inputs bytes
+  pub read : AreReadFrom no_totals inputs bytes contents
+
+-- the file of this number is reached, with some contents of those before it, as they are told where they are
+pub record Reaches (files : Source) (inputs : List InputFile) (file : ℕ) : Type 0 where
+  pub bytes : List (List ℕ)
+  pub given : AreGiven files inputs bytes
+  pub reached : ReachesFrom no_totals inputs bytes file
+
+-- how bytes are tied to files: by `AreTold` or by `AreGiven`
+abbrev pub Tie : Type 1
+Tie = Source → List InputFile → List (List ℕ) → Type 0
+
+-- the file of this number is the first with a flaw, and has this one, with bytes that are tied so to the files
+pub record FirstFlaw (tie : Tie) (files : Source) (inputs : List InputFile) (file : ℕ) (flaw : Flaw) : Type 0 where
+  pub bytes : List (List ℕ)
+  pub given : tie files inputs bytes
+  pub first : FirstFlawFrom no_totals inputs bytes file flaw
+
+-- what the inputs are: the words are misused, or pass a limit; or a file is the first with a flaw; or nothing is wrong
 pub data Finding : Type 0 where
   misused : Finding
+  past : (limit : WordsLimit) → Finding
   flawed : (file : ℕ) → (flaw : Flaw) → Finding
   clean : Finding
 
--- the words and the files are what the finding says
-abbrev pub Finds : Telling → List (List ℕ) → Source → Finding → Type 0
-Finds of words files misused = command_of words ≡ None
-Finds of words files (flawed file flaw) = Named words (λ command. FirstFlaw of files (files_of command) file flaw)
-Finds of words files clean = Named words (λ command. AreAllRead of files (files_of command))
+-- the words and the files are what the finding says; the contents of files are told
+abbrev pub Finds : List (List ℕ) → Source → Finding → Type 0
+Finds words files misused = asked_of words ≡ Err Usage
+Finds words files (past limit) = asked_of words ≡ Err (Limit limit)
+Finds words files (flawed file flaw) = AskFor words (λ asked. FirstFlaw AreTold files (files_of asked) file flaw)
+Finds words files clean = AskFor words (λ asked. (contents : List Content) × AreRead files (files_of asked) contents)

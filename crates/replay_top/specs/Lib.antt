@@ -1,13 +1,11 @@
 pub mod Causes
+pub mod Content
 pub mod ErrorLine
+pub mod Files
 pub mod Flaw
 pub mod Inputs
 pub mod Internal
 pub mod Laws
-pub mod Ports
 pub mod Process
-pub mod Readable
 pub mod Replay
 pub mod Report
-pub mod Sizes
-pub mod Words

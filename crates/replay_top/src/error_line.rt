@@ -1,13 +1,16 @@
 //! The one line on the error output.
 
-ghost use Rattle.std.specs.Prelude.{◌≡◌, ◌++◌, codes, decimal, map};
-ghost use Rattle.std.specs.String.{string_bytes};
+ghost use Rattle.std.specs.Prelude.{◌≡◌, ◌++◌, codes, decimal};
+ghost use Rattle.command_words.specs.Asked.{asked_as, texts};
 ghost use Rattle.report_text.specs.Page.{Adds, HasRoom};
 ghost use Rattle.report_text.specs.Wrote.{Wrote};
-ghost use Rattle.replay_top.specs.ErrorLine.{error_line, fault_text, flaw_line, limit_text, line_of, rule_fault_text, rule_kind_text, Tells, write_failed};
+ghost use Rattle.replay_top.specs.ErrorLine.{error_line, fault_text, flaw_line, limit_text, rule_fault_text, rule_kind_text, script_fault_text, script_kind_text, Tells, words_limit_text, write_failed};
+ghost use Rattle.replay_top.specs.Internal.Ending.{line_about, name_among};
+ghost use Rattle.replay_top.specs.Files.{file_at, files_of, files_of_kind};
 
-use crate::command_line::file_name;
 use crate::flaw::{FileKind, Flaw, Refusal};
+use command_words::{Asked, WordsLimit};
+use conntrack_cmd::read::{ScriptFault, ScriptKind};
 use ct_io::Sink;
 use nat_setup::read::{RuleFault, RuleKind};
 use packet_headers::capture::CaptureFault;
@@ -97,12 +100,54 @@ fn write_rule_fault<K: Sink>(name: &str, fault: RuleFault, err: &mut K) -> Resul
     write_line(name, page.held(), err)
 }
 
+/// What is wrong with a line of a script, in words.
+fn script_kind_text(kind: ScriptKind) -> &'static [u8]
+    ensures { result.now ≡ script_kind_text kind }
+{
+    match kind {
+        ScriptKind::Command => b": command\n",
+        ScriptKind::Option => b": option\n",
+        ScriptKind::Value => b": value\n",
+        ScriptKind::Repeat => b": repeat\n",
+        ScriptKind::TooMany => b": too many\n",
+    }
+}
+
+/// Writes the line of a fault of the script of this name.
+fn write_script_fault<K: Sink>(
+    name: &str,
+    fault: ScriptFault,
+    err: &mut K,
+) -> Result<(), WriteFault>
+    ensures { Wrote (error_line name.now (script_fault_text fault))
+        (K.tape err.old) (K.tape err.new) result }
+{
+    let mut buffer = [0; LONGEST_LINE];
+    let mut page = Page::new(&mut buffer);
+    page.text(b": line ");
+    page.number(fault.line);
+    page.text(script_kind_text(fault.kind));
+    write_line(name, page.held(), err)
+}
+
+/// A limit of the words, in words.
+fn words_limit_text(limit: WordsLimit) -> &'static [u8]
+    ensures { result.now ≡ words_limit_text limit }
+{
+    match limit {
+        WordsLimit::Entries => b"limit: entries\n",
+        WordsLimit::Buckets => b"limit: buckets\n",
+        WordsLimit::Captures => b"limit: captures\n",
+    }
+}
+
 /// A limit of a kind of file, in words.
 fn limit_text(kind: FileKind) -> &'static [u8]
     ensures { result.now ≡ limit_text kind }
 {
     match kind {
         FileKind::Rules => b"limit: rules bytes\n",
+        FileKind::Script => b"limit: script bytes\n",
         FileKind::Capture => b"limit: capture bytes\n",
     }
 }
@@ -113,32 +158,33 @@ fn write_flaw<K: Sink>(name: &str, flaw: Flaw, err: &mut K) -> Result<(), WriteF
 {
     match flaw {
         Flaw::TooLong(kind) => write_line("", limit_text(kind), err),
+        Flaw::AllTooLong => write_line("", b"limit: all capture bytes\n", err),
         Flaw::Rules(fault) => write_rule_fault(name, fault, err),
+        Flaw::Script(fault) => write_script_fault(name, fault, err),
         Flaw::Capture(fault) => write_fault(name, fault, err),
+        Flaw::TooManyPackets => write_line("", b"limit: all packets\n", err),
     }
 }
 
-/// Writes the line of a refusal of a run with these words.
-fn write_refusal<K: Sink>(why: Refusal, words: &[String], err: &mut K) -> Result<(), WriteFault>
-    ensures { Wrote (line_of (map string_bytes words.now) why)
-        (K.tape err.old) (K.tape err.new) result }
+/// Writes the line of a refusal that is about the file of this name.
+fn write_refusal<K: Sink>(why: Refusal, name: &str, err: &mut K) -> Result<(), WriteFault>
+    ensures { Wrote (line_about name.now why) (K.tape err.old) (K.tape err.new) result }
 {
     match why {
         Refusal::Misused => write_line("", b"the words are not of the stated form\n", err),
-        Refusal::Flawed { file, flaw } => write_flaw(file_name(words, file), flaw, err),
-        Refusal::NotOpened { file } => {
-            write_line(file_name(words, file), b": open failed\n", err)
-        }
-        Refusal::NotRead { file } => write_line(file_name(words, file), b": read failed\n", err),
+        Refusal::PastLimit(limit) => write_line("", words_limit_text(limit), err),
+        Refusal::Flawed { flaw, .. } => write_flaw(name, flaw, err),
+        Refusal::NotOpened { .. } => write_line(name, b": open failed\n", err),
+        Refusal::NotRead { .. } => write_line(name, b": read failed\n", err),
         Refusal::NoMemory => write_line("", b"out of memory\n", err),
     }
 }
 
-/// Tells of a refusal of a run with these words.
-pub fn tell_refusal<K: Sink>(why: Refusal, words: &[String], err: &mut K)
-    ensures { Tells (line_of (map string_bytes words.now) why) (K.tape err.old) (K.tape err.new) }
+/// Tells of a refusal that is about the file of this name, if it is about one.
+pub fn tell_refusal<K: Sink>(why: Refusal, name: &str, err: &mut K)
+    ensures { Tells (line_about name.now why) (K.tape err.old) (K.tape err.new) }
 {
-    let _ = write_refusal(why, words, err);
+    let _ = write_refusal(why, name, err);
 }
 
 /// Tells that the report could not be written.
@@ -146,4 +192,40 @@ pub fn tell_not_written<K: Sink>(err: &mut K)
     ensures { Tells write_failed (K.tape err.old) (K.tape err.new) }
 {
     let _ = write_line("", b"write failed\n", err);
+}
+
+/// The name of this index, or no text behind the last.
+fn name_at<'w>(names: &[&'w str], index: usize) -> &'w str
+    ensures { result.now ≡ (file_at (files_of_kind FileKind.Capture (texts names.now)) index).name }
+{
+    match names.get(index) {
+        Some(name) => *name,
+        None => "",
+    }
+}
+
+/// The name of the file of this number among those that are asked for; no text where there is none.
+fn file_name<'w>(asked: &Asked<'w>, file: usize) -> &'w str
+    ensures { result.now ≡ (file_at (files_of (asked_as asked.now)) file).name }
+{
+    let captures = asked.captures.as_slice();
+    match (asked.rules, asked.script, file) {
+        (Some(rules), _, 0) => rules,
+        (Some(_), Some(script), 1) | (None, Some(script), 0) => script,
+        (Some(_), Some(_), _) => name_at(captures, file - 2),
+        (Some(_), None, _) | (None, Some(_), _) => name_at(captures, file - 1),
+        (None, None, _) => name_at(captures, file),
+    }
+}
+
+/// The name of the file that a refusal of what is asked is about; no text where it is about none.
+pub fn name_among<'w>(asked: &Asked<'w>, why: Refusal) -> &'w str
+    ensures { result.now ≡ name_among (files_of (asked_as asked.now)) why }
+{
+    match why {
+        Refusal::Flawed { file, .. } | Refusal::NotOpened { file } | Refusal::NotRead { file } => {
+            file_name(asked, file)
+        }
+        Refusal::Misused | Refusal::PastLimit(_) | Refusal::NoMemory => "",
+    }
 }

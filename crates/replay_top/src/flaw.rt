@@ -3,7 +3,10 @@
 ghost use Rattle.std.specs.Prelude.{◌≡◌};
 ghost use Rattle.replay_top.specs.Causes;
 ghost use Rattle.replay_top.specs.Flaw.{flaw_status};
+ghost use Rattle.replay_top.specs.Internal.Ending.{refusal_for};
 
+use command_words::{WordsError, WordsLimit};
+use conntrack_cmd::read::ScriptFault;
 use nat_setup::read::RuleFault;
 use packet_headers::capture::CaptureFault;
 
@@ -11,6 +14,7 @@ use packet_headers::capture::CaptureFault;
 #[derive(Clone, Copy)]
 pub enum FileKind {
     Rules,
+    Script,
     Capture,
 }
 
@@ -19,17 +23,16 @@ pub enum FileKind {
 pub enum Flaw {
     /// It has more bytes than are read of a file of this kind.
     TooLong(FileKind),
+    /// With this capture all captures have more bytes than are read of them together.
+    AllTooLong,
     /// It is no file of rules: its first fault.
     Rules(RuleFault),
+    /// It is no script: its first fault.
+    Script(ScriptFault),
     /// It is no capture: its first fault.
     Capture(CaptureFault),
-}
-
-/// Why bytes were not replayed.
-#[derive(Clone, Copy)]
-pub enum ReplayError {
-    Flawed(Flaw),
-    NoMemory,
+    /// With this capture all captures have more packets than are replayed.
+    TooManyPackets,
 }
 
 /// Why a run is refused. Files are counted from 0, in the order in which they are read.
@@ -37,6 +40,8 @@ pub enum ReplayError {
 pub enum Refusal {
     /// The words are not of the form.
     Misused,
+    /// The words are of the form, and pass this limit first.
+    PastLimit(WordsLimit),
     /// This file is the first with a flaw.
     Flawed { file: usize, flaw: Flaw },
     /// This file could not be opened.
@@ -46,13 +51,24 @@ pub enum Refusal {
     NoMemory,
 }
 
+/// The refusal of words that ask for nothing.
+pub fn refusal_for(error: WordsError) -> Refusal
+    ensures { result ≡ refusal_for error }
+{
+    match error {
+        WordsError::Usage => Refusal::Misused,
+        WordsError::Limit(limit) => Refusal::PastLimit(limit),
+        WordsError::NoMemory => Refusal::NoMemory,
+    }
+}
+
 /// The status of a run that ends with the flaw.
 fn status_of(flaw: Flaw) -> u8
     ensures { result ≡ flaw_status flaw }
 {
     match flaw {
-        Flaw::TooLong(_) => 5,
-        Flaw::Rules(_) | Flaw::Capture(_) => 2,
+        Flaw::TooLong(_) | Flaw::AllTooLong | Flaw::TooManyPackets => 5,
+        Flaw::Rules(_) | Flaw::Script(_) | Flaw::Capture(_) => 2,
     }
 }
 
@@ -62,6 +78,7 @@ pub fn refusal_status(why: Refusal) -> u8
 {
     match why {
         Refusal::Misused => 1,
+        Refusal::PastLimit(_) => 5,
         Refusal::Flawed { flaw, .. } => status_of(flaw),
         Refusal::NotOpened { .. } | Refusal::NotRead { .. } => 3,
         Refusal::NoMemory => 6,

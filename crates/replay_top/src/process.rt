@@ -38,7 +38,7 @@ pub fn run_without_words<K: Sink>(err: &mut K) -> Run
     ensures no_report { result.report ≡ None }
     ensures line { Tells (line_of [] Refusal.NoMemory) (K.tape err.old) (K.tape err.new) }
 {
-    tell_refusal(Refusal::NoMemory, &[], err);
+    tell_refusal(Refusal::NoMemory, "", err);
     Run {
         status: 6,
         report: None,

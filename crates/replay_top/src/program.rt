@@ -1,48 +1,115 @@
 //! The whole program as one call.
 
-ghost use Rattle.std.specs.Prelude.{◌≡◌, ◌≢◌, ◌≤◌, None, IsSomeAnd, map};
+ghost use Rattle.std.specs.Prelude.{◌≡◌, ◌≢◌, ◌≤◌, None, IfOk, IsSomeAnd, map};
 ghost use Rattle.std.specs.String.{string_bytes};
+ghost use Rattle.command_words.specs.Asked.{asked_as};
+ghost use Rattle.command_words.specs.Words.{IsWithin};
 ghost use Rattle.ct_io.specs.Source.{SameFaults, Stays};
-ghost use Rattle.replay_top.specs.Causes.{Answers, FilesFailed, IsRefused, OthersStand};
+ghost use Rattle.replay_top.specs.Causes;
+ghost use Rattle.replay_top.specs.Causes.{StatusFits, FilesFailed, IsRefused, OthersStand, OthersStandBeside};
 ghost use Rattle.replay_top.specs.ErrorLine.{Tells, write_failed};
 ghost use Rattle.replay_top.specs.Inputs.{Finding, Finds};
-ghost use Rattle.replay_top.specs.Internal.Ending.{Ends};
+ghost use Rattle.replay_top.specs.Internal.Ending.{Ends, line_about, Replays};
+ghost use Rattle.replay_top.specs.Internal.Replaying.{IsReady, ReplaysInputs};
 ghost use Rattle.replay_top.specs.Replay.{IsCutShort, IsPrinted};
+ghost use Rattle.replay_top.specs.Files.{files_of};
 
-use crate::command_line::read_words;
 use crate::ending::{Ending, Run};
-use crate::error_line::{tell_not_written, tell_refusal};
-use crate::flaw::{Refusal, refusal_status};
-use crate::input::replay_asked;
-use crate::laws::{flaws_are_unique, read_files_have_no_flaw};
+use crate::error_line::{name_among, tell_not_written, tell_refusal};
+use crate::flaw::{Refusal, refusal_for, refusal_status};
+use crate::input::{Inputs, read_all};
+use crate::laws::{contents_are_unique, flaws_are_unique, read_files_have_no_flaw};
+use crate::replay::replay;
+use crate::sizes::sizes_of;
+use command_words::{Asked, read_words};
 use ct_io::{Files, Gate, Sink};
+use history_book::report::Report;
+use packet_path::setup::{Ports, Setup};
 use report_text::write::write_report;
 use std::alloc::Global;
 use std::sync::Wait;
 use std::thread::Threads;
+use tuple_core::NoMemory;
 
 /// Bytes of the buffer in which the report's text is gathered.
 const BUFFER: usize = 65_536;
 
-/// Replays the capture that the words name, with the rules that they name, and writes the report's text to
-/// `out`.
-#[tactic(auto, using(crate::proofs::Findings::others_named))]
-fn run<R: Wait, F: Files, K: Sink>(
+/// The same ports.
+fn copied(alloc: Global, ports: &Ports) -> Result<Ports, NoMemory>
+    ensures { IfOk result (λ copy. copy.items ≡ ports.now.items) }
+{
+    let mut copy = Ports::new(alloc, 0)?;
+    copy.append(ports.as_slice())?;
+    Ok(copy)
+}
+
+/// Replays what was read, as it is asked for.
+fn replay_inputs<R: Wait>(
     rt: &R,
     alloc: Global,
-    words: &[String],
+    asked: &Asked<'_>,
+    inputs: Inputs,
+) -> Result<Report, NoMemory>
+    requires within { IsWithin (asked_as asked.now) }
+    requires ready { IsReady inputs }
+    ensures { IfOk result (ReplaysInputs (asked_as asked.now) inputs) }
+{
+    let Inputs {
+        rules,
+        script,
+        captures,
+    } = inputs;
+    let ftp = copied(alloc, &asked.ftp)?;
+    let setup = Setup { rules, ftp };
+    replay(
+        rt,
+        alloc,
+        &sizes_of(asked),
+        captures.as_slice(),
+        &script,
+        &setup,
+    )
+}
+
+/// Reads the files that are asked for, and replays them.
+#[tactic(auto, using(crate::proofs::All::replay_made))]
+fn replay_asked<R: Wait, F: Files>(
+    rt: &R,
+    alloc: Global,
     files: &mut F,
-    out: &mut K,
-) -> Ending
-    ensures ends { Ends (map string_bytes words.now) (F.source files.old) (F.source files.new)
-        (K.tape out.old) (K.tape out.new) result }
-    ensures others { OthersStand (map string_bytes words.now)
+    asked: &Asked<'_>,
+) -> Result<Report, Refusal>
+    requires { IsWithin (asked_as asked.now) }
+    ensures replays { Replays (asked_as asked.now) (F.source files.old) (F.source files.new) result }
+    ensures others { OthersStandBeside (files_of (asked_as asked.now))
         (F.source files.old) (F.source files.new) }
     ensures stays { Stays (F.source files.old) (F.source files.new) }
 {
-    let Some(asked) = read_words(words) else {
-        return Ending::Refused(Refusal::Misused);
+    let inputs = match read_all(alloc, files, asked) {
+        Ok(inputs) => inputs,
+        Err(why) => return Err(why),
     };
+    match replay_inputs(rt, alloc, asked, inputs) {
+        Ok(report) => Ok(report),
+        Err(_) => Err(Refusal::NoMemory),
+    }
+}
+
+/// Replays what is asked for, and writes the report's text to `out`.
+fn run<R: Wait, F: Files, K: Sink>(
+    rt: &R,
+    alloc: Global,
+    asked: &Asked<'_>,
+    files: &mut F,
+    out: &mut K,
+) -> Ending
+    requires { IsWithin (asked_as asked.now) }
+    ensures ends { Ends (asked_as asked.now) (F.source files.old) (F.source files.new)
+        (K.tape out.old) (K.tape out.new) result }
+    ensures others { OthersStandBeside (files_of (asked_as asked.now))
+        (F.source files.old) (F.source files.new) }
+    ensures stays { Stays (F.source files.old) (F.source files.new) }
+{
     let report = match replay_asked(rt, alloc, files, asked) {
         Ok(report) => report,
         Err(why) => return Ending::Refused(why),
@@ -57,15 +124,34 @@ fn run<R: Wait, F: Files, K: Sink>(
     }
 }
 
-/// The whole program: reads the words, then the file of rules and the capture that they name, replays the
-/// capture, and writes the report's text to `out`, or one line to `err`.
+/// A run that is refused, which tells so in its line.
+fn refused<K: Sink>(why: Refusal, name: &str, err: &mut K) -> Run
+    ensures status { result.status ≡ Causes.refusal_status why }
+    ensures no_report { result.report ≡ None }
+    ensures line { Tells (line_about name.now why) (K.tape err.old) (K.tape err.new) }
+{
+    tell_refusal(why, name, err);
+    Run {
+        status: refusal_status(why),
+        report: None,
+    }
+}
+
+/// The whole program: reads the words, then the rules, the script and the captures that they name, replays the captures
+/// and performs the script's commands, and writes the report's text to `out`, or one line to `err`.
 ///
-/// `words` are `ctreplay CAPTURE` or `ctreplay --rules FILE CAPTURE`; no name begins with `-`. New flows are
-/// translated by the rules, and connections to a server's port 21 have the helper of FTP. The statuses are 0
-/// (all was written), 1 (the words are not of that form), 2 (a file is no file of rules, or no capture), 3 (one
-/// could not be opened or read), 4 (the output could not be written), 5 (a file has too many bytes: of rules
-/// 1,048,576 are read, of a capture 268,435,456) and 6 (memory was wanted). The report is there with 0 and 4.
-/// No thread is started and the gate is not called.
+/// `words` are `ctreplay [--rules F] [--script F] [--entries N] [--buckets N] [--ftp LIST] CAPTURE..`. The captures are
+/// replayed one after another, and behind them the script's commands are performed. New flows are translated by the
+/// rules, and connections to the ports of the list, or else to 21, have the helper of FTP. The tracker has room for so
+/// many entries, or else 65,536, and so many buckets, or else 16,384.
+///
+/// The statuses are 0 (all was written), 1 (the words are not of that form), 2 (a file is no file of rules, no script, or
+/// no capture), 3 (one could not be opened or read), 4 (the output could not be written), 5 (a number or a size is past
+/// its limit: 1 to 65,536 entries, 65,536 buckets, 63 captures, 1,048,576 bytes of rules and of the script, 268,435,456
+/// of a capture and 1,073,741,824 of all captures, and 4,194,304 packets) and 6 (memory was wanted). The first of these
+/// decides, in the order of words, rules, script and captures. The report is there with 0 and 4. No thread is started
+/// and the gate is not called.
+#[tactic(auto, using(crate::proofs::Findings::has_cause, crate::proofs::Findings::others_named, crate::proofs::Findings::failed_files))]
 pub fn top<R: Threads + Wait + Sync, F: Files, K: Sink, G: Gate + Sync>(
     rt: &R,
     alloc: Global,
@@ -75,7 +161,7 @@ pub fn top<R: Threads + Wait + Sync, F: Files, K: Sink, G: Gate + Sync>(
     err: &mut K,
     _gate: &G,
 ) -> Run
-    // What is printed is the text of one legal history with its verdicts.
+    // What is printed is the text of one legal history with its verdicts and answers.
     ensures headline { result.status ≡ 0 → IsSomeAnd result.report
         (IsPrinted (map string_bytes words.now) (F.source files.old)
         (K.tape out.old) (K.tape out.new)) }
@@ -92,8 +178,8 @@ pub fn top<R: Threads + Wait + Sync, F: Files, K: Sink, G: Gate + Sync>(
 
     // What the inputs are decides the status, unless a call to the outside fails or memory is wanting.
     ensures exact { (found : Finding) →
-        Finds IsSomeAnd (map string_bytes words.now) (F.source files.old) found →
-        Answers (map string_bytes words.now) (F.source files.old) (F.source files.new)
+        Finds (map string_bytes words.now) (F.source files.old) found →
+        StatusFits (map string_bytes words.now) (F.source files.old) (F.source files.new)
         (K.tape out.old) (K.tape out.new) result.status found }
     ensures statuses { result.status ≤ 6 }
 
@@ -113,8 +199,13 @@ pub fn top<R: Threads + Wait + Sync, F: Files, K: Sink, G: Gate + Sync>(
     ensures stays { Stays (F.source files.old) (F.source files.new) }
 {
     read_files_have_no_flaw();
+    contents_are_unique();
     flaws_are_unique();
-    match run(rt, alloc, words, files, out) {
+    let asked = match read_words(alloc, words) {
+        Ok(asked) => asked,
+        Err(error) => return refused(refusal_for(error), "", err),
+    };
+    match run(rt, alloc, &asked, files, out) {
         Ending::Done(report) => Run {
             status: 0,
             report: Some(report),
@@ -126,13 +217,7 @@ pub fn top<R: Threads + Wait + Sync, F: Files, K: Sink, G: Gate + Sync>(
                 report: Some(report),
             }
         }
-        Ending::Refused(why) => {
-            tell_refusal(why, words, err);
-            Run {
-                status: refusal_status(why),
-                report: None,
-            }
-        }
+        Ending::Refused(why) => refused(why, name_among(&asked, why), err),
     }
 }
 

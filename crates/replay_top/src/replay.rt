@@ -1,22 +1,28 @@
-//! Replays the frames of one capture.
+//! Replays captures, one after the other.
 
-ghost use Rattle.std.specs.Prelude.{◌≡◌, ◌+◌, ◌*◌, ◌<◌, ◌≤◌, ◌^◌, [], ◌∷◌, length, map, IfOk, OnOk};
+ghost use Rattle.std.specs.Prelude.{◌≡◌, ◌+◌, ◌*◌, ◌≤◌, ◌^◌, [], All, length, map, IfOk, OnOk};
 ghost use Rattle.std.specs.List.{AllByRecursion};
+ghost use Rattle.conntrack_cmd.specs.Moment.{moment_of};
 ghost use Rattle.history_book.specs.Sight.{IsKnown};
 ghost use Rattle.history_book.specs.Sizes.{AreWithinLimits};
 ghost use Rattle.nat_setup.specs.Rule.{IsLawfulRule};
 ghost use Rattle.packet_headers.specs.Capture.{AreInside, AreTimely};
 ghost use Rattle.packet_path.specs.Packet.{given_of};
-ghost use Rattle.replay_top.specs.Internal.Naming.{IsToldBy, made_in};
-ghost use Rattle.replay_top.specs.Internal.Replayed.{Replayed};
+ghost use Rattle.replay_top.specs.Internal.Frames.{frames_in};
+ghost use Rattle.replay_top.specs.Internal.Replayed.{AllReplayed, given_frames, Replayed};
+ghost use Rattle.replay_top.specs.Internal.Replaying.{work_of};
 ghost use Rattle.replay_top.specs.Report.{IsWellFormed};
 
-use crate::naming::name_events;
+use crate::capture::Capture;
+use crate::cut::cut_events;
+use crate::script_run::{latest_moment, run_script};
 use book_desk::desk::PlainDesk;
-use history_book::answer::Answers;
+use conntrack_cmd::read::Script;
 use history_book::desk::Desk;
-use history_book::report::{Closed, Report, ThreadVerdicts, Verdicts};
+use history_book::merge::merge;
+use history_book::report::{Report, ThreadVerdicts, Verdicts};
 use history_book::sizes::Sizes;
+use history_book::verdict::Verdict;
 use packet_headers::frame::Frame;
 use packet_path::handle::handle;
 use packet_path::laws::{lower_marks_fit, verdicts_still_fit};
@@ -26,7 +32,7 @@ use std::sync::Wait;
 use tuple_core::NoMemory;
 
 /// Handles the frames of a capture, whose file has these bytes, in their order, with a desk that holds
-/// and owes nothing, and says what became of each.
+/// and owes nothing, and says what became of each. Events are counted from the first of this capture.
 fn replay_frames<R: Wait, D: Desk>(
     rt: &R,
     desk: &mut D,
@@ -44,61 +50,111 @@ fn replay_frames<R: Wait, D: Desk>(
     requires nothing_held { (D.sight desk.old).held ≡ [] }
     requires nothing_owed { (D.sight desk.old).owed ≡ [] }
     requires knows { IsKnown (D.sight desk.old) }
-    ensures replayed { OnOk result (Replayed setup.now (map (given_of bytes.now) frames.now)
+    ensures { OnOk result (Replayed setup.now (map (given_of bytes.now) frames.now)
         (D.sight desk.old) (D.sight desk.new) verdicts.new.items) }
-    ensures known { IsKnown (D.sight desk.new) }
 {
     lower_marks_fit();
     verdicts_still_fit();
+    let base = desk.made();
     'frames: for frame in frames {
         let verdict = match handle(rt, desk, bytes, frame, setup) {
             Ok(verdict) => verdict,
             Err(error) => return Err(error),
         };
-        verdicts.push(verdict);
+        verdicts.push(Verdict {
+            first: verdict.first - base,
+            ..verdict
+        });
     }
     Ok(())
 }
 
-/// The report of the one thread, which has these verdicts and ended the tracker.
-fn report(alloc: Global, closed: Closed, verdicts: Verdicts) -> Result<Report, NoMemory>
-    requires covers { made_in verdicts.items ≡ length closed.notes.items }
-    requires few { length verdicts.items < 2 ^ 32 }
-    ensures { IfOk result (IsToldBy closed verdicts) }
+/// Handles the frames of a capture in their order, with a desk that holds and owes nothing, and says what became of
+/// each.
+fn replay_capture<R: Wait, D: Desk>(
+    rt: &R,
+    alloc: Global,
+    desk: &mut D,
+    capture: &Capture,
+    setup: &Setup,
+) -> Result<Verdicts, NoMemory>
+    requires lawful { AllByRecursion IsLawfulRule setup.now.rules.items }
+    requires inside { AreInside capture.now.bytes.items capture.now.frames.items }
+    requires timely { AreTimely capture.now.frames.items }
+    requires few { length (D.sight desk.old).own + 8 * length capture.now.frames.items + 8 ≤ 2 ^ 30 }
+    requires nothing_held { (D.sight desk.old).held ≡ [] }
+    requires nothing_owed { (D.sight desk.old).owed ≡ [] }
+    requires knows { IsKnown (D.sight desk.old) }
+    ensures { IfOk result (λ verdicts. Replayed setup.now (given_frames capture.now)
+        (D.sight desk.old) (D.sight desk.new) verdicts.items) }
 {
-    let history = name_events(alloc, closed.notes.as_slice(), verdicts.as_slice())?;
-    let mut threads = ThreadVerdicts::new(alloc, 1)?;
-    threads.push(verdicts);
-    Ok(Report {
-        history,
-        live: closed.live,
-        threads,
-        answers: Answers::new(alloc, 0)?,
-    })
+    let bytes = capture.bytes.as_slice();
+    let frames = capture.frames.as_slice();
+    let mut verdicts = Verdicts::new(alloc, frames.len())?;
+    replay_frames(rt, desk, bytes, frames, setup, &mut verdicts)?;
+    Ok(verdicts)
 }
 
-/// Handles the frames of the one capture, whose file has these bytes, in their order, with a tracker of
-/// these sizes, and reports what became of each.
+/// Handles the captures one after the other, each as a thread of its own, with a desk that holds and owes nothing.
+fn replay_captures<R: Wait, D: Desk>(
+    rt: &R,
+    alloc: Global,
+    desk: &mut D,
+    captures: &[Capture],
+    setup: &Setup,
+) -> Result<ThreadVerdicts, NoMemory>
+    requires lawful { AllByRecursion IsLawfulRule setup.now.rules.items }
+    requires inside { All (λ c. AreInside c.bytes.items c.frames.items) captures.now }
+    requires timely { All (λ c. AreTimely c.frames.items) captures.now }
+    requires few { length (D.sight desk.old).own + 8 * frames_in captures.now + 8 ≤ 2 ^ 30 }
+    requires nothing_held { (D.sight desk.old).held ≡ [] }
+    requires nothing_owed { (D.sight desk.old).owed ≡ [] }
+    requires knows { IsKnown (D.sight desk.old) }
+    ensures { IfOk result (λ threads. AllReplayed setup.now (map given_frames captures.now)
+        (D.sight desk.old) (D.sight desk.new) threads.items) }
+{
+    verdicts_still_fit();
+    let mut threads = ThreadVerdicts::new(alloc, captures.len())?;
+    'captures: for capture in captures {
+        let verdicts = match replay_capture(rt, alloc, desk, capture, setup) {
+            Ok(verdicts) => verdicts,
+            Err(error) => return Err(error),
+        };
+        threads.push(verdicts);
+    }
+    Ok(threads)
+}
+
+/// Replays the captures, one after the other, with a tracker of these sizes that is set up so, and then performs the
+/// commands of the script, at the moment of the latest frame. Reports what became of each frame, and what was
+/// answered to each command.
 pub fn replay<R: Wait>(
     rt: &R,
     alloc: Global,
     sizes: &Sizes,
-    bytes: &[u8],
-    frames: &[Frame],
+    captures: &[Capture],
+    script: &Script,
     setup: &Setup,
 ) -> Result<Report, NoMemory>
     requires limits { AreWithinLimits sizes.now }
     requires one_pass { sizes.now.passes ≡ 1 }
-    requires inside { AreInside bytes.now frames.now }
-    requires timely { AreTimely frames.now }
-    requires few { 8 * length frames.now + 8 ≤ 2 ^ 30 }
+    requires inside { All (λ c. AreInside c.bytes.items c.frames.items) captures.now }
+    requires timely { All (λ c. AreTimely c.frames.items) captures.now }
+    requires threads { length captures.now ≤ 63 }
+    requires few { frames_in captures.now ≤ 4194304 }
+    requires commands { length script.now.commands.items ≤ 256 }
+    requires named { All (λ c. moment_of c ≤ 10 ^ 16) script.now.commands.items }
     requires lawful { AllByRecursion IsLawfulRule setup.now.rules.items }
     ensures { IfOk result (IsWellFormed
-        (record { setup = setup.now; sizes = sizes.now }) (map (given_of bytes.now) frames.now ∷ [])) }
+        (record { setup = setup.now; sizes = sizes.now }) (work_of captures.now script.now)) }
 {
+    verdicts_still_fit();
     let mut desk = PlainDesk::new(alloc, *sizes)?;
-    let mut verdicts = Verdicts::new(alloc, frames.len())?;
-    replay_frames(rt, &mut desk, bytes, frames, setup, &mut verdicts)?;
+    let threads = replay_captures(rt, alloc, &mut desk, captures, setup)?;
+    let commands = script.commands.as_slice();
+    let moment = latest_moment(captures);
+    let answers = run_script(rt, alloc, &mut desk, commands, moment)?;
     let closed = desk.finish();
-    report(alloc, closed, verdicts)
+    let lists = cut_events(alloc, closed.notes.as_slice(), threads.as_slice())?;
+    merge(alloc, lists, threads, answers, closed.live)
 }

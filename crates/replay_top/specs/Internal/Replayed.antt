@@ -1,16 +1,27 @@
--- What a desk and its verdicts are, once the frames of one capture were handled by one thread.
-use Rattle.std.specs.Prelude.{◌≡◌, ℕ, ◌+◌, ◌≤◌, List, [], ◌∷◌, ◌++◌, length, take, drop}
+-- What a desk and its verdicts are, once the frames of captures were handled.
+use Rattle.std.specs.Prelude.{◌≡◌, ℕ, ◌+◌, ◌*◌, ◌≤◌, List, [], ◌∷◌, ◌++◌, length, map, take, drop}
+use Rattle.room_list.specs.Roomed.{Roomed}
 use Rattle.history_book.specs.declared.event.Event.{Event}
 use Rattle.history_book.specs.declared.event.Note.{Note}
 use Rattle.history_book.specs.declared.verdict.Class.{Class}
 use Rattle.history_book.specs.declared.verdict.Verdict.{Verdict}
 use Rattle.history_book.specs.Notes.{mark_at, mark_past}
 use Rattle.history_book.specs.Point.{StartsWith}
-use Rattle.history_book.specs.Sight.{Sight}
-use Rattle.packet_path.specs.Packet.{Given}
+use Rattle.history_book.specs.Sight.{IsKnown, Sight}
+use Rattle.packet_path.specs.Packet.{Given, given_of}
 use Rattle.packet_path.specs.declared.setup.Setup.{Setup}
 use Rattle.packet_path.specs.Verdict.{FitsFrame, points_of}
+use Rattle.replay_top.specs.declared.capture.Capture.{Capture}
 use Rattle.replay_top.specs.Report.{Tracker}
+
+-- what was given of the frames of a capture
+abbrev pub given_frames : Capture → List Given
+given_frames c = map (given_of c.bytes.items) c.frames.items
+
+-- how many packets were given
+abbrev pub count_given : List (List Given) → ℕ
+count_given [] = 0
+count_given (gs ∷ gss) = length gs + count_given gss
 
 -- a thread's mark after a packet that made these events
 abbrev pub mark_beyond : ℕ → List Note → Class → ℕ
@@ -36,13 +47,41 @@ NotesFit tracker log mine first mark (p ∷ ps) (v ∷ vs) =
 abbrev pub tracker_with : Setup → Sight → Tracker
 tracker_with setup s = record { setup = setup; sizes = s.sizes }
 
--- The desk saw no less than before. Its further own events are those of the verdicts, which fit the packets on
--- the new front; none is older than what the desk had seen. No place is held or owed.
+-- The desk saw no less than before. Its further own events are those of the verdicts, at most eight for each packet,
+-- and the verdicts fit the packets on the new front, as those of a thread of their own. No place is held or owed.
 pub record Replayed (setup : Setup) (given : List Given) (old new : Sight) (verdicts : List Verdict) : Type 0 where
   pub front : StartsWith new.front old.front
   pub sizes : new.sizes ≡ old.sizes
   pub own : List Note
   pub added : new.own ≡ old.own ++ own
-  pub fit : NotesFit (tracker_with setup old) new.front own (length old.own) (length old.front) given verdicts
+  pub few : length own ≤ 8 * length given
+  pub fit : NotesFit (tracker_with setup old) new.front own 0 0 given verdicts
   pub held : new.held ≡ []
   pub owed : new.owed ≡ []
+  pub known : IsKnown new
+
+-- how many events the packets made
+abbrev pub made_in : List Verdict → ℕ
+made_in [] = 0
+made_in (v ∷ vs) = v.made + made_in vs
+
+-- each capture is a thread, which made the next of these events; together they made all of them
+abbrev pub ThreadNotesFit : Tracker → List Event → List Note → List (List Given) → List (Roomed Verdict) → Type 0
+ThreadNotesFit tracker log notes [] [] = notes ≡ []
+ThreadNotesFit tracker log notes [] (vs ∷ vss) = ⊥
+ThreadNotesFit tracker log notes (gs ∷ gss) [] = ⊥
+ThreadNotesFit tracker log notes (gs ∷ gss) (vs ∷ vss) =
+    NotesFit tracker log (take (made_in vs.items) notes) 0 0 gs vs.items
+    × ThreadNotesFit tracker log (drop (made_in vs.items) notes) gss vss
+
+-- the same of several captures, each by a thread
+pub record AllReplayed (setup : Setup) (given : List (List Given)) (old new : Sight) (threads : List (Roomed Verdict)) : Type 0 where
+  pub front : StartsWith new.front old.front
+  pub sizes : new.sizes ≡ old.sizes
+  pub own : List Note
+  pub added : new.own ≡ old.own ++ own
+  pub few : length own ≤ 8 * count_given given
+  pub fit : ThreadNotesFit (tracker_with setup old) new.front own given threads
+  pub held : new.held ≡ []
+  pub owed : new.owed ≡ []
+  pub known : IsKnown new

@@ -1,13 +1,8 @@
 //! Runs of the whole program, over files and sinks in memory.
 
 use super::top;
-use crate::flaw::{Flaw, ReplayError};
-use crate::input::replay_bytes;
 use builder::{Capture, PLAIN, QUERY, query_twice};
 use ct_io::{MemFiles, MemSink, NoGate};
-use nat_setup::rule::Rules;
-use packet_headers::capture::CaptureFault;
-use packet_path::setup::{Ports, Setup};
 use std::alloc::{AllocError, Global};
 use std::sync::Wait;
 use std::test::Fail;
@@ -151,14 +146,9 @@ fn a_capture_is_replayed(rt: HostRuntime) -> Result<(), Fail> {
 
 #[test]
 fn what_is_refused(rt: HostRuntime) -> Result<(), Fail> {
-    let usage = "ctreplay: the words are not of the stated form\n";
     let cut = "ctreplay: c.pcap: record 1 cut at offset 72\n";
     let short = "ctreplay: c.pcap: short header\n";
-    let rows: [(&[&str], &[u8], u8, &str); 9] = [
-        (&[], &CAPTURE, 1, usage),
-        (&["ctreplay"], &CAPTURE, 1, usage),
-        (&["ctreplay", "-x"], &CAPTURE, 1, usage),
-        (&["ctreplay", NAME, NAME], &CAPTURE, 1, usage),
+    let rows: [(&[&str], &[u8], u8, &str); 6] = [
         (
             &["ctreplay", "b.pcap"],
             &CAPTURE,
@@ -168,6 +158,7 @@ fn what_is_refused(rt: HostRuntime) -> Result<(), Fail> {
         (&["ctreplay", ""], &CAPTURE, 3, "ctreplay: : open failed\n"),
         (&["ctreplay", NAME], &CAPTURE[..119], 2, cut),
         (&["ctreplay", NAME], &CAPTURE[..23], 2, short),
+        (&["ctreplay", NAME], b"", 2, short),
         (&["ctreplay", NAME], b"pcapng", 2, short),
     ];
     for (words, bytes, status, line) in rows {
@@ -217,31 +208,6 @@ fn the_first_write_fails(rt: HostRuntime) -> Result<(), Fail> {
     assert!(rt; left.reported);
     assert!(rt; left.out.bytes().is_empty());
     assert!(rt; left.err.bytes() == b"ctreplay: write failed\n".as_slice());
-    Ok(())
-}
-
-#[test]
-fn bytes_are_replayed(rt: HostRuntime) -> Result<(), Fail> {
-    let alloc = rt.alloc();
-    let setup = Setup {
-        rules: Rules::new(alloc, 0)?,
-        ftp: Ports::new(alloc, 0)?,
-    };
-    let report = replay_bytes(&rt, alloc, &CAPTURE, &setup)
-        .ok()
-        .ok_or("no report")?;
-    assert_eq!(rt; report.history.len(), 2);
-    assert_eq!(rt; report.live, 1);
-    let cut = replay_bytes(&rt, alloc, &CAPTURE[..119], &setup);
-    assert!(rt;
-        matches!(
-            cut,
-            Err(ReplayError::Flawed(Flaw::Capture(CaptureFault::CutRecord {
-                index: 1,
-                offset: 72
-            })))
-        )
-    );
     Ok(())
 }
 
@@ -318,4 +284,6 @@ mod captures;
 mod flows;
 mod ftp;
 mod rules;
+mod scripts;
 mod translated;
+mod words;

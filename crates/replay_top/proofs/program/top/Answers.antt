@@ -1,21 +1,60 @@
-use Rattle.replay_top.proofs.Findings.{answers_done, answers_not_written, answers_refused}
+use Rattle.std.proofs.Common.{◌≡◌, map, ap, subst, sym, ◌∙◌, Global}
+use Rattle.std.specs.String.{string_bytes}
+use Rattle.command_words.specs.Asked.{asked_as}
+use Rattle.replay_top.specs.Causes.{HasCause}
+use Rattle.replay_top.specs.ErrorLine.{line_of, Tells}
+use Rattle.replay_top.specs.Internal.Ending.{line_about}
+use Rattle.replay_top.specs.Replay.{IsReplay}
+use Rattle.replay_top.proofs.Findings.{answers_done, answers_not_written, answers_refused, failed_files, has_cause, line_named}
 use Rattle.replay_top.proofs.program.top.Goals as goal
 
 pub returns-in-Done-clause-exact : goal.returns-in-Done-clause-exact
 returns-in-Done-clause-exact g c = λ found finds.
-    answers_done c.read_files_have_no_flaw.ensures c.flaws_are_unique.ensures _ (g.F.Files.source c.args.files.now)
-    (g.F.Files.source c.run.new.files) (g.K.Sink.tape c.args.out.now) (g.K.Sink.tape c.run.new.out) c.in-Done.report found
-    c.in-Done.ensures.ends.0.replay finds
+    let words = map (string_bytes {Z = Global}) c.args.words.now in
+    let replay : IsReplay words (g.F.Files.source c.args.files.now) c.in-Done.report =
+    record { asked = asked_as c.in-Ok.asked; says = c.in-Ok.ensures.exact; holds = c.in-Done.ensures.ends.0 } in
+    answers_done c.read_files_have_no_flaw.ensures c.contents_are_unique.ensures c.flaws_are_unique.ensures words
+    (g.F.Files.source c.args.files.now) (g.F.Files.source c.run.new.files) (g.K.Sink.tape c.args.out.now) (g.K.Sink.tape c.run.new.out)
+    c.in-Done.report found replay finds
 
 pub returns-in-NotWritten-clause-exact : goal.returns-in-NotWritten-clause-exact
 returns-in-NotWritten-clause-exact g c = λ found finds.
-    answers_not_written c.read_files_have_no_flaw.ensures c.flaws_are_unique.ensures _ (g.F.Files.source c.args.files.now)
-    (g.F.Files.source c.run.new.files) (g.K.Sink.tape c.args.out.now) (g.K.Sink.tape c.run.new.out) c.in-NotWritten.report found
-    c.in-NotWritten.ensures.ends.0.replay c.in-NotWritten.ensures.ends.0.failed finds
+    let words = map (string_bytes {Z = Global}) c.args.words.now in
+    let replay : IsReplay words (g.F.Files.source c.args.files.now) c.in-NotWritten.report =
+    record { asked = asked_as c.in-Ok.asked; says = c.in-Ok.ensures.exact; holds = c.in-NotWritten.ensures.ends.0 } in
+    answers_not_written c.read_files_have_no_flaw.ensures c.contents_are_unique.ensures c.flaws_are_unique.ensures words
+    (g.F.Files.source c.args.files.now) (g.F.Files.source c.run.new.files) (g.K.Sink.tape c.args.out.now) (g.K.Sink.tape c.run.new.out)
+    c.in-NotWritten.report found replay c.in-NotWritten.ensures.ends.1 finds
 
-pub returns-in-Refused-clause-exact : goal.returns-in-Refused-clause-exact
-returns-in-Refused-clause-exact g c = λ found finds.
-    rw c.refusal_status.ensures
-    (answers_refused c.read_files_have_no_flaw.ensures c.flaws_are_unique.ensures _ (g.F.Files.source c.args.files.now)
-    (g.F.Files.source c.run.new.files) (g.K.Sink.tape c.args.out.now) (g.K.Sink.tape c.run.new.out) c.in-Refused.why found
-    c.in-Refused.ensures.ends.0 finds)
+pub returns-clause-refused : goal.returns-clause-refused
+returns-clause-refused g c = λ done written.
+    let words = map (string_bytes {Z = Global}) c.args.words.now in
+    let asked = asked_as c.in-Ok.asked in
+    let line : line_about c.name_among.result.now c.in-Refused.why ≡ line_of words c.in-Refused.why =
+    ap (λ name. line_about name c.in-Refused.why) c.name_among.ensures ∙ sym (line_named words asked c.in-Ok.ensures.exact c.in-Refused.why) in
+    record {
+      why = c.in-Refused.why;
+      cause = has_cause words asked c.in-Ok.ensures.exact (g.F.Files.source c.args.files.now) (g.F.Files.source c.run.new.files)
+          c.in-Refused.why c.in-Refused.ensures.ends.0;
+      own = c.refused-in-Refused.ensures.status;
+      line = subst (λ text. Tells text (g.K.Sink.tape c.args.err.now) (g.K.Sink.tape c.refused-in-Refused.new.err)) line
+          c.refused-in-Refused.ensures.line;
+    }
+
+pub returns-clause-files_failed : goal.returns-clause-files_failed
+returns-clause-files_failed g c = λ failed.
+    let words = map (string_bytes {Z = Global}) c.args.words.now in
+    failed_files words (g.F.Files.source c.args.files.now) (g.F.Files.source c.run.new.files) c.in-Refused.why
+    (has_cause words (asked_as c.in-Ok.asked) c.in-Ok.ensures.exact (g.F.Files.source c.args.files.now) (g.F.Files.source c.run.new.files)
+    c.in-Refused.why c.in-Refused.ensures.ends.0) (sym c.refused-in-Refused.ensures.status ∙ failed)
+
+pub returns-clause-exact : goal.returns-clause-exact
+returns-clause-exact g c = λ found finds.
+    let words = map (string_bytes {Z = Global}) c.args.words.now in
+    let cause : HasCause words (g.F.Files.source c.args.files.now) (g.F.Files.source c.run.new.files) c.in-Refused.why =
+    has_cause words (asked_as c.in-Ok.asked) c.in-Ok.ensures.exact (g.F.Files.source c.args.files.now) (g.F.Files.source c.run.new.files)
+    c.in-Refused.why c.in-Refused.ensures.ends.0 in
+    rw c.refused-in-Refused.ensures.status
+    (answers_refused c.read_files_have_no_flaw.ensures c.contents_are_unique.ensures c.flaws_are_unique.ensures words
+    (g.F.Files.source c.args.files.now) (g.F.Files.source c.run.new.files) (g.K.Sink.tape c.args.out.now) (g.K.Sink.tape c.run.new.out)
+    c.in-Refused.why found cause finds)

@@ -1,8 +1,8 @@
-use Rattle.std.proofs.Common.{[], arith, map}
+use Rattle.std.proofs.Common.{◌≡◌, ℕ, [], ◌∷◌, ◌++◌, arith, map, subst}
 use Rattle.std.proofs.lemmas.List.{length-map}
 use Rattle.packet_headers.specs.declared.packet.Packet.TheVariants.{Invalid}
 use Rattle.packet_path.specs.Packet.{given_of}
-use Rattle.replay_top.proofs.Replays.{handled_at, replayed_next, replayed_start}
+use Rattle.replay_top.proofs.Replays.{counted_from, handled_at, replayed_next, replayed_start}
 use Rattle.replay_top.proofs.replay.replay_frames.Goals as goal
 
 pub frames-init : goal.frames-init
@@ -21,4 +21,6 @@ frames-preserved g c =
     (handled_at c.args.setup.now (g.D.Desk.sight c.frames.desk) (g.D.Desk.sight c.handle.new.desk) c.frames.frame-index c.args.bytes.now c.args.frames.now _
     (record { packet = Invalid; moment = 0; payload = [] }) c.in-Ok.verdict (omega (arith, below)) c.in-Ok.ensures.handled)
     c.in-Ok.ensures.knows (omega (arith, below, length-map c.args.frames.now (given_of c.args.bytes.now)))
-    c.push.ensures.items c.push.ensures.room
+    (subst (λ (k : ℕ). c.push.new.self.items ≡ c.frames.verdicts.items ++ counted_from k c.in-Ok.verdict ∷ []) c.made-base.ensures.exact
+    c.push.ensures.items)
+    c.push.ensures.room

