@@ -32,11 +32,7 @@ fn list_events(alloc: Global, notes: &[Note]) -> Result<Notes, NoMemory>
 }
 
 /// The events of each thread, which made the next of them, and then those that are left.
-pub fn cut_events(
-    alloc: Global,
-    notes: &[Note],
-    threads: &[Verdicts],
-) -> Result<Vec<Notes>, NoMemory>
+fn cut_events(alloc: Global, notes: &[Note], threads: &[Verdicts]) -> Result<Vec<Notes>, NoMemory>
     requires made { made_in_all threads.now ≤ length notes.now }
     requires few { length notes.now < 2 ^ 64 }
     ensures { IfOk result (λ lists. items_of lists.items ≡ cut_by threads.now notes.now) }
@@ -55,4 +51,17 @@ pub fn cut_events(
     let last = list_events(alloc, rest)?;
     lists.push_reserved(last);
     Ok(lists)
+}
+
+/// The same of events that are given up for it.
+pub fn events_by_thread(
+    alloc: Global,
+    notes: Notes,
+    threads: &[Verdicts],
+) -> Result<Vec<Notes>, NoMemory>
+    requires made { made_in_all threads.now ≤ length notes.items }
+    requires few { length notes.items < 2 ^ 64 }
+    ensures { IfOk result (λ lists. items_of lists.items ≡ cut_by threads.now notes.items) }
+{
+    cut_events(alloc, notes.as_slice(), threads)
 }

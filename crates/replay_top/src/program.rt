@@ -61,14 +61,7 @@ fn replay_inputs<R: Wait>(
     } = inputs;
     let ftp = copied(alloc, &asked.ftp)?;
     let setup = Setup { rules, ftp };
-    replay(
-        rt,
-        alloc,
-        &sizes_of(asked),
-        captures.as_slice(),
-        &script,
-        &setup,
-    )
+    replay(rt, alloc, &sizes_of(asked), captures, &script, &setup)
 }
 
 /// Reads the files that are asked for, and replays them.

@@ -13,14 +13,14 @@ ghost use Rattle.replay_top.specs.Internal.Replayed.{AllReplayed, given_frames, 
 ghost use Rattle.replay_top.specs.Internal.Replaying.{work_of};
 ghost use Rattle.replay_top.specs.Report.{IsWellFormed};
 
-use crate::capture::Capture;
-use crate::cut::cut_events;
+use crate::capture::{Capture, Captures};
+use crate::cut::events_by_thread;
 use crate::script_run::{latest_moment, run_script};
 use book_desk::desk::PlainDesk;
 use conntrack_cmd::read::Script;
 use history_book::desk::Desk;
 use history_book::merge::merge;
-use history_book::report::{Report, ThreadVerdicts, Verdicts};
+use history_book::report::{Closed, Report, ThreadVerdicts, Verdicts};
 use history_book::sizes::Sizes;
 use history_book::verdict::Verdict;
 use packet_headers::frame::Frame;
@@ -125,6 +125,27 @@ fn replay_captures<R: Wait, D: Desk>(
     Ok(threads)
 }
 
+/// The same of captures that are given up for it.
+fn replay_all<R: Wait, D: Desk>(
+    rt: &R,
+    alloc: Global,
+    desk: &mut D,
+    captures: Captures,
+    setup: &Setup,
+) -> Result<ThreadVerdicts, NoMemory>
+    requires lawful { AllByRecursion IsLawfulRule setup.now.rules.items }
+    requires inside { All (λ c. AreInside c.bytes.items c.frames.items) captures.items }
+    requires timely { All (λ c. AreTimely c.frames.items) captures.items }
+    requires few { length (D.sight desk.old).own + 8 * frames_in captures.items + 8 ≤ 2 ^ 30 }
+    requires nothing_held { (D.sight desk.old).held ≡ [] }
+    requires nothing_owed { (D.sight desk.old).owed ≡ [] }
+    requires knows { IsKnown (D.sight desk.old) }
+    ensures { IfOk result (λ threads. AllReplayed setup.now (map given_frames captures.items)
+        (D.sight desk.old) (D.sight desk.new) threads.items) }
+{
+    replay_captures(rt, alloc, desk, captures.as_slice(), setup)
+}
+
 /// Replays the captures, one after the other, with a tracker of these sizes that is set up so, and then performs the
 /// commands of the script, at the moment of the latest frame. Reports what became of each frame, and what was
 /// answered to each command.
@@ -132,29 +153,29 @@ pub fn replay<R: Wait>(
     rt: &R,
     alloc: Global,
     sizes: &Sizes,
-    captures: &[Capture],
+    captures: Captures,
     script: &Script,
     setup: &Setup,
 ) -> Result<Report, NoMemory>
     requires limits { AreWithinLimits sizes.now }
     requires one_pass { sizes.now.passes ≡ 1 }
-    requires inside { All (λ c. AreInside c.bytes.items c.frames.items) captures.now }
-    requires timely { All (λ c. AreTimely c.frames.items) captures.now }
-    requires threads { length captures.now ≤ 63 }
-    requires few { frames_in captures.now ≤ 4194304 }
+    requires inside { All (λ c. AreInside c.bytes.items c.frames.items) captures.items }
+    requires timely { All (λ c. AreTimely c.frames.items) captures.items }
+    requires threads { length captures.items ≤ 63 }
+    requires few { frames_in captures.items ≤ 4194304 }
     requires commands { length script.now.commands.items ≤ 256 }
     requires named { All (λ c. moment_of c ≤ 10 ^ 16) script.now.commands.items }
     requires lawful { AllByRecursion IsLawfulRule setup.now.rules.items }
     ensures { IfOk result (IsWellFormed
-        (record { setup = setup.now; sizes = sizes.now }) (work_of captures.now script.now)) }
+        (record { setup = setup.now; sizes = sizes.now }) (work_of captures.items script.now)) }
 {
     verdicts_still_fit();
     let mut desk = PlainDesk::new(alloc, *sizes)?;
-    let threads = replay_captures(rt, alloc, &mut desk, captures, setup)?;
+    let moment = latest_moment(captures.as_slice());
+    let threads = replay_all(rt, alloc, &mut desk, captures, setup)?;
     let commands = script.commands.as_slice();
-    let moment = latest_moment(captures);
     let answers = run_script(rt, alloc, &mut desk, commands, moment)?;
-    let closed = desk.finish();
-    let lists = cut_events(alloc, closed.notes.as_slice(), threads.as_slice())?;
-    merge(alloc, lists, threads, answers, closed.live)
+    let Closed { notes, live, .. } = desk.finish();
+    let lists = events_by_thread(alloc, notes, threads.as_slice())?;
+    merge(alloc, lists, threads, answers, live)
 }
