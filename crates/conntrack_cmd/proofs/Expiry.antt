@@ -3,7 +3,7 @@ use Rattle.std.proofs.Common.{◌≡◌, ℕ, suc, zero, ◌+◌, ◌<◌, ◌�
 use Rattle.std.specs.List.{AllByRecursion, find, slice_get}
 use Rattle.std.specs.Prelude.{not}
 use Rattle.std.proofs.lemmas.List.Elements.{recursion_from_All}
-use Rattle.expect_table.specs.Match.{has_id, is_due}
+use Rattle.expect_table.specs.Match.{has_id, is_awaited}
 use Rattle.expect_table.specs.declared.expectation.Expectation.{Expectation}
 use Rattle.history_book.specs.declared.answer.Said.TheVariants as said
 use Rattle.history_book.specs.declared.event.Note.{Note}
@@ -84,8 +84,8 @@ module _ (states : StatesStay) (events : EventsStay) where
       differ : false ≡ true → ⊥
       differ e = cc
 
-      is_late : (d : Expectation) → not (is_due moment d) ≡ true → is_due moment d ≡ false
-      is_late d h = by_due (is_due moment d) h
+      is_late : (d : Expectation) → not (is_awaited moment d) ≡ true → is_awaited moment d ≡ false
+      is_late d h = by_due (is_awaited moment d) h
         where
           by_due : (b : Bool) → not b ≡ true → b ≡ false
           by_due true h = cc
@@ -105,8 +105,8 @@ module _ (states : StatesStay) (events : EventsStay) where
           let other = expected_at expected new.sizes new.front known.legal listing id d found in
           let same : e ≡ d = same_expectation new.front e d is.0 other.0 (is.1 ∙ sym other.1) in
           let at = found_at (has_id id) listed d (ap (find (has_id id)) are ∙ found) in
-          let due : is_due moment d ≡ false =
-          is_late d (ap (λ x. not (is_due moment x)) (sym same) ∙ ap (is_there_and_late moment) (sym there) ∙ late) in
+          let due : is_awaited moment d ≡ false =
+          is_late d (ap (λ x. not (is_awaited moment x)) (sym same) ∙ ap (is_there_and_late moment) (sym there) ∙ late) in
           let o : IsOver new.front listing to d.id = over at.0 d at.1 at.2 due in
           let early : e.id < from = found_one (λ (x : Expectation). x.id < from) (has_id id) (after new.front from).expects e
           (recursion_from_All (λ (x : Expectation). x.id < from) (after new.front from).expects (ordered new.sizes new.front from known.legal).1)

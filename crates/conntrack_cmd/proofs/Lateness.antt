@@ -6,7 +6,7 @@ use Rattle.std.proofs.lemmas.Bool.{eqb-true, eqb-false}
 use Rattle.std.proofs.lemmas.List.{append-nil}
 use Rattle.std.proofs.lemmas.List.Elements.{recursion_from_All}
 use Rattle.expect_table.specs.Expectations.{without_id}
-use Rattle.expect_table.specs.Match.{has_id, is_due}
+use Rattle.expect_table.specs.Match.{has_id, is_awaited}
 use Rattle.expect_table.specs.declared.expectation.Expectation.{Expectation}
 use Rattle.history_book.specs.declared.event.Event.{Event}
 use Rattle.history_book.specs.declared.event.Event.TheVariants.{Expect, Unexpect}
@@ -108,7 +108,7 @@ module _ (states : StatesStay) (events : EventsStay) where
 
   -- an expectation that is still due is not late
   pub due_not_late : ExpectationsAreExpected → (old new : Sight) (moment deadline at : ℕ) (e : Expectation) → IsKnown new
-      → IsExpected old.front e → Looked old new at (IsDueUntil e.id deadline) → moment < deadline → is_due moment e ≡ false → ⊥
+      → IsExpected old.front e → Looked old new at (IsDueUntil e.id deadline) → moment < deadline → is_awaited moment e ≡ false → ⊥
   due_not_late expected old new moment deadline at e known is looked due late =
       let d : Expectation = looked.fact.fact.subject in
       let there = expected_at expected new.sizes new.front known.legal at e.id d looked.fact.fact.is in

@@ -29,8 +29,8 @@ fn end_one<R: Wait, D: Desk>(rt: &R, desk: &mut D, e: &Expectation, moment: u64)
     expectations_are_expected();
     states_follow();
     states_stay();
-    let is_due = moment < e.deadline;
-    if is_due {
+    let is_awaited = moment < e.deadline;
+    if is_awaited {
         return false;
     }
     match desk.unexpect(rt, e.id, moment) {

@@ -5,7 +5,7 @@ use Rattle.history_book.specs.declared.event.Event.TheVariants.{Confirm, Destroy
 use Rattle.history_book.specs.declared.event.Why.{Why}
 use Rattle.history_book.specs.declared.record.Record.{Record}
 use Rattle.history_book.specs.declared.sizes.Sizes.{Sizes}
-use Rattle.expect_table.specs.Expectations.{AreInOrder}
+use Rattle.expect_table.specs.Expectations.{AreOrderedOneAMaster}
 use Rattle.expect_table.specs.Match as expected
 use Rattle.expect_table.specs.declared.expectation.Expectation.{Expectation}
 use Rattle.history_book.specs.Entry.{is_helped_entry, is_of_entry}
@@ -139,7 +139,7 @@ MastersHaveTheHelper =
 abbrev pub ExpectationsAreInOrder : Type 0
 ExpectationsAreInOrder =
     (sizes : Sizes) (log : List Event) (p : ℕ) → is_legal sizes log ≡ true
-    → AreInOrder (after log p).expects × All (λ e. e.id < p) (after log p).expects
+    → AreOrderedOneAMaster (after log p).expects × All (λ e. e.id < p) (after log p).expects
 
 -- a live record has the helper where the Confirm that made it gave it the helper, and only there
 abbrev pub EntriesKeepTheirHelper : Type 0
