@@ -13,7 +13,7 @@ use Rattle.history_book.specs.Legality.{has_helper, is_of_one_protocol, may_happ
 use Rattle.history_book.specs.History.{after, is_legal}
 use Rattle.history_book.specs.Point.{StartsWith}
 use Rattle.history_book.specs.Sight.{WasConfirmedIn}
-use Rattle.history_book.specs.State.{Found, live_under, next, record_of}
+use Rattle.history_book.specs.State.{Found, is_unused, live_under, next, record_of}
 use Rattle.proto_rules.specs.Protocol.{is_of_protocol}
 use Rattle.tuple_core.specs.declared.Segment.{Segment}
 use Rattle.tuple_core.specs.declared.Tuple.{Tuple}
@@ -188,3 +188,14 @@ abbrev pub PlacesNameEntries : Type 0
 PlacesNameEntries =
     (sizes : Sizes) (log : List Event) (p id other : ℕ) (r q : Record) → is_legal sizes log ≡ true
     → record_of id (after log p) ≡ Some r → record_of other (after log p) ≡ Some q → r.place ≡ q.place → id ≡ other
+
+-- where a place of the pool is no entry's, fewer entries are live than there are places
+abbrev pub UnusedPlacesAreRoom : Type 0
+UnusedPlacesAreRoom =
+    (sizes : Sizes) (log : List Event) (p place : ℕ) → is_legal sizes log ≡ true → place < sizes.entries
+    → is_unused place (after log p) ≡ true → length (after log p).records < sizes.entries
+
+-- in every state of a legal history no more is expected than there is room for
+abbrev pub ExpectationsAreFew : Type 0
+ExpectationsAreFew =
+    (sizes : Sizes) (log : List Event) (p : ℕ) → is_legal sizes log ≡ true → length (after log p).expects ≤ sizes.expectations
