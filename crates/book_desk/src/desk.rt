@@ -2,10 +2,10 @@
 #![tactic(auto, using(crate::proofs::Known::known))]
 
 ghost use Rattle.std.specs.Prelude.{IfOk};
+ghost use Rattle.history_book.specs.Close.{Closes};
+ghost use Rattle.history_book.specs.Fresh.{IsFresh};
 ghost use Rattle.history_book.specs.Sight.{IsKnown};
 ghost use Rattle.history_book.specs.Sizes.{AreWithinLimits};
-ghost use Rattle.book_desk.specs.Fresh.{IsFresh};
-ghost use Rattle.book_desk.specs.Closed.{Closes};
 
 use crate::book::{Book, fill};
 use crate::entries::{is_same_flow, winner};
