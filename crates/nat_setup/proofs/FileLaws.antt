@@ -11,7 +11,7 @@ use Rattle.file_text.specs.Reading.{◌>>=◌, required}
 use Rattle.file_text.specs.Text.{lines_of, words_of_line}
 use Rattle.nat_setup.specs.RuleText.{line_of, rule_from, rule_of, new_rule, side_of}
 use Rattle.nat_setup.specs.RuleFile.{located, rules_from, HasFault}
-use Rattle.nat_setup.specs.RuleLaws.{Say, IsFirst}
+use Rattle.nat_setup.specs.RuleLaws.{LinesGiveRules, IsFirst}
 
 not_located : {A : Type 0} (number : ℕ) (read : Result A RuleKind) (x : A) → located number read ≡ Ok x → read ≡ Ok x
 not_located number (Ok y) x done = cc
@@ -39,7 +39,7 @@ unfolding line_of
 nothing_said full [] said = refl
 nothing_said full (word ∷ words) said = absurd (never_nothing word words said)
 
-pub say : (number count : ℕ) (lines : List (List ℕ)) (rules : List Rule) → rules_from number count lines ≡ Ok rules → Say lines rules
+pub say : (number count : ℕ) (lines : List (List ℕ)) (rules : List Rule) → rules_from number count lines ≡ Ok rules → LinesGiveRules lines rules
 unfolding rules_from
 say number count [] rules read = cc
 say number count (line ∷ lines) rules read =
@@ -55,7 +55,7 @@ said_here count words (Some rule) said few =
     let room : nat_le 256 count ≡ false = grind (arith, nat_tests) in
     rw room said
 
-pub make : (number count : ℕ) (lines : List (List ℕ)) (rules : List Rule) → Say lines rules → count + length rules ≤ 256 → rules_from number count lines ≡ Ok rules
+pub make : (number count : ℕ) (lines : List (List ℕ)) (rules : List Rule) → LinesGiveRules lines rules → count + length rules ≤ 256 → rules_from number count lines ≡ Ok rules
 unfolding rules_from
 make number count [] rules none few = ap Ok (sym none)
 make number count (line ∷ lines) rules (rule, others, is, said, more) few =

@@ -1,5 +1,5 @@
 -- Which flows a rule is for.
-use Rattle.std.specs.Prelude.{◌≡◌, ℕ, ◌-◌, ◌/◌, ◌^◌, ◌≤◌, Bool, true, false, ◌==◌, ◌&&◌, ◌||◌, Option, Some, None, is_none}
+use Rattle.std.specs.Prelude.{◌≡◌, ℕ, ◌-◌, ◌/◌, ◌^◌, ◌≤◌, Bool, true, false, ◌==◌, ◌&&◌, ◌||◌, Option, Some, None, is_none, List, find}
 use Rattle.tuple_core.specs.declared.Proto.{Proto}
 use Rattle.tuple_core.specs.declared.Proto.TheVariants.{Icmp, Tcp, Udp}
 use Rattle.tuple_core.specs.declared.Tuple.{Tuple}
@@ -30,6 +30,10 @@ abbrev pub matches : Tuple → Rule → Bool
 matches t rule =
     is_proto rule.proto t.proto && is_from rule.src t.src && is_from rule.dst t.dst
     && is_port rule.sport t.a && is_port rule.dport t.b
+
+-- the first of the rules that is for flows with this original tuple
+abbrev pub rule_for : List Rule → Tuple → Option Rule
+rule_for rules t = find (matches t) rules
 
 -- a block has a length of at most 32
 abbrev pub IsBlock : Option Block → Type 0

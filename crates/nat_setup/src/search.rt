@@ -10,7 +10,7 @@ ghost use Rattle.nat_setup.specs.Internal.Search.{ProbeSays, SearchSays};
 use crate::reply::reply_with;
 use crate::rule::Rule;
 use history_book::desk::Desk;
-use history_book::laws::states_stay;
+use history_book::laws::{free_is_absent, states_stay};
 use history_book::outcome::{FindOutcome, ReleaseOutcome};
 use std::sync::Wait;
 use tuple_core::Tuple;
@@ -63,6 +63,7 @@ pub fn look<R: Wait, D: Desk>(rt: &R, desk: &mut D, t: &Tuple) -> Probe
     ensures same { SamePlaces (D.sight desk.old) (D.sight desk.new) }
     ensures knows { IsKnown (D.sight desk.new) }
 {
+    free_is_absent();
     states_stay();
     match desk.find(rt, t) {
         FindOutcome::Absent { at } => Probe::Free { at },
@@ -74,7 +75,7 @@ pub fn look<R: Wait, D: Desk>(rt: &R, desk: &mut D, t: &Tuple) -> Probe
 }
 
 /// Looks for a free number in a stretch.
-pub fn search_between<R: Wait, D: Desk>(
+pub fn search_stretch<R: Wait, D: Desk>(
     rt: &R,
     desk: &mut D,
     rule: &Rule,

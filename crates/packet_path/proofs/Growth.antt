@@ -17,9 +17,10 @@ use Rattle.history_book.specs.declared.verdict.Ftp.TheVariants as ftp
 use Rattle.history_book.specs.declared.verdict.Translated.{Translated}
 use Rattle.history_book.specs.declared.verdict.Translated.TheVariants.{Plain, Chosen}
 use Rattle.nat_setup.specs.declared.rule.Rule.{Rule}
-use Rattle.nat_setup.specs.Translation.{Between, GivesUpOwn}
+use Rattle.nat_setup.specs.Rule.{rule_for}
+use Rattle.nat_setup.specs.Translation.{AccountsForOwn, AtSomePoint, WasChosen, WasTranslated}
 use Rattle.packet_path.specs.Absent.{WasAbsent}
-use Rattle.packet_path.specs.Begun.{rule_for, WasChosen, WasTranslated, WouldBegin}
+use Rattle.packet_path.specs.Begun.{WouldBegin}
 use Rattle.packet_path.specs.Claim.{ClaimsIfExpected}
 use Rattle.packet_path.specs.FtpPart.{FtpFits, RefusesEnd}
 use Rattle.packet_path.specs.Passed.{IsPassing}
@@ -106,18 +107,18 @@ module _ (events : EventsStay) (states : StatesStay) (longer log : List Event) (
     absent = at_grows states longer log _ _ starts a.absent;
   }
 
-  pub between_grows : (from to : ℕ) (F : State → Type 0) → Between log from to F → Between longer from to F
-  between_grows from to F b = record {
+  pub some_point_grows : (from to : ℕ) (F : State → Type 0) → AtSomePoint log from to F → AtSomePoint longer from to F
+  some_point_grows from to F b = record {
     point = b.point;
     low = b.low;
     high = b.high;
     fact = at_grows states longer log b.point F starts b.fact;
   }
 
-  gives_up_grows : (rule : Rule) (t : Tuple) (number : ℕ) (taken_at : Option ℕ)
-      → GivesUpOwn log rule t number taken_at → GivesUpOwn longer rule t number taken_at
-  gives_up_grows rule t number None h = h
-  gives_up_grows rule t number (Some p) h = (h.0, at_grows states longer log p _ starts h.1)
+  accounts_grow : (rule : Rule) (t : Tuple) (number : ℕ) (taken_at : Option ℕ)
+      → AccountsForOwn log rule t number taken_at → AccountsForOwn longer rule t number taken_at
+  accounts_grow rule t number None h = h
+  accounts_grow rule t number (Some p) h = (h.0, at_grows states longer log p _ starts h.1)
 
   chosen_grows : (rule : Rule) (t reply : Tuple) (taken_at : Option ℕ) (from upto : ℕ)
       → WasChosen log rule t reply taken_at from upto → WasChosen longer rule t reply taken_at from upto
@@ -126,10 +127,10 @@ module _ (events : EventsStay) (states : StatesStay) (longer log : List Event) (
       number = c.lawful.number;
       allowed = c.lawful.allowed;
       gives = c.lawful.gives;
-      own = gives_up_grows rule t c.lawful.number taken_at c.lawful.own;
+      own = accounts_grow rule t c.lawful.number taken_at c.lawful.own;
     };
     tried = c.tried;
-    free = between_grows _ upto _ c.free;
+    free = some_point_grows _ upto _ c.free;
   }
 
   pub translated_grows : (rule : Option Rule) (t : Tuple) (from upto : ℕ) (translated : Translated) (reply : Tuple)
@@ -145,7 +146,7 @@ module _ (events : EventsStay) (states : StatesStay) (longer log : List Event) (
   begun_grows setup k packet translated reply upto b = record {
     starts = b.starts;
     absent = absent_grows k packet.tuple upto b.absent;
-    found = translated_grows (rule_for setup packet.tuple) packet.tuple b.absent.at upto translated reply b.found;
+    found = translated_grows (rule_for setup.rules.items packet.tuple) packet.tuple b.absent.at upto translated reply b.found;
   }
 
   pub claims_grows : (packet : FlowPacket) (claims : List Note) (unclaimed master : Option ℕ) (from upto : ℕ)
@@ -299,11 +300,13 @@ module _ (events : EventsStay) (states : StatesStay) (longer log : List Event) (
         own = m.own;
         starts = m.starts;
         absent = absent_grows k packet.tuple from m.absent;
-        rule = m.rule;
-        first = m.first;
-        ordered = m.ordered;
-        within = longer_within to m.within;
-        taken = λ number allowed. between_grows from to _ (m.taken number allowed);
+        taken = record {
+          rule = m.taken.rule;
+          is_first = m.taken.is_first;
+          ordered = m.taken.ordered;
+          within = longer_within to m.taken.within;
+          taken = λ number allowed. some_point_grows from to _ (m.taken.taken number allowed);
+        };
       }) f
   frame_grows setup sizes mark given own (class.Full at) f =
       flow_grows mark given own _ _

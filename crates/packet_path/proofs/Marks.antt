@@ -172,10 +172,6 @@ module _ (log : List Event) (m n : ℕ) (le : m ≤ n) where
         own = h.own;
         starts = h.starts;
         absent = absent_lower log j k packet.tuple from lower h.absent;
-        rule = h.rule;
-        first = h.first;
-        ordered = h.ordered;
-        within = h.within;
         taken = h.taken;
       }) f
   frame_lower setup sizes given own (class.Full at) f =

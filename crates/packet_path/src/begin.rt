@@ -20,7 +20,8 @@ use crate::packet::FlowPacket;
 use crate::setup::Setup;
 use history_book::desk::Desk;
 use history_book::laws::{
-    absent_tuples_are_nobodys, events_may_happen, events_stay, late_entries_are_new, states_stay,
+    absent_tuples_are_nobodys, events_may_happen, events_stay, free_is_absent,
+    late_entries_are_new, states_stay,
 };
 use history_book::outcome::{ClaimOutcome, ConfirmOutcome, TakeOutcome};
 use history_book::places::give_up;
@@ -93,6 +94,7 @@ fn confirm_flow<R: Wait, D: Desk>(
     entries_begin_fresh();
     events_may_happen();
     events_stay();
+    free_is_absent();
     late_entries_are_new();
     same_protocol_is_equality();
     states_stay();

@@ -5,9 +5,9 @@ use Rattle.tuple_core.specs.Tuple.{is_valid}
 use Rattle.tuple_core.specs.declared.Tuple.{Tuple}
 use Rattle.history_book.specs.declared.event.Event.{Event}
 use Rattle.history_book.specs.State.{Found, live_under}
-use Rattle.packet_path.specs.Begun.{rule_for, WasTranslated}
+use Rattle.nat_setup.specs.Rule.{rule_for}
+use Rattle.nat_setup.specs.Translation.{WasTranslated}
 use Rattle.packet_path.specs.declared.begin.NewReply.{NewReply}
-use Rattle.history_book.specs.declared.desk.Hold.{Hold}
 use Rattle.history_book.specs.declared.event.Note.{Note}
 use Rattle.history_book.specs.declared.event.Why.{Why}
 use Rattle.history_book.specs.declared.event.Why.TheVariants as why
@@ -52,7 +52,7 @@ pub record IsReplyOf (t reply : Tuple) : Type 0 where
 -- nothing was live under the packet's tuple at this point, and from there on the reply tuple was found for it
 pub record IsFoundFor (setup : Setup) (packet : FlowPacket) (log : List Event) (absent_at : ℕ) (found : NewReply) : Type 0 where
   pub absent : At log absent_at (λ s. live_under packet.tuple s ≡ None)
-  pub translation : WasTranslated log (rule_for setup packet.tuple) packet.tuple absent_at (length log) found.translated found.reply
+  pub translation : WasTranslated log (rule_for setup.rules.items packet.tuple) packet.tuple absent_at (length log) found.translated found.reply
 
 -- the point at which a packet was not expected, and the master of the expectation that it claimed
 abbrev pub unclaimed_at : ClaimOutcome → Option ℕ

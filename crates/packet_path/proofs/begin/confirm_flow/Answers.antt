@@ -43,7 +43,7 @@ returns-in-Clash-clause-answers g c = λ killed few is.
     let new = g.D.Desk.sight c.give_up-in-Clash.new.desk in
     subst (λ (k : Class). Answers c.args.setup.now s new c.args.packet.now killed c.args.absent_at k) (sym c.met_winner.ensures)
     (answers_before c.states_stay.ensures c.events_stay.ensures c.args.setup.now s after new c.args.packet.now killed c.args.absent_at _
-    (winner_answer c.states_stay.ensures c.events_stay.ensures c.absent_tuples_are_nobodys.ensures c.late_entries_are_new.ensures
+    (winner_answer c.states_stay.ensures c.events_stay.ensures c.absent_tuples_are_nobodys.ensures c.free_is_absent.ensures c.late_entries_are_new.ensures
     c.args.setup.now s mid after c.args.packet.now _ c.args.found.now c.claim-claim.result killed c.args.absent_at c.in-Clash.id c.in-Clash.at
     c.in-Clash.direction c.in-Clash.both few c.confirm.ensures.knows (subst (λ (o : Option Part). IsSome o) (sym c.requires.starts) refl) is
     (looked_for c.events_may_happen.ensures c.args.packet.now s mid c.claim-claim.result c.claim-claim.ensures.knows c.claim-claim.ensures.says)

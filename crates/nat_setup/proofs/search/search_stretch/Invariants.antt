@@ -1,6 +1,6 @@
 use Rattle.history_book.specs.Sight.{IsKnown}
 use Rattle.nat_setup.specs.Internal.Search.{IsSearching}
-use Rattle.nat_setup.proofs.search.search_between.Given as goal
+use Rattle.nat_setup.proofs.search.search_stretch.Given as goal
 
 abbrev pub invariant-loop-number : goal.invariant-loop-number
 invariant-loop-number g l =

@@ -1,5 +1,5 @@
 use Rattle.nat_setup.proofs.Searching.{goes_on}
-use Rattle.nat_setup.proofs.search.search_between.Goals as goal
+use Rattle.nat_setup.proofs.search.search_stretch.Goals as goal
 
 pub loop-number-preserved : goal.loop-number-preserved
 loop-number-preserved g c = (
