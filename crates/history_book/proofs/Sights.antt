@@ -5,7 +5,7 @@ use Rattle.history_book.specs.declared.event.Event.{Event}
 use Rattle.history_book.specs.declared.event.Note.{Note}
 use Rattle.history_book.specs.Sight.{Sight}
 use Rattle.history_book.specs.WentOn.{IsSamePass, MadeEvent, Saw, WentOn}
-use Rattle.history_book.proofs.Points.{get_grows, length_grows, starts_trans}
+use Rattle.history_book.proofs.Points.{get_grows, length_grows, starts_refl, starts_trans}
 
 same_pass : (a b c : Sight) → IsSamePass a b → IsSamePass b c → IsSamePass a c
 same_pass a b c first then = record {
@@ -60,4 +60,15 @@ made_then_saw a b c n e made saw = record {
   low = made.low;
   high = omega (arith, made.high, length_grows c.front b.front saw.went.front);
   happened = get_grows c.front b.front n e saw.went.front made.happened;
+}
+
+pub resting : (s : Sight) → Saw s s
+resting s = record {
+  went = record {
+    front = starts_refl s.front;
+    own = sym (append-nil s.own);
+    spare = omega arith;
+    pass = record { tracker = refl; sizes = refl; shares = refl; returned = refl; gathered = refl };
+  };
+  spare = refl;
 }

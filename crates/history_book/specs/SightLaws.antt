@@ -9,6 +9,10 @@ use Rattle.history_book.specs.WentOn.{MadeEvent, Saw, WentOn}
 abbrev pub GoingOnAddsUp : Type 0
 GoingOnAddsUp = (a b c : Sight) (first then : List Note) → WentOn a b first → WentOn b c then → WentOn a c (first ++ then)
 
+-- it was not asked anything
+abbrev pub RestingIsSeeing : Type 0
+RestingIsSeeing = (s : Sight) → Saw s s
+
 -- it made no event twice
 abbrev pub SeeingAddsUp : Type 0
 SeeingAddsUp = (a b c : Sight) → Saw a b → Saw b c → Saw a c
