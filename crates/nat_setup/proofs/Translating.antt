@@ -3,7 +3,7 @@ use Rattle.std.proofs.Common.{◌≡◌, ◌≢◌, ℕ, ◌+◌, ◌<◌, ◌�
 use Rattle.std.specs.List.{AllByRecursion}
 use Rattle.std.proofs.lemmas.Bool.{and_parts, cases_eq, or_cases, eq-eqb, eqb-true, ne_eqb}
 use Rattle.tuple_core.specs.declared.Tuple.{Tuple}
-use Rattle.history_book.specs.Desk.{Looked, Saw}
+use Rattle.history_book.specs.WentOn.{Looked, Saw}
 use Rattle.history_book.specs.Laws.{StatesStay}
 use Rattle.history_book.specs.Point.{At}
 use Rattle.history_book.specs.Sight.{Sight}
@@ -139,7 +139,7 @@ chooses_free rule t old mid new choice tried from reply at has is first lacks sa
     tried = omega arith;
     free = record {
       point = at;
-      low = omega (arith, finds.later, starts_longer mid.front old.front saw.front);
+      low = omega (arith, finds.later, starts_longer mid.front old.front saw.went.front);
       high = finds.free.within;
       fact = finds.free;
     };
@@ -162,7 +162,7 @@ module _ (stay : StatesStay) where
         own = (
           given_up _ _ (ne_eqb finds.number (own_number rule t) (λ e. finds.other (e ∙ sym (first.own own))))
               (own_allowed rule t choice is ∙ sym first.has_own ∙ own),
-          at_grows stay new.front mid.front from (IsTaken (reply_with rule t (own_number rule t))) saw.front
+          at_grows stay new.front mid.front from (IsTaken (reply_with rule t (own_number rule t))) saw.went.front
               (subst (λ u. At mid.front from (IsTaken u)) (gives ∙ ap (reply_with rule t) (first.own own)) looked.fact),
         );
       };
@@ -193,7 +193,7 @@ module _ (stay : StatesStay) where
             point = from;
             low = omega arith;
             high = searched.ordered;
-            fact = at_grows stay new.front mid.front from (IsTaken (reply_with rule t n)) searched.saw.front
+            fact = at_grows stay new.front mid.front from (IsTaken (reply_with rule t n)) searched.saw.went.front
                 (subst (λ u. At mid.front from (IsTaken u)) (gives ∙ ap (reply_with rule t) (sym same)) looked.fact);
           })
           (λ other. searched.taken n (low_of choice.low choice.high n (among n allowed other))

@@ -3,8 +3,9 @@
 ghost use Rattle.std.specs.Prelude.{◌≡◌, ◌+◌, ◌≤◌, ◌||◌, false, true, length, Some};
 ghost use Rattle.std.specs.List.{AllByRecursion};
 ghost use Rattle.tuple_core.specs.Tuple.{is_valid};
-ghost use Rattle.history_book.specs.Desk.{SamePlaces, Saw};
+ghost use Rattle.history_book.specs.Desk.{SamePlaces};
 ghost use Rattle.history_book.specs.Sight.{IsKnown};
+ghost use Rattle.history_book.specs.WentOn.{Saw};
 ghost use Rattle.nat_setup.specs.Reply.{is_in_range};
 ghost use Rattle.nat_setup.specs.Rule.{IsLawfulRule, rule_for};
 ghost use Rattle.nat_setup.specs.Internal.Search.{SearchSays, others_of};
@@ -15,6 +16,7 @@ use crate::rule::{Rule, Rules, rule_for};
 use crate::search::{Probe, Search, Stretch, look, search_stretch};
 use history_book::desk::Desk;
 use history_book::laws::states_stay;
+use history_book::sight_laws::seeing_adds_up;
 use std::sync::Wait;
 use tuple_core::{Tuple, bucket_of};
 
@@ -86,6 +88,7 @@ fn search_choice<R: Wait, D: Desk>(
     ensures same { SamePlaces (D.sight desk.old) (D.sight desk.new) }
     ensures knows { IsKnown (D.sight desk.new) }
 {
+    seeing_adds_up();
     states_stay();
     let middle = first_tried(choice, t) as u32;
     let upper = Stretch {
@@ -121,6 +124,7 @@ fn translate_by<R: Wait, D: Desk>(rt: &R, desk: &mut D, rule: &Rule, t: &Tuple) 
     ensures same { SamePlaces (D.sight desk.old) (D.sight desk.new) }
     ensures knows { IsKnown (D.sight desk.new) }
 {
+    seeing_adds_up();
     states_stay();
     let own = own_number(rule, t);
     let choice = choice_for(rule, t);
@@ -160,6 +164,7 @@ pub fn translate<R: Wait, D: Desk>(
     ensures same { SamePlaces (D.sight desk.old) (D.sight desk.new) }
     ensures knows { IsKnown (D.sight desk.new) }
 {
+    seeing_adds_up();
     match rule_for(rules.as_slice(), t) {
         Some(rule) => translate_by(rt, desk, &rule, t),
         None => {

@@ -3,9 +3,10 @@ use Rattle.std.specs.Prelude.{◌≡◌, ◌≢◌, ℕ, ◌+◌, ◌<◌, ◌�
 use Rattle.tuple_core.specs.Tuple.{is_valid}
 use Rattle.tuple_core.specs.declared.Tuple.{Tuple}
 use Rattle.history_book.specs.declared.event.Event.{Event}
-use Rattle.history_book.specs.Desk.{Looked, SamePlaces, Saw}
+use Rattle.history_book.specs.Desk.{SamePlaces}
 use Rattle.history_book.specs.Point.{At}
 use Rattle.history_book.specs.Sight.{Sight}
+use Rattle.history_book.specs.WentOn.{Looked, Saw}
 use Rattle.history_book.specs.State.{is_free}
 use Rattle.nat_setup.specs.declared.reply.Choice.{Choice}
 use Rattle.nat_setup.specs.declared.rule.Rule.{Rule}
