@@ -25,10 +25,10 @@ went_on_twice a b c first then one two = record {
 }
 
 -- no event before some, and none after some
-after_none : (a b c : Sight) (made : List Note) → Saw a b → WentOn b c made → WentOn a c made
+pub after_none : (a b c : Sight) (made : List Note) → Saw a b → WentOn b c made → WentOn a c made
 after_none a b c made saw went = went_on_twice a b c [] made saw.went went
 
-before_none : (a b c : Sight) (made : List Note) → WentOn a b made → Saw b c → WentOn a c made
+pub before_none : (a b c : Sight) (made : List Note) → WentOn a b made → Saw b c → WentOn a c made
 before_none a b c made went saw =
     let both : WentOn a c (made ++ []) = went_on_twice a b c made [] went saw.went in
     record {

@@ -5,10 +5,6 @@ use Rattle.history_book.specs.declared.event.Note.{Note}
 use Rattle.history_book.specs.Sight.{Sight}
 use Rattle.history_book.specs.WentOn.{MadeEvent, Saw, WentOn}
 
--- it went on twice
-abbrev pub GoingOnAddsUp : Type 0
-GoingOnAddsUp = (a b c : Sight) (first then : List Note) → WentOn a b first → WentOn b c then → WentOn a c (first ++ then)
-
 -- it was not asked anything
 abbrev pub RestingIsSeeing : Type 0
 RestingIsSeeing = (s : Sight) → Saw s s
@@ -23,3 +19,12 @@ OneEventAddsUp =
     (a b c : Sight) (number : ℕ) (event : Event)
     → (Saw a b → MadeEvent b c number event → MadeEvent a c number event)
     × (MadeEvent a b number event → Saw b c → MadeEvent a c number event)
+
+-- all of these: it went on twice, or after it had made no event, or before it made none
+pub record GoingOnAddsUp : Type 0 where
+  pub twice : (a b c : Sight) (first then : List Note) → WentOn a b first → WentOn b c then → WentOn a c (first ++ then)
+  pub after : (a b c : Sight) (made : List Note) → Saw a b → WentOn b c made → WentOn a c made
+  pub before : (a b c : Sight) (made : List Note) → WentOn a b made → Saw b c → WentOn a c made
+  pub seen : SeeingAddsUp
+  pub resting : RestingIsSeeing
+  pub event : OneEventAddsUp

@@ -8,7 +8,7 @@ use Rattle.nat_setup.specs.Rule.{rule_for}
 use Rattle.nat_setup.specs.Translation.{WasTranslated}
 use Rattle.proto_rules.specs.Start.{start_of}
 use Rattle.packet_path.specs.Absent.{WasAbsent}
-use Rattle.packet_path.specs.declared.packet.FlowPacket.{FlowPacket}
+use Rattle.packet_path.specs.Packet.{FlowPacket}
 use Rattle.packet_path.specs.declared.setup.Setup.{Setup}
 
 -- an entry may begin with the packet; nothing was live under its tuple at some point from k on; and after it, up to

@@ -6,7 +6,7 @@ use Rattle.nat_setup.specs.Rule.{rule_for}
 use Rattle.nat_setup.specs.Translation.{HadNoNumber}
 use Rattle.proto_rules.specs.Start.{start_of}
 use Rattle.packet_path.specs.Absent.{WasAbsent}
-use Rattle.packet_path.specs.declared.packet.FlowPacket.{FlowPacket}
+use Rattle.packet_path.specs.Packet.{FlowPacket}
 use Rattle.packet_path.specs.declared.setup.Setup.{Setup}
 
 -- no further event; an entry begins with the packet, and nothing was live under its tuple; then each number that

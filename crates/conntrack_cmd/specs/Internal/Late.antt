@@ -6,7 +6,7 @@ use Rattle.expect_table.specs.declared.expectation.Expectation.{Expectation}
 use Rattle.history_book.specs.declared.event.Event.{Event}
 use Rattle.history_book.specs.declared.event.Event.TheVariants.{Unexpect}
 use Rattle.history_book.specs.declared.event.Note.{Note}
-use Rattle.history_book.specs.Desk.{MadeEvent, Saw}
+use Rattle.history_book.specs.WentOn.{MadeEvent, Saw}
 use Rattle.history_book.specs.History.{after}
 use Rattle.history_book.specs.Places.{HoldsNothing}
 use Rattle.history_book.specs.Sight.{IsKnown, Sight}
