@@ -81,7 +81,7 @@ destroyed_push why log [] (r ∷ rs) note row h one = absurd h
 destroyed_push why log (n ∷ ns) [] note row h one = absurd h
 destroyed_push why log (n ∷ ns) (r ∷ rs) note row (h, hs) one = (h, destroyed_push why log ns rs note row hs one)
 
-module _ (going : GoingOnAddsUp) (states : StatesStay) (keep : EntriesKeepTheirPlace) where
+module _ (states : StatesStay) (keep : EntriesKeepTheirPlace) where
   module _ (sizes : Sizes) (longer log : List Event) (starts : StartsWith longer log) (legal : is_legal sizes longer ≡ true)
       (was_legal : is_legal sizes log ≡ true) (test : Record → Bool) where
     missed_grows : (from to first last id : ℕ) → first ≤ from → to ≤ last → to ≤ length log → Missed log test from to id
@@ -151,7 +151,7 @@ module _ (going : GoingOnAddsUp) (states : StatesStay) (keep : EntriesKeepTheirP
         (times_none row.subject.id rows (no_row_yet sizes log count row legal live placed rows h.live below));
   }
 
-  module _ (old now new : Sight) (count : ℕ) where
+  module _ (going : GoingOnAddsUp) (old now new : Sight) (count : ℕ) where
     -- the visits of earlier places, and that of the next
     visits_more : (test : Record → Bool) (rows more : List Row) → IsKnown now → IsKnown new → now.sizes ≡ old.sizes → new.sizes ≡ now.sizes
         → StartsWith now.front old.front → StartsWith new.front now.front

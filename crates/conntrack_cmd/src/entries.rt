@@ -39,7 +39,6 @@ pub fn list_entries<R: Wait, D: Desk>(rt: &R, desk: &mut D, filter: &Filter, row
     list_all(rt, desk, filter, &mut rows);
     sort_rows(&mut rows);
     let last = desk.count(rt);
-    rows.fit();
     let said = Said::Listed(rows);
     Spoken {
         said,
@@ -70,7 +69,6 @@ pub fn delete_entries<R: Wait, D: Desk>(rt: &R, desk: &mut D, filter: &Filter, r
     destroy_all(rt, desk, why, &mut rows);
     sort_rows(&mut rows);
     let last = desk.count(rt);
-    rows.fit();
     let said = Said::Deleted(rows);
     Spoken {
         said,
