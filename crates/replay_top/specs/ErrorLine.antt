@@ -12,13 +12,13 @@ use Rattle.nat_setup.specs.declared.read.RuleKind.{RuleKind}
 use Rattle.nat_setup.specs.declared.read.RuleKind.TheVariants as rule_kind
 use Rattle.packet_headers.specs.declared.capture.CaptureFault.{CaptureFault}
 use Rattle.packet_headers.specs.declared.capture.CaptureFault.TheVariants as fault
-use Rattle.replay_top.specs.declared.flaw.FileKind.{FileKind}
-use Rattle.replay_top.specs.declared.flaw.FileKind.TheVariants as kind
-use Rattle.replay_top.specs.declared.flaw.Flaw.{Flaw}
-use Rattle.replay_top.specs.declared.flaw.Flaw.TheVariants as flaw
-use Rattle.replay_top.specs.declared.flaw.Refusal.{Refusal}
-use Rattle.replay_top.specs.declared.flaw.Refusal.TheVariants as refusal
-use Rattle.replay_top.specs.Files.{name_of}
+use Rattle.run_inputs.specs.declared.flaw.FileKind.{FileKind}
+use Rattle.run_inputs.specs.declared.flaw.FileKind.TheVariants as kind
+use Rattle.run_inputs.specs.declared.flaw.Flaw.{Flaw}
+use Rattle.run_inputs.specs.declared.flaw.Flaw.TheVariants as flaw
+use Rattle.run_inputs.specs.declared.flaw.Refusal.{Refusal}
+use Rattle.run_inputs.specs.declared.flaw.Refusal.TheVariants as refusal
+use Rattle.run_inputs.specs.Files.{name_of}
 use Rattle.report_text.specs.Wrote.{followed_by, WroteFront}
 
 -- the program's name, what the line is about, and the problem

@@ -6,9 +6,8 @@ ghost use Rattle.report_text.specs.Page.{Adds, HasRoom};
 ghost use Rattle.report_text.specs.Wrote.{Wrote};
 ghost use Rattle.replay_top.specs.ErrorLine.{error_line, fault_text, flaw_line, limit_text, rule_fault_text, rule_kind_text, script_fault_text, script_kind_text, Tells, words_limit_text, write_failed};
 ghost use Rattle.replay_top.specs.Internal.Ending.{line_about, name_among};
-ghost use Rattle.replay_top.specs.Files.{file_at, files_of, files_of_kind};
+ghost use Rattle.run_inputs.specs.Files.{file_at, files_of, files_of_kind};
 
-use crate::flaw::{FileKind, Flaw, Refusal};
 use command_words::{Asked, WordsLimit};
 use conntrack_cmd::read::{ScriptFault, ScriptKind};
 use ct_io::Sink;
@@ -16,6 +15,7 @@ use nat_setup::read::{RuleFault, RuleKind};
 use packet_headers::capture::CaptureFault;
 use report_text::page::{LONGEST_LINE, Page};
 use report_text::write::{WriteFault, write_each};
+use run_inputs::{FileKind, Flaw, Refusal};
 
 /// Writes the line about this subject, which may be empty, with this problem.
 fn write_line<K: Sink>(about: &str, problem: &[u8], err: &mut K) -> Result<(), WriteFault>

@@ -5,27 +5,28 @@ ghost use Rattle.std.specs.String.{string_bytes};
 ghost use Rattle.command_words.specs.Asked.{asked_as};
 ghost use Rattle.command_words.specs.Words.{IsWithin};
 ghost use Rattle.ct_io.specs.Source.{SameFaults, Stays};
-ghost use Rattle.replay_top.specs.Causes;
-ghost use Rattle.replay_top.specs.Causes.{StatusFits, FilesFailed, IsRefused, OthersStand, OthersStandBeside};
+ghost use Rattle.run_inputs.specs.Causes;
+ghost use Rattle.replay_top.specs.Causes.{StatusFits, FilesFailed, IsRefused, OthersStand};
+ghost use Rattle.run_inputs.specs.Causes.{OthersStandBeside};
 ghost use Rattle.replay_top.specs.ErrorLine.{Tells, write_failed};
-ghost use Rattle.replay_top.specs.Inputs.{Finding, Finds};
+ghost use Rattle.run_inputs.specs.Inputs.{Finding, Finds};
 ghost use Rattle.replay_top.specs.Internal.Ending.{Ends, line_about, Replays};
-ghost use Rattle.replay_top.specs.Internal.Replaying.{IsReady, ReplaysInputs};
+ghost use Rattle.run_inputs.specs.Ready.{IsReady};
+ghost use Rattle.replay_top.specs.Internal.Replaying.{ReplaysInputs};
 ghost use Rattle.replay_top.specs.Replay.{IsCutShort, IsPrinted};
-ghost use Rattle.replay_top.specs.Files.{files_of};
+ghost use Rattle.run_inputs.specs.Files.{files_of};
 
-use crate::ending::{Ending, Run};
+use crate::ending::{Ending, Run, refusal_for};
 use crate::error_line::{name_among, tell_not_written, tell_refusal};
-use crate::flaw::{Refusal, refusal_for, refusal_status};
-use crate::input::{Inputs, read_all};
-use crate::laws::{contents_are_unique, flaws_are_unique, read_files_have_no_flaw};
-use crate::replay::replay;
 use crate::sizes::sizes_of;
 use command_words::{Asked, read_words};
 use ct_io::{Files, Gate, Sink};
 use history_book::report::Report;
 use packet_path::setup::{Ports, Setup};
+use replay_runs::replay::replay;
 use report_text::write::write_report;
+use run_inputs::laws::{contents_are_unique, flaws_are_unique, read_files_have_no_flaw};
+use run_inputs::{Inputs, Refusal, read_all, refusal_status};
 use std::alloc::Global;
 use std::sync::Wait;
 use std::thread::Threads;
@@ -65,7 +66,7 @@ fn replay_inputs<R: Wait>(
 }
 
 /// Reads the files that are asked for, and replays them.
-#[tactic(auto, using(crate::proofs::All::replay_made))]
+#[tactic(auto, using(crate::proofs::Made::replay_made))]
 fn replay_asked<R: Wait, F: Files>(
     rt: &R,
     alloc: Global,
