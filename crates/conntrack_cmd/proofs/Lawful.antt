@@ -1,5 +1,5 @@
 -- The commands of a script are lawful.
-use Rattle.std.proofs.Common.{◌≡◌, ℕ, ◌+◌, ◌≤◌, ◌<◌, ◌^◌, nat_lt, arith, ◌&&◌, ◌||◌, Bool, true, false, is_none, nat_le, if◌then◌else◌, List, [], ◌∷◌, ◌++◌, length, Option, Some, None, Result, Ok, Err, IfOk, IfSome, codes, bytes_eq, refl, sym, subst}
+use Rattle.std.proofs.Common.{◌≡◌, ℕ, ◌+◌, ◌≤◌, ◌<◌, ◌^◌, nat_lt, arith, ◌&&◌, ◌||◌, Bool, true, false, is_none, nat_le, List, [], ◌∷◌, ◌++◌, length, Option, Some, None, Ok, Err, IfOk, IfSome, codes, bytes_eq, refl, sym, subst}
 use Rattle.std.proofs.lemmas.Result.{IfOk-at_ok}
 use Rattle.std.proofs.lemmas.Bool.Decides.{nat_tests}
 use Rattle.std.specs.List.{AllByRecursion}
@@ -17,7 +17,6 @@ use Rattle.conntrack_cmd.specs.declared.command.Command.{Command}
 use Rattle.conntrack_cmd.specs.declared.command.Command.TheVariants as command
 use Rattle.conntrack_cmd.specs.declared.command.LineMeaning.{LineMeaning}
 use Rattle.conntrack_cmd.specs.declared.command.LineMeaning.TheVariants as meaning
-use Rattle.conntrack_cmd.specs.declared.read.ScriptKind.{ScriptKind}
 use Rattle.conntrack_cmd.specs.declared.read.ScriptKind.TheVariants as kind
 use Rattle.conntrack_cmd.specs.Options.{beside_ports, everything, filter_of, flow_of, options_from, taken_proto, tuple_of, with_dport, with_dst, with_option, with_proto, with_sport, with_src}
 use Rattle.conntrack_cmd.specs.Line.{alone, command_of, expire_of, is_expect, line_of, list_of, moment_in, wait_of}

@@ -1,5 +1,5 @@
 -- The options of a command, word by word.
-use Rattle.std.specs.Prelude.{ℕ, ◌&&◌, ◌||◌, Bool, true, false, if◌then◌else◌, List, [], ◌∷◌, Option, Some, None, is_none, Result, Ok, Err, codes, bytes_eq}
+use Rattle.std.specs.Prelude.{ℕ, ◌&&◌, ◌||◌, Bool, true, false, if◌then◌else◌, List, [], ◌∷◌, Option, None, is_none, Result, Ok, Err, codes, bytes_eq}
 use Rattle.tuple_core.specs.declared.Proto.{Proto}
 use Rattle.tuple_core.specs.declared.Tuple.{Tuple}
 use Rattle.file_text.specs.Protocols.{has_ports, proto_named}

@@ -1,5 +1,5 @@
 -- Which flows a rule is for.
-use Rattle.std.specs.Prelude.{◌≡◌, ℕ, ◌-◌, ◌/◌, ◌^◌, ◌≤◌, Bool, true, false, ◌==◌, ◌&&◌, ◌||◌, Option, Some, None, is_none, List, find}
+use Rattle.std.specs.Prelude.{◌≡◌, ℕ, ◌-◌, ◌/◌, ◌^◌, ◌≤◌, Bool, true, ◌==◌, ◌&&◌, ◌||◌, Option, Some, None, is_none, List, find}
 use Rattle.tuple_core.specs.declared.Proto.{Proto}
 use Rattle.tuple_core.specs.declared.Tuple.{Tuple}
 use Rattle.tuple_core.specs.Tuple.{number_of}

@@ -1,10 +1,12 @@
 -- What the inputs are decides how a run ends.
-use Rattle.std.proofs.Common.{◌≡◌, ℕ, ◌<◌, zero, suc, Ok, Err, List, [], ◌∷◌, length, refl, sym, ap, subst, ◌∙◌, inl, inr, arith}
+use Rattle.std.proofs.Common.{false, ◌≡◌, ℕ, zero, suc, Ok, Err, List, [], ◌∷◌, refl, ap, subst, ◌∙◌, inl, inr, arith}
 use Rattle.command_words.specs.Words.{asked_of, Request}
 use Rattle.command_words.specs.declared.WordsError.{WordsError}
 use Rattle.command_words.specs.declared.WordsError.TheVariants as unasked
+use Rattle.std.specs.Prelude.{All}
+use Rattle.std.proofs.lemmas.List.Elements.{All-head}
 use Rattle.ct_io.specs.Counts.{Rose}
-use Rattle.ct_io.specs.Source.{Source}
+use Rattle.ct_io.specs.Source.{SameFaults, Source}
 use Rattle.ct_io.specs.Tape.{Tape}
 use Rattle.history_book.specs.declared.report.Report.{Report}
 use Rattle.run_inputs.specs.declared.flaw.Flaw.{Flaw}
@@ -12,31 +14,46 @@ use Rattle.run_inputs.specs.declared.flaw.Flaw.TheVariants as flaw
 use Rattle.run_inputs.specs.declared.flaw.Refusal.{Refusal}
 use Rattle.run_inputs.specs.declared.flaw.Refusal.TheVariants.{Flawed, Misused, NoMemory, NotOpened, NotRead, PastLimit}
 use Rattle.replay_top.specs.Causes.{StatusFits, FilesFailed, HasCause, OthersStand}
-use Rattle.run_inputs.specs.Causes.{FailedToOpen, OthersStandBeside, refusal_status}
+use Rattle.run_inputs.specs.Causes.{CannotOpen, CannotRead, refusal_status}
 use Rattle.run_inputs.specs.Content.{Content, totals_with, no_totals, Totals}
 use Rattle.replay_top.specs.ErrorLine.{line_of}
 use Rattle.run_inputs.specs.Flaw.{flaw_status}
-use Rattle.run_inputs.specs.Inputs.{AreGiven, AreRead, AreTold, clean, Finding, Finds, FirstFlaw, FirstFlawFrom, flawed, misused, past, ReachesFrom}
+use Rattle.run_inputs.specs.Inputs.{AreGiven, AreRead, AreTold, clean, Finding, Finds, FirstFlaw, FirstFlawFrom, flawed, misused, past, Reaches, ReachesFrom}
 use Rattle.replay_top.specs.Internal.Ending.{line_about, name_among, refusal_for}
-use Rattle.run_inputs.specs.Reading.{HasCauseFrom}
+use Rattle.run_inputs.specs.Reading.{HasCauseFrom, IsReached, part_of, SameFaultsBut}
 use Rattle.run_inputs.specs.Laws.{ContentsAreUnique, FlawsAreUnique, ReadFilesHaveNoFlaw}
 use Rattle.replay_top.specs.Replay.{IsReplay, IsReplayOf}
-use Rattle.run_inputs.specs.Files.{file_at, files_asked, files_named, files_of, InputFile, AskFor}
+use Rattle.run_inputs.specs.Files.{files_asked, files_named, files_of, InputFile, AskFor}
 use Rattle.run_inputs.proofs.Findings.{agree, agree_sym, at_asked, not_asked, one_first, read_clean, two_errors}
 
 -- ---- causes
 
--- what is reached is one of the files
-reached_within : (before : Totals) (inputs : List InputFile) (bytes : List (List ℕ)) (k : ℕ) → ReachesFrom before inputs bytes k → k < length inputs
-reached_within before [] bytes k reached = absurd reached
-reached_within before (input ∷ inputs) bytes zero reached = omega arith
-reached_within before (input ∷ inputs) [] (suc k) reached = absurd reached
-reached_within before (input ∷ inputs) (b ∷ bytes) (suc k) reached =
-    omega (arith, reached_within (totals_with before b reached.0) inputs bytes k reached.2)
+-- what follows of a file that is reached, as of each of the files, follows
+reached_one : (P : Totals → InputFile → Type 0) (Q : InputFile → Type 0) (R : Type 0) → ((before : Totals) (input : InputFile) → P before input → Q input → R)
+    → (before : Totals) (inputs : List InputFile) (bytes : List (List ℕ)) (k : ℕ) → ReachesFrom P before inputs bytes k → All Q inputs → R
+reached_one P Q R follows before [] bytes k reached all = absurd reached
+reached_one P Q R follows before (input ∷ inputs) bytes zero reached all = follows before input reached (All-head Q input inputs all)
+reached_one P Q R follows before (input ∷ inputs) [] (suc k) reached all = absurd reached
+reached_one P Q R follows before (input ∷ inputs) (b ∷ rest) (suc k) reached all =
+    reached_one P Q R follows (totals_with before b reached.0) inputs rest k reached.2 (λ i d below. all (suc i) d (omega (arith, below)))
 
 module _ (words : List (List ℕ)) (asked : Request) (says : asked_of words ≡ Ok asked) where
+  reached_asked : (files : Source) (file : ℕ) (P : Totals → InputFile → Type 0) → IsReached (part_of no_totals 0 (files_of asked)) files file P
+      → AskFor words (λ asked. Reaches files (files_of asked) file P)
+  reached_asked files file P cause =
+      let same : cause.index ≡ file = omega (arith, cause.number) in
+      record {
+        asked = asked;
+        says = says;
+        holds = record {
+          bytes = cause.bytes;
+          given = cause.given;
+          reached = subst (λ k. ReachesFrom P no_totals (files_of asked) cause.bytes k) same cause.reached;
+        };
+      }
+
   -- the cause of a refusal of what is asked for is the run's
-  pub has_cause : (files files' : Source) (why : Refusal) → HasCauseFrom no_totals 0 (files_of asked) files files' why → HasCause words files files' why
+  pub has_cause : (files files' : Source) (why : Refusal) → HasCauseFrom (part_of no_totals 0 (files_of asked)) files files' why → HasCause words files files' why
   has_cause files files' Misused cause = absurd cause
   has_cause files files' (PastLimit limit) cause = absurd cause
   has_cause files files' (Flawed file f) cause =
@@ -50,43 +67,12 @@ module _ (words : List (List ℕ)) (asked : Request) (says : asked_of words ≡ 
           first = subst (λ k. FirstFlawFrom no_totals (files_of asked) cause.bytes k f) same cause.found;
         };
       }
-  has_cause files files' (NotOpened file) cause =
-      let same : cause.index ≡ file = omega (arith, cause.number) in
-      record {
-        asked = asked;
-        says = says;
-        holds = record {
-          reached = record {
-            bytes = cause.bytes;
-            given = cause.given;
-            reached = subst (λ k. ReachesFrom no_totals (files_of asked) cause.bytes k) same cause.reached;
-          };
-          rose = subst (λ k. FailedToOpen files files' (file_at (files_of asked) k)) same cause.holds;
-        };
-      }
-  has_cause files files' (NotRead file) cause =
-      let same : cause.index ≡ file = omega (arith, cause.number) in
-      record {
-        asked = asked;
-        says = says;
-        holds = record {
-          reached = record {
-            bytes = cause.bytes;
-            given = cause.given;
-            reached = subst (λ k. ReachesFrom no_totals (files_of asked) cause.bytes k) same cause.reached;
-          };
-          rose = cause.holds;
-        };
-      }
+  has_cause files files' (NotOpened file) cause = reached_asked files file (CannotOpen files files') cause
+  has_cause files files' (NotRead file) cause = reached_asked files file (CannotRead files files') cause
   has_cause files files' NoMemory cause = tt
 
   same_files : files_named words ≡ files_of asked
   same_files = ap files_asked says
-
-  -- what stands beside the files that are asked for stands beside those that the words name
-  pub others_named : (files files' : Source) → OthersStandBeside (files_of asked) files files' → OthersStand words files files'
-  others_named files files' stand =
-      subst (λ (inputs : List InputFile). OthersStandBeside inputs files files') (sym same_files) stand
 
   -- the line
   pub line_named : (why : Refusal) → line_of words why ≡ line_about (name_among (files_of asked) why) why
@@ -137,17 +123,35 @@ pub failed_files : (words : List (List ℕ)) (files files' : Source) (why : Refu
 failed_files words files files' Misused cause three = absurd (omega (arith, three))
 failed_files words files files' (PastLimit limit) cause three = absurd (omega (arith, three))
 failed_files words files files' (Flawed file f) cause three = absurd (not_three f three)
-failed_files words files files' (NotOpened file) cause three = inl (record {
-  asked = cause.asked;
-  says = cause.says;
-  holds = (
-    file,
-    reached_within no_totals (files_of cause.asked) cause.holds.reached.bytes file cause.holds.reached.reached,
-    cause.holds.rose,
-  );
-})
-failed_files words files files' (NotRead file) cause three = inr cause.holds.rose
+failed_files words files files' (NotOpened file) cause three = (file, inl cause)
+failed_files words files files' (NotRead file) cause three = (file, inr cause)
 failed_files words files files' NoMemory cause three = absurd (omega (arith, three))
+
+-- ---- counts of other names
+
+-- where no call failed they stand
+pub others_same : (words : List (List ℕ)) (files files' : Source) → SameFaults files files' → OthersStand words files files'
+others_same words files files' same other apart reads = same.open_faults other
+
+-- the files of what is asked for are those that the words name
+asked_files : (words : List (List ℕ)) (P : InputFile → Type 0) (asked : Request) → asked_of words ≡ Ok asked → All P (files_named words) → All P (files_of asked)
+asked_files words P asked says all = subst (λ (inputs : List InputFile). All P inputs) (ap files_asked says) all
+
+-- where one failed, only names that share in its count do not
+pub others_refused : (words : List (List ℕ)) (files files' : Source) (why : Refusal) → HasCause words files files' why
+    → SameFaultsBut why files files' → OthersStand words files files'
+others_refused words files files' Misused cause same = others_same words files files' (same (λ three. omega (arith, three)))
+others_refused words files files' (PastLimit limit) cause same = others_same words files files' (same (λ three. omega (arith, three)))
+others_refused words files files' (Flawed file f) cause same = others_same words files files' (same (not_three f))
+others_refused words files files' (NotOpened file) cause same = λ other apart reads.
+    reached_one (CannotOpen files files') (λ (input : InputFile). files.shares input.name other ≡ false) (files'.open_faults other ≡ files.open_faults other)
+    (λ before input failed shared. failed.alone.opens other shared) no_totals (files_of cause.asked) cause.holds.bytes file cause.holds.reached
+    (asked_files words (λ (input : InputFile). files.shares input.name other ≡ false) cause.asked cause.says apart)
+others_refused words files files' (NotRead file) cause same = λ other apart reads.
+    reached_one (CannotRead files files') (λ (input : InputFile). files.shares input.name other ≡ false) (files'.open_faults other ≡ files.open_faults other)
+    (λ before input failed shared. failed.alone other reads) no_totals (files_of cause.asked) cause.holds.bytes file cause.holds.reached
+    (asked_files words (λ (input : InputFile). files.shares input.name other ≡ false) cause.asked cause.says apart)
+others_refused words files files' NoMemory cause same = others_same words files files' (same (λ three. omega (arith, three)))
 
 -- ---- findings
 

@@ -7,14 +7,12 @@ ghost use Rattle.command_words.specs.Words.{IsWithin};
 ghost use Rattle.ct_io.specs.Source.{SameFaults, Stays};
 ghost use Rattle.run_inputs.specs.Causes;
 ghost use Rattle.replay_top.specs.Causes.{StatusFits, FilesFailed, IsRefused, OthersStand};
-ghost use Rattle.run_inputs.specs.Causes.{OthersStandBeside};
 ghost use Rattle.replay_top.specs.ErrorLine.{Tells, write_failed};
 ghost use Rattle.run_inputs.specs.Inputs.{Finding, Finds};
 ghost use Rattle.replay_top.specs.Internal.Ending.{Ends, line_about, Replays};
 ghost use Rattle.run_inputs.specs.Ready.{IsReady};
 ghost use Rattle.replay_top.specs.Internal.Replaying.{ReplaysInputs};
 ghost use Rattle.replay_top.specs.Replay.{IsCutShort, IsPrinted};
-ghost use Rattle.run_inputs.specs.Files.{files_of};
 
 use crate::ending::{Ending, Run, refusal_for};
 use crate::error_line::{name_among, tell_not_written, tell_refusal};
@@ -75,8 +73,6 @@ fn replay_asked<R: Wait, F: Files>(
 ) -> Result<Report, Refusal>
     requires { IsWithin (asked_as asked.now) }
     ensures replays { Replays (asked_as asked.now) (F.source files.old) (F.source files.new) result }
-    ensures others { OthersStandBeside (files_of (asked_as asked.now))
-        (F.source files.old) (F.source files.new) }
     ensures stays { Stays (F.source files.old) (F.source files.new) }
 {
     let inputs = match read_all(alloc, files, asked) {
@@ -100,8 +96,6 @@ fn run<R: Wait, F: Files, K: Sink>(
     requires { IsWithin (asked_as asked.now) }
     ensures ends { Ends (asked_as asked.now) (F.source files.old) (F.source files.new)
         (K.tape out.old) (K.tape out.new) result }
-    ensures others { OthersStandBeside (files_of (asked_as asked.now))
-        (F.source files.old) (F.source files.new) }
     ensures stays { Stays (F.source files.old) (F.source files.new) }
 {
     let report = match replay_asked(rt, alloc, files, asked) {
@@ -145,7 +139,7 @@ fn refused<K: Sink>(why: Refusal, name: &str, err: &mut K) -> Run
 /// of a capture and 1,073,741,824 of all captures, and 4,194,304 packets) and 6 (memory was wanted). The first of these
 /// decides, in the order of words, rules, script and captures. The report is there with 0 and 4. No thread is started
 /// and the gate is not called.
-#[tactic(auto, using(crate::proofs::Findings::has_cause, crate::proofs::Findings::others_named, crate::proofs::Findings::failed_files))]
+#[tactic(auto, using(crate::proofs::Findings::has_cause, crate::proofs::Findings::others_same, crate::proofs::Findings::failed_files))]
 pub fn top<R: Threads + Wait + Sync, F: Files, K: Sink, G: Gate + Sync>(
     rt: &R,
     alloc: Global,

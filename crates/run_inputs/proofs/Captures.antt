@@ -1,7 +1,6 @@
 -- Reading captures one after the other.
 use Rattle.std.proofs.Common.{◌≡◌, ℕ, ◌+◌, ◌<◌, ◌≤◌, zero, suc, List, [], ◌∷◌, ◌++◌, length, take, drop, get_or, refl, sym, subst, ap, ◌∙◌, Bor, arith, add-one}
 use Rattle.std.specs.Prelude.{All}
-use Rattle.std.proofs.Math.ListN.{get_or-map}
 use Rattle.std.proofs.Math.Seq.{take-suc}
 use Rattle.std.proofs.lemmas.List.{length-append, length-map, length-take, map-append, take_all, take-append-drop}
 use Rattle.std.proofs.lemmas.List.Elements.{All-push}
@@ -11,12 +10,11 @@ use Rattle.packet_headers.specs.Capture.{AreInside, AreTimely}
 use Rattle.capture_list.specs.declared.Capture.{Capture}
 use Rattle.run_inputs.specs.declared.flaw.FileKind.TheVariants as kind
 use Rattle.run_inputs.specs.declared.flaw.Refusal.{Refusal}
-use Rattle.run_inputs.specs.Causes.{OthersStandBeside}
 use Rattle.run_inputs.specs.Content.{totals_with, frames, IsRead, most_capture_bytes, most_packets, no_totals, Totals}
-use Rattle.run_inputs.specs.Reading.{bytes_in, contents_in, GaveCapture, GaveCaptures, GaveContents, HasCauseFrom, IsGiven, totals_after}
+use Rattle.run_inputs.specs.Reading.{bytes_in, contents_in, GaveCapture, GaveCaptures, GaveContents, HasCauseFrom, IsGiven, part_of, totals_after}
 use Rattle.capture_list.specs.Frames.{frames_in}
 use Rattle.run_inputs.specs.Files.{files_of_kind, InputFile}
-use Rattle.run_inputs.proofs.OneByOne.{cause_behind_all, cause_front, cause_later, is_given_later, others_then, same_faults, stays_then}
+use Rattle.run_inputs.proofs.OneByOne.{cause_behind_all, cause_front, cause_later, is_given_later, same_faults, stays_then}
 use Rattle.room_list.specs.Roomed.{Roomed}
 
 -- the frames of one capture more
@@ -78,7 +76,6 @@ pub record SoFar (files now : Source) (names : List (Bor (List ℕ))) (index : �
   pub inside : All (λ (c : Capture). AreInside c.bytes.items c.frames.items) captures.items
   pub timely : All (λ (c : Capture). AreTimely c.frames.items) captures.items
   pub room : length names ≤ captures.room
-  pub others : OthersStandBeside (captures_of names) files now
   pub stays : Stays files now
   pub same : SameFaults files now
 
@@ -95,7 +92,6 @@ captures_start files names captures totals none zero_totals room = record {
   inside = rw none (λ k d below. absurd (omega (arith, below)));
   timely = rw none (λ k d below. absurd (omega (arith, below)));
   room = room;
-  others = λ other apart reads. refl;
   stays = record {
     contents = λ name. refl;
     shares = λ name other. refl;
@@ -108,24 +104,13 @@ captures_start files names captures totals none zero_totals room = record {
 
 module _ (files now next : Source) (names : List (Bor (List ℕ))) (index : ℕ) (captures : Roomed Capture) (totals : Totals)
     (d : Bor (List ℕ)) (so_far : SoFar files now names index captures totals) (below : index < length names) (stays : Stays now next) where
-  -- the next file stands among all
-  here : (P : InputFile → Type 0) → All P (captures_of names) → All P (capture_file (get_or names index d).now ∷ [])
-  here P all zero e first =
-      subst P (get_or-map capture_file (texts names) index d.now ∙ ap capture_file (get_or-map (λ (s : Bor (List ℕ)). s.now) names index d))
-      (all index (capture_file d.now) (omega (arith, below, length-map (texts names) capture_file, length-map names (λ (s : Bor (List ℕ)). s.now))))
-  here P all (suc k) e first = absurd (omega (arith, first))
-
-  pub captures_others : OthersStandBeside (capture_file (get_or names index d).now ∷ []) now next → OthersStandBeside (captures_of names) files next
-  captures_others stand =
-      others_then (captures_of names) (capture_file (get_or names index d).now ∷ []) files now next here so_far.stays so_far.others stand
-
   -- it is read
   pub captures_next : (capture : Capture) (after : Roomed Capture) (more : Totals) → GaveCapture now totals (get_or names index d).now capture
-      → SameFaults now next → OthersStandBeside (capture_file (get_or names index d).now ∷ []) now next
+      → SameFaults now next
       → more ≡ totals_with totals capture.bytes.items (frames capture.frames.items)
       → after.items ≡ captures.items ++ capture ∷ [] → after.room ≡ captures.room
       → SoFar files next names (index + 1) after more
-  captures_next capture after more gave same stand total items room =
+  captures_next capture after more gave same total items room =
       let read : IsRead kind.Capture (totals_after no_totals (bytes_in captures.items) (contents_in captures.items)) capture.bytes.items (frames capture.frames.items) =
       rw so_far.total gave.read in
       let whole : GaveContents files no_totals (captures_of (take index names) ++ capture_file (get_or names index d).now ∷ [])
@@ -142,30 +127,29 @@ module _ (files now next : Source) (names : List (Bor (List ℕ))) (index : ℕ)
         inside = rw items (All-push (λ (c : Capture). AreInside c.bytes.items c.frames.items) captures.items capture so_far.inside gave.inside);
         timely = rw items (All-push (λ (c : Capture). AreTimely c.frames.items) captures.items capture so_far.timely gave.timely);
         room = omega (arith, so_far.room, room);
-        others = captures_others stand;
         stays = stays_then files now next so_far.stays stays;
         same = same_faults files now next so_far.same same;
       }
 
   -- it is not
   pub captures_refused : (first : ℕ) (why : Refusal)
-      → HasCauseFrom totals (first + index) (capture_file (get_or names index d).now ∷ []) now next why
-      → HasCauseFrom no_totals first (captures_of names) files next why
+      → HasCauseFrom (part_of totals (first + index) (capture_file (get_or names index d).now ∷ [])) now next why
+      → HasCauseFrom (part_of no_totals first (captures_of names)) files next why
   captures_refused first why cause =
       let front : List InputFile = captures_of (take index names) in
       let file : InputFile = capture_file (get_or names index d).now in
       let long : first + index ≡ first + length front =
       omega (arith, below, length-map (texts (take index names)) capture_file, length-map (take index names) (λ (s : Bor (List ℕ)). s.now), length-take index names) in
-      let from : HasCauseFrom totals (first + index) (file ∷ []) files next why =
-      cause_later files now so_far.stays totals (first + index) (file ∷ []) next why cause in
-      let behind : HasCauseFrom (totals_after no_totals (bytes_in captures.items) (contents_in captures.items)) (first + length front) (file ∷ []) files next why =
-      subst (λ n. HasCauseFrom (totals_after no_totals (bytes_in captures.items) (contents_in captures.items)) n (file ∷ []) files next why) long
-      (subst (λ (t : Totals). HasCauseFrom t (first + index) (file ∷ []) files next why) (sym so_far.total) from) in
-      let read : HasCauseFrom no_totals first (front ++ file ∷ []) files next why =
+      let from : HasCauseFrom (part_of totals (first + index) (file ∷ [])) files next why =
+      cause_later files now so_far.stays so_far.same next (part_of totals (first + index) (file ∷ [])) why cause in
+      let behind : HasCauseFrom (part_of (totals_after no_totals (bytes_in captures.items) (contents_in captures.items)) (first + length front) (file ∷ [])) files next why =
+      subst (λ n. HasCauseFrom (part_of (totals_after no_totals (bytes_in captures.items) (contents_in captures.items)) n (file ∷ [])) files next why) long
+      (subst (λ (t : Totals). HasCauseFrom (part_of t (first + index) (file ∷ [])) files next why) (sym so_far.total) from) in
+      let read : HasCauseFrom (part_of no_totals first (front ++ file ∷ [])) files next why =
       cause_behind_all files next no_totals first front (file ∷ []) (bytes_in captures.items) (contents_in captures.items) why so_far.gave behind in
-      let upto : HasCauseFrom no_totals first (captures_of (take (index + 1) names)) files next why =
-      subst (λ (inputs : List InputFile). HasCauseFrom no_totals first inputs files next why) (sym (files_next names index d below)) read in
-      subst (λ (inputs : List InputFile). HasCauseFrom no_totals first inputs files next why) (files_whole names (index + 1))
+      let upto : HasCauseFrom (part_of no_totals first (captures_of (take (index + 1) names))) files next why =
+      subst (λ (inputs : List InputFile). HasCauseFrom (part_of no_totals first inputs) files next why) (sym (files_next names index d below)) read in
+      subst (λ (inputs : List InputFile). HasCauseFrom (part_of no_totals first inputs) files next why) (files_whole names (index + 1))
       (cause_front files (captures_of (drop (index + 1) names)) no_totals first (captures_of (take (index + 1) names)) next why upto)
 
 -- all are read

@@ -14,7 +14,7 @@ use Rattle.run_inputs.specs.declared.flaw.FileKind.{FileKind}
 use Rattle.run_inputs.specs.declared.flaw.FileKind.TheVariants as kind
 use Rattle.run_inputs.specs.declared.flaw.Flaw.{Flaw}
 use Rattle.run_inputs.specs.declared.flaw.Flaw.TheVariants.{AllTooLong, Capture, Rules, Script, TooLong, TooManyPackets}
-use Rattle.run_inputs.specs.Content.{bytes_left, Content, IsShortEnough, frames as frames_said, IsRead, most_bytes, most_packets, rules as rules_said, Says, script as script_said, Totals}
+use Rattle.run_inputs.specs.Content.{bytes_left, Content, IsShortEnough, frames as frames_said, IsRead, most_bytes, most_packets, rules as rules_said, IsContentOf, script as script_said, Totals}
 use Rattle.run_inputs.specs.Flaw.{HasFlaw, HasTooManyPackets, IsTooLong}
 use Rattle.run_inputs.specs.Laws.{ContentsAreUnique, FilesAreReadOrFlawed, FlawsAreUnique, ReadFilesHaveNoFlaw}
 
@@ -36,19 +36,19 @@ one_limit of before bytes capture long less =
 
 -- ---- what is read has no fault
 
-rules_clean : rules.FilesHaveNoFault → (bytes : List ℕ) (content : Content) (fault : RuleFault) → Says kind.Rules bytes content
+rules_clean : rules.FilesHaveNoFault → (bytes : List ℕ) (content : Content) (fault : RuleFault) → IsContentOf kind.Rules bytes content
     → rule_file.HasFault bytes fault → ⊥
 rules_clean law bytes (rules_said said) fault says has = law bytes said fault says has
 rules_clean law bytes (script_said commands wait) fault says has = says
 rules_clean law bytes (frames_said said) fault says has = says
 
-script_clean : script.ScriptsHaveNoFault → (bytes : List ℕ) (content : Content) (fault : ScriptFault) → Says kind.Script bytes content
+script_clean : script.ScriptsHaveNoFault → (bytes : List ℕ) (content : Content) (fault : ScriptFault) → IsContentOf kind.Script bytes content
     → script_file.HasFault bytes fault → ⊥
 script_clean law bytes (rules_said said) fault says has = says
 script_clean law bytes (script_said commands wait) fault says has = law bytes commands wait fault says has
 script_clean law bytes (frames_said said) fault says has = says
 
-capture_clean : capture.CapturesHaveNoFault → (bytes : List ℕ) (content : Content) (fault : CaptureFault) → Says kind.Capture bytes content
+capture_clean : capture.CapturesHaveNoFault → (bytes : List ℕ) (content : Content) (fault : CaptureFault) → IsContentOf kind.Capture bytes content
     → capture_file.HasFault bytes fault → ⊥
 capture_clean law bytes (rules_said said) fault says has = says
 capture_clean law bytes (script_said commands wait) fault says has = says
@@ -69,18 +69,18 @@ module _ (of_rules : rules.FilesHaveNoFault) (of_scripts : script.ScriptsHaveNoF
   no_flaw of before bytes content AllTooLong read flaw =
       all_unfit before bytes flaw.1 (subst (λ (k : FileKind). IsShortEnough k before bytes) flaw.0 read.fits)
   no_flaw of before bytes content (Rules fault) read flaw =
-      rules_clean of_rules bytes content fault (subst (λ (k : FileKind). Says k bytes content) flaw.0 read.says) flaw.2
+      rules_clean of_rules bytes content fault (subst (λ (k : FileKind). IsContentOf k bytes content) flaw.0 read.says) flaw.2
   no_flaw of before bytes content (Script fault) read flaw =
-      script_clean of_scripts bytes content fault (subst (λ (k : FileKind). Says k bytes content) flaw.0 read.says) flaw.2
+      script_clean of_scripts bytes content fault (subst (λ (k : FileKind). IsContentOf k bytes content) flaw.0 read.says) flaw.2
   no_flaw of before bytes content (Capture fault) read flaw =
-      capture_clean of_captures bytes content fault (subst (λ (k : FileKind). Says k bytes content) flaw.0 read.says) flaw.2
+      capture_clean of_captures bytes content fault (subst (λ (k : FileKind). IsContentOf k bytes content) flaw.0 read.says) flaw.2
   no_flaw of before bytes content TooManyPackets read flaw =
       few_enough one before bytes content (subst (λ (k : FileKind). IsRead k before bytes content) flaw.0 read) flaw.2
 
 -- ---- files say one thing
 
 module _ (of_rules : rules.RulesAreUnique) (of_scripts : script.ScriptsAreUnique) (of_captures : capture.CapturesAreUnique) where
-  says_one : (of : FileKind) (bytes : List ℕ) (content other : Content) → Says of bytes content → Says of bytes other → content ≡ other
+  says_one : (of : FileKind) (bytes : List ℕ) (content other : Content) → IsContentOf of bytes content → IsContentOf of bytes other → content ≡ other
   says_one kind.Rules bytes (rules_said said) (rules_said other) says also = ap rules_said (of_rules bytes said other says also)
   says_one kind.Rules bytes (rules_said said) (script_said others later) says also = absurd also
   says_one kind.Rules bytes (rules_said said) (frames_said other) says also = absurd also

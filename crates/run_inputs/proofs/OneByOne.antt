@@ -1,10 +1,9 @@
 -- What reading one file after the other gives.
 use Rattle.std.proofs.Common.{◌≡◌, ℕ, ◌+◌, ◌<◌, ◌≤◌, zero, suc, Option, Some, None, List, [], ◌∷◌, ◌++◌, length, refl, subst, ◌∙◌, inl, inr, arith, le_trans}
-use Rattle.std.specs.Prelude.{All, false, IfSome}
+use Rattle.std.specs.Prelude.{IfSome}
 use Rattle.std.proofs.Math.ListN.{replicate}
 use Rattle.std.proofs.lemmas.Bool.{cases_lt, le-leb, lt-leb}
 use Rattle.std.proofs.lemmas.List.{length-replicate}
-use Rattle.std.proofs.lemmas.List.Elements.{All-head}
 use Rattle.ct_io.specs.Counts.{Rose}
 use Rattle.ct_io.specs.Source.{SameFaults, Source, Stays}
 use Rattle.run_inputs.specs.declared.flaw.FileKind.{FileKind}
@@ -12,20 +11,14 @@ use Rattle.run_inputs.specs.declared.flaw.FileKind.TheVariants as kind
 use Rattle.run_inputs.specs.declared.flaw.Flaw.{Flaw}
 use Rattle.run_inputs.specs.declared.flaw.Refusal.{Refusal}
 use Rattle.run_inputs.specs.declared.flaw.Refusal.TheVariants.{Flawed, Misused, NoMemory, NotOpened, NotRead, PastLimit}
-use Rattle.run_inputs.specs.Causes.{FailedToOpen, OthersStandBeside}
-use Rattle.run_inputs.specs.Content.{bytes_left, Content, totals_with, IsRead, most_bytes, Totals}
+use Rattle.run_inputs.specs.Causes.{CannotOpen, CannotRead, OpeningFailed, ReadingFailed}
+use Rattle.run_inputs.specs.Content.{bytes_left, Content, totals_with, IsRead, IsShortEnough, most_bytes, Totals}
 use Rattle.run_inputs.specs.Flaw.{HasFlaw}
 use Rattle.run_inputs.specs.Inputs.{AreGiven, FirstFlawFrom, ReachesFrom}
-use Rattle.run_inputs.specs.Causes.{OthersStandBesideName}
-use Rattle.run_inputs.specs.Reading.{GaveContents, HasCauseFrom, IsGiven, IsReasonIn, most_read, too_long, totals_after}
-use Rattle.run_inputs.specs.Files.{file_at, InputFile}
+use Rattle.run_inputs.specs.Reading.{GaveContents, HasCauseFrom, IsGiven, IsReached, IsReasonIn, most_read, Part, part_of, too_long, totals_after}
+use Rattle.run_inputs.specs.Files.{InputFile}
 
 -- ---- from one source to a later one
-
--- a count that rose later rose
-rose_later : (before between after : ℕ) → before ≤ between → Rose between after → Rose before after
-rose_later before between after grew (inl more) = inl (omega arith)
-rose_later before between after grew (inr last) = inr last
 
 -- counts that stand twice stand
 pub same_faults : (files between files' : Source) → SameFaults files between → SameFaults between files' → SameFaults files files'
@@ -44,6 +37,16 @@ stays_then files between files' first second = record {
   read_faults = le_trans first.read_faults second.read_faults;
 }
 
+-- what is reached is so where something else holds of it
+reached_then : (P Q : Totals → InputFile → Type 0) → ((before : Totals) (input : InputFile) → P before input → Q before input)
+    → (before : Totals) (inputs : List InputFile) (bytes : List (List ℕ)) (k : ℕ)
+    → ReachesFrom P before inputs bytes k → ReachesFrom Q before inputs bytes k
+reached_then P Q then before [] bytes k reached = absurd reached
+reached_then P Q then before (input ∷ inputs) bytes zero reached = then before input reached
+reached_then P Q then before (input ∷ inputs) [] (suc k) reached = absurd reached
+reached_then P Q then before (input ∷ inputs) (b ∷ rest) (suc k) reached =
+    (reached.0, reached.1, reached_then P Q then (totals_with before b reached.0) inputs rest k reached.2)
+
 module _ (files between : Source) (stays : Stays files between) where
   -- what is told later is told from the beginning on
   pub is_given_later : (name bytes : List ℕ) → IsGiven between name bytes → IsGiven files name bytes
@@ -58,35 +61,54 @@ module _ (files between : Source) (stays : Stays files between) where
       → GaveContents between before inputs bytes contents → GaveContents files before inputs bytes contents
   gave_later before inputs bytes contents gave = record { given = given_later inputs bytes gave.given; read = gave.read }
 
-  -- a cause that is found later is one from the beginning on
-  pub cause_later : (before : Totals) (first : ℕ) (inputs : List InputFile) (files' : Source) (why : Refusal)
-      → HasCauseFrom before first inputs between files' why → HasCauseFrom before first inputs files files' why
-  cause_later before first inputs files' Misused cause = cause
-  cause_later before first inputs files' (PastLimit limit) cause = cause
-  cause_later before first inputs files' (Flawed file flaw) cause = record {
-    index = cause.index;
-    number = cause.number;
-    bytes = cause.bytes;
-    given = given_later inputs cause.bytes cause.given;
-    found = cause.found;
-  }
-  cause_later before first inputs files' (NotOpened file) cause = record {
-    index = cause.index;
-    number = cause.number;
-    bytes = cause.bytes;
-    given = given_later inputs cause.bytes cause.given;
-    reached = cause.reached;
-    holds = rose_later _ _ _ (stays.open_faults (file_at inputs cause.index).name) cause.holds;
-  }
-  cause_later before first inputs files' (NotRead file) cause = record {
-    index = cause.index;
-    number = cause.number;
-    bytes = cause.bytes;
-    given = given_later inputs cause.bytes cause.given;
-    reached = cause.reached;
-    holds = rose_later _ _ _ stays.read_faults cause.holds;
-  }
-  cause_later before first inputs files' NoMemory cause = cause
+  -- a failed opening or read later is one from the beginning on, where no call failed before it
+  module _ (same : SameFaults files between) (files' : Source) where
+    opening_later : (name : List ℕ) → OpeningFailed between files' name → OpeningFailed files files' name
+    opening_later name failed = record {
+      rose = subst (λ (k : ℕ). Rose k (files'.open_faults name)) (same.open_faults name) failed.rose;
+      alone = record {
+        opens = λ other apart. failed.alone.opens other (stays.shares name other ∙ apart) ∙ same.open_faults other;
+        reads = λ apart. failed.alone.reads (stays.counts_reads name ∙ apart) ∙ same.read_faults;
+      };
+    }
+
+    reading_later : (name : List ℕ) (Fits : List ℕ → Type 0) → ReadingFailed between files' name Fits → ReadingFailed files files' name Fits
+    reading_later name Fits failed = record {
+      rose = subst (λ (k : ℕ). Rose k files'.read_faults) same.read_faults failed.rose;
+      alone = λ other apart. failed.alone other (stays.counts_reads other ∙ apart) ∙ same.open_faults other;
+      front = failed.front;
+      so_far = failed.so_far ∙ stays.contents name;
+      fits = failed.fits;
+    }
+
+    reached_later : (part : Part) (file : ℕ) (P Q : Totals → InputFile → Type 0)
+        → ((before : Totals) (input : InputFile) → P before input → Q before input)
+        → IsReached part between file P → IsReached part files file Q
+    reached_later part file P Q then reached = record {
+      index = reached.index;
+      number = reached.number;
+      bytes = reached.bytes;
+      given = given_later part.inputs reached.bytes reached.given;
+      reached = reached_then P Q then part.before part.inputs reached.bytes reached.index reached.reached;
+    }
+
+    -- a cause that is found later is one from the beginning on
+    pub cause_later : (part : Part) (why : Refusal) → HasCauseFrom part between files' why → HasCauseFrom part files files' why
+    cause_later part Misused cause = cause
+    cause_later part (PastLimit limit) cause = cause
+    cause_later part (Flawed file flaw) cause = record {
+      index = cause.index;
+      number = cause.number;
+      bytes = cause.bytes;
+      given = given_later part.inputs cause.bytes cause.given;
+      found = cause.found;
+    }
+    cause_later part (NotOpened file) cause =
+        reached_later part file (CannotOpen between files') (CannotOpen files files') (λ before input failed. opening_later input.name failed) cause
+    cause_later part (NotRead file) cause =
+        reached_later part file (CannotRead between files') (CannotRead files files')
+        (λ before input failed. reading_later input.name (λ front. IsShortEnough input.kind before front) failed) cause
+    cause_later part NoMemory cause = cause
 
 -- ---- the cause in one file
 
@@ -105,10 +127,16 @@ long_flaw kind.Capture before bytes long = elim (cases_lt (bytes_left before) (m
   | inr more ↦ rw (le-leb (most_bytes kind.Capture) (bytes_left before) more) (refl, (omega (arith, long, more), more))
 ]
 
+-- so few bytes are not too many
+short_enough : (of : FileKind) (before : Totals) (bytes : List ℕ) → length bytes ≤ most_read of before → IsShortEnough of before bytes
+short_enough kind.Rules before bytes few = few
+short_enough kind.Script before bytes few = few
+short_enough kind.Capture before bytes few = (omega (arith, few), omega (arith, few))
+
 module _ (before : Totals) (at : ℕ) (input : InputFile) (files files' : Source) where
   -- its bytes have a flaw
   pub flaw_here : (bytes : List ℕ) (why : Refusal) → IsGiven files input.name bytes → IsReasonIn at input.kind before bytes why
-      → HasCauseFrom before at (input ∷ []) files files' why
+      → HasCauseFrom (part_of before at (input ∷ [])) files files' why
   flaw_here bytes Misused given reason = reason
   flaw_here bytes (PastLimit limit) given reason = reason
   flaw_here bytes (Flawed file flaw) given reason = record {
@@ -124,30 +152,27 @@ module _ (before : Totals) (at : ℕ) (input : InputFile) (files files' : Source
 
   -- it has too many bytes, whether its contents are told or not
   pub too_long_here : IfSome (files.contents input.name) (λ contents. most_read input.kind before < length contents)
-      → HasCauseFrom before at (input ∷ []) files files' (Flawed at (too_long input.kind before))
+      → HasCauseFrom (part_of before at (input ∷ [])) files files' (Flawed at (too_long input.kind before))
   too_long_here more =
       let long = some_bytes (files.contents input.name) (most_read input.kind before) more in
       flaw_here long.0 (Flawed at (too_long input.kind before)) long.1 (refl, long_flaw input.kind before long.0 long.2)
 
-  pub not_opened_here : FailedToOpen files files' input → HasCauseFrom before at (input ∷ []) files files' (NotOpened at)
-  not_opened_here rose = record {
-    index = 0;
-    number = omega arith;
-    bytes = [];
-    given = tt;
-    reached = tt;
-    holds = rose;
-  }
+  -- it is reached at once
+  reached_here : (P : Totals → InputFile → Type 0) → P before input → IsReached (part_of before at (input ∷ [])) files at P
+  reached_here P holds = record { index = 0; number = omega arith; bytes = []; given = tt; reached = holds }
 
-  pub not_read_here : Rose files.read_faults files'.read_faults → HasCauseFrom before at (input ∷ []) files files' (NotRead at)
-  not_read_here rose = record {
-    index = 0;
-    number = omega arith;
-    bytes = [];
-    given = tt;
-    reached = tt;
-    holds = rose;
-  }
+  pub not_opened_here : OpeningFailed files files' input.name → HasCauseFrom (part_of before at (input ∷ [])) files files' (NotOpened at)
+  not_opened_here failed = reached_here (CannotOpen files files') failed
+
+  pub not_read_here : (most : ℕ) → most ≡ most_read input.kind before → ReadingFailed files files' input.name (λ front. length front ≤ most)
+      → HasCauseFrom (part_of before at (input ∷ [])) files files' (NotRead at)
+  not_read_here most is failed = reached_here (CannotRead files files') (record {
+    rose = failed.rose;
+    alone = failed.alone;
+    front = failed.front;
+    so_far = failed.so_far;
+    fits = short_enough input.kind before failed.front (omega (arith, is, failed.fits));
+  })
 
 -- ---- files in front of others
 
@@ -165,119 +190,86 @@ module _ (files : Source) (more : List InputFile) where
   flaw_front before (input ∷ inputs) (b ∷ rest) (suc k) flaw found =
       (found.0, found.1, flaw_front (totals_with before b found.0) inputs rest k flaw found.2)
 
-  reached_front : (before : Totals) (inputs : List InputFile) (bytes : List (List ℕ)) (k : ℕ)
-      → ReachesFrom before inputs bytes k → ReachesFrom before (inputs ++ more) bytes k
-  reached_front before [] bytes k reached = absurd reached
-  reached_front before (input ∷ inputs) bytes zero reached = tt
-  reached_front before (input ∷ inputs) [] (suc k) reached = absurd reached
-  reached_front before (input ∷ inputs) (b ∷ rest) (suc k) reached =
-      (reached.0, reached.1, reached_front (totals_with before b reached.0) inputs rest k reached.2)
+  front_reached : (P : Totals → InputFile → Type 0) (before : Totals) (inputs : List InputFile) (bytes : List (List ℕ)) (k : ℕ)
+      → ReachesFrom P before inputs bytes k → ReachesFrom P before (inputs ++ more) bytes k
+  front_reached P before [] bytes k reached = absurd reached
+  front_reached P before (input ∷ inputs) bytes zero reached = reached
+  front_reached P before (input ∷ inputs) [] (suc k) reached = absurd reached
+  front_reached P before (input ∷ inputs) (b ∷ rest) (suc k) reached =
+      (reached.0, reached.1, front_reached P (totals_with before b reached.0) inputs rest k reached.2)
 
-  at_front : (before : Totals) (inputs : List InputFile) (bytes : List (List ℕ)) (k : ℕ)
-      → ReachesFrom before inputs bytes k → file_at inputs k ≡ file_at (inputs ++ more) k
-  at_front before [] bytes k reached = absurd reached
-  at_front before (input ∷ inputs) bytes zero reached = refl
-  at_front before (input ∷ inputs) [] (suc k) reached = absurd reached
-  at_front before (input ∷ inputs) (b ∷ rest) (suc k) reached = at_front (totals_with before b reached.0) inputs rest k reached.2
+  module _ (before : Totals) (first : ℕ) (inputs : List InputFile) where
+    reached_front : (file : ℕ) (P : Totals → InputFile → Type 0)
+        → IsReached (part_of before first inputs) files file P → IsReached (part_of before first (inputs ++ more)) files file P
+    reached_front file P reached = record {
+      index = reached.index;
+      number = reached.number;
+      bytes = reached.bytes;
+      given = given_front inputs reached.bytes reached.given;
+      reached = front_reached P before inputs reached.bytes reached.index reached.reached;
+    }
 
-  -- a cause in them is one in all
-  pub cause_front : (before : Totals) (first : ℕ) (inputs : List InputFile) (files' : Source) (why : Refusal)
-      → HasCauseFrom before first inputs files files' why → HasCauseFrom before first (inputs ++ more) files files' why
-  cause_front before first inputs files' Misused cause = cause
-  cause_front before first inputs files' (PastLimit limit) cause = cause
-  cause_front before first inputs files' (Flawed file flaw) cause = record {
-    index = cause.index;
-    number = cause.number;
-    bytes = cause.bytes;
-    given = given_front inputs cause.bytes cause.given;
-    found = flaw_front before inputs cause.bytes cause.index flaw cause.found;
-  }
-  cause_front before first inputs files' (NotOpened file) cause = record {
-    index = cause.index;
-    number = cause.number;
-    bytes = cause.bytes;
-    given = given_front inputs cause.bytes cause.given;
-    reached = reached_front before inputs cause.bytes cause.index cause.reached;
-    holds = subst (λ (i : InputFile). FailedToOpen files files' i) (at_front before inputs cause.bytes cause.index cause.reached) cause.holds;
-  }
-  cause_front before first inputs files' (NotRead file) cause = record {
-    index = cause.index;
-    number = cause.number;
-    bytes = cause.bytes;
-    given = given_front inputs cause.bytes cause.given;
-    reached = reached_front before inputs cause.bytes cause.index cause.reached;
-    holds = cause.holds;
-  }
-  cause_front before first inputs files' NoMemory cause = cause
+    -- a cause in them is one in all
+    pub cause_front : (files' : Source) (why : Refusal)
+        → HasCauseFrom (part_of before first inputs) files files' why → HasCauseFrom (part_of before first (inputs ++ more)) files files' why
+    cause_front files' Misused cause = cause
+    cause_front files' (PastLimit limit) cause = cause
+    cause_front files' (Flawed file flaw) cause = record {
+      index = cause.index;
+      number = cause.number;
+      bytes = cause.bytes;
+      given = given_front inputs cause.bytes cause.given;
+      found = flaw_front before inputs cause.bytes cause.index flaw cause.found;
+    }
+    cause_front files' (NotOpened file) cause = reached_front file (CannotOpen files files') cause
+    cause_front files' (NotRead file) cause = reached_front file (CannotRead files files') cause
+    cause_front files' NoMemory cause = cause
 
 -- ---- files behind others that were read
 
--- a cause behind one file that was read
-pub cause_behind : (files files' : Source) (before : Totals) (first : ℕ) (input : InputFile) (inputs : List InputFile)
-    (b : List ℕ) (content : Content) (why : Refusal) → IsGiven files input.name b → IsRead input.kind before b content
-    → HasCauseFrom (totals_with before b content) (first + 1) inputs files files' why → HasCauseFrom before first (input ∷ inputs) files files' why
-cause_behind files files' before first input inputs b content Misused given read cause = cause
-cause_behind files files' before first input inputs b content (PastLimit limit) given read cause = cause
-cause_behind files files' before first input inputs b content (Flawed file flaw) given read cause = record {
-  index = suc cause.index;
-  number = omega (arith, cause.number);
-  bytes = b ∷ cause.bytes;
-  given = (given, cause.given);
-  found = (content, read, cause.found);
-}
-cause_behind files files' before first input inputs b content (NotOpened file) given read cause = record {
-  index = suc cause.index;
-  number = omega (arith, cause.number);
-  bytes = b ∷ cause.bytes;
-  given = (given, cause.given);
-  reached = (content, read, cause.reached);
-  holds = cause.holds;
-}
-cause_behind files files' before first input inputs b content (NotRead file) given read cause = record {
-  index = suc cause.index;
-  number = omega (arith, cause.number);
-  bytes = b ∷ cause.bytes;
-  given = (given, cause.given);
-  reached = (content, read, cause.reached);
-  holds = cause.holds;
-}
-cause_behind files files' before first input inputs b content NoMemory given read cause = cause
+module _ (files : Source) (before : Totals) (first : ℕ) (input : InputFile) (inputs : List InputFile) (b : List ℕ) (content : Content)
+    (given : IsGiven files input.name b) (read : IsRead input.kind before b content) where
+  reached_behind : (file : ℕ) (P : Totals → InputFile → Type 0) → IsReached (part_of (totals_with before b content) (first + 1) inputs) files file P
+      → IsReached (part_of before first (input ∷ inputs)) files file P
+  reached_behind file P reached = record {
+    index = suc reached.index;
+    number = omega (arith, reached.number);
+    bytes = b ∷ reached.bytes;
+    given = (given, reached.given);
+    reached = (content, read, reached.reached);
+  }
+
+  -- a cause behind one file that was read
+  pub cause_behind : (files' : Source) (why : Refusal) → HasCauseFrom (part_of (totals_with before b content) (first + 1) inputs) files files' why
+      → HasCauseFrom (part_of before first (input ∷ inputs)) files files' why
+  cause_behind files' Misused cause = cause
+  cause_behind files' (PastLimit limit) cause = cause
+  cause_behind files' (Flawed file flaw) cause = record {
+    index = suc cause.index;
+    number = omega (arith, cause.number);
+    bytes = b ∷ cause.bytes;
+    given = (given, cause.given);
+    found = (content, read, cause.found);
+  }
+  cause_behind files' (NotOpened file) cause = reached_behind file (CannotOpen files files') cause
+  cause_behind files' (NotRead file) cause = reached_behind file (CannotRead files files') cause
+  cause_behind files' NoMemory cause = cause
 
 -- a cause behind files that were all read
 pub cause_behind_all : (files files' : Source) (before : Totals) (first : ℕ) (front inputs : List InputFile)
     (bytes : List (List ℕ)) (contents : List Content) (why : Refusal) → GaveContents files before front bytes contents
-    → HasCauseFrom (totals_after before bytes contents) (first + length front) inputs files files' why
-    → HasCauseFrom before first (front ++ inputs) files files' why
+    → HasCauseFrom (part_of (totals_after before bytes contents) (first + length front) inputs) files files' why
+    → HasCauseFrom (part_of before first (front ++ inputs)) files files' why
 cause_behind_all files files' before first [] inputs [] [] why gave cause =
     let number : first + 0 ≡ first = omega arith in
-    subst (λ n. HasCauseFrom before n inputs files files' why) number cause
+    subst (λ n. HasCauseFrom (part_of before n inputs) files files' why) number cause
 cause_behind_all files files' before first [] inputs [] (content ∷ contents) why gave cause = absurd gave.read
 cause_behind_all files files' before first [] inputs (b ∷ more) contents why gave cause = absurd gave.read
 cause_behind_all files files' before first (input ∷ front) inputs [] contents why gave cause = absurd gave.read
 cause_behind_all files files' before first (input ∷ front) inputs (b ∷ more) [] why gave cause = absurd gave.read
 cause_behind_all files files' before first (input ∷ front) inputs (b ∷ more) (content ∷ contents) why gave cause =
     let number : first + length (input ∷ front) ≡ first + 1 + length front = omega arith in
-    cause_behind files files' before first input (front ++ inputs) b content why gave.given.0 gave.read.0
+    cause_behind files before first input (front ++ inputs) b content gave.given.0 gave.read.0 files' why
     (cause_behind_all files files' (totals_with before b content) (first + 1) front inputs more contents why
     (record { given = gave.given.1; read = gave.read.1 })
-    (subst (λ n. HasCauseFrom (totals_after (totals_with before b content) more contents) n inputs files files' why) number cause))
-
--- ---- counts of names
-
--- what stands beside one file
-pub others_one : (input : InputFile) (files files' : Source) → OthersStandBesideName input.name files files' → OthersStandBeside (input ∷ []) files files'
-others_one input files files' stand = λ other apart.
-    stand other (All-head (λ (i : InputFile). files.shares i.name other ≡ false) input [] apart)
-
--- what stands beside some files, and then beside some of them again
-pub others_then : (all part : List InputFile) (files between files' : Source) → ((P : InputFile → Type 0) → All P all → All P part)
-    → Stays files between → OthersStandBeside all files between → OthersStandBeside part between files' → OthersStandBeside all files files'
-others_then all part files between files' within stays first second = λ other apart reads.
-    second other (λ k d below. stays.shares _ other ∙ within (λ (i : InputFile). files.shares i.name other ≡ false) apart k d below)
-    (stays.counts_reads other ∙ reads) ∙ first other apart reads
-
--- what stands beside some of the files stands beside all
-pub others_part : (all part : List InputFile) (files files' : Source) → ((P : InputFile → Type 0) → All P all → All P part)
-    → OthersStandBeside part files files' → OthersStandBeside all files files'
-others_part all part files files' within stand = λ other apart.
-    stand other (within (λ (i : InputFile). files.shares i.name other ≡ false) apart)
+    (subst (λ n. HasCauseFrom (part_of (totals_after (totals_with before b content) more contents) n inputs) files files' why) number cause))

@@ -16,16 +16,16 @@ pub data Content : Type 0 where
   frames : (frames : List Frame) → Content
 
 -- the bytes of a file of this kind say this
-abbrev pub Says : FileKind → List ℕ → Content → Type 0
-Says kind.Rules bytes (rules said) = IsRulesFile bytes said
-Says kind.Rules bytes (script commands wait) = ⊥
-Says kind.Rules bytes (frames said) = ⊥
-Says kind.Script bytes (rules said) = ⊥
-Says kind.Script bytes (script commands wait) = IsScript bytes commands wait
-Says kind.Script bytes (frames said) = ⊥
-Says kind.Capture bytes (rules said) = ⊥
-Says kind.Capture bytes (script commands wait) = ⊥
-Says kind.Capture bytes (frames said) = IsCapture bytes said
+abbrev pub IsContentOf : FileKind → List ℕ → Content → Type 0
+IsContentOf kind.Rules bytes (rules said) = IsRulesFile bytes said
+IsContentOf kind.Rules bytes (script commands wait) = ⊥
+IsContentOf kind.Rules bytes (frames said) = ⊥
+IsContentOf kind.Script bytes (rules said) = ⊥
+IsContentOf kind.Script bytes (script commands wait) = IsScript bytes commands wait
+IsContentOf kind.Script bytes (frames said) = ⊥
+IsContentOf kind.Capture bytes (rules said) = ⊥
+IsContentOf kind.Capture bytes (script commands wait) = ⊥
+IsContentOf kind.Capture bytes (frames said) = IsCapture bytes said
 
 -- the most bytes of a file of this kind, of all captures together, and the most packets of all
 abbrev pub most_bytes : FileKind → ℕ
@@ -66,5 +66,5 @@ IsShortEnough kind.Capture before bytes = (length bytes ≤ most_bytes kind.Capt
 -- a file of this kind is read, behind captures of this total, and says this
 pub record IsRead (kind : FileKind) (before : Totals) (bytes : List ℕ) (content : Content) : Type 0 where
   pub fits : IsShortEnough kind before bytes
-  pub says : Says kind bytes content
+  pub says : IsContentOf kind bytes content
   pub few : (totals_with before bytes content).packets ≤ most_packets

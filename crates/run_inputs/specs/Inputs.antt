@@ -36,14 +36,14 @@ AreReadFrom before (input ∷ inputs) (bytes ∷ more) [] = ⊥
 AreReadFrom before (input ∷ inputs) (bytes ∷ more) (content ∷ contents) =
     IsRead input.kind before bytes content × AreReadFrom (totals_with before bytes content) inputs more contents
 
--- the file of this number is reached: each one before it is read
-abbrev pub ReachesFrom : Totals → List InputFile → List (List ℕ) → ℕ → Type 0
-ReachesFrom before [] more file = ⊥
-ReachesFrom before (input ∷ inputs) more zero = Unit {0}
-ReachesFrom before (input ∷ inputs) [] (suc file) = ⊥
-ReachesFrom before (input ∷ inputs) (bytes ∷ more) (suc file) =
+-- the file of this number is reached, since each one before it is read, and behind those this holds of it
+abbrev pub ReachesFrom : (Totals → InputFile → Type 0) → Totals → List InputFile → List (List ℕ) → ℕ → Type 0
+ReachesFrom P before [] more file = ⊥
+ReachesFrom P before (input ∷ inputs) more zero = P before input
+ReachesFrom P before (input ∷ inputs) [] (suc file) = ⊥
+ReachesFrom P before (input ∷ inputs) (bytes ∷ more) (suc file) =
     (content : Content) × IsRead input.kind before bytes content
-    × ReachesFrom (totals_with before bytes content) inputs more file
+    × ReachesFrom P (totals_with before bytes content) inputs more file
 
 -- the file of this number is the first with a flaw, and has this one
 abbrev pub FirstFlawFrom : Totals → List InputFile → List (List ℕ) → ℕ → Flaw → Type 0
@@ -62,11 +62,12 @@ pub record AreRead (files : Source) (inputs : List InputFile) (contents : List C
   pub told : AreTold files inputs bytes
   pub read : AreReadFrom no_totals inputs bytes contents
 
--- the file of this number is reached, with some contents of those before it, as they are told where they are
-pub record Reaches (files : Source) (inputs : List InputFile) (file : ℕ) : Type 0 where
+-- the file of this number is reached, with some contents of those before it, as they are told where they are; and behind
+-- those this holds of it
+pub record Reaches (files : Source) (inputs : List InputFile) (file : ℕ) (P : Totals → InputFile → Type 0) : Type 0 where
   pub bytes : List (List ℕ)
   pub given : AreGiven files inputs bytes
-  pub reached : ReachesFrom no_totals inputs bytes file
+  pub reached : ReachesFrom P no_totals inputs bytes file
 
 -- how bytes are tied to files: by `AreTold` or by `AreGiven`
 abbrev pub Tie : Type 1

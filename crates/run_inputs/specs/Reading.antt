@@ -3,7 +3,6 @@
 use Rattle.std.specs.Prelude.{if◌then◌else◌, ◌≡◌, ◌≢◌, ◌≤◌, ℕ, ◌+◌, min, nat_le, List, [], ◌∷◌, length, map, Option, Some, None, Result, Ok, Err, IfSome}
 use Rattle.command_words.specs.Words.{Request}
 use Rattle.conntrack_cmd.specs.declared.read.Script.{Script}
-use Rattle.ct_io.specs.Counts.{Rose}
 use Rattle.ct_io.specs.Source.{SameFaults, Source}
 use Rattle.nat_setup.specs.declared.rule.Rule.{Rule}
 use Rattle.packet_headers.specs.Capture.{AreInside, AreTimely}
@@ -16,12 +15,12 @@ use Rattle.run_inputs.specs.declared.flaw.Flaw.TheVariants as flaw
 use Rattle.run_inputs.specs.declared.flaw.Refusal.{Refusal}
 use Rattle.run_inputs.specs.declared.flaw.Refusal.TheVariants.{Flawed, Misused, NoMemory, NotOpened, NotRead, PastLimit}
 use Rattle.run_inputs.specs.declared.input.Inputs.{Inputs}
-use Rattle.run_inputs.specs.Causes.{FailedToOpen, refusal_status}
+use Rattle.run_inputs.specs.Causes.{CannotOpen, CannotRead, refusal_status}
 use Rattle.run_inputs.specs.Content.{bytes_left, Content, totals_with, IsShortEnough, frames, IsRead, most_bytes, most_capture_bytes, most_packets, no_totals, rules, script, Totals}
 use Rattle.run_inputs.specs.Flaw.{HasFlaw}
 use Rattle.run_inputs.specs.Inputs.{AreGiven, AreReadFrom, FirstFlawFrom, ReachesFrom}
 use Rattle.run_inputs.specs.Ready.{CanReplay, IsReady}
-use Rattle.run_inputs.specs.Files.{file_at, files_of_kind, InputFile}
+use Rattle.run_inputs.specs.Files.{files_of_kind, InputFile}
 
 -- ---- totals
 
@@ -49,43 +48,48 @@ too_long kind.Capture before =
 
 -- ---- why files were not read
 
--- the file of this number has this flaw, and each of these files before it is read
-pub record IsFirstFlaw (before : Totals) (first : ℕ) (files : Source) (inputs : List InputFile) (file : ℕ) (flaw : Flaw) : Type 0 where
-  pub index : ℕ
-  pub number : file ≡ first + index
-  pub bytes : List (List ℕ)
-  pub given : AreGiven files inputs bytes
-  pub found : FirstFlawFrom before inputs bytes index flaw
+-- some of the files of a run: they stand behind captures of this total, and the first of them has this number in the run
+pub record Part : Type 0 where
+  pub before : Totals
+  pub first : ℕ
+  pub inputs : List InputFile
 
--- each of these files before the one of this number is read, and of that one something holds
-pub record IsReached (before : Totals) (first : ℕ) (files : Source) (inputs : List InputFile) (file : ℕ) (P : InputFile → Type 0) : Type 0 where
+abbrev pub part_of : Totals → ℕ → List InputFile → Part
+part_of before first inputs = record { before = before; first = first; inputs = inputs }
+
+-- the file of this number has this flaw, and each of these files before it is read
+pub record IsFirstFlaw (part : Part) (files : Source) (file : ℕ) (flaw : Flaw) : Type 0 where
   pub index : ℕ
-  pub number : file ≡ first + index
+  pub number : file ≡ part.first + index
   pub bytes : List (List ℕ)
-  pub given : AreGiven files inputs bytes
-  pub reached : ReachesFrom before inputs bytes index
-  pub holds : P (file_at inputs index)
+  pub given : AreGiven files part.inputs bytes
+  pub found : FirstFlawFrom part.before part.inputs bytes index flaw
+
+-- each of these files before the one of this number is read, and behind those this holds of that one
+pub record IsReached (part : Part) (files : Source) (file : ℕ) (P : Totals → InputFile → Type 0) : Type 0 where
+  pub index : ℕ
+  pub number : file ≡ part.first + index
+  pub bytes : List (List ℕ)
+  pub given : AreGiven files part.inputs bytes
+  pub reached : ReachesFrom P part.before part.inputs bytes index
 
 -- the cause of a refusal in one of these files
-abbrev pub HasCauseFrom : Totals → ℕ → List InputFile → Source → Source → Refusal → Type 0
-HasCauseFrom before first inputs files files' Misused = ⊥
-HasCauseFrom before first inputs files files' (PastLimit limit) = ⊥
-HasCauseFrom before first inputs files files' (Flawed file flaw) = IsFirstFlaw before first files inputs file flaw
-HasCauseFrom before first inputs files files' (NotOpened file) =
-    IsReached before first files inputs file (λ input. FailedToOpen files files' input)
-HasCauseFrom before first inputs files files' (NotRead file) =
-    IsReached before first files inputs file (λ input. Rose files.read_faults files'.read_faults)
-HasCauseFrom before first inputs files files' NoMemory = Unit {0}
+abbrev pub HasCauseFrom : Part → Source → Source → Refusal → Type 0
+HasCauseFrom part files files' Misused = ⊥
+HasCauseFrom part files files' (PastLimit limit) = ⊥
+HasCauseFrom part files files' (Flawed file flaw) = IsFirstFlaw part files file flaw
+HasCauseFrom part files files' (NotOpened file) = IsReached part files file (CannotOpen files files')
+HasCauseFrom part files files' (NotRead file) = IsReached part files file (CannotRead files files')
+HasCauseFrom part files files' NoMemory = Unit {0}
 
 -- counts stand, unless this refusal is that of a failure
 abbrev pub SameFaultsBut : Refusal → Source → Source → Type 0
 SameFaultsBut why files files' = refusal_status why ≢ 3 → SameFaults files files'
 
 -- the files gave something of which this holds, or there is a cause in one of them
-abbrev pub ReadAs : {X : Type 0} → Totals → ℕ → List InputFile → (X → Type 0) → Source → Source → Result X Refusal → Type 0
-ReadAs before first inputs Gave files files' (Ok x) = Gave x × SameFaults files files'
-ReadAs before first inputs Gave files files' (Err why) =
-    HasCauseFrom before first inputs files files' why × SameFaultsBut why files files'
+abbrev pub ReadAs : {X : Type 0} → Part → (X → Type 0) → Source → Source → Result X Refusal → Type 0
+ReadAs part Gave files files' (Ok x) = Gave x × SameFaults files files'
+ReadAs part Gave files files' (Err why) = HasCauseFrom part files files' why × SameFaultsBut why files files'
 
 -- ---- what files gave
 

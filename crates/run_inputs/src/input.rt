@@ -7,9 +7,8 @@ ghost use Rattle.command_words.specs.Words.{IsWithin};
 ghost use Rattle.conntrack_cmd.specs.Moment.{moment_of};
 ghost use Rattle.ct_io.specs.Source.{Stays};
 ghost use Rattle.nat_setup.specs.Rule.{IsLawfulRule};
-ghost use Rattle.run_inputs.specs.Causes.{OthersStandBeside};
 ghost use Rattle.run_inputs.specs.Content.{totals_with, IsShortEnough, frames, most_bytes, most_packets, no_totals};
-ghost use Rattle.run_inputs.specs.Reading.{CaptureReadAs, GaveBytes, GaveCapture, GaveCaptures, GaveInputs, GaveRules, GaveScript, HasRoomFor, most_read, ReadAs, too_long, totals_as};
+ghost use Rattle.run_inputs.specs.Reading.{CaptureReadAs, GaveBytes, GaveCapture, GaveCaptures, GaveInputs, GaveRules, GaveScript, HasRoomFor, most_read, part_of, ReadAs, too_long, totals_as};
 ghost use Rattle.run_inputs.specs.Files.{files_of, files_of_kind};
 
 use crate::flaw::{FileKind, Flaw, Refusal};
@@ -81,11 +80,9 @@ fn read_input<F: Files>(
     file: usize,
     before: &CaptureTotals,
 ) -> Result<Bytes, Refusal>
-    ensures reads { ReadAs (totals_as before.now) file (record { kind = kind; name = name.now } ∷ [])
+    ensures reads { ReadAs (part_of (totals_as before.now) file (record { kind = kind; name = name.now } ∷ []))
         (λ bytes. GaveBytes (F.source files.old) (totals_as before.now) (record { kind = kind; name = name.now }) bytes.items)
         (F.source files.old) (F.source files.new) result }
-    ensures others { OthersStandBeside (record { kind = kind; name = name.now } ∷ [])
-        (F.source files.old) (F.source files.new) }
     ensures stays { Stays (F.source files.old) (F.source files.new) }
 {
     match read_file(alloc, files, name, most_read(kind, before)) {
@@ -112,12 +109,10 @@ fn read_rule_file<F: Files>(
     files: &mut F,
     name: Option<&str>,
 ) -> Result<Rules, Refusal>
-    ensures reads { ReadAs no_totals 0 (files_of_kind FileKind.Rules (option_to_list (option_map (λ n. n.now) name.entry)))
+    ensures reads { ReadAs (part_of no_totals 0 (files_of_kind FileKind.Rules (option_to_list (option_map (λ n. n.now) name.entry))))
         (λ rules. GaveRules (F.source files.old) (option_map (λ n. n.now) name.entry) rules.items)
         (F.source files.old) (F.source files.new) result }
     ensures lawful { IfOk result (λ rules. AllByRecursion IsLawfulRule rules.items) }
-    ensures others { OthersStandBeside (files_of_kind FileKind.Rules (option_to_list (option_map (λ n. n.now) name.entry)))
-        (F.source files.old) (F.source files.new) }
     ensures stays { Stays (F.source files.old) (F.source files.new) }
 {
     let Some(name) = name else {
@@ -156,13 +151,11 @@ fn read_script_file<F: Files>(
     name: Option<&str>,
     file: usize,
 ) -> Result<Script, Refusal>
-    ensures reads { ReadAs no_totals file (files_of_kind FileKind.Script (option_to_list (option_map (λ n. n.now) name.entry)))
+    ensures reads { ReadAs (part_of no_totals file (files_of_kind FileKind.Script (option_to_list (option_map (λ n. n.now) name.entry))))
         (λ script. GaveScript (F.source files.old) (option_map (λ n. n.now) name.entry) script)
         (F.source files.old) (F.source files.new) result }
     ensures few { IfOk result (λ script. length script.commands.items ≤ 256) }
     ensures named { IfOk result (λ script. All (λ c. moment_of c ≤ 10 ^ 16) script.commands.items) }
-    ensures others { OthersStandBeside (files_of_kind FileKind.Script (option_to_list (option_map (λ n. n.now) name.entry)))
-        (F.source files.old) (F.source files.new) }
     ensures stays { Stays (F.source files.old) (F.source files.new) }
 {
     commands_are_lawful();
@@ -225,11 +218,9 @@ fn read_capture_file<F: Files>(
     before: &CaptureTotals,
 ) -> Result<Capture, Refusal>
     requires { before.now.packets ≤ most_packets }
-    ensures reads { ReadAs (totals_as before.now) file (record { kind = FileKind.Capture; name = name.now } ∷ [])
+    ensures reads { ReadAs (part_of (totals_as before.now) file (record { kind = FileKind.Capture; name = name.now } ∷ []))
         (λ capture. GaveCapture (F.source files.old) (totals_as before.now) name.now capture)
         (F.source files.old) (F.source files.new) result }
-    ensures others { OthersStandBeside (record { kind = FileKind.Capture; name = name.now } ∷ [])
-        (F.source files.old) (F.source files.new) }
     ensures stays { Stays (F.source files.old) (F.source files.new) }
 {
     let bytes = match read_input(alloc, files, FileKind::Capture, name, file, before) {
@@ -262,11 +253,9 @@ fn read_captures<F: Files>(
 ) -> Result<Captures, Refusal>
     requires few { length names.now ≤ 63 }
     requires first { first ≤ 2 }
-    ensures reads { ReadAs no_totals first (files_of_kind FileKind.Capture (texts names.now))
+    ensures reads { ReadAs (part_of no_totals first (files_of_kind FileKind.Capture (texts names.now)))
         (λ captures. GaveCaptures (F.source files.old) (texts names.now) captures.items)
         (F.source files.old) (F.source files.new) result }
-    ensures others { OthersStandBeside (files_of_kind FileKind.Capture (texts names.now))
-        (F.source files.old) (F.source files.new) }
     ensures stays { Stays (F.source files.old) (F.source files.new) }
 {
     let mut captures = match Captures::new(alloc, names.len()) {
@@ -301,11 +290,9 @@ pub fn read_all<F: Files>(
     asked: &Asked<'_>,
 ) -> Result<Inputs, Refusal>
     requires { IsWithin (asked_as asked.now) }
-    ensures reads { ReadAs no_totals 0 (files_of (asked_as asked.now))
+    ensures reads { ReadAs (part_of no_totals 0 (files_of (asked_as asked.now)))
         (λ inputs. GaveInputs (F.source files.old) (asked_as asked.now) inputs)
         (F.source files.old) (F.source files.new) result }
-    ensures others { OthersStandBeside (files_of (asked_as asked.now))
-        (F.source files.old) (F.source files.new) }
     ensures stays { Stays (F.source files.old) (F.source files.new) }
 {
     let rules = match read_rule_file(alloc, files, asked.rules) {

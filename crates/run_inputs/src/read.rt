@@ -1,9 +1,8 @@
 //! A whole file, read in pieces.
 
 ghost use Rattle.std.specs.Prelude.{◌≡◌, ◌≢◌, ◌<◌, ◌≤◌, Err, length, vec_len, IfOk, IfSome};
-ghost use Rattle.ct_io.specs.Counts.{Rose};
 ghost use Rattle.ct_io.specs.Source.{SameFaults, Stays};
-ghost use Rattle.run_inputs.specs.Causes.{OthersStandBesideName};
+ghost use Rattle.run_inputs.specs.Causes.{OpeningFailed, ReadingFailed};
 
 use ct_io::Files;
 use room_list::Bytes;
@@ -44,7 +43,7 @@ fn new_piece(alloc: Global) -> Result<Vec<u8>, NoMemory>
 }
 
 /// Reads the file of this name, of at most so many bytes, to its end. The file stays open.
-#[tactic(auto, using(crate::proofs::Reading::nothing_read, crate::proofs::Reading::more_read, crate::proofs::Reading::all_read, crate::proofs::Reading::too_many))]
+#[tactic(auto, using(crate::proofs::Reading::nothing_read, crate::proofs::Reading::more_read, crate::proofs::Reading::all_read, crate::proofs::Reading::too_many, crate::proofs::Reading::read_failed))]
 pub fn read_file<F: Files>(
     alloc: Global,
     files: &mut F,
@@ -57,13 +56,11 @@ pub fn read_file<F: Files>(
     ensures too_long { result ≡ Err ReadError.TooLong →
         IfSome ((F.source files.old).contents name.now) (λ contents. most < length contents) }
     ensures open { result ≡ Err ReadError.Open →
-        Rose ((F.source files.old).open_faults name.now)
-        ((F.source files.new).open_faults name.now) }
+        OpeningFailed (F.source files.old) (F.source files.new) name.now }
     ensures read { result ≡ Err ReadError.Read →
-        Rose (F.source files.old).read_faults (F.source files.new).read_faults }
+        ReadingFailed (F.source files.old) (F.source files.new) name.now (λ front. length front ≤ most) }
     ensures same_faults { result ≢ Err ReadError.Open → result ≢ Err ReadError.Read →
         SameFaults (F.source files.old) (F.source files.new) }
-    ensures others { OthersStandBesideName name.now (F.source files.old) (F.source files.new) }
     ensures stays { Stays (F.source files.old) (F.source files.new) }
 {
     let mut piece = new_piece(alloc)?;

@@ -12,7 +12,7 @@ use Rattle.replay_top.specs.declared.ending.Ending.TheVariants.{Done, NotWritten
 use Rattle.run_inputs.specs.declared.flaw.Refusal.{Refusal}
 use Rattle.run_inputs.specs.declared.flaw.Refusal.TheVariants as refusal
 use Rattle.replay_top.specs.ErrorLine.{error_line, flaw_line, words_limit_text}
-use Rattle.run_inputs.specs.Reading.{HasCauseFrom, SameFaultsBut}
+use Rattle.run_inputs.specs.Reading.{HasCauseFrom, part_of, SameFaultsBut}
 use Rattle.run_inputs.specs.Content.{no_totals}
 use Rattle.replay_top.specs.Replay.{IsReplayOf}
 use Rattle.run_inputs.specs.Files.{file_at, files_of, InputFile}
@@ -47,7 +47,7 @@ line_about name refusal.NoMemory = error_line [] (codes "out of memory\n")
 abbrev pub Replays : Request → Source → Source → Result Report Refusal → Type 0
 Replays asked files files' (Ok report) = IsReplayOf files asked report × SameFaults files files'
 Replays asked files files' (Err why) =
-    HasCauseFrom no_totals 0 (files_of asked) files files' why × SameFaultsBut why files files'
+    HasCauseFrom (part_of no_totals 0 (files_of asked)) files files' why × SameFaultsBut why files files'
 
 -- how a run that is asked for ends: what it did with the files, and what it wrote
 abbrev pub Ends : Request → Source → Source → Tape → Tape → Ending → Type 0
@@ -58,4 +58,4 @@ Ends asked files files' out out' (NotWritten report) =
     IsReplayOf files asked report × Rose out.faults out'.faults × WroteFront (report_text report) out.written out'.written
     × SameFaults files files'
 Ends asked files files' out out' (Refused why) =
-    HasCauseFrom no_totals 0 (files_of asked) files files' why × (out' ≡ out) × SameFaultsBut why files files'
+    HasCauseFrom (part_of no_totals 0 (files_of asked)) files files' why × (out' ≡ out) × SameFaultsBut why files files'

@@ -5,7 +5,7 @@ use Rattle.replay_top.specs.Causes.{HasCause}
 use Rattle.replay_top.specs.ErrorLine.{line_of, Tells}
 use Rattle.replay_top.specs.Internal.Ending.{line_about}
 use Rattle.replay_top.specs.Replay.{IsReplay}
-use Rattle.replay_top.proofs.Findings.{answers_done, answers_not_written, answers_refused, failed_files, has_cause, line_named}
+use Rattle.replay_top.proofs.Findings.{answers_done, answers_not_written, answers_refused, failed_files, has_cause, line_named, others_refused}
 use Rattle.replay_top.proofs.program.top.Goals as goal
 
 pub returns-in-Done-clause-exact : goal.returns-in-Done-clause-exact
@@ -58,3 +58,10 @@ returns-clause-exact g c = λ found finds.
     (answers_refused c.read_files_have_no_flaw.ensures c.contents_are_unique.ensures c.flaws_are_unique.ensures words
     (g.F.Files.source c.args.files.now) (g.F.Files.source c.run.new.files) (g.K.Sink.tape c.args.out.now) (g.K.Sink.tape c.run.new.out)
     c.in-Refused.why found cause finds)
+
+pub returns-clause-others : goal.returns-clause-others
+returns-clause-others g c =
+    let words = map (string_bytes {Z = Global}) c.args.words.now in
+    others_refused words (g.F.Files.source c.args.files.now) (g.F.Files.source c.run.new.files) c.in-Refused.why
+    (has_cause words (asked_as c.in-Ok.asked) c.in-Ok.ensures.exact (g.F.Files.source c.args.files.now) (g.F.Files.source c.run.new.files)
+    c.in-Refused.why c.in-Refused.ensures.ends.0) c.in-Refused.ensures.ends.2

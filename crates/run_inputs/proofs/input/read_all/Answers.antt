@@ -1,32 +1,16 @@
 use Rattle.std.proofs.Common.{ℕ, List, Option, option_map, subst, Bor}
 use Rattle.command_words.specs.Asked.{texts}
 use Rattle.run_inputs.specs.declared.flaw.FileKind.TheVariants as kind
-use Rattle.run_inputs.specs.Causes.{OthersStandBeside}
 use Rattle.run_inputs.specs.Content.{no_totals}
 use Rattle.run_inputs.specs.Reading.{bytes_in, contents_in, GaveContents}
 use Rattle.run_inputs.specs.Files.{files_of_kind}
-use Rattle.run_inputs.proofs.All.{others_of_captures, others_of_script, script_later}
+use Rattle.run_inputs.proofs.All.{script_later}
 use Rattle.run_inputs.proofs.OneByOne.{gave_later, same_faults, stays_then}
 use Rattle.run_inputs.proofs.input.read_all.Goals as goal
 
 -- the name that is asked for, if one is
 abbrev name_in : Option (Bor (List ℕ)) → Option (List ℕ)
 name_in name = option_map (λ (s : Bor (List ℕ)). s.now) name
-
-pub returns-in-Err-read_script_file-clause-others : goal.returns-in-Err-read_script_file-clause-others
-returns-in-Err-read_script_file-clause-others g c =
-    others_of_script (g.F.Files.source c.args.files.now) (g.F.Files.source c.read_rule_file.new.files) (name_in c.args.asked.now.rules)
-    (name_in c.args.asked.now.script) (texts c.args.asked.now.captures.items) c.read_rule_file.ensures.stays c.read_rule_file.ensures.others
-    (g.F.Files.source c.read_script_file.new.files) c.read_script_file.ensures.others
-
-pub returns-in-Err-read_captures-clause-others : goal.returns-in-Err-read_captures-clause-others
-returns-in-Err-read_captures-clause-others g c =
-    others_of_captures (g.F.Files.source c.args.files.now) (g.F.Files.source c.read_rule_file.new.files) (name_in c.args.asked.now.rules)
-    (name_in c.args.asked.now.script) (texts c.args.asked.now.captures.items) c.read_rule_file.ensures.stays c.read_rule_file.ensures.others
-    (g.F.Files.source c.read_script_file.new.files) (g.F.Files.source c.read_captures.new.files) c.read_script_file.ensures.stays
-    c.read_script_file.ensures.others
-    (subst (λ (names : List (Bor (List ℕ))). OthersStandBeside (files_of_kind kind.Capture (texts names))
-    (g.F.Files.source c.read_script_file.new.files) (g.F.Files.source c.read_captures.new.files)) c.as_slice.ensures c.read_captures.ensures.others)
 
 pub returns-in-Ok-read_captures-clause-reads : goal.returns-in-Ok-read_captures-clause-reads
 returns-in-Ok-read_captures-clause-reads g c =

@@ -1,7 +1,7 @@
 use Rattle.std.proofs.Common.{ℕ, List, [], Bor}
 use Rattle.ct_io.specs.Source.{Stays}
 use Rattle.run_inputs.specs.Reading.{totals_as}
-use Rattle.run_inputs.proofs.Captures.{captures_next, captures_others, captures_refused}
+use Rattle.run_inputs.proofs.Captures.{captures_next, captures_refused}
 use Rattle.run_inputs.proofs.OneByOne.{same_faults}
 use Rattle.run_inputs.proofs.input.read_captures.Goals as goal
 
@@ -20,16 +20,10 @@ returns-in-Err-read_capture_file-clause-reads g c =
           so_far.same (c.in-Err-read_capture_file.ensures.reads.1 other),
     )
 
-pub returns-in-Err-read_capture_file-clause-others : goal.returns-in-Err-read_capture_file-clause-others
-returns-in-Err-read_capture_file-clause-others g c =
-    captures_others (g.F.Files.source c.args.files.now) (g.F.Files.source c.captures-2.files) (g.F.Files.source c.read_capture_file.new.files)
-    c.args.names.now c.captures-2.index c.captures-2.captures (totals_as c.captures-2.totals) no_name c.captures-2.invariant
-    c.captures-test.true c.read_capture_file.ensures.stays c.read_capture_file.ensures.others
-
 pub captures-preserved : goal.captures-preserved
 captures-preserved g c =
     captures_next (g.F.Files.source c.args.files.now) (g.F.Files.source c.captures-2.files) (g.F.Files.source c.read_capture_file.new.files)
     c.args.names.now c.captures-2.index c.captures-2.captures (totals_as c.captures-2.totals) no_name c.captures-2.invariant
     c.captures-test.true c.read_capture_file.ensures.stays c.in-Ok-read_capture_file.capture c.push.new.self (totals_as c.with_capture-totals.result)
-    c.in-Ok-read_capture_file.ensures.reads.0 c.in-Ok-read_capture_file.ensures.reads.1 c.read_capture_file.ensures.others
+    c.in-Ok-read_capture_file.ensures.reads.0 c.in-Ok-read_capture_file.ensures.reads.1
     c.with_capture-totals.ensures c.push.ensures.items c.push.ensures.room

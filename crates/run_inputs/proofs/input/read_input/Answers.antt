@@ -1,18 +1,8 @@
 use Rattle.std.proofs.Common.{◌≡◌, ◌<◌, length, subst, rules}
 use Rattle.std.specs.Prelude.{IfSome}
 use Rattle.run_inputs.specs.Reading.{most_read, too_long, totals_as}
-use Rattle.run_inputs.proofs.OneByOne.{others_one, too_long_here}
+use Rattle.run_inputs.proofs.OneByOne.{too_long_here}
 use Rattle.run_inputs.proofs.input.read_input.Goals as goal
-
-pub returns-in-Err-Open-clause-others : goal.returns-in-Err-Open-clause-others
-returns-in-Err-Open-clause-others g c =
-    others_one (record { kind = c.args.kind; name = c.args.name.now }) (g.F.Files.source c.args.files.now)
-    (g.F.Files.source c.read_file.new.files) c.read_file.ensures.others
-
-pub returns-in-Err-Read-clause-others : goal.returns-in-Err-Read-clause-others
-returns-in-Err-Read-clause-others g c =
-    others_one (record { kind = c.args.kind; name = c.args.name.now }) (g.F.Files.source c.args.files.now)
-    (g.F.Files.source c.read_file.new.files) c.read_file.ensures.others
 
 pub returns-in-Err-TooLong-clause-reads : goal.returns-in-Err-TooLong-clause-reads
 returns-in-Err-TooLong-clause-reads g c =

@@ -1,6 +1,6 @@
 use Rattle.std.proofs.Common.{◌≡◌, ◌+◌, ◌-◌, ◌<◌, ◌≤◌, length, vec_len, true}
 use Rattle.ct_io.specs.Source.{SameFaults, Stays}
-use Rattle.run_inputs.proofs.Reading.{AreRead}
+use Rattle.run_inputs.specs.Causes.{ReadSoFar}
 use Rattle.run_inputs.proofs.read.read_file.Given as goal
 
 abbrev pub invariant-pieces : goal.invariant-pieces
@@ -8,7 +8,7 @@ invariant-pieces g l = record {
   piece : 0 < vec_len l.piece;
   within : length l.bytes.items ≤ l.most;
   is_open : (g.F.Files.source l.files).is_open ≡ true;
-  so_far : AreRead ((g.F.Files.source l.fn.files).contents l.fn.name) l.bytes.items (g.F.Files.source l.files).left;
+  so_far : ReadSoFar ((g.F.Files.source l.fn.files).contents l.fn.name) l.bytes.items (g.F.Files.source l.files).left;
   stays : Stays (g.F.Files.source l.fn.files) (g.F.Files.source l.files);
   same_faults : SameFaults (g.F.Files.source l.fn.files) (g.F.Files.source l.files);
 }
