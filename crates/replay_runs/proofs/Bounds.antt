@@ -13,30 +13,27 @@ use Rattle.packet_headers.specs.Capture.{AreTimely, is_timely}
 use Rattle.packet_headers.specs.declared.frame.Frame.{Frame}
 use Rattle.packet_path.specs.Packet.{Given, given_of}
 use Rattle.capture_list.specs.declared.Capture.{Capture}
-use Rattle.replay_runs.specs.Internal.Answered.{mark_past_answer, NotesAnswer}
 use Rattle.replay_runs.specs.Internal.Cut.{made_in_all}
-use Rattle.replay_runs.specs.Internal.Replayed.{count_given, given_frames, made_in, mark_beyond, NotesFit, ThreadNotesFit}
-use Rattle.replay_runs.specs.Report.{latest, latest_of, mark_before, ScriptRun, TrackerSetup}
+use Rattle.replay_runs.specs.Internal.Replayed.{count_given, given_frames, made_in, ThreadNotesFit}
+use Rattle.replay_runs.specs.Report.{AnswersFit, at_start, latest, latest_of, past_command, past_packet, Progress, ScriptRun, TrackerSetup, VerdictsFit}
 use Rattle.replay_runs.proofs.CapturesReplayed.{made_within}
 
 -- there is one verdict for each packet
-one_each : (tracker : TrackerSetup) (log : List Event) (mine : List Note) (first mark : ℕ) (ps : List Given) (vs : List Verdict)
-    → NotesFit tracker log mine first mark ps vs → length vs ≡ length ps
-one_each tracker log mine first mark [] [] fit = refl
-one_each tracker log mine first mark [] (w ∷ vs) fit = absurd fit
-one_each tracker log mine first mark (q ∷ ps) [] fit = absurd fit
-one_each tracker log mine first mark (q ∷ ps) (w ∷ vs) (f, fs) =
-    ap suc (one_each tracker log (drop w.made mine) (first + w.made) (mark_beyond mark (take w.made mine) w.class) ps vs fs)
+one_each : (tracker : TrackerSetup) (log : List Event) (mine : List Note) (now : Progress) (ps : List Given) (vs : List Verdict)
+    → VerdictsFit tracker log mine now ps vs → length vs ≡ length ps
+one_each tracker log mine now [] [] fit = refl
+one_each tracker log mine now [] (w ∷ vs) fit = absurd fit
+one_each tracker log mine now (q ∷ ps) [] fit = absurd fit
+one_each tracker log mine now (q ∷ ps) (w ∷ vs) (f, fs) = ap suc (one_each tracker log (drop w.made mine) (past_packet now mine w) ps vs fs)
 
 -- one answer for each command
-pub one_answer_each : (run : ScriptRun) (mine : List Note) (first index mark : ℕ) (cs : List Command) (answers : List Answer)
-    → NotesAnswer run mine first index mark cs answers → length answers ≡ length cs
-one_answer_each run mine first index mark [] [] fit = refl
-one_answer_each run mine first index mark [] (b ∷ answers) fit = absurd fit
-one_answer_each run mine first index mark (d ∷ cs) [] fit = absurd fit
-one_answer_each run mine first index mark (d ∷ cs) (b ∷ answers) (f, fs) =
-    ap suc (one_answer_each run (drop b.made mine) (first + b.made) (index + 1)
-    (mark_past_answer (mark_before run index mark) (take b.made mine) b) cs answers fs)
+pub one_answer_each : (run : ScriptRun) (mine : List Note) (now : Progress) (cs : List Command) (answers : List Answer)
+    → AnswersFit run mine now cs answers → length answers ≡ length cs
+one_answer_each run mine now [] [] fit = refl
+one_answer_each run mine now [] (b ∷ answers) fit = absurd fit
+one_answer_each run mine now (d ∷ cs) [] fit = absurd fit
+one_answer_each run mine now (d ∷ cs) (b ∷ answers) (f, fs) =
+    ap suc (one_answer_each run (drop b.made mine) (past_command run now mine b) cs answers fs)
 
 module _ (tracker : TrackerSetup) (log : List Event) where
   -- one list of verdicts for each capture
@@ -54,7 +51,7 @@ module _ (tracker : TrackerSetup) (log : List Event) where
   verdicts_few n own [] (w ∷ vss) fit few k d within = absurd fit
   verdicts_few n own (gs ∷ gss) [] fit few k d within = absurd fit
   verdicts_few n own (gs ∷ gss) (w ∷ vss) (f, fs) few zero d within =
-      omega (arith, few, one_each tracker log (take (made_in w.items) own) 0 0 gs w.items f)
+      omega (arith, few, one_each tracker log (take (made_in w.items) own) at_start gs w.items f)
   verdicts_few n own (gs ∷ gss) (w ∷ vss) (f, fs) few (suc k) d within =
       verdicts_few n (drop (made_in w.items) own) gss vss fs (omega (arith, few)) k d (omega (arith, within))
 

@@ -36,7 +36,7 @@ notes_of-append : (xs ys : List Numbered) → notes_of (xs ++ ys) ≡ notes_of x
 notes_of-append xs ys = map-append (λ (n : Numbered). record { number = n.number; event = n.event }) xs ys
 
 -- spans end no earlier than they begin
-cover_le : (at total : ℕ) (ss : List EventSpan) → CoverFrom at total ss → at ≤ total
+pub cover_le : (at total : ℕ) (ss : List EventSpan) → CoverFrom at total ss → at ≤ total
 cover_le at total [] covers = omega (arith, covers)
 cover_le at total (s ∷ ss) (here, covers) = omega (arith, cover_le (at + s.made) total ss covers)
 

@@ -13,19 +13,19 @@ use Rattle.history_book.specs.declared.report.Report.{Report}
 use Rattle.history_book.specs.declared.sizes.Sizes.{Sizes}
 use Rattle.history_book.specs.declared.verdict.Verdict.{Verdict}
 use Rattle.history_book.specs.History.{after, is_legal}
-use Rattle.history_book.specs.Merge.{all_notes, AreNumbers, CoverEach, IsMerged, spans_of, spans_of_answers}
+use Rattle.history_book.specs.Merge.{all_notes, AreNumbers, CoverEach, CoverFrom, IsMerged, spans_of, spans_of_answers}
 use Rattle.history_book.specs.Numbered.{events_of, IsNumberedFrom, notes_of}
 use Rattle.history_book.specs.Sight.{IsKnown, notes_from, Sight}
 use Rattle.packet_path.specs.Laws.{VerdictsStillFit}
-use Rattle.replay_runs.specs.Internal.Answered.{Answered, NotesAnswer}
+use Rattle.replay_runs.specs.Internal.Answered.{Answered, run_seen}
 use Rattle.replay_runs.specs.Internal.Cut.{cut_by, items_of}
 use Rattle.replay_runs.specs.Internal.Replayed.{AllReplayed, made_in, ThreadNotesFit}
-use Rattle.replay_runs.specs.Report.{AnswersFit, captures_end, IsWellFormed, latest_of, made_by, run_of, ThreadsFit, TrackerSetup, Work}
+use Rattle.replay_runs.specs.Report.{AnswersFit, AreNamedInEach, at_start, captures_end, IsWellFormed, latest_of, made_by, run_of, ThreadsFit, TrackerSetup, Work}
 use Rattle.replay_runs.proofs.CapturesReplayed.{threads_still_fit}
 use Rattle.replay_runs.proofs.Marks.{own_below}
-use Rattle.replay_runs.proofs.FitsNamed.{answers_cover, answers_named}
-use Rattle.replay_runs.proofs.Names.{all_named, all_named_notes, merged_in_order, named_in}
-use Rattle.replay_runs.proofs.Threads.{end_within, lists_count, lists_covered, lists_fit, ListsFit, script_made, threads_fit, threads_within}
+use Rattle.replay_runs.proofs.FitsNamed.{answers_cover}
+use Rattle.replay_runs.proofs.Names.{all_named, all_named_notes, merged_in_order, named_in_notes}
+use Rattle.replay_runs.proofs.Threads.{each_named_from, end_within, lists_count, lists_covered, lists_fit, ListsFit, script_made, threads_fit, threads_within}
 
 -- an event of a history with its number
 abbrev name_note : Numbered → Note
@@ -83,7 +83,7 @@ numbers_of_all s known one =
 pub record IsRun (tracker : TrackerSetup) (work : Work) (old mid new : Sight) (threads : List (Roomed Verdict)) (answers : List Answer)
     (lists : List (Roomed Note)) : Type 0 where
   pub replayed : AllReplayed tracker.setup work.captures old mid threads
-  pub answered : Answered work.commands (latest_of 0 work.captures) mid new answers
+  pub answered : Answered work.commands (latest_of 0 work.captures) 0 mid new answers
   pub none : old.own ≡ []
   pub sized : old.sizes ≡ tracker.sizes
   pub one : tracker.sizes.passes ≡ 1
@@ -92,14 +92,14 @@ pub record IsRun (tracker : TrackerSetup) (work : Work) (old mid new : Sight) (t
 module _ (still : VerdictsStillFit) (tracker : TrackerSetup) (work : Work) (old mid new : Sight) (threads : List (Roomed Verdict))
     (answers : List Answer) (lists : List (Roomed Note)) (run : IsRun tracker work old mid new threads answers lists) where
   sizes_stay : new.sizes ≡ tracker.sizes
-  sizes_stay = run.answered.sizes ∙ run.replayed.sizes ∙ run.sized
+  sizes_stay = run.answered.went.pass.sizes ∙ run.replayed.went.pass.sizes ∙ run.sized
 
   own_events : new.own ≡ run.replayed.own ++ run.answered.own
   own_events =
-      run.answered.added ∙ ap (λ xs. xs ++ run.answered.own) run.replayed.added
+      run.answered.went.own ∙ ap (λ xs. xs ++ run.answered.own) run.replayed.went.own
       ∙ ap (λ xs. (xs ++ run.replayed.own) ++ run.answered.own) run.none
 
-  one_pass : new.sizes.passes ≡ 1
+  pub one_pass : new.sizes.passes ≡ 1
   one_pass = ap (λ (z : Sizes). z.passes) sizes_stay ∙ run.one
 
   whole : all_notes lists ≡ notes_from 0 new.front
@@ -107,14 +107,14 @@ module _ (still : VerdictsStillFit) (tracker : TrackerSetup) (work : Work) (old 
 
   fit : ThreadNotesFit tracker new.front run.replayed.own work.captures threads
   fit =
-      threads_still_fit still tracker new.front mid.front run.answered.front run.replayed.own work.captures threads
+      threads_still_fit still tracker new.front mid.front run.answered.went.front run.replayed.own work.captures threads
       (subst (λ (z : Sizes). ThreadNotesFit (record { setup = tracker.setup; sizes = z }) mid.front run.replayed.own work.captures threads)
       run.sized run.replayed.fit)
 
   lists_are : ListsFit tracker new.front (length mid.front) run.answered.own work.captures threads lists
   lists_are =
       lists_fit tracker new.front (length mid.front) run.answered.own run.replayed.own work.captures threads lists fit
-      (own_below mid old.own run.replayed.own run.replayed.known run.replayed.added)
+      (own_below mid old.own run.replayed.own run.replayed.known run.replayed.went.own)
       (run.cut ∙ ap (cut_by threads) own_events)
 
   -- the lists are one for each thread and the script's
@@ -127,12 +127,19 @@ module _ (still : VerdictsStillFit) (tracker : TrackerSetup) (work : Work) (old 
       subst (λ (xs : List Note). AreNumbers xs) (sym (cut_whole threads new.own lists run.cut))
       (numbers_of_all new run.answered.known one_pass)
 
+  -- the answers fit wherever `wait` stands, the captures ended before them
+  script_fit : (end : ℕ) → end ≤ length mid.front
+      → AnswersFit (run_seen new (latest_of 0 work.captures) work.wait end) run.answered.own at_start work.commands answers
+  script_fit end before = run.answered.fit work.wait end 0 0 (λ from within. before) (omega arith)
+
+  script_covered : CoverFrom 0 (length run.answered.own) (spans_of_answers answers)
+  script_covered =
+      answers_cover (run_seen new (latest_of 0 work.captures) work.wait 0) run.answered.own at_start (length run.answered.own) work.commands
+      answers (script_fit 0 (omega arith)) (omega arith)
+
   -- and the spans cover them
   pub covered : CoverEach lists (spans_of threads answers)
-  covered =
-      lists_covered tracker new.front (length mid.front) run.answered.own lists_are answers
-      (answers_cover (record { log = new.front; moment = latest_of 0 work.captures; wait = work.wait; end_of_captures = 0 }) run.answered.own 0 0 0
-      (length run.answered.own) work.commands answers (run.answered.fit work.wait 0 (omega arith)) (omega arith))
+  covered = lists_covered tracker new.front (length mid.front) run.answered.own lists_are answers script_covered
 
   names_noted : notes_of (all_named 0 lists (spans_of threads answers)) ≡ notes_from 0 new.front
   names_noted = all_named_notes 0 lists (spans_of threads answers) covered ∙ whole
@@ -151,30 +158,38 @@ module _ (still : VerdictsStillFit) (tracker : TrackerSetup) (work : Work) (old 
     all_fit =
         threads_fit tracker (length mid.front) run.answered.own history
         (subst (λ (log : List Event). ListsFit tracker log (length mid.front) run.answered.own work.captures threads lists) events_are lists_are)
-        answers 0 (length work.captures) (omega arith)
-        (λ t from. ap (made_by t) in_order)
-        (subst (λ xs. AllByRecursion (λ (n : Numbered). n.thread ≤ length work.captures) xs) (sym in_order)
-        (threads_within tracker new.front (length mid.front) run.answered.own lists_are answers 0 (length work.captures) (omega arith)))
+        answers 0 (λ t from. ap (made_by t) in_order)
+
+    all_owned : AllByRecursion (λ (n : Numbered). n.thread ≤ length work.captures) history
+    all_owned =
+        subst (λ xs. AllByRecursion (λ (n : Numbered). n.thread ≤ length work.captures) xs) (sym in_order)
+        (threads_within tracker new.front (length mid.front) run.answered.own lists_are answers 0 (length work.captures) (omega arith))
+
+    all_are_named : AreNamedInEach 0 history (spans_of threads answers)
+    all_are_named = each_named_from history 0 lists (spans_of threads answers) covered (λ t from. ap (made_by t) in_order)
 
     captures_before : captures_end (length work.captures) history ≤ length mid.front
     captures_before =
         subst (λ xs. captures_end (length work.captures) xs ≤ length mid.front) (sym in_order)
         (end_within tracker new.front (length mid.front) run.answered.own lists_are answers (length work.captures) refl)
 
-    all_answered : AnswersFit (run_of work history) (made_by (length work.captures) history) 0 0 0 work.commands answers
+    script_notes : notes_of (made_by (length work.captures) history) ≡ run.answered.own
+    script_notes =
+        ap (λ xs. notes_of (made_by (length work.captures) xs)) in_order
+        ∙ ap notes_of (script_made tracker new.front (length mid.front) run.answered.own lists_are answers 0 (length work.captures) (omega arith))
+        ∙ named_in_notes (length work.captures) 0 0 (length run.answered.own) run.answered.own (spans_of_answers answers) script_covered
+        (omega arith)
+
+    all_answered : AnswersFit (run_of work history) (notes_of (made_by (length work.captures) history)) at_start work.commands answers
     all_answered =
-        let made : made_by (length work.captures) history ≡ named_in (length work.captures) 0 run.answered.own (spans_of_answers answers) =
-        ap (made_by (length work.captures)) in_order
-        ∙ script_made tracker new.front (length mid.front) run.answered.own lists_are answers 0 (length work.captures) (omega arith) in
-        subst (λ xs. AnswersFit (run_of work history) xs 0 0 0 work.commands answers) (sym made)
-        (answers_named (run_of work history) (length work.captures) run.answered.own 0 0 0 work.commands answers
-        (subst (λ (log : List Event). NotesAnswer (record {
+        subst (λ xs. AnswersFit (run_of work history) xs at_start work.commands answers) (sym script_notes)
+        (subst (λ (log : List Event). AnswersFit (record {
           log = log;
           moment = latest_of 0 work.captures;
           wait = work.wait;
           end_of_captures = captures_end (length work.captures) history;
-        }) run.answered.own 0 0 0 work.commands answers) events_are
-        (run.answered.fit work.wait (captures_end (length work.captures) history) captures_before)))
+        }) run.answered.own at_start work.commands answers) events_are
+        (script_fit (captures_end (length work.captures) history) captures_before))
 
     -- a report of the merged events is well formed
     pub reported : (report : Report) (live : ℕ) → live ≡ length (after new.front (length new.front)).records
@@ -187,12 +202,16 @@ module _ (still : VerdictsStillFit) (tracker : TrackerSetup) (work : Work) (old 
           legal = subst (λ xs. is_legal tracker.sizes (events_of xs) ≡ true) (sym is_history)
               (subst (λ log. is_legal tracker.sizes log ≡ true) events_are
               (subst (λ (z : Sizes). is_legal z new.front ≡ true) sizes_stay run.answered.known.legal));
+          owned = subst (λ xs. AllByRecursion (λ (n : Numbered). n.thread ≤ length work.captures) xs) (sym is_history) all_owned;
+          named = subst (λ xs. AreNamedInEach 0 xs (spans_of report.threads.items report.answers.items)) (sym is_history)
+              (subst (λ vss. AreNamedInEach 0 history (spans_of vss report.answers.items)) (sym is_threads)
+              (subst (λ xs. AreNamedInEach 0 history (spans_of threads xs)) (sym is_answers) all_are_named));
           verdicts = subst (λ vss. ThreadsFit tracker report.history.items 0 work.captures vss) (sym is_threads)
               (subst (λ xs. ThreadsFit tracker xs 0 work.captures threads) (sym is_history) all_fit);
-          answers = subst (λ xs. AnswersFit (run_of work report.history.items) (made_by (length work.captures) report.history.items) 0 0 0
-              work.commands xs) (sym is_answers)
-              (subst (λ xs. AnswersFit (run_of work xs) (made_by (length work.captures) xs) 0 0 0 work.commands answers) (sym is_history)
-              all_answered);
+          answers = subst (λ xs. AnswersFit (run_of work report.history.items)
+              (notes_of (made_by (length work.captures) report.history.items)) at_start work.commands xs) (sym is_answers)
+              (subst (λ xs. AnswersFit (run_of work xs) (notes_of (made_by (length work.captures) xs)) at_start work.commands answers)
+              (sym is_history) all_answered);
           live = is_live ∙ left ∙ ap (λ k. length (after new.front k).records) long
               ∙ ap (λ log. length (after log (length history)).records) events_are
               ∙ ap (λ (xs : List Numbered). length (after (events_of xs) (length xs)).records) (sym is_history);

@@ -3,16 +3,18 @@ use Rattle.std.proofs.Common.{◌≡◌, ℕ, ◌+◌, ◌*◌, ◌^◌, ◌<◌
 use Rattle.std.specs.Prelude.{All, IfOk, Result, Ok, Err}
 use Rattle.std.proofs.lemmas.List.{length-map}
 use Rattle.room_list.specs.Roomed.{Roomed}
-use Rattle.book_desk.specs.Closed.{Closes}
-use Rattle.book_desk.specs.Fresh.{IsFresh}
+use Rattle.history_book.specs.Close.{Closes}
+use Rattle.history_book.specs.Fresh.{IsFresh}
 use Rattle.conntrack_cmd.specs.declared.command.Command.{Command}
 use Rattle.conntrack_cmd.specs.declared.read.Script.{Script}
 use Rattle.history_book.specs.declared.answer.Answer.{Answer}
+use Rattle.history_book.specs.declared.event.Event.{Event}
 use Rattle.history_book.specs.declared.event.Note.{Note}
 use Rattle.history_book.specs.declared.report.Closed.{Closed}
 use Rattle.history_book.specs.declared.report.Report.{Report}
 use Rattle.history_book.specs.declared.sizes.Sizes.{Sizes}
 use Rattle.history_book.specs.declared.verdict.Verdict.{Verdict}
+use Rattle.history_book.specs.History.{after}
 use Rattle.history_book.specs.Merge.{IsMerged, spans_of}
 use Rattle.history_book.specs.Numbered.{IsNumberedFrom}
 use Rattle.history_book.specs.Sight.{Sight}
@@ -20,14 +22,14 @@ use Rattle.packet_path.specs.declared.setup.Setup.{Setup}
 use Rattle.packet_path.specs.Laws.{VerdictsStillFit}
 use Rattle.capture_list.specs.declared.Capture.{Capture}
 use Rattle.capture_list.specs.Frames.{frames_in}
-use Rattle.replay_runs.specs.Internal.Answered.{Answered}
+use Rattle.replay_runs.specs.Internal.Answered.{Answered, run_seen}
 use Rattle.replay_runs.specs.Internal.Cut.{cut_by, items_of, made_in_all}
 use Rattle.replay_runs.specs.Internal.Replayed.{AllReplayed, given_frames, tracker_with}
 use Rattle.replay_runs.specs.Replaying.{work_of}
-use Rattle.replay_runs.specs.Report.{IsWellFormed, latest_of}
+use Rattle.replay_runs.specs.Report.{at_start, IsWellFormed, latest_of}
 use Rattle.replay_runs.proofs.Bounds.{made_few, one_answer_each, one_thread_each, verdicts_few}
 use Rattle.replay_runs.proofs.CapturesReplayed.{count_frames}
-use Rattle.replay_runs.proofs.Reports.{IsRun, reported}
+use Rattle.replay_runs.proofs.Reports.{IsRun, one_pass, reported}
 
 module _ (setup : Setup) (captures : List Capture) (old mid : Sight) (threads : List (Roomed Verdict))
     (replayed : AllReplayed setup (map given_frames captures) old mid threads) (few : frames_in captures ≤ 4194304) where
@@ -43,7 +45,7 @@ module _ (setup : Setup) (captures : List Capture) (old mid : Sight) (threads : 
         count_frames captures,
         ap length same,
         ap length fresh.own,
-        ap length replayed.added,
+        ap length replayed.went.own,
         length-append old.own replayed.own,
       )
 
@@ -65,36 +67,42 @@ module _ (setup : Setup) (captures : List Capture) (old mid : Sight) (threads : 
 
   -- the threads made no more events than there are in the end
   pub made_fits : (moment : ℕ) (commands : List Command) (new : Sight) (answers : List Answer) (vss : List (Roomed Verdict)) (notes : List Note)
-      → Answered commands moment mid new answers → vss ≡ threads → notes ≡ new.own → made_in_all vss ≤ length notes
+      → Answered commands moment 0 mid new answers → vss ≡ threads → notes ≡ new.own → made_in_all vss ≤ length notes
   made_fits moment commands new answers vss notes answered same all =
       omega (
         arith,
         made_few (tracker_with setup old) mid.front replayed.own (map given_frames captures) threads replayed.fit,
         ap made_in_all same,
         ap length all,
-        ap length replayed.added,
-        ap length answered.added,
+        ap length replayed.went.own,
+        ap length answered.went.own,
         length-append old.own replayed.own,
         length-append mid.own answered.own,
       )
 
+-- what was replayed of a list's items was replayed of the list
+pub replayed_of : (setup : Setup) (items captures : List Capture) (old mid : Sight) (threads : List (Roomed Verdict)) → items ≡ captures
+    → AllReplayed setup (map given_frames items) old mid threads → AllReplayed setup (map given_frames captures) old mid threads
+replayed_of setup items captures old mid threads same replayed =
+    subst (λ (cs : List Capture). AllReplayed setup (map given_frames cs) old mid threads) same replayed
+
 -- there are no more answers than commands
-pub answers_few : (moment : ℕ) (commands all : List Command) (mid new : Sight) (answers : List Answer) → Answered commands moment mid new answers
+pub answers_few : (moment : ℕ) (commands all : List Command) (mid new : Sight) (answers : List Answer) → Answered commands moment 0 mid new answers
     → commands ≡ all → length all ≤ 256 → length answers < 2 ^ 32
 answers_few moment commands all mid new answers answered same short =
     omega (
       arith,
       short,
       ap length same,
-      one_answer_each (record { log = new.front; moment = moment; wait = 0; end_of_captures = 0 }) answered.own 0 0 0 commands answers
-          (answered.fit 0 0 (omega arith)),
+      one_answer_each (run_seen new moment 0 0) answered.own at_start commands answers
+          (answered.fit 0 0 0 0 (λ from within. omega arith) (omega arith)),
     )
 
 -- what was done, in the words of what was given
 pub run_made : (setup : Setup) (sizes : Sizes) (captures : List Capture) (script : Script) (old mid new : Sight)
     (threads : List (Roomed Verdict)) (answers : List Answer) (lists : List (Roomed Note))
     (commands : List Command) (moment : ℕ) (vss : List (Roomed Verdict)) (notes : List Note)
-    → AllReplayed setup (map given_frames captures) old mid threads → Answered commands moment mid new answers
+    → AllReplayed setup (map given_frames captures) old mid threads → Answered commands moment 0 mid new answers
     → commands ≡ script.commands.items → moment ≡ latest_of 0 (map given_frames captures)
     → IsFresh (record sizes { passes = 1 }) old → sizes.passes ≡ 1
     → items_of lists ≡ cut_by vss notes → vss ≡ threads → notes ≡ new.own
@@ -102,8 +110,8 @@ pub run_made : (setup : Setup) (sizes : Sizes) (captures : List Capture) (script
 run_made setup sizes captures script old mid new threads answers lists commands moment vss notes replayed answered same timed fresh one
     cut same_threads same_notes = record {
       replayed = replayed;
-      answered = subst (λ (k : ℕ). Answered script.commands.items k mid new answers) timed
-          (subst (λ (cs : List Command). Answered cs moment mid new answers) same answered);
+      answered = subst (λ (k : ℕ). Answered script.commands.items k 0 mid new answers) timed
+          (subst (λ (cs : List Command). Answered cs moment 0 mid new answers) same answered);
       none = fresh.own;
       sized = fresh.sizes ∙ ap (λ (k : ℕ). record sizes { passes = k }) (sym one);
       one = one;
@@ -125,7 +133,10 @@ pub run_reported : (still : VerdictsStillFit) (setup : Setup) (sizes : Sizes) (c
 run_reported still setup sizes captures script old mid new threads answers lists closed (Ok report) run closes
     merged numbers is_threads is_answers is_live =
     reported still (record { setup = setup; sizes = sizes }) (work_of captures script) old mid new threads.items answers.items lists run
-    report.history.items merged report closed.live closes.live refl numbers
+    report.history.items merged report closed.live
+    (closes.live ∙ ap (λ (log : List Event). length (after log (length log)).records)
+    (closes.alone (one_pass still (record { setup = setup; sizes = sizes }) (work_of captures script) old mid new threads.items answers.items lists run)))
+    refl numbers
     (ap (λ (x : Roomed (Roomed Verdict)). x.items) is_threads) (ap (λ (x : Roomed Answer). x.items) is_answers) is_live
 run_reported still setup sizes captures script old mid new threads answers lists closed (Err error) run closes
     merged numbers is_threads is_answers is_live = tt

@@ -15,12 +15,12 @@ use Rattle.history_book.specs.Merge.{CoverEach, CoverFrom, EventSpan, spans_of, 
 use Rattle.history_book.specs.Numbered.{events_of, notes_of}
 use Rattle.packet_path.specs.Packet.{Given}
 use Rattle.replay_runs.specs.Internal.Cut.{cut_by, items_of}
-use Rattle.replay_runs.specs.Internal.Replayed.{made_in, NotesFit, ThreadNotesFit}
-use Rattle.replay_runs.specs.Report.{captures_end, made_by, ThreadsFit, TrackerSetup, VerdictsFit}
+use Rattle.replay_runs.specs.Internal.Replayed.{made_in, ThreadNotesFit}
+use Rattle.replay_runs.specs.Report.{AreNamedFrom, AreNamedInEach, at_start, captures_end, made_by, ThreadsFit, TrackerSetup, VerdictsFit}
 use Rattle.replay_runs.proofs.CapturesReplayed.{made_within}
 use Rattle.replay_runs.proofs.Marks.{mark_past-le, NumbersBelow}
-use Rattle.replay_runs.proofs.FitsNamed.{verdicts_cover, verdicts_named}
-use Rattle.replay_runs.proofs.Names.{all_named, each_append, name_of, named, named_in}
+use Rattle.replay_runs.proofs.FitsNamed.{shares_named, verdicts_cover}
+use Rattle.replay_runs.proofs.Names.{all_named, each_append, name_of, named, named_in, named_in_notes}
 
 -- each list has the events of a thread's verdicts, with numbers below m, and the last has the script's
 pub data ListsFit (tracker : TrackerSetup) (log : List Event) (m : ℕ) (script : List Note)
@@ -28,7 +28,7 @@ pub data ListsFit (tracker : TrackerSetup) (log : List Event) (m : ℕ) (script 
   last : (l : Roomed Note) → l.items ≡ script → ListsFit tracker log m script [] [] (l ∷ [])
   more : (gs : List Given) (gss : List (List Given)) (vs : Roomed Verdict) (vss : List (Roomed Verdict))
       (l : Roomed Note) (lists : List (Roomed Note))
-      → NotesFit tracker log l.items 0 0 gs vs.items → NumbersBelow m l.items → ListsFit tracker log m script gss vss lists
+      → VerdictsFit tracker log l.items at_start gs vs.items → NumbersBelow m l.items → ListsFit tracker log m script gss vss lists
       → ListsFit tracker log m script (gs ∷ gss) (vs ∷ vss) (l ∷ lists)
 
 -- what holds of each item of a list holds of its first ones
@@ -72,7 +72,7 @@ module _ (tracker : TrackerSetup) (log : List Event) (m : ℕ) (script : List No
       let rest : items_of lists ≡ cut_by vss (drop count (own ++ script)) = cc is in
       let first : take count own ≡ l.items = sym (take-append-le count own script within) ∙ sym here in
       more gs gss w vss l lists
-      (subst (λ xs. NotesFit tracker log xs 0 0 gs w.items) first f)
+      (subst (λ xs. VerdictsFit tracker log xs at_start gs w.items) first f)
       (subst (λ xs. NumbersBelow m xs) first (each_taken (λ (x : Note). x.number < m) count own below))
       (lists_fit (drop count own) gss vss lists fs (each_dropped (λ (x : Note). x.number < m) count own below)
       (rest ∙ ap (cut_by vss) (drop-append-le count own script within)))
@@ -84,7 +84,7 @@ module _ (tracker : TrackerSetup) (log : List Event) (m : ℕ) (script : List No
   lists_covered (last l same) answers covers =
       (subst (λ xs. CoverFrom 0 (length xs) (spans_of_answers answers)) (sym same) covers, tt)
   lists_covered (more gs gss vs vss l lists fit below later) answers covers = (
-    verdicts_cover tracker log l.items 0 0 (length l.items) gs vs.items fit (omega arith),
+    verdicts_cover tracker log l.items at_start (length l.items) gs vs.items fit (omega arith),
     lists_covered later answers covers,
   )
 
@@ -233,26 +233,38 @@ module _ (tracker : TrackerSetup) (log : List Event) (m : ℕ) (script : List No
       below_notes [] h = tt
       below_notes (x ∷ xs) (h, hs) = (h, below_notes xs hs)
 
+-- the events of each thread name the packets and the commands that made them
+pub each_named_from : (history : List Numbered) (thread : ℕ) (lists : List (Roomed Note)) (sss : List (List EventSpan)) → CoverEach lists sss
+    → ((t : ℕ) → thread ≤ t → made_by t history ≡ made_by t (all_named thread lists sss)) → AreNamedInEach thread history sss
+each_named_from history thread [] [] covers made = tt
+each_named_from history thread [] (ss ∷ sss) covers made = absurd covers
+each_named_from history thread (l ∷ lists) [] covers made = absurd covers
+each_named_from history thread (l ∷ lists) (ss ∷ sss) (here, covers) made =
+    let rest : List Numbered = all_named (thread + 1) lists sss in
+    let own : made_by thread history ≡ named_in thread 0 l.items ss =
+    made thread (omega arith) ∙ made_by_first thread l.items ss rest (others_later thread (thread + 1) lists sss (omega arith)) in (
+      subst (λ xs. AreNamedFrom 0 xs ss) (sym own) (shares_named thread 0 0 (length l.items) l.items ss here (omega arith)),
+      each_named_from history (thread + 1) lists sss covers
+          (λ t from. made t (omega (arith, from)) ∙ made_by_later t thread l.items ss rest (omega (arith, from))),
+    )
+
 module _ (tracker : TrackerSetup) (m : ℕ) (script : List Note) (history : List Numbered) where
   -- the verdicts of each thread fit what it made of the history
   pub threads_fit : {gss : List (List Given)} {vss : List (Roomed Verdict)} {lists : List (Roomed Note)}
-      → ListsFit tracker (events_of history) m script gss vss lists → (answers : List Answer) (thread end : ℕ) → end ≡ thread + length gss
+      → ListsFit tracker (events_of history) m script gss vss lists → (answers : List Answer) (thread : ℕ)
       → ((t : ℕ) → thread ≤ t → made_by t history ≡ made_by t (all_named thread lists (spans_of vss answers)))
-      → AllByRecursion (λ (n : Numbered). n.thread ≤ end) history
       → ThreadsFit tracker history thread gss vss
-  threads_fit (last l same) answers thread end at made within =
-      let here : end ≡ thread = omega (arith, at) in
-      subst (λ (k : ℕ). AllByRecursion (λ (n : Numbered). n.thread ≤ k) history) here within
-  threads_fit (more gs gss vs vss l lists fit below later) answers thread end at made within =
+  threads_fit (last l same) answers thread made = tt
+  threads_fit (more gs gss vs vss l lists fit below later) answers thread made =
+      let ss : List EventSpan = spans_of_verdicts vs.items in
       let rest : List Numbered = all_named (thread + 1) lists (spans_of vss answers) in
-      let own : made_by thread history ≡ named_in thread 0 l.items (spans_of_verdicts vs.items) =
+      let own : made_by thread history ≡ named_in thread 0 l.items ss =
       made thread (omega arith)
-      ∙ made_by_first thread l.items (spans_of_verdicts vs.items) rest
-      (others_later thread (thread + 1) lists (spans_of vss answers) (omega arith)) in (
-        subst (λ xs. VerdictsFit tracker (events_of history) xs 0 0 0 gs vs.items) (sym own)
-            (verdicts_named tracker (events_of history) thread l.items 0 0 0 gs vs.items fit),
-        threads_fit later answers (thread + 1) end (omega (arith, at))
-            (λ t from. made t (omega (arith, from))
-            ∙ made_by_later t thread l.items (spans_of_verdicts vs.items) rest (omega (arith, from)))
-            within,
+      ∙ made_by_first thread l.items ss rest (others_later thread (thread + 1) lists (spans_of vss answers) (omega arith)) in
+      let covers : CoverFrom 0 (length l.items) ss =
+      verdicts_cover tracker (events_of history) l.items at_start (length l.items) gs vs.items fit (omega arith) in (
+        subst (λ xs. VerdictsFit tracker (events_of history) xs at_start gs vs.items)
+            (sym (ap notes_of own ∙ named_in_notes thread 0 0 (length l.items) l.items ss covers (omega arith))) fit,
+        threads_fit later answers (thread + 1)
+            (λ t from. made t (omega (arith, from)) ∙ made_by_later t thread l.items ss rest (omega (arith, from))),
       )

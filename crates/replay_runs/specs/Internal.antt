@@ -2,3 +2,4 @@
 pub mod Answered
 pub mod Cut
 pub mod Replayed
+pub mod Stopped

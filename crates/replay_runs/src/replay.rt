@@ -1,6 +1,6 @@
 //! Replays captures, one after the other.
 
-ghost use Rattle.std.specs.Prelude.{◌≡◌, ◌+◌, ◌*◌, ◌≤◌, ◌^◌, [], All, length, map, IfOk, OnOk};
+ghost use Rattle.std.specs.Prelude.{◌≡◌, ◌+◌, ◌*◌, ◌≤◌, ◌^◌, [], All, length, map, IfOk, OnErr, OnOk};
 ghost use Rattle.std.specs.List.{AllByRecursion};
 ghost use Rattle.conntrack_cmd.specs.Moment.{moment_of};
 ghost use Rattle.history_book.specs.Sight.{IsKnown};
@@ -10,6 +10,7 @@ ghost use Rattle.packet_headers.specs.Capture.{AreInside, AreTimely};
 ghost use Rattle.packet_path.specs.Packet.{given_of};
 ghost use Rattle.capture_list.specs.Frames.{frames_in};
 ghost use Rattle.replay_runs.specs.Internal.Replayed.{AllReplayed, given_frames, Replayed};
+ghost use Rattle.replay_runs.specs.Internal.Stopped.{Stopped};
 ghost use Rattle.replay_runs.specs.Replaying.{work_of};
 ghost use Rattle.replay_runs.specs.Report.{IsWellFormed};
 
@@ -21,6 +22,7 @@ use conntrack_cmd::read::Script;
 use history_book::desk::Desk;
 use history_book::merge::merge;
 use history_book::report::{Closed, Report, ThreadVerdicts, Verdicts};
+use history_book::sight_laws::going_on_adds_up;
 use history_book::sizes::Sizes;
 use history_book::verdict::Verdict;
 use packet_headers::frame::Frame;
@@ -50,11 +52,13 @@ fn replay_frames<R: Wait, D: Desk>(
     requires nothing_held { (D.sight desk.old).held ≡ [] }
     requires nothing_owed { (D.sight desk.old).owed ≡ [] }
     requires knows { IsKnown (D.sight desk.old) }
-    ensures { OnOk result (Replayed setup.now (map (given_of bytes.now) frames.now)
+    ensures replayed { OnOk result (Replayed setup.now (map (given_of bytes.now) frames.now)
         (D.sight desk.old) (D.sight desk.new) verdicts.new.items) }
+    ensures stopped { OnErr result (Stopped (D.sight desk.old) (D.sight desk.new)) }
 {
     lower_marks_fit();
     verdicts_still_fit();
+    going_on_adds_up();
     let base = desk.made();
     'frames: for frame in frames {
         let verdict = match handle(rt, desk, bytes, frame, setup) {
@@ -85,9 +89,11 @@ fn replay_capture<R: Wait, D: Desk>(
     requires nothing_held { (D.sight desk.old).held ≡ [] }
     requires nothing_owed { (D.sight desk.old).owed ≡ [] }
     requires knows { IsKnown (D.sight desk.old) }
-    ensures { IfOk result (λ verdicts. Replayed setup.now (given_frames capture.now)
+    ensures replayed { IfOk result (λ verdicts. Replayed setup.now (given_frames capture.now)
         (D.sight desk.old) (D.sight desk.new) verdicts.items) }
+    ensures stopped { OnErr result (Stopped (D.sight desk.old) (D.sight desk.new)) }
 {
+    going_on_adds_up();
     let bytes = capture.bytes.as_slice();
     let frames = capture.frames.as_slice();
     let mut verdicts = Verdicts::new(alloc, frames.len())?;
@@ -110,10 +116,12 @@ fn replay_captures<R: Wait, D: Desk>(
     requires nothing_held { (D.sight desk.old).held ≡ [] }
     requires nothing_owed { (D.sight desk.old).owed ≡ [] }
     requires knows { IsKnown (D.sight desk.old) }
-    ensures { IfOk result (λ threads. AllReplayed setup.now (map given_frames captures.now)
+    ensures replayed { IfOk result (λ threads. AllReplayed setup.now (map given_frames captures.now)
         (D.sight desk.old) (D.sight desk.new) threads.items) }
+    ensures stopped { OnErr result (Stopped (D.sight desk.old) (D.sight desk.new)) }
 {
     verdicts_still_fit();
+    going_on_adds_up();
     let mut threads = ThreadVerdicts::new(alloc, captures.len())?;
     'captures: for capture in captures {
         let verdicts = match replay_capture(rt, alloc, desk, capture, setup) {
@@ -123,27 +131,6 @@ fn replay_captures<R: Wait, D: Desk>(
         threads.push(verdicts);
     }
     Ok(threads)
-}
-
-/// The same of captures that are given up for it.
-fn replay_all<R: Wait, D: Desk>(
-    rt: &R,
-    alloc: Global,
-    desk: &mut D,
-    captures: Captures,
-    setup: &Setup,
-) -> Result<ThreadVerdicts, NoMemory>
-    requires lawful { AllByRecursion IsLawfulRule setup.now.rules.items }
-    requires inside { All (λ c. AreInside c.bytes.items c.frames.items) captures.items }
-    requires timely { All (λ c. AreTimely c.frames.items) captures.items }
-    requires few { length (D.sight desk.old).own + 8 * frames_in captures.items + 8 ≤ 2 ^ 30 }
-    requires nothing_held { (D.sight desk.old).held ≡ [] }
-    requires nothing_owed { (D.sight desk.old).owed ≡ [] }
-    requires knows { IsKnown (D.sight desk.old) }
-    ensures { IfOk result (λ threads. AllReplayed setup.now (map given_frames captures.items)
-        (D.sight desk.old) (D.sight desk.new) threads.items) }
-{
-    replay_captures(rt, alloc, desk, captures.as_slice(), setup)
 }
 
 /// Replays the captures, one after the other, with a tracker of these sizes that is set up so, and then performs the
@@ -171,10 +158,12 @@ pub fn replay<R: Wait>(
 {
     verdicts_still_fit();
     let mut desk = PlainDesk::new(alloc, *sizes)?;
-    let moment = latest_moment(captures.as_slice());
-    let threads = replay_all(rt, alloc, &mut desk, captures, setup)?;
+    let list = captures.as_slice();
+    let moment = latest_moment(list);
+    let threads = replay_captures(rt, alloc, &mut desk, list, setup)?;
+    drop(captures);
     let commands = script.commands.as_slice();
-    let answers = run_script(rt, alloc, &mut desk, commands, moment)?;
+    let answers = run_script(rt, alloc, &mut desk, commands, moment, 0)?;
     let Closed { notes, live, .. } = desk.finish();
     let lists = events_by_thread(alloc, notes, threads.as_slice())?;
     merge(alloc, lists, threads, answers, live)

@@ -1,10 +1,11 @@
 //! Performs the commands of a script, once all captures were replayed.
 
-ghost use Rattle.std.specs.Prelude.{◌≡◌, ◌+◌, ◌*◌, ◌≤◌, ◌^◌, [], All, length, map, IfOk};
+ghost use Rattle.std.specs.Prelude.{◌≡◌, ◌+◌, ◌*◌, ◌≤◌, ◌^◌, [], All, length, map, IfOk, OnErr};
 ghost use Rattle.conntrack_cmd.specs.Moment.{moment_of};
 ghost use Rattle.history_book.specs.Sight.{IsKnown};
 ghost use Rattle.replay_runs.specs.Internal.Answered.{Answered};
 ghost use Rattle.replay_runs.specs.Internal.Replayed.{given_frames};
+ghost use Rattle.replay_runs.specs.Internal.Stopped.{Stopped};
 ghost use Rattle.replay_runs.specs.Report.{latest, latest_of};
 
 use capture_list::Capture;
@@ -13,6 +14,7 @@ use conntrack_cmd::laws::{answers_still_fit, lower_marks_fit};
 use conntrack_cmd::perform::perform;
 use history_book::answer::{Answer, Answers};
 use history_book::desk::Desk;
+use history_book::sight_laws::going_on_adds_up;
 use std::alloc::Global;
 use std::sync::Wait;
 use tuple_core::NoMemory;
@@ -39,27 +41,32 @@ pub fn latest_moment(captures: &[Capture]) -> u64
     moment
 }
 
-/// Performs the commands of a script in their order, with a desk that holds and owes nothing: what is answered to each
-/// at this moment. Events are counted from the first of the script.
+/// Performs commands of a script in their order, with a desk that holds and owes nothing: what is answered to each at
+/// this moment. Before these the script made `first` events, which are the last that the desk made.
 pub fn run_script<R: Wait, D: Desk>(
     rt: &R,
     alloc: Global,
     desk: &mut D,
     commands: &[Command],
     moment: u64,
+    first: u64,
 ) -> Result<Answers, NoMemory>
     requires timely { moment ≤ 10 ^ 16 }
     requires named { All (λ c. moment_of c ≤ 10 ^ 16) commands.now }
     requires small { (D.sight desk.old).sizes.entries + (D.sight desk.old).sizes.expectations ≤ 66560 }
+    requires made { first ≤ length (D.sight desk.old).own }
     requires few { length (D.sight desk.old).own + 66560 * length commands.now + 66560 ≤ 2 ^ 30 }
     requires nothing_held { (D.sight desk.old).held ≡ [] }
     requires nothing_owed { (D.sight desk.old).owed ≡ [] }
     requires knows { IsKnown (D.sight desk.old) }
-    ensures { IfOk result (λ answers. Answered commands.now moment (D.sight desk.old) (D.sight desk.new) answers.items) }
+    ensures performed { IfOk result (λ answers.
+        Answered commands.now moment first (D.sight desk.old) (D.sight desk.new) answers.items) }
+    ensures stopped { OnErr result (Stopped (D.sight desk.old) (D.sight desk.new)) }
 {
     answers_still_fit();
     lower_marks_fit();
-    let base = desk.made();
+    going_on_adds_up();
+    let base = desk.made() - first;
     let mut answers = Answers::new(alloc, commands.len())?;
     'commands: for command in commands {
         let answer = match perform(rt, alloc, desk, command, moment) {

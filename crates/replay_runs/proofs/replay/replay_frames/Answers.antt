@@ -8,13 +8,13 @@ use Rattle.replay_runs.proofs.replay.replay_frames.Goals as goal
 pub frames-init : goal.frames-init
 frames-init g c =
     let count = length-map c.args.frames.now (given_of c.args.bytes.now) in
-    replayed_start c.args.setup.now (map (given_of c.args.bytes.now) c.args.frames.now) (g.D.Desk.sight c.args.desk.now) c.args.verdicts.now
+    replayed_start c.going_on_adds_up.ensures.all c.args.setup.now (map (given_of c.args.bytes.now) c.args.frames.now) (g.D.Desk.sight c.args.desk.now) c.args.verdicts.now
     c.requires.knows c.requires.none (omega (arith, count, c.requires.room)) c.requires.nothing_held c.requires.nothing_owed
 
 pub frames-preserved : goal.frames-preserved
 frames-preserved g c =
     let below = c.frames-test.true in
-    replayed_next c.verdicts_still_fit.ensures c.lower_marks_fit.ensures c.args.setup.now
+    replayed_next c.going_on_adds_up.ensures.all c.verdicts_still_fit.ensures c.lower_marks_fit.ensures c.args.setup.now
     (map (given_of c.args.bytes.now) c.args.frames.now) (record { packet = Invalid; moment = 0; payload = [] }) c.frames.frame-index
     (g.D.Desk.sight c.args.desk.now) (g.D.Desk.sight c.frames.desk) (g.D.Desk.sight c.handle.new.desk)
     c.frames.verdicts c.push.new.self c.in-Ok.verdict c.frames.invariant
