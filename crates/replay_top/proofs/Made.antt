@@ -1,9 +1,11 @@
 -- What a report of all files that are asked for is.
 use Rattle.std.proofs.Common.{◌≡◌, ℕ, Option, Some, None, List, [], ◌∷◌, map, refl, sym, subst, ap, ◌∙◌}
+use Rattle.std.specs.Prelude.{Err, IfOk, Ok, Result}
 use Rattle.command_words.specs.Words.{Request}
 use Rattle.conntrack_cmd.specs.declared.read.Script.{Script}
 use Rattle.ct_io.specs.Source.{Source}
 use Rattle.history_book.specs.declared.report.Report.{Report}
+use Rattle.history_book.specs.declared.sizes.Sizes.{Sizes}
 use Rattle.nat_setup.specs.declared.rule.Rule.{Rule}
 use Rattle.packet_path.specs.Packet.{Given, given_of}
 use Rattle.capture_list.specs.declared.Capture.{Capture}
@@ -19,6 +21,21 @@ use Rattle.replay_runs.specs.Report.{IsWellFormed, Work}
 use Rattle.run_inputs.specs.Files.{files_of_kind, InputFile}
 use Rattle.run_inputs.proofs.All.{all_files}
 use Rattle.room_list.specs.Roomed.{Roomed}
+
+-- a report of inputs that were set up as it is asked for is what is asked for
+pub inputs_replayed : (asked : Request) (inputs : Inputs) (ftp : Roomed ℕ) (sizes : Sizes) {E : Type 0} (result : Result Report E)
+    → ftp.items ≡ asked.ftp → sizes ≡ sizes_of asked
+    → IfOk result (IsWellFormed (record { setup = record { rules = inputs.rules; ftp = ftp }; sizes = sizes })
+    (work_of inputs.captures.items inputs.script))
+    → IfOk result (ReplaysInputs asked inputs)
+inputs_replayed asked inputs ftp sizes (Ok report) copied sized well_formed = record {
+  setup = record { rules = inputs.rules; ftp = ftp };
+  rules = refl;
+  ftp = copied;
+  well_formed = subst (λ (z : Sizes). IsWellFormed (record { setup = record { rules = inputs.rules; ftp = ftp }; sizes = z })
+      (work_of inputs.captures.items inputs.script) report) sized well_formed;
+}
+inputs_replayed asked inputs ftp sizes (Err error) copied sized well_formed = tt
 
 -- without a file of rules there are none, and without a script there is no command
 no_rules : (captures : List Capture) → rules_in (contents_in captures) ≡ []
