@@ -208,6 +208,3 @@ pub fn top<R: Threads + Wait + Sync, F: Files, K: Sink, G: Gate + Sync>(
         Ending::Refused(why) => refused(why, name_among(&asked, why), err),
     }
 }
-
-#[cfg(test)]
-mod tests;

@@ -1,16 +1,10 @@
 //! Control connections of FTP and the data connections that they name, from their packets to the report.
 
-use super::builder::{ACK, Capture, Ends, FIN, Form, PLAIN, PSH, SYN, echo, segment, udp};
-use super::rules::RULES;
-use super::scripts::SCRIPT;
-use super::{NAME, NONE, run_on};
-use std::alloc::{AllocError, Global};
-use std::sync::Wait;
+use super::{NAME, REPLAYED, RULES, SCRIPT};
+use crate::case::{Case, Text, all_hold, holds};
+use crate::content::{Content, Form, PLAIN};
+use crate::packet::{ACK, Ends, FIN, PSH, Packet, SYN, Sent};
 use std::test::Fail;
-use std::thread::Threads;
-
-/// A segment of TCP: its second and microsecond, its ends, its control bits and its data.
-type Sent<'s> = (u32, u32, Ends, u8, &'s [u8]);
 
 /// The control connection from 10.0.0.1:40000 to 10.0.0.2:21.
 const CONTROL: Ends = Ends {
@@ -18,6 +12,14 @@ const CONTROL: Ends = Ends {
     sport: 40_000,
     dst: 0x0a00_0002,
     dport: 21,
+};
+
+/// The other way round.
+const CONTROL_BACK: Ends = Ends {
+    src: 0x0a00_0002,
+    sport: 21,
+    dst: 0x0a00_0001,
+    dport: 40_000,
 };
 
 /// The data connection from 10.0.0.2:20 to 10.0.0.1:40001.
@@ -28,50 +30,25 @@ const DATA: Ends = Ends {
     dport: 40_001,
 };
 
-/// The other way round.
-fn back(ends: &Ends) -> Ends {
-    Ends {
-        src: ends.dst,
-        sport: ends.dport,
-        dst: ends.src,
-        dport: ends.sport,
-    }
-}
+/// The control connection is opened, and names 10.0.0.1:40001.
+const OPENED: Sent<'static> = (1, 0, Packet::Tcp(CONTROL, SYN, b""));
 
-/// Adds these segments.
-fn add(alloc: Global, capture: &mut Capture, sent: &[Sent<'_>]) -> Result<(), AllocError> {
-    for (seconds, micros, ends, flags, data) in sent {
-        let packet = segment(alloc, ends, *flags, data)?;
-        capture.packet(*seconds, *micros, packet.as_slice())?;
-    }
-    Ok(())
-}
+const ANSWERED: Sent<'static> = (2, 0, Packet::Tcp(CONTROL_BACK, SYN | ACK, b""));
 
-/// A plain capture in which the control connection is opened from 1 s on and names 10.0.0.1:40001 at 4 s.
-fn named(alloc: Global) -> Result<Capture, AllocError> {
-    let mut capture = Capture::new(alloc, PLAIN)?;
-    let sent: [Sent<'_>; 4] = [
-        (1, 0, CONTROL, SYN, b""),
-        (2, 0, back(&CONTROL), SYN | ACK, b""),
-        (3, 0, CONTROL, ACK, b""),
-        (4, 0, CONTROL, ACK | PSH, b"PORT 10,0,0,1,156,65\r\n"),
-    ];
-    add(alloc, &mut capture, &sent)?;
-    Ok(capture)
-}
+const READY: Sent<'static> = (3, 0, Packet::Tcp(CONTROL, ACK, b""));
 
-/// Whether the program prints this text for this capture, with these rules.
-fn prints<R: Threads + Wait + Sync + AllocGlobal>(
-    rt: &R,
-    rules: &str,
-    capture: &Capture,
-    text: &str,
-) -> Result<bool, Fail> {
-    let words: &[&str] = &["ctreplay", "--rules", RULES, NAME];
-    let files: &[(&str, &[u8])] = &[(RULES, rules.as_bytes()), (NAME, capture.as_slice())];
-    let left = run_on(rt, words, files, 8000, &NONE)?;
-    Ok(left.status == 0 && left.out.bytes() == text.as_bytes())
-}
+const NAMED: Sent<'static> = (
+    4,
+    0,
+    Packet::Tcp(CONTROL, ACK | PSH, b"PORT 10,0,0,1,156,65\r\n"),
+);
+
+/// A run with a file of rules.
+const RULED: Case<'static> = Case {
+    words: &["ctreplay", "--rules", RULES, NAME],
+    room: 8000,
+    ..REPLAYED
+};
 
 const THREE_COMMANDS: &str = "\
 events 11
@@ -100,20 +77,35 @@ script 0
 
 #[test]
 fn the_last_end_that_was_named_is_expected(rt: HostRuntime) -> Result<(), Fail> {
-    let later = Ends {
+    const LATER: Ends = Ends {
         dport: 40_002,
         ..DATA
     };
-    let sent: [Sent<'_>; 4] = [
-        (5, 0, CONTROL, ACK | PSH, b"PORT 10,0,0,1,156,66\r\n"),
-        (6, 0, CONTROL, ACK | PSH, b"PORT 10,0,0,3,156,67\r\n"),
-        (7, 0, later, SYN, b""),
-        (8, 0, DATA, SYN, b""),
+    const AGAIN: Packet<'static> = Packet::Tcp(CONTROL, ACK | PSH, b"PORT 10,0,0,1,156,66\r\n");
+    const OF_ANOTHER: Packet<'static> = Packet::Tcp(
+        CONTROL,
+        ACK | PSH,
+        b"PORT 10,0,0,3,156,67\r\n",
+    );
+    const SENT: [Sent<'static>; 8] = [
+        OPENED,
+        ANSWERED,
+        READY,
+        NAMED,
+        (5, 0, AGAIN),
+        (6, 0, OF_ANOTHER),
+        (7, 0, Packet::Tcp(LATER, SYN, b"")),
+        (8, 0, Packet::Tcp(DATA, SYN, b"")),
     ];
-    let mut capture = named(rt.alloc())?;
-    add(rt.alloc(), &mut capture, &sent)?;
-    assert!(rt; prints(&rt, "", &capture, THREE_COMMANDS)?);
-    Ok(())
+    static CASE: Case<'static> = Case {
+        files: &[
+            (RULES, Content::Text("")),
+            (NAME, Content::Capture(PLAIN, &SENT)),
+        ],
+        out: Text::Is(THREE_COMMANDS),
+        ..RULED
+    };
+    holds(&rt, &CASE, 0)
 }
 
 const LISTED_AND_ENDED: &str = "\
@@ -140,9 +132,7 @@ script 6
 5 count 1 @6
 ";
 
-#[test]
-fn what_is_expected_is_listed_and_ends_at_its_deadline(rt: HostRuntime) -> Result<(), Fail> {
-    let script = "\
+const LISTS: &str = "\
 -L expect
 expire 303999999
 -L expect
@@ -150,13 +140,21 @@ expire 304000000
 -L expect
 -C
 ";
-    let capture = named(rt.alloc())?;
-    let words: &[&str] = &["ctreplay", "--script", SCRIPT, NAME];
-    let files: &[(&str, &[u8])] = &[(SCRIPT, script.as_bytes()), (NAME, capture.as_slice())];
-    let left = run_on(&rt, words, files, 4000, &NONE)?;
-    assert_eq!(rt; left.status, 0);
-    assert!(rt; left.out.bytes() == LISTED_AND_ENDED.as_bytes());
-    Ok(())
+
+#[test]
+fn what_is_expected_is_listed_and_ends_at_its_deadline(rt: HostRuntime) -> Result<(), Fail> {
+    const SENT: [Sent<'static>; 4] = [OPENED, ANSWERED, READY, NAMED];
+    static CASE: Case<'static> = Case {
+        words: &["ctreplay", "--script", SCRIPT, NAME],
+        files: &[
+            (SCRIPT, Content::Text(LISTS)),
+            (NAME, Content::Capture(PLAIN, &SENT)),
+        ],
+        room: 4000,
+        out: Text::Is(LISTED_AND_ENDED),
+        ..REPLAYED
+    };
+    holds(&rt, &CASE, 0)
 }
 
 const CLAIMED_AND_CLASHED: &str = "\
@@ -183,16 +181,31 @@ script 0
 fn a_claim_stands_where_the_data_connection_clashes(rt: HostRuntime) -> Result<(), Fail> {
     // The connection the other way is translated, so that nothing has the data connection's own tuple, and the
     // other one is taken.
-    let sent: [Sent<'_>; 3] = [
-        (5, 0, back(&DATA), SYN, b""),
-        (6, 0, DATA, SYN, b""),
-        (7, 0, DATA, SYN, b""),
+    const BACK: Ends = Ends {
+        src: 0x0a00_0001,
+        sport: 40_001,
+        dst: 0x0a00_0002,
+        dport: 20,
+    };
+    const SENT: [Sent<'static>; 7] = [
+        OPENED,
+        ANSWERED,
+        READY,
+        NAMED,
+        (5, 0, Packet::Tcp(BACK, SYN, b"")),
+        (6, 0, Packet::Tcp(DATA, SYN, b"")),
+        (7, 0, Packet::Tcp(DATA, SYN, b"")),
     ];
-    let mut capture = named(rt.alloc())?;
-    add(rt.alloc(), &mut capture, &sent)?;
-    let rules = "snat -p tcp --dport 20 to 203.0.113.5\n";
-    assert!(rt; prints(&rt, rules, &capture, CLAIMED_AND_CLASHED)?);
-    Ok(())
+    const LINES: &str = "snat -p tcp --dport 20 to 203.0.113.5\n";
+    static CASE: Case<'static> = Case {
+        files: &[
+            (RULES, Content::Text(LINES)),
+            (NAME, Content::Capture(PLAIN, &SENT)),
+        ],
+        out: Text::Is(CLAIMED_AND_CLASHED),
+        ..RULED
+    };
+    holds(&rt, &CASE, 0)
 }
 
 const BEFORE_THE_DEADLINE: &str = "\
@@ -230,18 +243,52 @@ thread 0 packets 5
 script 0
 ";
 
+static DEADLINE: [Case<'static>; 2] = [
+    Case {
+        files: &[
+            (RULES, Content::Text("")),
+            (
+                NAME,
+                Content::Capture(
+                    PLAIN,
+                    &[
+                        OPENED,
+                        ANSWERED,
+                        READY,
+                        NAMED,
+                        (303, 999_999, Packet::Tcp(DATA, SYN, b"")),
+                    ],
+                ),
+            ),
+        ],
+        out: Text::Is(BEFORE_THE_DEADLINE),
+        ..RULED
+    },
+    Case {
+        files: &[
+            (RULES, Content::Text("")),
+            (
+                NAME,
+                Content::Capture(
+                    PLAIN,
+                    &[
+                        OPENED,
+                        ANSWERED,
+                        READY,
+                        NAMED,
+                        (304, 0, Packet::Tcp(DATA, SYN, b"")),
+                    ],
+                ),
+            ),
+        ],
+        out: Text::Is(AT_THE_DEADLINE),
+        ..RULED
+    },
+];
+
 #[test]
 fn a_connection_is_expected_until_the_deadline(rt: HostRuntime) -> Result<(), Fail> {
-    for (seconds, micros, text) in [
-        (303, 999_999, BEFORE_THE_DEADLINE),
-        (304, 0, AT_THE_DEADLINE),
-    ] {
-        let mut capture = named(rt.alloc())?;
-        let sent: [Sent<'_>; 1] = [(seconds, micros, DATA, SYN, b"")];
-        add(rt.alloc(), &mut capture, &sent)?;
-        assert!(rt; prints(&rt, "", &capture, text)?, "at {seconds} s");
-    }
-    Ok(())
+    all_hold(&rt, &DEADLINE)
 }
 
 /// 192.168.1.10, which is masqueraded.
@@ -250,65 +297,90 @@ const HOST: u32 = 0xc0a8_010a;
 /// 203.0.113.5, for which it is masqueraded.
 const MASK: u32 = 0xcb00_7105;
 
-/// The host 198.51.100.`host`.
-fn outside(host: u8) -> u32 {
-    0xc633_6400 + u32::from(host)
-}
+/// 198.51.100.0, the network outside.
+const OUTSIDE: u32 = 0xc633_6400;
 
-/// A flow from a port of the masqueraded host to a port of a host outside.
-fn outward(sport: u16, host: u8, dport: u16) -> Ends {
-    Ends {
-        src: HOST,
-        sport,
-        dst: outside(host),
-        dport,
-    }
-}
+/// A query of the host, and the answers to it.
+const QUERY: Ends = Ends {
+    src: HOST,
+    sport: 53_000,
+    dst: OUTSIDE + 53,
+    dport: 53,
+};
 
-/// The answers to it.
-fn inward(ends: &Ends) -> Ends {
-    let answers = back(ends);
-    Ends {
-        dst: MASK,
-        ..answers
-    }
-}
+const QUERY_BACK: Ends = Ends {
+    src: OUTSIDE + 53,
+    sport: 53,
+    dst: MASK,
+    dport: 53_000,
+};
 
-/// A query and its answer, and an echo and its answer.
-fn ask(capture: &mut Capture) -> Result<(), AllocError> {
-    let query = outward(53_000, 53, 53);
-    let mut request = echo(HOST, outside(9), 8);
-    request[25] = 1;
-    let mut reply = echo(outside(9), MASK, 0);
-    reply[25] = 1;
-    capture.packet(100, 0, &udp(&query))?;
-    capture.packet(100, 20_000, &udp(&inward(&query)))?;
-    capture.packet(101, 0, &request)?;
-    capture.packet(101, 10_000, &reply)
-}
+/// A connection of the host, and the answers to it.
+const WEB: Ends = Ends {
+    src: HOST,
+    sport: 40_000,
+    dst: OUTSIDE + 80,
+    dport: 80,
+};
 
-/// A connection that is opened, used and closed, and a control connection with its data connection.
-fn connect(alloc: Global, capture: &mut Capture) -> Result<(), AllocError> {
-    let web = outward(40_000, 80, 80);
-    let control = outward(40_001, 21, 21);
-    let passive = b"227 Entering Passive Mode (198,51,100,21,195,80).\r\n";
-    let sent: [Sent<'_>; 13] = [
-        (102, 0, web, SYN, b""),
-        (102, 30_000, inward(&web), SYN | ACK, b""),
-        (102, 40_000, web, ACK, b""),
-        (102, 50_000, web, ACK | PSH, b"GET /"),
-        (102, 100_000, inward(&web), ACK, b"text"),
-        (103, 0, web, FIN | ACK, b""),
-        (103, 30_000, inward(&web), FIN | ACK, b""),
-        (103, 40_000, web, ACK, b""),
-        (104, 0, control, SYN, b""),
-        (104, 30_000, inward(&control), SYN | ACK, b""),
-        (104, 40_000, control, ACK, b""),
-        (104, 100_000, inward(&control), ACK | PSH, passive),
-        (105, 0, outward(40_002, 21, 50_000), SYN, b""),
-    ];
-    add(alloc, capture, &sent)
-}
+const WEB_BACK: Ends = Ends {
+    src: OUTSIDE + 80,
+    sport: 80,
+    dst: MASK,
+    dport: 40_000,
+};
+
+/// A control connection of the host, the answers to it, and the data connection.
+const FTP: Ends = Ends {
+    src: HOST,
+    sport: 40_001,
+    dst: OUTSIDE + 21,
+    dport: 21,
+};
+
+const FTP_BACK: Ends = Ends {
+    src: OUTSIDE + 21,
+    sport: 21,
+    dst: MASK,
+    dport: 40_001,
+};
+
+const PASSIVE: Ends = Ends {
+    src: HOST,
+    sport: 40_002,
+    dst: OUTSIDE + 21,
+    dport: 50_000,
+};
+
+/// A query and its answer, an echo and its answer, a connection that is opened, used and closed, and a control
+/// connection with its data connection.
+const OF_ONE_HOST: [Sent<'static>; 17] = [
+    (100, 0, Packet::Udp(QUERY)),
+    (100, 20_000, Packet::Udp(QUERY_BACK)),
+    (101, 0, Packet::Echo(HOST, OUTSIDE + 9, 8, 1)),
+    (101, 10_000, Packet::Echo(OUTSIDE + 9, MASK, 0, 1)),
+    (102, 0, Packet::Tcp(WEB, SYN, b"")),
+    (102, 30_000, Packet::Tcp(WEB_BACK, SYN | ACK, b"")),
+    (102, 40_000, Packet::Tcp(WEB, ACK, b"")),
+    (102, 50_000, Packet::Tcp(WEB, ACK | PSH, b"GET /")),
+    (102, 100_000, Packet::Tcp(WEB_BACK, ACK, b"text")),
+    (103, 0, Packet::Tcp(WEB, FIN | ACK, b"")),
+    (103, 30_000, Packet::Tcp(WEB_BACK, FIN | ACK, b"")),
+    (103, 40_000, Packet::Tcp(WEB, ACK, b"")),
+    (104, 0, Packet::Tcp(FTP, SYN, b"")),
+    (104, 30_000, Packet::Tcp(FTP_BACK, SYN | ACK, b"")),
+    (104, 40_000, Packet::Tcp(FTP, ACK, b"")),
+    (
+        104,
+        100_000,
+        Packet::Tcp(
+            FTP_BACK,
+            ACK | PSH,
+            b"227 Entering Passive Mode (198,51,100,21,195,80).\r\n",
+        ),
+    ),
+    (105, 0, Packet::Tcp(PASSIVE, SYN, b"")),
+];
 
 const MASQUERADED: &str = "\
 events 19
@@ -354,14 +426,18 @@ script 0
 
 #[test]
 fn a_masqueraded_host(rt: HostRuntime) -> Result<(), Fail> {
-    let form = Form {
+    const FORM: Form = Form {
         ethernet: true,
         ..PLAIN
     };
-    let mut capture = Capture::new(rt.alloc(), form)?;
-    ask(&mut capture)?;
-    connect(rt.alloc(), &mut capture)?;
-    let rules = "snat -s 192.168.1.0/24 to 203.0.113.5\n";
-    assert!(rt; prints(&rt, rules, &capture, MASQUERADED)?);
-    Ok(())
+    const LINES: &str = "snat -s 192.168.1.0/24 to 203.0.113.5\n";
+    static CASE: Case<'static> = Case {
+        files: &[
+            (RULES, Content::Text(LINES)),
+            (NAME, Content::Capture(FORM, &OF_ONE_HOST)),
+        ],
+        out: Text::Is(MASQUERADED),
+        ..RULED
+    };
+    holds(&rt, &CASE, 0)
 }
