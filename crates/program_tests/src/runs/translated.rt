@@ -59,6 +59,38 @@ fn a_flow_whose_reply_tuple_is_taken(rt: HostRuntime) -> Result<(), Fail> {
     holds(&rt, &CASE, 0)
 }
 
+const NO_ROOM_FOR_A_SECOND_FLOW: &str = "\
+events 1
+0 confirm 0.0 udp src=10.0.0.1 dst=198.51.100.1 sport=5000 dport=53 src=198.51.100.1 dst=192.0.2.1 sport=53 dport=5000 until=31000000
+thread 0 packets 2
+0 NEW id=0 @1
+1 FULL @1
+script 0
+";
+
+/// The second flow's own reply tuple is another, so that it is no neighbour of the first: it wants the one place.
+#[test]
+fn a_flow_for_which_there_is_no_place(rt: HostRuntime) -> Result<(), Fail> {
+    const OF_A_SECOND_CLIENT: Ends = Ends {
+        src: CLIENT + 1,
+        ..QUERY
+    };
+    const SENT: [Sent<'static>; 2] = [
+        (1, 0, Packet::Udp(QUERY)),
+        (2, 0, Packet::Udp(OF_A_SECOND_CLIENT)),
+    ];
+    static CASE: Case<'static> = Case {
+        words: &["ctreplay", "--rules", RULES, "--entries", "1", NAME],
+        files: &[
+            (RULES, Content::Text("snat -s 10.0.0.0/8 to 192.0.2.1\n")),
+            (NAME, Content::Capture(PLAIN, &SENT)),
+        ],
+        out: Text::Is(NO_ROOM_FOR_A_SECOND_FLOW),
+        ..RULED
+    };
+    holds(&rt, &CASE, 0)
+}
+
 const ERRORS: &str = "\
 events 1
 0 confirm 0.0 udp src=10.0.0.1 dst=198.51.100.1 sport=5000 dport=53 src=198.51.100.1 dst=192.0.2.1 sport=53 dport=5000 until=31000000
