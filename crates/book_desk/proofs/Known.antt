@@ -102,8 +102,12 @@ one_by_one n k e es = sum_by-cons (λ (note : Note). cond (numbered n note) 1 0)
 none_from : (n k : ℕ) (es : List Event) → n < k → count_by (numbered n) (notes_from k es) ≡ 0
 none_from n k [] low = refl
 none_from n k (e ∷ es) low =
-    omega (arith, one_by_one n k e es, none_from n (k + 1) es (omega (arith, low)),
-      ap {B = ℕ} (λ b. cond b 1 0) (ne_eqb k n (λ (same : k ≡ n). absurd (omega (arith, low, same)))))
+    omega (
+      arith,
+      one_by_one n k e es,
+      none_from n (k + 1) es (omega (arith, low)),
+      ap {B = ℕ} (λ b. cond b 1 0) (ne_eqb k n (λ (same : k ≡ n). absurd (omega (arith, low, same)))),
+    )
 
 once_from : (n k : ℕ) (es : List Event) → k ≤ n → n < k + length es → count_by (numbered n) (notes_from k es) ≡ 1
 once_from n k [] low high = absurd (omega (arith, low, high))

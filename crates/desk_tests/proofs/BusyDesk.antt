@@ -470,11 +470,10 @@ pub made_went : (old mid new : Sight) (notes items : List Note) (spare spare' b 
     → MadeEvent mid new n e → SamePlaces mid new
     → items ≡ notes ++ record { number = n; event = e } ∷ [] → spare ≡ spare' + 1
     → MadeEvent (seen_by old notes spare) (seen_by new items spare') n e × SamePlaces (seen_by old notes spare) (seen_by new items spare')
-made_went old mid new notes items spare spare' b a n e went event same pushed one =
-    (
-      event_went old mid new notes items spare spare' b a n e went event pushed one,
-      record { held = same.held ∙ went.held; owed = same.owed ∙ went.owed },
-    )
+made_went old mid new notes items spare spare' b a n e went event same pushed one = (
+  event_went old mid new notes items spare spare' b a n e went event pushed one,
+  record { held = same.held ∙ went.held; owed = same.owed ∙ went.owed },
+)
 
 -- the id of what was read is that for which the place is held
 pub read_id : (place : ℕ) (mid seen : Sight) (subject : Record) (at : ℕ) → PeekSays place mid seen (peek.Seen subject at)

@@ -3,15 +3,16 @@ use Rattle.std.specs.Prelude.{◌≡◌, ◌≤◌, List, [], length}
 use Rattle.std.specs.List.{AllByRecursion}
 use Rattle.history_book.specs.declared.event.Note.{Note}
 use Rattle.history_book.specs.declared.verdict.Verdict.{Verdict}
+use Rattle.history_book.specs.Mark.{points_of}
 use Rattle.history_book.specs.Sight.{Sight}
 use Rattle.history_book.specs.WentOn.{WentOn}
 use Rattle.packet_path.specs.Packet.{Given}
 use Rattle.packet_path.specs.declared.setup.Setup.{Setup}
-use Rattle.history_book.specs.Mark.{points_of}
 use Rattle.packet_path.specs.Verdict.{FitsFrame}
 
--- Of a tracker that is set up so: the desk went on, by the events of the verdict, at most eight, and the verdict fits the frame on the new front: nothing of it is older than
--- what the desk had seen, nor later than what it sees now. No place is held or owed.
+-- Of a tracker that is set up so: the desk went on by the events of the verdict, at most eight, and the verdict fits the
+-- frame on the new front: nothing of it is older than what the desk had seen, nor later than what it sees now. No place is
+-- held or owed.
 pub record Handled (setup : Setup) (given : Given) (old new : Sight) (verdict : Verdict) : Type 0 where
   pub own : List Note
   pub went : WentOn old new own

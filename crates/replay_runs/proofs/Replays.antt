@@ -173,8 +173,13 @@ module _ (going : GoingOnAddsUp) (still : VerdictsStillFit) (lower : LowerMarksF
   next_verdict : NewVerdict (tracker_with setup old) new.front handled.own before (get_or packets index d) (counted_from (length old.own) v)
   unfolding before
   next_verdict = record {
-    starts = omega (arith, handled.first, ap length so_far.went.own, length-append old.own so_far.own,
-        first_past (tracker_with setup old) mid.front so_far.own at_start (take index packets) verdicts.items so_far.fit);
+    starts = omega (
+      arith,
+      handled.first,
+      ap length so_far.went.own,
+      length-append old.own so_far.own,
+      first_past (tracker_with setup old) mid.front so_far.own at_start (take index packets) verdicts.items so_far.fit,
+    );
     made = handled.made;
     fits = lower setup old.sizes new.front before.mark (length mid.front) (get_or packets index d)
         handled.own v.class so_far.mark

@@ -212,8 +212,12 @@ module _ (still : AnswersStillFit) (lower : LowerMarksFit) (commands : List Comm
   mark_here =
       before_le (run_seen new moment wait end) here (length mid.front) mark_so_far (λ reached.
       let at : index + count ≡ wait =
-      omega (arith, index_past (run_seen new moment wait end) so_far.own (from_first first index mark) answers.items, so_far.counted,
-        eqb-true here.index wait reached) in
+      omega (
+        arith,
+        index_past (run_seen new moment wait end) so_far.own (from_first first index mark) answers.items,
+        so_far.counted,
+        eqb-true here.index wait reached,
+      ) in
       omega (arith, ends (omega (arith, at)) (omega (arith, at)), old_within))
 
   stays : AnswersFit (run_seen new moment wait end) so_far.own (from_first first index mark) (take count commands) answers.items
@@ -239,8 +243,14 @@ module _ (still : AnswersStillFit) (lower : LowerMarksFit) (commands : List Comm
   next_answer : NewAnswer (run_seen new moment wait end) performed.own here (get_or commands count d) (counted_from base a)
   unfolding here
   next_answer = record {
-    starts = omega (arith, performed.first, ap length so_far.went.own, length-append old.own so_far.own, counts,
-        first_past (run_seen new moment wait end) so_far.own (from_first first index mark) (take count commands) answers.items stays);
+    starts = omega (
+      arith,
+      performed.first,
+      ap length so_far.went.own,
+      length-append old.own so_far.own,
+      counts,
+      first_past (run_seen new moment wait end) so_far.own (from_first first index mark) (take count commands) answers.items stays,
+    );
     made = performed.made;
     timed = performed.timed;
     fits = lower new.front (mark_before (run_seen new moment wait end) here)

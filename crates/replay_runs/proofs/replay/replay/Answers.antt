@@ -45,10 +45,10 @@ merge-requires g c =
       lists = count_lists c.verdicts_still_fit.ensures _ _ _ _ _ _ _ _ run;
       threads = threads_few c.args.setup.now c.args.captures.items c.in_ok-desk.desk c.replay_captures.new.desk c.in_ok-threads.threads.items
           (replayed_of c.args.setup.now c.as_slice-list.result.now c.args.captures.items c.in_ok-desk.desk c.replay_captures.new.desk
-    c.in_ok-threads.threads.items c.as_slice-list.ensures c.in_ok-threads.ensures.replayed) c.requires.few c.requires.threads;
+          c.in_ok-threads.threads.items c.as_slice-list.ensures c.in_ok-threads.ensures.replayed) c.requires.few c.requires.threads;
       verdicts = each_few c.args.setup.now c.args.captures.items c.in_ok-desk.desk c.replay_captures.new.desk c.in_ok-threads.threads.items
           (replayed_of c.args.setup.now c.as_slice-list.result.now c.args.captures.items c.in_ok-desk.desk c.replay_captures.new.desk
-    c.in_ok-threads.threads.items c.as_slice-list.ensures c.in_ok-threads.ensures.replayed) c.requires.few;
+          c.in_ok-threads.threads.items c.as_slice-list.ensures c.in_ok-threads.ensures.replayed) c.requires.few;
       answers = answers_few c.latest_moment-moment.result c.as_slice-commands.result.now c.args.script.now.commands.items
           c.replay_captures.new.desk c.run_script.new.desk c.in_ok-answers.answers.items c.in_ok-answers.ensures.performed
           c.as_slice-commands.ensures c.requires.commands;
