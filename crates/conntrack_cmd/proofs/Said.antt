@@ -1,8 +1,7 @@
 -- What is said of a sweep between two looks.
-use Rattle.std.proofs.Common.{◌≡◌, ℕ, ◌+◌, ◌<◌, ◌≤◌, Bool, true, List, [], ◌∷◌, ◌++◌, length, refl, sym, ap, subst, ◌∙◌, arith}
+use Rattle.std.proofs.Common.{◌≡◌, ℕ, ◌+◌, ◌<◌, ◌≤◌, Bool, true, List, [], ◌∷◌, length, refl, sym, ap, subst, ◌∙◌, arith}
 use Rattle.std.specs.List.{AllByRecursion}
 use Rattle.std.specs.List.Sorted.{IsNonDecreasingBy, IsPermutation}
-use Rattle.std.proofs.lemmas.List.{append-nil}
 use Rattle.history_book.specs.declared.answer.Row.{Row}
 use Rattle.history_book.specs.declared.answer.Said.{Said}
 use Rattle.history_book.specs.declared.answer.Said.TheVariants as said
@@ -32,7 +31,7 @@ use Rattle.conntrack_cmd.specs.Internal.Spoken.{Speaks}
 use Rattle.conntrack_cmd.specs.Internal.Sweep.{AreVisited}
 use Rattle.conntrack_cmd.proofs.Ends.{all_have_rows, each_permuted, has_row_permuted, in_order, none_left, passes_same}
 use Rattle.conntrack_cmd.proofs.Growth.{at_grows, destroyed_grow, happened_grows}
-use Rattle.conntrack_cmd.proofs.Places.{starts_longer, starts_trans}
+use Rattle.conntrack_cmd.proofs.Places.{starts_longer}
 use Rattle.conntrack_cmd.proofs.Sweeps.{all_visited_grow, each_map}
 
 -- each event destroyed an entry for the reason

@@ -1,5 +1,5 @@
 -- A place of the pool that no live record has leaves room: the places of the records are others, and no two are the same.
-use Rattle.std.proofs.Common.{◌≡◌, ℕ, ◌+◌, ◌<◌, ◌≤◌, Bool, true, false, List, [], ◌∷◌, length, sym, subst, arith, ⊎_elim}
+use Rattle.std.proofs.Common.{◌≡◌, ℕ, ◌<◌, true, false, List, [], ◌∷◌, length, sym, arith, ⊎_elim}
 use Rattle.std.specs.List.{AllByRecursion, IsDistinct, list_any}
 use Rattle.std.specs.Prelude.{map, ◌==◌}
 use Rattle.std.proofs.lemmas.Bool.{eqb-true, eqb-false, ne_eqb, not-true, or_cases}
@@ -11,7 +11,7 @@ use Rattle.history_book.specs.declared.sizes.Sizes.{Sizes}
 use Rattle.history_book.specs.History.{after, is_legal}
 use Rattle.history_book.specs.Laws.{AreApart}
 use Rattle.history_book.specs.Record.{has_place}
-use Rattle.history_book.specs.State.{State, is_unused}
+use Rattle.history_book.specs.State.{is_unused}
 use Rattle.history_book.proofs.Entries.{each_fails}
 use Rattle.history_book.proofs.Gone.{places_after}
 use Rattle.history_book.proofs.Pairs.{Pairs}

@@ -1,9 +1,8 @@
 -- What the calls of a desk on entries and places answer. Old and new are what the desk knows before the call and after it.
-use Rattle.std.specs.Prelude.{◌≡◌, ℕ, ◌+◌, ◌-◌, ◌<◌, ◌≤◌, Bool, true, false, ◌&&◌, ◌||◌, not, Option, Some, None, [], ◌∷◌, ◌++◌, length, slice_get}
+use Rattle.std.specs.Prelude.{◌≡◌, ℕ, ◌+◌, ◌-◌, ◌<◌, ◌≤◌, Bool, true, false, ◌&&◌, ◌||◌, not, Option, Some, None, ◌∷◌, length}
 use Rattle.tuple_core.specs.declared.Direction.{Direction}
 use Rattle.tuple_core.specs.declared.Segment.{Segment}
 use Rattle.tuple_core.specs.declared.Tuple.{Tuple}
-use Rattle.history_book.specs.declared.event.Event.{Event}
 use Rattle.history_book.specs.declared.event.Event.TheVariants.{Confirm, Touch, Destroy}
 use Rattle.history_book.specs.declared.event.Why.{Why}
 use Rattle.history_book.specs.declared.outcome.ConfirmOutcome.{ConfirmOutcome}

@@ -1,5 +1,5 @@
 -- A desk takes in another one of its tracker, whose thread has ended.
-use Rattle.std.specs.Prelude.{◌≡◌, ℕ, ◌+◌, List, ◌++◌}
+use Rattle.std.specs.Prelude.{◌≡◌, ◌+◌, List, ◌++◌}
 use Rattle.history_book.specs.declared.event.Note.{Note}
 use Rattle.history_book.specs.Places.{HoldsNothing}
 use Rattle.history_book.specs.Point.{StartsWith}

@@ -1,8 +1,7 @@
 -- One kill after another, and what is left when a frame is handled.
-use Rattle.std.proofs.Common.{◌≡◌, ℕ, ◌+◌, ◌-◌, max, ◌≤◌, List, [], ◌∷◌, ◌++◌, length, Some, refl, sym, ap, subst, ◌∙◌, arith, append_assoc, length-append}
+use Rattle.std.proofs.Common.{◌≡◌, ℕ, ◌+◌, ◌-◌, max, ◌≤◌, List, [], ◌∷◌, ◌++◌, length, Some, refl, sym, ap, subst, ◌∙◌, arith, length-append}
 use Rattle.std.specs.List.{AllByRecursion}
 use Rattle.std.specs.Prelude.{◌≢◌}
-use Rattle.std.proofs.lemmas.List.{append-nil}
 use Rattle.tuple_core.specs.Inverse.{inverse}
 use Rattle.tuple_core.specs.declared.Direction.{Direction}
 use Rattle.tuple_core.specs.declared.Tuple.{Tuple}
@@ -13,7 +12,7 @@ use Rattle.history_book.specs.declared.sizes.Sizes.{Sizes}
 use Rattle.history_book.specs.declared.verdict.Verdict.{Verdict}
 use Rattle.history_book.specs.Desk.{IsLiveUnder, IsReady}
 use Rattle.history_book.specs.SightLaws.{GoingOnAddsUp}
-use Rattle.history_book.specs.WentOn.{IsSamePass, Looked, Saw, WentOn}
+use Rattle.history_book.specs.WentOn.{Looked, Saw, WentOn}
 use Rattle.history_book.specs.History.{after}
 use Rattle.history_book.specs.Laws.{EventsStay, StatesStay}
 use Rattle.history_book.specs.Mark.{mark_past}

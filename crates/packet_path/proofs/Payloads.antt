@@ -1,7 +1,6 @@
 -- What comes of the payload of a packet that an entry accepted.
-use Rattle.std.proofs.Common.{ℕ, ◌<◌, ◌≤◌, [], ◌∷◌, length, Option, Some, None, refl, sym, subst, ◌∙◌, arith}
+use Rattle.std.proofs.Common.{ℕ, ◌<◌, ◌≤◌, [], ◌∷◌, length, Option, Some, None, refl, subst, arith}
 use Rattle.std.specs.List.{AllByRecursion}
-use Rattle.std.proofs.lemmas.List.{append-nil}
 use Rattle.expect_table.specs.declared.expectation.Want.{Want}
 use Rattle.expect_table.specs.declared.table.AddOutcome.{AddOutcome}
 use Rattle.expect_table.specs.declared.table.AddOutcome.TheVariants as add

@@ -1,5 +1,5 @@
 -- When a verdict fits a frame and the events that the frame made.
-use Rattle.std.specs.Prelude.{◌≡◌, ℕ, ◌+◌, ◌≤◌, ◌⊎◌, true, false, Some, None, List, [], ◌∷◌, ◌++◌, length, option_to_list}
+use Rattle.std.specs.Prelude.{◌≡◌, ℕ, ◌+◌, ◌≤◌, ◌⊎◌, true, false, Some, None, List, [], ◌∷◌, ◌++◌, length}
 use Rattle.history_book.specs.declared.event.Event.{Event}
 use Rattle.history_book.specs.declared.event.Event.TheVariants.{Destroy}
 use Rattle.history_book.specs.declared.event.Note.{Note}
@@ -12,10 +12,6 @@ use Rattle.packet_path.specs.Unchanged.{BeginsNothing, IsToEnd, LeavesEntry}
 use Rattle.packet_path.specs.Winner.{MeetsWinner}
 use Rattle.history_book.specs.declared.verdict.Class.{Class}
 use Rattle.history_book.specs.declared.verdict.Class.TheVariants as class
-use Rattle.history_book.specs.declared.verdict.Ftp.{Ftp}
-use Rattle.history_book.specs.declared.verdict.Ftp.TheVariants as ftp
-use Rattle.history_book.specs.declared.verdict.Translated.{Translated}
-use Rattle.history_book.specs.declared.verdict.Translated.TheVariants.{Chosen, Plain}
 use Rattle.packet_path.specs.Error.{AnswersError, IsMisdirected, IsRelated, LooksUp}
 use Rattle.packet_path.specs.Full.{FindsNoRoom}
 use Rattle.packet_path.specs.NoPort.{FindsNoNumber}
