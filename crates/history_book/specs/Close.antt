@@ -9,8 +9,10 @@ use Rattle.history_book.specs.Places.{HoldsNothing}
 use Rattle.history_book.specs.Point.{StartsWith}
 use Rattle.history_book.specs.Sight.{AreEventsOf, Sight}
 
--- the desk keeps no place, and all other passes were joined to it: all shares are its own or were returned
-pub record CanClose (s : Sight) : Type 0 where
+-- the desk is one of this tracker and keeps no place, and all other passes were joined to it: all shares are its own or
+-- were returned
+pub record CanClose (tracker : List ℕ) (s : Sight) : Type 0 where
+  pub same : s.tracker ≡ tracker
   pub empty : HoldsNothing s
   pub all : s.shares + s.returned ≡ s.sizes.passes
 

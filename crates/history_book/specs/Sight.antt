@@ -12,8 +12,9 @@ use Rattle.history_book.specs.History.{is_legal}
 -- The front is the first events of the one history, as far as the desk has seen it; then its own events
 -- with their numbers, the references that it keeps and the places that it owes, the newest first, and for
 -- how many further own events it has room. The desk is one pass of a tracker, which is told from others by
--- some numbers and has these sizes. It has shares of the tracker's passes, which it may hand over to further
--- desks; of the desks that joined it, it has the shares that they returned, and the events that they made.
+-- some numbers (by none where no desk joins another) and has these sizes. It has shares of the tracker's
+-- passes, which it may hand over to further desks; of the desks that joined it, it has the shares that they
+-- returned, and the events that they made.
 pub record Sight : Type 0 where
   pub front : List Event
   pub own : List Note

@@ -1,5 +1,5 @@
 -- A whole run, from the new desk to the lists of its events.
-use Rattle.std.proofs.Common.{◌≡◌, ℕ, ◌+◌, ◌*◌, ◌^◌, ◌<◌, ◌≤◌, List, length, map, refl, ap, sym, subst, ◌∙◌, arith, length-append}
+use Rattle.std.proofs.Common.{◌≡◌, ℕ, ◌+◌, ◌*◌, ◌^◌, ◌<◌, ◌≤◌, List, [], length, map, refl, ap, sym, subst, ◌∙◌, arith, length-append}
 use Rattle.std.specs.Prelude.{All, IfOk, Result, Ok, Err}
 use Rattle.std.proofs.lemmas.List.{length-map}
 use Rattle.room_list.specs.Roomed.{Roomed}
@@ -34,7 +34,7 @@ use Rattle.replay_runs.proofs.Reports.{IsRun, one_pass, reported}
 module _ (setup : Setup) (captures : List Capture) (old mid : Sight) (threads : List (Roomed Verdict))
     (replayed : AllReplayed setup (map given_frames captures) old mid threads) (few : frames_in captures ≤ 4194304) where
   -- there is room for the events of the script
-  pub script_fits : (sizes : Sizes) (commands : List Command) (all : List Command) → IsFresh sizes old → commands ≡ all → length all ≤ 256
+  pub script_fits : (sizes : Sizes) (commands : List Command) (all : List Command) → IsFresh [] sizes old → commands ≡ all → length all ≤ 256
       → length mid.own + 66560 * length commands + 66560 ≤ 2 ^ 30
   script_fits sizes commands all fresh same short =
       omega (
@@ -104,7 +104,7 @@ pub run_made : (setup : Setup) (sizes : Sizes) (captures : List Capture) (script
     (commands : List Command) (moment : ℕ) (vss : List (Roomed Verdict)) (notes : List Note)
     → AllReplayed setup (map given_frames captures) old mid threads → Answered commands moment 0 mid new answers
     → commands ≡ script.commands.items → moment ≡ latest_of 0 (map given_frames captures)
-    → IsFresh (record sizes { passes = 1 }) old → sizes.passes ≡ 1
+    → IsFresh [] (record sizes { passes = 1 }) old → sizes.passes ≡ 1
     → items_of lists ≡ cut_by vss notes → vss ≡ threads → notes ≡ new.own
     → IsRun (record { setup = setup; sizes = sizes }) (work_of captures script) old mid new threads answers lists
 run_made setup sizes captures script old mid new threads answers lists commands moment vss notes replayed answered same timed fresh one

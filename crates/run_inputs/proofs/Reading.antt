@@ -1,7 +1,7 @@
 -- Reading a file in pieces.
 use Rattle.std.proofs.Common.{◌≡◌, ℕ, ◌+◌, ◌<◌, ◌≤◌, List, [], ◌++◌, length, take, drop, Option, None, Some, refl, sym, ap, ◌∙◌, subst, arith, append_assoc, length-append}
 use Rattle.std.proofs.lemmas.List.{append-nil, take-append-drop}
-use Rattle.std.specs.Option.{IfSome, option_map}
+use Rattle.std.specs.Option.{IfSome}
 use Rattle.ct_io.specs.Counts.{Rose}
 use Rattle.ct_io.specs.Reading.{Took}
 use Rattle.ct_io.specs.Source.{OthersStandAtRead, SameFaults, Source, Stays}

@@ -8,7 +8,7 @@ use Rattle.run_inputs.specs.Content.{IsShortEnough, Totals}
 use Rattle.run_inputs.specs.Flaw.{flaw_status}
 use Rattle.run_inputs.specs.Files.{InputFile}
 
--- The one call that failed was the opening of this file: its count rose, and each other stands that shares none with it.
+-- Only the opening of this file failed: its count rose, and each other stands that shares none with it.
 pub record OpeningFailed (files files' : Source) (name : List ℕ) : Type 0 where
   pub rose : Rose (files.open_faults name) (files'.open_faults name)
   pub alone : OthersStandAtOpen files files' name
@@ -17,8 +17,8 @@ pub record OpeningFailed (files files' : Source) (name : List ℕ) : Type 0 wher
 abbrev pub ReadSoFar : Option (List ℕ) → List ℕ → Option (List ℕ) → Type 0
 ReadSoFar contents front left = option_map (λ rest. front ++ rest) left ≡ contents
 
--- The one call that failed was a read of this file, which is still open: the count of reads rose, and that of opening
--- each name in which reads are not counted stands. Of the bytes that were read before it, something holds.
+-- Only reading failed, and it was this file's: the count of reads rose, and that of opening each name in which reads are
+-- not counted stands. Of the bytes that were read before it, something holds.
 pub record ReadingFailed (files files' : Source) (name : List ℕ) (Fits : List ℕ → Type 0) : Type 0 where
   pub rose : Rose files.read_faults files'.read_faults
   pub alone : OthersStandAtRead files files'
