@@ -21,10 +21,9 @@ use Rattle.run_inputs.specs.Flaw.{flaw_status}
 use Rattle.run_inputs.specs.Inputs.{AreGiven, AreRead, AreTold, clean, Finding, Finds, FirstFlaw, FirstFlawFrom, flawed, misused, past, Reaches, ReachesFrom}
 use Rattle.replay_top.specs.Internal.Ending.{line_about, name_among, refusal_for}
 use Rattle.run_inputs.specs.Reading.{HasCauseFrom, IsReached, part_of, SameFaultsBut}
-use Rattle.run_inputs.specs.Laws.{ContentsAreUnique, FlawsAreUnique, ReadFilesHaveNoFlaw}
+use Rattle.run_inputs.specs.Laws.{GivenIsTold, WordsSayOne}
 use Rattle.replay_top.specs.Replay.{IsReplay, IsReplayOf}
 use Rattle.run_inputs.specs.Files.{files_asked, files_named, files_of, InputFile, AskFor}
-use Rattle.run_inputs.proofs.Findings.{agree, agree_sym, at_asked, not_asked, one_first, read_clean, two_errors}
 
 -- ---- causes
 
@@ -155,69 +154,71 @@ others_refused words files files' NoMemory cause same = others_same words files 
 
 -- ---- findings
 
-module _ (clean_files : ReadFilesHaveNoFlaw) (one : ContentsAreUnique) (unique : FlawsAreUnique) (words : List (List ℕ))
-    (files files' : Source) (out out' : Tape) where
+module _ (as_told : GivenIsTold) (say : WordsSayOne) (words : List (List ℕ)) (files files' : Source) (out out' : Tape) where
+  -- what the words ask for is what they were said to ask for
+  at_asked : (asked : Request) (P : Request → Type 0) → asked_of words ≡ Ok asked → AskFor words P → P asked
+  at_asked asked P says of = subst P (say.request words of.asked asked of.says says) of.holds
+
   -- where a report was made, no file has a flaw
   replayed_clean : (report : Report) (file : ℕ) (f : Flaw) → IsReplay words files report
       → AskFor words (λ asked. FirstFlaw AreTold files (files_of asked) file f) → ⊥
   replayed_clean report file f of first =
-      let replay : IsReplayOf files first.asked report = at_asked words first.asked (λ (asked : Request). IsReplayOf files asked report) first.says of in
-      read_clean clean_files one no_totals (files_of first.asked) replay.bytes first.holds.bytes replay.contents file f
-      (agree files (files_of first.asked) replay.bytes first.holds.bytes replay.given first.holds.given) replay.read first.holds.first
+      let replay : IsReplayOf files first.asked report = at_asked first.asked (λ (asked : Request). IsReplayOf files asked report) first.says of in
+      as_told.read files (files_of first.asked) replay.bytes first.holds.bytes replay.contents file f replay.given first.holds.given
+      replay.read first.holds.first
 
   -- where all files are read, none was found to have a flaw
   clean_unflawed : (file : ℕ) (f : Flaw) → AskFor words (λ asked. FirstFlaw AreGiven files (files_of asked) file f)
       → AskFor words (λ asked. (contents : List Content) × AreRead files (files_of asked) contents) → ⊥
   clean_unflawed file f first all =
       let found : FirstFlaw AreGiven files (files_of all.asked) file f =
-      at_asked words all.asked (λ (asked : Request). FirstFlaw AreGiven files (files_of asked) file f) all.says first in
+      at_asked all.asked (λ (asked : Request). FirstFlaw AreGiven files (files_of asked) file f) all.says first in
       let read = all.holds.1 in
-      read_clean clean_files one no_totals (files_of all.asked) read.bytes found.bytes all.holds.0 file f
-      (agree_sym found.bytes read.bytes (agree files (files_of all.asked) found.bytes read.bytes found.given read.told)) read.read found.first
+      as_told.flawed files (files_of all.asked) found.bytes read.bytes all.holds.0 file f found.given read.told found.first read.read
 
   -- the first flaw that was found is the one that is there
   same_flaw : (k file : ℕ) (f g : Flaw) → AskFor words (λ asked. FirstFlaw AreGiven files (files_of asked) k f)
       → AskFor words (λ asked. FirstFlaw AreTold files (files_of asked) file g) → f ≡ g
   same_flaw k file f g first told =
       let found : FirstFlaw AreGiven files (files_of told.asked) k f =
-      at_asked words told.asked (λ (asked : Request). FirstFlaw AreGiven files (files_of asked) k f) told.says first in
-      one_first clean_files one unique no_totals (files_of told.asked) found.bytes told.holds.bytes k file f g
-      (agree files (files_of told.asked) found.bytes told.holds.bytes found.given told.holds.given) found.first told.holds.first
+      at_asked told.asked (λ (asked : Request). FirstFlaw AreGiven files (files_of asked) k f) told.says first in
+      as_told.one files (files_of told.asked) found.bytes told.holds.bytes k file f g found.given told.holds.given found.first
+      told.holds.first
 
   pub answers_done : (report : Report) (found : Finding) → IsReplay words files report → Finds words files found
       → StatusFits words files files' out out' 0 found
-  answers_done report misused of finds = absurd (not_asked words of.asked unasked.Usage finds of.says)
-  answers_done report (past limit) of finds = absurd (not_asked words of.asked (unasked.Limit limit) finds of.says)
+  answers_done report misused of finds = absurd (say.refused words of.asked unasked.Usage finds of.says)
+  answers_done report (past limit) of finds = absurd (say.refused words of.asked (unasked.Limit limit) finds of.says)
   answers_done report (flawed file f) of finds = absurd (replayed_clean report file f of finds)
   answers_done report clean of finds = inl (inl refl)
 
   pub answers_not_written : (report : Report) (found : Finding) → IsReplay words files report → Rose out.faults out'.faults
       → Finds words files found → StatusFits words files files' out out' 4 found
-  answers_not_written report misused of rose finds = absurd (not_asked words of.asked unasked.Usage finds of.says)
-  answers_not_written report (past limit) of rose finds = absurd (not_asked words of.asked (unasked.Limit limit) finds of.says)
+  answers_not_written report misused of rose finds = absurd (say.refused words of.asked unasked.Usage finds of.says)
+  answers_not_written report (past limit) of rose finds = absurd (say.refused words of.asked (unasked.Limit limit) finds of.says)
   answers_not_written report (flawed file f) of rose finds = absurd (replayed_clean report file f of finds)
   answers_not_written report clean of rose finds = inr (inr (refl, rose))
 
   pub answers_refused : (why : Refusal) (found : Finding) → HasCause words files files' why → Finds words files found
       → StatusFits words files files' out out' (refusal_status why) found
   answers_refused Misused misused cause finds = inl refl
-  answers_refused Misused (past limit) cause finds = absurd (two_errors words limit cause finds)
-  answers_refused Misused (flawed file g) cause finds = absurd (not_asked words finds.asked unasked.Usage cause finds.says)
-  answers_refused Misused clean cause finds = absurd (not_asked words finds.asked unasked.Usage cause finds.says)
-  answers_refused (PastLimit l) misused cause finds = absurd (two_errors words l finds cause)
+  answers_refused Misused (past limit) cause finds = absurd (say.misused words limit cause finds)
+  answers_refused Misused (flawed file g) cause finds = absurd (say.refused words finds.asked unasked.Usage cause finds.says)
+  answers_refused Misused clean cause finds = absurd (say.refused words finds.asked unasked.Usage cause finds.says)
+  answers_refused (PastLimit l) misused cause finds = absurd (say.misused words l finds cause)
   answers_refused (PastLimit l) (past limit) cause finds = inl refl
-  answers_refused (PastLimit l) (flawed file g) cause finds = absurd (not_asked words finds.asked (unasked.Limit l) cause finds.says)
-  answers_refused (PastLimit l) clean cause finds = absurd (not_asked words finds.asked (unasked.Limit l) cause finds.says)
-  answers_refused (Flawed k f) misused cause finds = absurd (not_asked words cause.asked unasked.Usage finds cause.says)
-  answers_refused (Flawed k f) (past limit) cause finds = absurd (not_asked words cause.asked (unasked.Limit limit) finds cause.says)
+  answers_refused (PastLimit l) (flawed file g) cause finds = absurd (say.refused words finds.asked (unasked.Limit l) cause finds.says)
+  answers_refused (PastLimit l) clean cause finds = absurd (say.refused words finds.asked (unasked.Limit l) cause finds.says)
+  answers_refused (Flawed k f) misused cause finds = absurd (say.refused words cause.asked unasked.Usage finds cause.says)
+  answers_refused (Flawed k f) (past limit) cause finds = absurd (say.refused words cause.asked (unasked.Limit limit) finds cause.says)
   answers_refused (Flawed k f) (flawed file g) cause finds = inl (inl (ap flaw_status (same_flaw k file f g cause finds)))
   answers_refused (Flawed k f) clean cause finds = absurd (clean_unflawed k f cause finds)
-  answers_refused (NotOpened k) misused cause finds = absurd (not_asked words cause.asked unasked.Usage finds cause.says)
-  answers_refused (NotOpened k) (past limit) cause finds = absurd (not_asked words cause.asked (unasked.Limit limit) finds cause.says)
+  answers_refused (NotOpened k) misused cause finds = absurd (say.refused words cause.asked unasked.Usage finds cause.says)
+  answers_refused (NotOpened k) (past limit) cause finds = absurd (say.refused words cause.asked (unasked.Limit limit) finds cause.says)
   answers_refused (NotOpened k) (flawed file g) cause finds = inr (refl, failed_files words files files' (NotOpened k) cause refl)
   answers_refused (NotOpened k) clean cause finds = inr (inl (refl, failed_files words files files' (NotOpened k) cause refl))
-  answers_refused (NotRead k) misused cause finds = absurd (not_asked words cause.asked unasked.Usage finds cause.says)
-  answers_refused (NotRead k) (past limit) cause finds = absurd (not_asked words cause.asked (unasked.Limit limit) finds cause.says)
+  answers_refused (NotRead k) misused cause finds = absurd (say.refused words cause.asked unasked.Usage finds cause.says)
+  answers_refused (NotRead k) (past limit) cause finds = absurd (say.refused words cause.asked (unasked.Limit limit) finds cause.says)
   answers_refused (NotRead k) (flawed file g) cause finds = inr (refl, failed_files words files files' (NotRead k) cause refl)
   answers_refused (NotRead k) clean cause finds = inr (inl (refl, failed_files words files files' (NotRead k) cause refl))
   answers_refused NoMemory misused cause finds = inr refl

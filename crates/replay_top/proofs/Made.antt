@@ -1,6 +1,6 @@
 -- What a report of all files that are asked for is.
-use Rattle.std.proofs.Common.{◌≡◌, ℕ, Option, Some, None, List, [], ◌∷◌, map, refl, sym, subst, ap, ◌∙◌}
-use Rattle.std.specs.Prelude.{Err, IfOk, Ok, Result}
+use Rattle.std.proofs.Common.{◌≡◌, ℕ, Option, Some, None, List, [], ◌∷◌, ◌++◌, map, refl, sym, subst, ap, ◌∙◌}
+use Rattle.std.specs.Prelude.{Err, IfOk, Ok, option_to_list, Result}
 use Rattle.command_words.specs.Words.{Request}
 use Rattle.conntrack_cmd.specs.declared.read.Script.{Script}
 use Rattle.ct_io.specs.Source.{Source}
@@ -19,7 +19,6 @@ use Rattle.replay_runs.specs.Replaying.{work_of}
 use Rattle.replay_top.specs.Replay.{given_in, IsReplayOf, rules_in, sizes_of, work_with}
 use Rattle.replay_runs.specs.Report.{IsWellFormed, Work}
 use Rattle.run_inputs.specs.Files.{files_of_kind, InputFile}
-use Rattle.run_inputs.proofs.All.{all_files}
 use Rattle.room_list.specs.Roomed.{Roomed}
 
 -- a report of inputs that were set up as it is asked for is what is asked for
@@ -67,7 +66,8 @@ record Made (files : Source) (inputs : List InputFile) (ruled : List Rule) (done
 made : (files : Source) (r s : Option (List ℕ)) (names : List (List ℕ)) (ruled : List Rule) (said : Script) (captures : List Capture)
     → GaveRules files r ruled → GaveScript files s said
     → GaveContents files no_totals (files_of_kind kind.Capture names) (bytes_in captures) (contents_in captures)
-    → Made files (all_files r s names) ruled (work_of captures said)
+    → Made files (files_of_kind kind.Rules (option_to_list r) ++ files_of_kind kind.Script (option_to_list s) ++ files_of_kind kind.Capture names)
+    ruled (work_of captures said)
 made files None None names ruled said captures gr gs gc = record {
   bytes = bytes_in captures;
   contents = contents_in captures;

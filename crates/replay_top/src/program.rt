@@ -23,7 +23,7 @@ use history_book::report::Report;
 use packet_path::setup::{Ports, Setup};
 use replay_runs::replay::replay;
 use report_text::write::write_report;
-use run_inputs::laws::{contents_are_unique, flaws_are_unique, read_files_have_no_flaw};
+use run_inputs::laws::{given_is_told, words_say_one};
 use run_inputs::{Inputs, Refusal, read_all, refusal_status};
 use std::alloc::Global;
 use std::sync::Wait;
@@ -186,9 +186,8 @@ pub fn top<R: Threads + Wait + Sync, F: Files, K: Sink, G: Gate + Sync>(
         (K.tape out.new).faults ≡ (K.tape out.old).faults }
     ensures stays { Stays (F.source files.old) (F.source files.new) }
 {
-    read_files_have_no_flaw();
-    contents_are_unique();
-    flaws_are_unique();
+    given_is_told();
+    words_say_one();
     let asked = match read_words(alloc, words) {
         Ok(asked) => asked,
         Err(error) => return refused(refusal_for(error), "", err),

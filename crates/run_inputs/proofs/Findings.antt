@@ -7,10 +7,10 @@ use Rattle.command_words.specs.declared.WordsError.TheVariants as unasked
 use Rattle.command_words.specs.declared.WordsLimit.{WordsLimit}
 use Rattle.ct_io.specs.Source.{Source}
 use Rattle.run_inputs.specs.declared.flaw.Flaw.{Flaw}
-use Rattle.run_inputs.specs.Content.{Content, totals_with, IsRead, Totals}
+use Rattle.run_inputs.specs.Content.{Content, totals_with, IsRead, no_totals, Totals}
 use Rattle.run_inputs.specs.Flaw.{HasFlaw}
 use Rattle.run_inputs.specs.Inputs.{AreGiven, AreReadFrom, AreTold, FirstFlawFrom}
-use Rattle.run_inputs.specs.Laws.{ContentsAreUnique, FlawsAreUnique, ReadFilesHaveNoFlaw}
+use Rattle.run_inputs.specs.Laws.{ContentsAreUnique, FlawsAreUnique, GivenIsTold, ReadFilesHaveNoFlaw, WordsSayOne}
 use Rattle.run_inputs.specs.Files.{InputFile, AskFor}
 
 -- ---- bytes that are told
@@ -79,6 +79,18 @@ module _ (clean_files : ReadFilesHaveNoFlaw) (one : ContentsAreUnique) where
       one_first unique (totals_with before o also.0) inputs bytes others k l f g same.1
       (subst (λ (t : Totals). FirstFlawFrom t inputs bytes k f) total found.2) also.2
 
+-- so bytes that are given are read or flawed as those that are told
+pub given_is_told : ReadFilesHaveNoFlaw → ContentsAreUnique → FlawsAreUnique → GivenIsTold
+given_is_told clean_files one unique = record {
+  read = λ files inputs bytes others contents k f given told read found.
+      read_clean clean_files one no_totals inputs bytes others contents k f (agree files inputs bytes others given told) read found;
+  flawed = λ files inputs bytes others contents k f given told found read.
+      read_clean clean_files one no_totals inputs others bytes contents k f
+      (agree_sym bytes others (agree files inputs bytes others given told)) read found;
+  one = λ files inputs bytes others k l f g given told found also.
+      one_first clean_files one unique no_totals inputs bytes others k l f g (agree files inputs bytes others given told) found also;
+}
+
 -- ---- of words, one thing holds
 
 -- the words ask for one thing
@@ -93,3 +105,6 @@ at_asked words asked P says of = subst P (same_request words of.asked asked of.s
 
 pub not_asked : (words : List (List ℕ)) (asked : Request) (error : WordsError) → asked_of words ≡ Err error → asked_of words ≡ Ok asked → ⊥
 not_asked words asked error none some = cc
+
+pub words_say_one : WordsSayOne
+words_say_one = record { request = same_request; refused = not_asked; misused = two_errors }

@@ -1,7 +1,7 @@
 //! What holds of the bytes of every file of each kind, and of all words and files: each law is the contract of a
 //! function that does nothing but cite other laws.
 
-ghost use Rattle.run_inputs.specs.Laws.{ContentsAreUnique, FilesAreReadOrFlawed, FindingsAreUnique, FlawsAreUnique, InputsAreFound, ReadFilesHaveNoFlaw};
+ghost use Rattle.run_inputs.specs.Laws.{ContentsAreUnique, FilesAreReadOrFlawed, FindingsAreUnique, FlawsAreUnique, GivenIsTold, InputsAreFound, ReadFilesHaveNoFlaw, WordsSayOne};
 
 use command_words::laws::words_want_no_memory;
 use conntrack_cmd::laws as script_laws;
@@ -62,3 +62,17 @@ pub fn findings_are_unique()
     contents_are_unique();
     flaws_are_unique();
 }
+
+/// Files are read or flawed as their contents are, where those are told.
+pub fn given_is_told()
+    ensures all { GivenIsTold }
+{
+    read_files_have_no_flaw();
+    contents_are_unique();
+    flaws_are_unique();
+}
+
+/// Words ask for one thing at most, and are refused for one reason.
+pub fn words_say_one()
+    ensures all { WordsSayOne }
+{}
