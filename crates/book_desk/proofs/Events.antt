@@ -23,7 +23,7 @@ use Rattle.history_book.specs.declared.find.FoundAt.{FoundAt}
 use Rattle.history_book.specs.declared.record.Flow.{Flow}
 use Rattle.history_book.specs.declared.record.Record.{Record}
 use Rattle.history_book.specs.declared.sizes.Sizes.{Sizes}
-use Rattle.history_book.specs.Desk.{Destroys, IsRecord, IsWinner, MadeEvent, Touches}
+use Rattle.history_book.specs.Desk.{Destroys, IsRecord, IsWinner, Touches}
 use Rattle.history_book.specs.Entry.{is_of_entry}
 use Rattle.history_book.specs.Find.{IsRecordAt}
 use Rattle.history_book.specs.Held.{for_entry, held_for, held_id, id_of, is_at, is_held, is_held_for_entry, is_taken}
@@ -32,7 +32,8 @@ use Rattle.history_book.specs.Legality.{accepts, is_of_one_protocol, is_reason, 
 use Rattle.history_book.specs.Record.{has_id, has_original, has_place, has_reply}
 use Rattle.history_book.specs.Sight.{IsForEntryOf, IsForOne, WasConfirmedIn}
 use Rattle.history_book.specs.Sizes.{AreWithinLimits}
-use Rattle.history_book.specs.State.{State, live_under, next, record_of, state_of}
+use Rattle.history_book.specs.State.{State, is_unused, live_under, next, record_of, state_of}
+use Rattle.history_book.specs.WentOn.{MadeEvent}
 use Rattle.history_book.specs.StateLaws.{DestroysTakeOne, FreeIsAbsent, IdsNameRecords, TouchesChangeOne}
 use Rattle.book_desk.specs.declared.book.Book.{Book}
 use Rattle.book_desk.specs.Internal.Book.{Adds, Agree, ArePlaces, AreReferences, IsBook, IsForRecord, IsHistory, WinsAt, events_of, noted, sight_of, state_in, tally}
@@ -118,6 +119,10 @@ taken_held p (h ∷ hs) taken =
 nobodys : (b : Book) (p : ℕ) → IsBook b → is_taken p b.holds.items ≡ true → tally (has_place p) b.records.items ≡ 0
 nobodys b p h taken =
     none_counted (λ (s : Record). s.place) p b.records.items (taken_nobodys p b.records.items b.holds.items taken h.references.current)
+
+-- a place that was taken is no live record's
+pub taken_unused : (b : Book) (p : ℕ) → IsBook b → is_taken p b.holds.items ≡ true → is_unused p (state_in b) ≡ true
+taken_unused b p h taken = ap not (none_of (has_place p) b.records.items (nobodys b p h taken))
 
 -- a place that was taken is one of the pool
 taken_below : (b : Book) (p : ℕ) → IsBook b → is_taken p b.holds.items ≡ true → p < b.sizes.entries

@@ -14,7 +14,8 @@ use Rattle.history_book.specs.declared.desk.Hold.{Hold}
 use Rattle.history_book.specs.declared.event.Event.{Event}
 use Rattle.history_book.specs.declared.event.Event.TheVariants.{Claim, Expect, Unexpect}
 use Rattle.history_book.specs.declared.record.Record.{Record}
-use Rattle.history_book.specs.Desk.{Looked, MadeEvent, SamePlaces}
+use Rattle.history_book.specs.Desk.{SamePlaces}
+use Rattle.history_book.specs.WentOn.{Looked, MadeEvent}
 use Rattle.history_book.specs.DeskExpectations.{AddGives, expectation_at}
 use Rattle.history_book.specs.Entry.{is_helped_entry}
 use Rattle.history_book.specs.Find.{IsRecordAt}

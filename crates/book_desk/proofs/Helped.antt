@@ -33,10 +33,10 @@ pub record GoesOn (old new : Sight) : Type 0 where
 pub expect_goes_on : (place : ℕ) (want : Want) (moment : ℕ) (old new : Sight) (o : ExpectOutcome) → ExpectSays place want moment old new o
     → GoesOn old new
 expect_goes_on place want moment old new (Expected id replaced) (made, same) =
-    record { front = made.front; held = same.held; spare = omega (arith, made.spare); sizes = made.sizes }
+    record { front = made.went.front; held = same.held; spare = omega (arith, made.spare); sizes = made.went.pass.sizes }
 expect_goes_on place want moment old new (MasterGone at) (looked, same) =
-    record { front = looked.saw.front; held = same.held; spare = omega (arith, looked.saw.spare); sizes = looked.saw.sizes }
+    record { front = looked.saw.went.front; held = same.held; spare = omega (arith, looked.saw.spare); sizes = looked.saw.went.pass.sizes }
 expect_goes_on place want moment old new (Clash id at) (looked, same) =
-    record { front = looked.saw.front; held = same.held; spare = omega (arith, looked.saw.spare); sizes = looked.saw.sizes }
+    record { front = looked.saw.went.front; held = same.held; spare = omega (arith, looked.saw.spare); sizes = looked.saw.went.pass.sizes }
 expect_goes_on place want moment old new (ExpectFull at) (looked, same) =
-    record { front = looked.saw.front; held = same.held; spare = omega (arith, looked.saw.spare); sizes = looked.saw.sizes }
+    record { front = looked.saw.went.front; held = same.held; spare = omega (arith, looked.saw.spare); sizes = looked.saw.went.pass.sizes }

@@ -5,13 +5,13 @@ use Rattle.std.proofs.lemmas.List.{length-map, map-append}
 use Rattle.history_book.specs.declared.event.Event.{Event}
 use Rattle.history_book.specs.declared.event.Note.{Note}
 use Rattle.history_book.specs.declared.sizes.Sizes.{Sizes}
-use Rattle.history_book.specs.Desk.{Looked, MadeEvent}
 use Rattle.history_book.specs.History.{after, is_legal}
 use Rattle.history_book.specs.Laws.{LegalHistoriesGoOn, StatesFollow, StatesStay}
 use Rattle.history_book.specs.Legality.{may_happen}
 use Rattle.history_book.specs.Point.{At}
 use Rattle.history_book.specs.Sight.{notes_from}
 use Rattle.history_book.specs.State.{State, next}
+use Rattle.history_book.specs.WentOn.{IsSamePass, Looked, MadeEvent, Saw}
 use Rattle.book_desk.specs.declared.book.Book.{Book}
 use Rattle.book_desk.specs.Internal.Book.{IsBook, IsHistory, events_of, noted, sight_of, state_in}
 
@@ -65,7 +65,24 @@ pub get_last : {X : Type 0} (xs : List X) (x : X) → slice_get (xs ++ x ∷ [])
 get_last [] x = refl
 get_last (y ∷ ys) x = get_last ys x
 
--- what a desk says that made no event
+-- the desk stays the one pass
+same_pass : (old new : Book) → new.sizes ≡ old.sizes → IsSamePass (sight_of old) (sight_of new)
+same_pass old new sizes = record { tracker = refl; sizes = sizes; shares = refl; returned = refl; gathered = refl }
+
+-- a desk that made no event
+pub saw : (old new : Book) → new.notes ≡ old.notes → new.spare ≡ old.spare → new.sizes ≡ old.sizes
+    → Saw (sight_of old) (sight_of new)
+saw old new notes spare sizes = record {
+  went = record {
+    front = ([], ap (λ ns. events_of ns.items) notes ∙ sym (append-nil (events_of old.notes.items)));
+    own = ap (λ ns. ns.items) notes ∙ sym (append-nil old.notes.items);
+    spare = omega (arith, spare);
+    pass = same_pass old new sizes;
+  };
+  spare = spare;
+}
+
+-- what it says of a point
 pub looked : (old new : Book) (at : ℕ) (F : State → Type 0) → IsBook old → at ≡ length old.notes.items
     → new.notes ≡ old.notes → new.spare ≡ old.spare → new.sizes ≡ old.sizes → F (state_in old)
     → Looked (sight_of old) (sight_of new) at F
@@ -74,12 +91,7 @@ looked old new at F book here notes spare sizes fact =
     let same : events_of new.notes.items ≡ log = ap (λ ns. events_of ns.items) notes in
     let point : length log ≡ at = length-events old.notes.items ∙ sym here in
     record {
-      saw = record {
-        front = ([], same ∙ sym (append-nil log));
-        own = ap (λ ns. ns.items) notes;
-        spare = spare;
-        sizes = sizes;
-      };
+      saw = saw old new notes spare sizes;
       low = omega (arith, point);
       fact = record {
         within = omega (arith, point, ap length same);
@@ -97,10 +109,13 @@ made old new at e here notes spare sizes =
     ap events_of notes ∙ events-push old.notes.items (noted old.notes.items e) in
     let point : length log ≡ at = length-events old.notes.items ∙ sym here in
     record {
-      front = (e ∷ [], longer);
-      own = notes ∙ ap (λ (n : ℕ). old.notes.items ++ record { number = n; event = e } ∷ []) (sym here);
+      went = record {
+        front = (e ∷ [], longer);
+        own = notes ∙ ap (λ (n : ℕ). old.notes.items ++ record { number = n; event = e } ∷ []) (sym here);
+        spare = omega (arith, spare);
+        pass = same_pass old new sizes;
+      };
       spare = spare;
-      sizes = sizes;
       low = omega (arith, point);
       high = omega (arith, point, ap length longer, length-append log (e ∷ []));
       happened = ap (λ l. slice_get l at) longer ∙ ap (slice_get (log ++ e ∷ [])) (sym point) ∙ get_last log e;
@@ -112,5 +127,5 @@ pub at_before : StatesStay → (old new : Book) (at : ℕ) (e : Event) (F : Stat
 at_before stay old new at e F book here event fact =
     let log : List Event = events_of old.notes.items in
     let point : length log ≡ at = length-events old.notes.items ∙ sym here in
-    let later = stay (events_of new.notes.items) log at event.front (omega (arith, point)) in
+    let later = stay (events_of new.notes.items) log at event.went.front (omega (arith, point)) in
     record { within = later.0; fact = subst F (book.history.state ∙ ap (after log) point ∙ sym later.1) fact }

@@ -1,15 +1,20 @@
 -- What a right book tells its callers.
-use Rattle.std.proofs.Common.{◌≡◌, ℕ, ◌+◌, ◌<◌, ◌≤◌, List, [], ◌∷◌, ◌++◌, length, refl, sym, ap, subst, ◌∙◌, arith, Some, append_assoc, length-append, false, ⊎_elim}
-use Rattle.std.specs.List.{AllByRecursion, AllPairs, slice_get}
-use Rattle.std.specs.Prelude.{◌==◌}
-use Rattle.std.proofs.lemmas.Bool.{cases_lt}
+use Rattle.std.proofs.Common.{◌≡◌, ℕ, Bool, cond, ◌+◌, ◌<◌, ◌≤◌, List, [], ◌∷◌, ◌++◌, length, refl, sym, ap, subst, ◌∙◌, arith, Some, append_assoc, append-nil, length-append, false, ⊎_elim}
+use Rattle.std.specs.List.{AllByRecursion, AllPairs, count_by, slice_get}
+use Rattle.std.specs.Prelude.{◌≢◌, ◌==◌}
+use Rattle.std.proofs.lemmas.Bool.{cases_eq, cases_lt, eq-eqb, ne_eqb}
 use Rattle.std.proofs.lemmas.List.Elements.{All-from_recursion}
 use Rattle.std.proofs.lemmas.List.Kept.{AllPairs-cons}
+use Rattle.std.proofs.lemmas.List.Sums.{sum_by-cons}
+use Rattle.std.proofs.Math.Arith.{lt_of_le-ne}
 use Rattle.history_book.specs.declared.desk.Hold.{Hold}
 use Rattle.history_book.specs.declared.event.Event.{Event}
 use Rattle.history_book.specs.declared.event.Note.{Note}
+use Rattle.history_book.specs.declared.report.Closed.{Closed}
+use Rattle.history_book.specs.Close.{Closes}
 use Rattle.history_book.specs.Held.{is_owed}
-use Rattle.history_book.specs.Sight.{IsForEntryOf, IsHoldOf, IsKnown, notes_from}
+use Rattle.history_book.specs.Sight.{AreEventsOf, IsForEntryOf, IsHoldOf, IsKnown, notes_from}
+use Rattle.history_book.specs.State.{State}
 use Rattle.book_desk.specs.declared.book.Book.{Book}
 use Rattle.book_desk.specs.Internal.Book.{IsBook, events_of, sight_of}
 use Rattle.book_desk.proofs.Counting.{all_below, apart_once, each_counted}
@@ -78,5 +83,57 @@ known b h =
           (λ (e : b.sizes.entries ≤ p). omega (arith, h.places.beyond p e)) (cases_lt p b.sizes.entries));
       places = h.few;
       spared = h.rooms.spared;
+      shared = omega arith;
+      passes = omega (arith, h.limits.some_passes);
+      gathered = λ i d short. absurd (omega (arith, short));
+      gathered_few = omega arith;
       alone = λ one. h.history.numbered;
+    }
+
+-- an event stands once among the notes of its history
+abbrev numbered : ℕ → Note → Bool
+numbered n note = note.number == n
+
+one_by_one : (n k : ℕ) (e : Event) (es : List Event)
+    → count_by (numbered n) (notes_from k (e ∷ es)) ≡ cond (k == n) 1 0 + count_by (numbered n) (notes_from (k + 1) es)
+one_by_one n k e es = sum_by-cons (λ (note : Note). cond (numbered n note) 1 0) (record { number = k; event = e }) (notes_from (k + 1) es)
+
+-- before its number it is not there
+none_from : (n k : ℕ) (es : List Event) → n < k → count_by (numbered n) (notes_from k es) ≡ 0
+none_from n k [] low = refl
+none_from n k (e ∷ es) low =
+    omega (
+      arith,
+      one_by_one n k e es,
+      none_from n (k + 1) es (omega (arith, low)),
+      ap {B = ℕ} (λ b. cond b 1 0) (ne_eqb k n (λ (same : k ≡ n). absurd (omega (arith, low, same)))),
+    )
+
+once_from : (n k : ℕ) (es : List Event) → k ≤ n → n < k + length es → count_by (numbered n) (notes_from k es) ≡ 1
+once_from n k [] low high = absurd (omega (arith, low, high))
+once_from n k (e ∷ es) low high =
+    ⊎_elim (λ (same : k ≡ n).
+    omega (arith, one_by_one n k e es, ap {B = ℕ} (λ b. cond b 1 0) (eq-eqb k n same), none_from n (k + 1) es (omega (arith, same))))
+    (λ (other : k ≢ n).
+    omega (arith, one_by_one n k e es, ap {B = ℕ} (λ b. cond b 1 0) (ne_eqb k n other), once_from n (k + 1) es (omega (arith, lt_of_le-ne low other)) (omega (arith, high))))
+    (cases_eq k n)
+
+-- what a right book leaves at its end
+pub closes : (b : Book) (closed : Closed) → IsBook b → closed.events ≡ length b.notes.items → closed.live ≡ length b.records.items
+    → closed.notes.items ≡ b.notes.items → Closes (sight_of b) closed
+closes b closed h events live notes =
+    let log : List Event = events_of b.notes.items in
+    let all : b.notes.items ++ [] ≡ notes_from 0 log = append-nil b.notes.items ∙ h.history.numbered in
+    record {
+      log = log;
+      front = ([], sym (append-nil log));
+      legal = h.history.legal;
+      events = events ∙ sym (length-events b.notes.items);
+      live = live ∙ ap (λ (s : State). length s.records) h.history.state;
+      notes = notes;
+      all = record {
+        events = subst (AreEventsOf log) (sym (append-nil b.notes.items)) (known b h).own;
+        once = λ n low. ap (count_by (λ (note : Note). note.number == n)) all ∙ once_from n 0 log (omega arith) (omega (arith, low));
+      };
+      alone = λ one. refl;
     }

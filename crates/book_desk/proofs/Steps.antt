@@ -1,5 +1,5 @@
 -- What each change of the places leaves of a right book.
-use Rattle.std.proofs.Common.{◌≡◌, ◌≢◌, ℕ, ◌+◌, ◌-◌, ◌<◌, ◌≤◌, zero, suc, Bool, true, false, not, List, [], ◌∷◌, ◌++◌, length, refl, sym, ap, subst, ◌∙◌, ⊎_elim, arith, Some, None, append-nil}
+use Rattle.std.proofs.Common.{◌≡◌, ◌≢◌, ℕ, ◌+◌, ◌-◌, ◌<◌, ◌≤◌, zero, suc, Bool, true, false, not, List, [], ◌∷◌, ◌++◌, length, refl, sym, ap, subst, ◌∙◌, ⊎_elim, arith, Some, None}
 use Rattle.std.specs.List.{AllByRecursion, AllPairs, list_any, position, remove, slice_get}
 use Rattle.std.specs.Prelude.{◌==◌, ◌||◌}
 use Rattle.std.proofs.lemmas.Bool.{eq-eqb, eqb-true, or_cases, or_from, or_parts, true_from_ne_false}
@@ -9,7 +9,7 @@ use Rattle.history_book.specs.declared.desk.Hold.{Hold}
 use Rattle.history_book.specs.declared.event.Event.{Event}
 use Rattle.history_book.specs.declared.event.Note.{Note}
 use Rattle.history_book.specs.declared.record.Record.{Record}
-use Rattle.history_book.specs.Desk.{FindsFull, IsLiveIn, Saw, Takes, is_in_use}
+use Rattle.history_book.specs.Desk.{FindsFull, IsLiveIn, Takes, is_in_use}
 use Rattle.history_book.specs.Held.{is_at, is_held, is_owed, paid, without}
 use Rattle.history_book.specs.History.{after}
 use Rattle.history_book.specs.Laws.{AreApart, IsConfirmed, LiveRecordsAreConfirmed, RecordsAreApart}
@@ -23,7 +23,7 @@ use Rattle.book_desk.specs.Internal.Book.{ArePlaces, AreReferences, IsBook, IsFo
 use Rattle.book_desk.proofs.Lists.{each_at, each_map, none_of, same_bit, tally-remove, tally_none, tally_some}
 use Rattle.book_desk.proofs.Pool.{few_free, full_pool, length-paid, length-without, place_below, places_hold, places_keep, places_owe, places_pay, places_take, same_paid, same_removed}
 use Rattle.book_desk.proofs.Counting.{none_has}
-use Rattle.book_desk.proofs.Histories.{looked}
+use Rattle.book_desk.proofs.Histories.{looked, saw}
 use Rattle.book_desk.proofs.Positions.{passes_at}
 use Rattle.book_desk.proofs.References.{refs_more, refs_without}
 
@@ -246,16 +246,6 @@ pub unused : (b : Book) (p : ℕ) → IsBook b → uses p b.records.items b.hold
 unused b p h none =
     used_is b p h ∙ or_from _ _ (or_from _ _ (none_of (has_place p) b.records.items (omega (arith, none)))
     (none_of (is_at p) b.holds.items (omega (arith, none)))) (none_of (λ q. q == p) b.owed.items (omega (arith, none)))
-
--- a desk that made no event
-pub saw : (old new : Book) → new.notes ≡ old.notes → new.spare ≡ old.spare → new.sizes ≡ old.sizes
-    → Saw (sight_of old) (sight_of new)
-saw old new notes spare sizes = record {
-  front = ([], ap (λ ns. events_of ns.items) notes ∙ sym (append-nil (events_of old.notes.items)));
-  own = ap (λ ns. ns.items) notes;
-  spare = spare;
-  sizes = sizes;
-}
 
 -- a place that is given back is in no use
 pub recycled : (b new : Book) (a : ℕ) → IsBook b → IsBook new → is_owed a b.owed.items ≡ true

@@ -1,3 +1,1 @@
-pub mod Closed
-pub mod Fresh
 pub mod Internal

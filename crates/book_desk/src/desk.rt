@@ -1,11 +1,11 @@
 //! The desk of a tracker of one thread.
 #![tactic(auto, using(crate::proofs::Known::known))]
 
-ghost use Rattle.std.specs.Prelude.{IfOk};
+ghost use Rattle.std.specs.Prelude.{[], IfOk};
+ghost use Rattle.history_book.specs.Close.{Closes};
+ghost use Rattle.history_book.specs.Fresh.{IsFresh};
 ghost use Rattle.history_book.specs.Sight.{IsKnown};
 ghost use Rattle.history_book.specs.Sizes.{AreWithinLimits};
-ghost use Rattle.book_desk.specs.Fresh.{IsFresh};
-ghost use Rattle.book_desk.specs.Closed.{Closes};
 
 use crate::book::{Book, fill};
 use crate::entries::{is_same_flow, winner};
@@ -60,7 +60,7 @@ impl PlainDesk {
     pub fn new(alloc: Global, sizes: Sizes) -> Result<PlainDesk, NoMemory>
         requires { AreWithinLimits sizes }
         ensures knows { IfOk result IsKnown }
-        ensures fresh { IfOk result (IsFresh (record sizes { passes = 1 })) }
+        ensures fresh { IfOk result (IsFresh [] (record sizes { passes = 1 })) }
     {
         let entries = sizes.entries as usize;
         let mut free = RoomList::new(alloc, entries)?;

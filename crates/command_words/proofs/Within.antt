@@ -5,7 +5,7 @@ use Rattle.std.specs.List.{All}
 use Rattle.std.proofs.lemmas.Bool.Decides.{nat_tests}
 use Rattle.std.proofs.lemmas.List.Elements.{All-cons, All-nil}
 use Rattle.std.proofs.lemmas.List.Splits.{length-slice_split}
-use Rattle.file_text.proofs.Reading.{needed, went_on, went_on_with, where_read}
+use Rattle.file_text.specs.ReadingLaws.{needed, went_on, went_on_with, where_read}
 use Rattle.file_text.specs.Reading.{required}
 use Rattle.file_text.specs.Text.{decimal_of, parts_at, port_of, within}
 use Rattle.command_words.specs.Asked.{IsOrNoMemory, asked_as}

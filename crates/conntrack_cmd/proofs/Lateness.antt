@@ -6,13 +6,14 @@ use Rattle.std.proofs.lemmas.Bool.{eqb-true, eqb-false}
 use Rattle.std.proofs.lemmas.List.{append-nil}
 use Rattle.std.proofs.lemmas.List.Elements.{recursion_from_All}
 use Rattle.expect_table.specs.Expectations.{without_id}
-use Rattle.expect_table.specs.Match.{has_id, is_due}
+use Rattle.expect_table.specs.Match.{has_id, is_awaited}
 use Rattle.expect_table.specs.declared.expectation.Expectation.{Expectation}
 use Rattle.history_book.specs.declared.event.Event.{Event}
 use Rattle.history_book.specs.declared.event.Event.TheVariants.{Expect, Unexpect}
 use Rattle.history_book.specs.declared.event.Note.{Note}
 use Rattle.history_book.specs.declared.sizes.Sizes.{Sizes}
-use Rattle.history_book.specs.Desk.{Looked, MadeEvent, Saw}
+use Rattle.history_book.specs.SightLaws.{GoingOnAddsUp}
+use Rattle.history_book.specs.WentOn.{Looked, MadeEvent, Saw}
 use Rattle.history_book.specs.DeskExpectations.{IsDueUntil}
 use Rattle.history_book.specs.History.{after, is_legal}
 use Rattle.history_book.specs.Laws.{EventsStay, ExpectationsAreExpected, IsExpected, StatesFollow, StatesStay}
@@ -26,7 +27,7 @@ use Rattle.conntrack_cmd.specs.Internal.Late.{IsEnding, IsOver, IsOverWhereLate}
 use Rattle.conntrack_cmd.specs.Internal.Loops.{MadeNotes}
 use Rattle.conntrack_cmd.proofs.Ends.{found_one}
 use Rattle.conntrack_cmd.proofs.Growth.{happened_grows}
-use Rattle.conntrack_cmd.proofs.Places.{found_has, starts_longer, starts_trans}
+use Rattle.conntrack_cmd.proofs.Places.{found_has, starts_longer}
 use Rattle.conntrack_cmd.proofs.Sweeps.{each_map, each_push}
 
 -- what stands at an index, with what stands before it and after it
@@ -91,7 +92,7 @@ expected_at expected sizes log legal p id e found = (
   eqb-true e.id id (found_has (has_id id) (after log p).expects e found),
 )
 
-module _ (states : StatesStay) (events : EventsStay) where
+module _ (going : GoingOnAddsUp) (states : StatesStay) (events : EventsStay) where
   pub expected_grows : (longer log : List Event) (e : Expectation) → StartsWith longer log → IsExpected log e → IsExpected longer e
   expected_grows longer log e starts h = record { replaced = h.replaced; moment = h.moment; event = events longer log _ _ starts h.event }
 
@@ -108,11 +109,11 @@ module _ (states : StatesStay) (events : EventsStay) where
 
   -- an expectation that is still due is not late
   pub due_not_late : ExpectationsAreExpected → (old new : Sight) (moment deadline at : ℕ) (e : Expectation) → IsKnown new
-      → IsExpected old.front e → Looked old new at (IsDueUntil e.id deadline) → moment < deadline → is_due moment e ≡ false → ⊥
+      → IsExpected old.front e → Looked old new at (IsDueUntil e.id deadline) → moment < deadline → is_awaited moment e ≡ false → ⊥
   due_not_late expected old new moment deadline at e known is looked due late =
       let d : Expectation = looked.fact.fact.subject in
       let there = expected_at expected new.sizes new.front known.legal at e.id d looked.fact.fact.is in
-      let same : d ≡ e = same_expectation new.front d e there.0 (expected_grows new.front old.front e looked.saw.front is) there.1 in
+      let same : d ≡ e = same_expectation new.front d e there.0 (expected_grows new.front old.front e looked.saw.went.front is) there.1 in
       not_both moment e.deadline
       (omega (arith, due, looked.fact.fact.ends, ap (λ (x : Expectation). x.deadline) same)) late
     where
@@ -130,25 +131,18 @@ module _ (states : StatesStay) (events : EventsStay) where
   -- no event more
   pub made_saw : (a b c : Sight) (notes : List Note) → MadeNotes a b notes → Saw b c → MadeNotes a c notes
   made_saw a b c notes m saw = record {
-    front = starts_trans c.front b.front a.front saw.front m.front;
-    sizes = saw.sizes ∙ m.sizes;
-    own = saw.own ∙ m.own;
-    spare = omega (arith, m.spare, saw.spare);
-    happened = happened_wider c.front b.front (length a.front) notes saw.front m.happened;
+    went = going.before a b c notes m.went saw;
+    happened = happened_wider c.front b.front (length a.front) notes saw.went.front m.happened;
   }
 
   -- one event more
   made_event : (a b c : Sight) (notes : List Note) → MadeNotes a b notes → (number : ℕ) (e : Event) → MadeEvent b c number e
       → MadeNotes a c (notes ++ record { number = number; event = e } ∷ [])
   made_event a b c notes m number e made = record {
-    front = starts_trans c.front b.front a.front made.front m.front;
-    sizes = made.sizes ∙ m.sizes;
-    own = made.own ∙ ap (λ (l : List Note). l ++ record { number = number; event = e } ∷ []) m.own
-        ∙ append_assoc a.own notes (record { number = number; event = e } ∷ []);
-    spare = omega (arith, m.spare, made.spare, length-append notes (record { number = number; event = e } ∷ []));
+    went = going.twice a b c notes (record { number = number; event = e } ∷ []) m.went made.went;
     happened = each_push (λ (n : Note). Happened c.front (length a.front) n × (n.number < length c.front)) notes
-        (record { number = number; event = e }) (happened_wider c.front b.front (length a.front) notes made.front m.happened)
-        (record { event = made.happened; later = omega (arith, made.low, starts_longer b.front a.front m.front) }, made.high);
+        (record { number = number; event = e }) (happened_wider c.front b.front (length a.front) notes made.went.front m.happened)
+        (record { event = made.happened; later = omega (arith, made.low, starts_longer b.front a.front m.went.front) }, made.high);
   }
 
   pub over_grows : (longer log : List Event) (from to first last id : ℕ) → StartsWith longer log → first ≤ from → to ≤ last → to ≤ length log
@@ -195,7 +189,7 @@ module _ (states : StatesStay) (events : EventsStay) where
       exact = n.exact;
       few = omega (arith, n.few);
       each = n.each;
-      over = over_more n.made.front saw.front n.over;
+      over = over_more n.made.went.front saw.went.front n.over;
       empty = empty;
       known = known;
     }
@@ -208,16 +202,16 @@ module _ (states : StatesStay) (events : EventsStay) where
       exact = ap (λ k. k + 1) n.exact ∙ sym (length-append n.notes (record { number = number; event = Unexpect e.id moment } ∷ []));
       few = omega (arith, n.few);
       each = each_push (IsUnexpectAt moment) n.notes (record { number = number; event = Unexpect e.id moment }) n.each (e.id, refl);
-      over = over_more n.made.front made.front n.over;
+      over = over_more n.made.went.front made.went.front n.over;
       empty = empty;
       known = known;
     }
 
 -- before the first expectation
-pub ending_start : (moment : ℕ) (s : Sight) (listed : List Expectation) → HoldsNothing s → IsKnown s → IsEnding moment s s listed 0 0
-ending_start moment s listed empty known = record {
+pub ending_start : GoingOnAddsUp → (moment : ℕ) (s : Sight) (listed : List Expectation) → HoldsNothing s → IsKnown s → IsEnding moment s s listed 0 0
+ending_start going moment s listed empty known = record {
   notes = [];
-  made = record { front = ([], sym (append-nil s.front)); sizes = refl; own = sym (append-nil s.own); spare = omega arith; happened = tt };
+  made = record { went = (going.resting s).went; happened = tt };
   exact = refl;
   few = omega arith;
   each = tt;

@@ -1,5 +1,5 @@
 -- The commands of a script are lawful.
-use Rattle.std.proofs.Common.{◌≡◌, ℕ, ◌+◌, ◌≤◌, ◌<◌, ◌^◌, nat_lt, arith, ◌&&◌, ◌||◌, Bool, true, false, is_none, nat_le, if◌then◌else◌, List, [], ◌∷◌, ◌++◌, length, Option, Some, None, Result, Ok, Err, IfOk, IfSome, codes, bytes_eq, refl, sym, subst}
+use Rattle.std.proofs.Common.{◌≡◌, ℕ, ◌+◌, ◌≤◌, ◌<◌, ◌^◌, nat_lt, arith, ◌&&◌, ◌||◌, Bool, true, false, is_none, nat_le, List, [], ◌∷◌, ◌++◌, length, Option, Some, None, Ok, Err, IfOk, IfSome, codes, bytes_eq, refl, sym, subst}
 use Rattle.std.proofs.lemmas.Result.{IfOk-at_ok}
 use Rattle.std.proofs.lemmas.Bool.Decides.{nat_tests}
 use Rattle.std.specs.List.{AllByRecursion}
@@ -8,33 +8,28 @@ use Rattle.tuple_core.specs.declared.Proto.TheVariants.{Icmp, Tcp, Udp}
 use Rattle.tuple_core.specs.declared.Tuple.{Tuple}
 use Rattle.tuple_core.specs.Tuple.{is_valid}
 use Rattle.history_book.specs.declared.filter.Filter.{Filter}
-use Rattle.file_text.specs.Reading.{◌>>=◌, once, required}
+use Rattle.file_text.specs.Reading.{◌>>=◌, located, once, required}
+use Rattle.file_text.specs.Protocols.{has_ports, proto_named}
 use Rattle.file_text.specs.Text.{address_of, decimal_of, lines_of, port_of, words_of_line}
 use Rattle.file_text.specs.Laws.{AddressesAreSmall, NumbersStayWithin, PortsAreSmall}
-use Rattle.file_text.proofs.Reading.{needed, was_once, went_on, went_on_with, where_read}
+use Rattle.file_text.specs.ReadingLaws.{needed, was_located, was_once, went_on, went_on_with, where_read}
 use Rattle.conntrack_cmd.specs.declared.command.Command.{Command}
 use Rattle.conntrack_cmd.specs.declared.command.Command.TheVariants as command
-use Rattle.conntrack_cmd.specs.declared.command.Saying.{Saying}
-use Rattle.conntrack_cmd.specs.declared.command.Saying.TheVariants as saying
-use Rattle.conntrack_cmd.specs.declared.read.ScriptKind.{ScriptKind}
+use Rattle.conntrack_cmd.specs.declared.command.LineMeaning.{LineMeaning}
+use Rattle.conntrack_cmd.specs.declared.command.LineMeaning.TheVariants as meaning
 use Rattle.conntrack_cmd.specs.declared.read.ScriptKind.TheVariants as kind
-use Rattle.conntrack_cmd.specs.Options.{beside_ports, everything, filter_of, flow_of, has_ports, options_from, proto_of, tuple_of, with_dport, with_dst, with_option, with_proto, with_sport, with_src}
+use Rattle.conntrack_cmd.specs.Options.{beside_ports, everything, filter_of, flow_of, options_from, taken_proto, tuple_of, with_dport, with_dst, with_option, with_proto, with_sport, with_src}
 use Rattle.conntrack_cmd.specs.Line.{alone, command_of, expire_of, is_expect, line_of, list_of, moment_in, wait_of}
-use Rattle.conntrack_cmd.specs.Script.{commands_of, has_wait, located, next_of, sayings_from, IsScript}
+use Rattle.conntrack_cmd.specs.Script.{commands_of, fault_at, has_wait, next_of, meanings_from, IsScript}
 use Rattle.conntrack_cmd.specs.ScriptLaws.{IsLawful, IsLawfulFilter}
-use Rattle.conntrack_cmd.proofs.LineLaws.{sayings}
-
-some_where : {A : Type 0} (P : A → Type 0) (test : Bool) (read other : Option A) → IfSome read P → IfSome other P → IfSome (if test then read else other) P
-some_where P true read other first second = first
-some_where P false read other first second = second
+use Rattle.conntrack_cmd.proofs.LineLaws.{meanings}
 
 -- a command for one flow names no protocol without ports
-ported : (word : List ℕ) → IfSome (proto_of true word) (λ p. has_ports (Some p) ≡ true)
-unfolding proto_of
-ported word =
-    some_where (λ (p : Proto). has_ports (Some p) ≡ true) (bytes_eq word (codes "tcp")) (Some Tcp) _ refl
-    (some_where (λ (p : Proto). has_ports (Some p) ≡ true) (bytes_eq word (codes "udp")) (Some Udp) _ refl
-    (some_where (λ (p : Proto). has_ports (Some p) ≡ true) (bytes_eq word (codes "icmp")) None None tt tt))
+ported : (proto : Option Proto) → IfSome (taken_proto true proto) (λ p. has_ports (Some p) ≡ true)
+ported None = tt
+ported (Some Icmp) = tt
+ported (Some Tcp) = refl
+ported (Some Udp) = refl
 
 -- what is named of one flow
 record IsOfFlow (f : Filter) : Type 0 where
@@ -45,36 +40,37 @@ record IsOfFlow (f : Filter) : Type 0 where
   dport : IfSome f.dport (λ n. n < 2 ^ 16)
 
 -- an option that is read, with its value
-option_read : {A : Type 0} (P : A → Type 0) (old value : Option A) (f : A → Filter) → IfSome value P → ((x : A) → P x → IsOfFlow (f x)) →
-    IfOk (once kind.Repeat old (required kind.Value value >>= λ x. Ok (f x))) IsOfFlow
+option_read : {A : Type 0} (P : A → Type 0) (old value : Option A) (f : Option A → Filter) → IfSome value P
+    → ((x : Option A) → IfSome x P → IsOfFlow (f x)) → IfOk (once kind.Repeat old (required kind.Value value) >>= λ x. Ok (f x)) IsOfFlow
 option_read P old value f is next =
-    was_once IsOfFlow kind.Repeat old _ (went_on P IsOfFlow (required kind.Value value) _ (needed P kind.Value value is) next)
+    went_on (λ x. IfSome x P) IsOfFlow (once kind.Repeat old (required kind.Value value)) _
+    (was_once P kind.Repeat old (required kind.Value value) (needed P kind.Value value is)) next
 
 module _ (numbers : NumbersStayWithin) (ports : PortsAreSmall) (addresses : AddressesAreSmall) where
   module _ (f : Filter) (value : List ℕ) (is : IsOfFlow f) where
     kept_proto : IfOk (with_proto true f value) IsOfFlow
     kept_proto =
-        option_read {A = Proto} (λ (p : Proto). has_ports (Some p) ≡ true) f.proto (proto_of true value) (λ (p : Proto). record f { proto = Some p }) (ported value)
+        option_read {A = Proto} (λ (p : Proto). has_ports (Some p) ≡ true) f.proto (taken_proto true (proto_named value)) (λ (p : Option Proto). record f { proto = p }) (ported (proto_named value))
         (λ p has. record { proto = has; src = is.src; dst = is.dst; sport = is.sport; dport = is.dport })
 
     kept_src : IfOk (with_src f value) IsOfFlow
     kept_src =
-        option_read {A = ℕ} (λ n. n < 2 ^ 32) f.src (address_of value) (λ (a : ℕ). record f { src = Some a }) (addresses value)
+        option_read {A = ℕ} (λ n. n < 2 ^ 32) f.src (address_of value) (λ (a : Option ℕ). record f { src = a }) (addresses value)
         (λ a small. record { proto = is.proto; src = small; dst = is.dst; sport = is.sport; dport = is.dport })
 
     kept_dst : IfOk (with_dst f value) IsOfFlow
     kept_dst =
-        option_read {A = ℕ} (λ n. n < 2 ^ 32) f.dst (address_of value) (λ (a : ℕ). record f { dst = Some a }) (addresses value)
+        option_read {A = ℕ} (λ n. n < 2 ^ 32) f.dst (address_of value) (λ (a : Option ℕ). record f { dst = a }) (addresses value)
         (λ a small. record { proto = is.proto; src = is.src; dst = small; sport = is.sport; dport = is.dport })
 
     kept_sport : IfOk (with_sport f value) IsOfFlow
     kept_sport =
-        option_read {A = ℕ} (λ n. n < 2 ^ 16) f.sport (port_of 0 value) (λ (p : ℕ). record f { sport = Some p }) (ports 0 value)
+        option_read {A = ℕ} (λ n. n < 2 ^ 16) f.sport (port_of 0 value) (λ (p : Option ℕ). record f { sport = p }) (ports 0 value)
         (λ p small. record { proto = is.proto; src = is.src; dst = is.dst; sport = small; dport = is.dport })
 
     kept_dport : IfOk (with_dport f value) IsOfFlow
     kept_dport =
-        option_read {A = ℕ} (λ n. n < 2 ^ 16) f.dport (port_of 0 value) (λ (p : ℕ). record f { dport = Some p }) (ports 0 value)
+        option_read {A = ℕ} (λ n. n < 2 ^ 16) f.dport (port_of 0 value) (λ (p : Option ℕ). record f { dport = p }) (ports 0 value)
         (λ p small. record { proto = is.proto; src = is.src; dst = is.dst; sport = is.sport; dport = small })
 
     kept : (name : List ℕ) → IfOk (with_option true f name value) IsOfFlow
@@ -154,42 +150,38 @@ module _ (numbers : NumbersStayWithin) (ports : PortsAreSmall) (addresses : Addr
       (λ _. where_read IsLawful (bytes_eq word (codes "expire")) _ (Err kind.Command) (λ _. lawful_expire words) (λ _. tt))))))
 
   -- a command that a line says is lawful
-  abbrev IsLawfulSaying : Saying → Type 0
-  IsLawfulSaying next = AllByRecursion IsLawful (commands_of (next ∷ []))
+  abbrev IsLawfulMeaning : LineMeaning → Type 0
+  IsLawfulMeaning next = AllByRecursion IsLawful (commands_of (next ∷ []))
 
-  lawful_wait : (waited : Bool) (words : List (List ℕ)) → IfOk (wait_of waited words) IsLawfulSaying
+  lawful_wait : (waited : Bool) (words : List (List ℕ)) → IfOk (wait_of waited words) IsLawfulMeaning
   lawful_wait true [] = tt
   lawful_wait false [] = tt
   lawful_wait true (word ∷ words) = tt
   lawful_wait false (word ∷ words) = tt
 
-  lawful_line : (full waited : Bool) (words : List (List ℕ)) → IfOk (line_of full waited words) IsLawfulSaying
+  lawful_line : (full waited : Bool) (words : List (List ℕ)) → IfOk (line_of full waited words) IsLawfulMeaning
   unfolding line_of
   lawful_line full waited [] = tt
   lawful_line full waited (word ∷ words) =
-      where_read IsLawfulSaying (bytes_eq word (codes "wait")) (wait_of waited words) _ (λ _. lawful_wait waited words)
-      (λ _. where_read IsLawfulSaying full (Err kind.TooMany) _ (λ _. tt)
-      (λ _. went_on {A = Command} {B = Saying} IsLawful IsLawfulSaying (command_of word words) _ (lawful_command word words) (λ c is. (is, tt))))
+      where_read IsLawfulMeaning (bytes_eq word (codes "wait")) (wait_of waited words) _ (λ _. lawful_wait waited words)
+      (λ _. where_read IsLawfulMeaning full (Err kind.TooMany) _ (λ _. tt)
+      (λ _. went_on {A = Command} {B = LineMeaning} IsLawful IsLawfulMeaning (command_of word words) _ (lawful_command word words) (λ c is. (is, tt))))
 
-  lawful_located : (number : ℕ) (read : Result Saying ScriptKind) → IfOk read IsLawfulSaying → IfOk (located number read) IsLawfulSaying
-  lawful_located number (Ok next) is = is
-  lawful_located number (Err k) is = tt
-
-  lawful_more : (said : List Saying) (next : Saying) → AllByRecursion IsLawful (commands_of said) → IsLawfulSaying next → AllByRecursion IsLawful (commands_of (said ++ next ∷ []))
+  lawful_more : (said : List LineMeaning) (next : LineMeaning) → AllByRecursion IsLawful (commands_of said) → IsLawfulMeaning next → AllByRecursion IsLawful (commands_of (said ++ next ∷ []))
   lawful_more [] next all one = one
-  lawful_more (saying.Nothing ∷ said) next all one = lawful_more said next all one
-  lawful_more (saying.Command c ∷ said) next all one = (all.0, lawful_more said next all.1 one)
-  lawful_more (saying.Wait ∷ said) next all one = lawful_more said next all one
+  lawful_more (meaning.Nothing ∷ said) next all one = lawful_more said next all one
+  lawful_more (meaning.Command c ∷ said) next all one = (all.0, lawful_more said next all.1 one)
+  lawful_more (meaning.Wait ∷ said) next all one = lawful_more said next all one
 
-  lawful_lines : (said : List Saying) (lines : List (List ℕ)) → AllByRecursion IsLawful (commands_of said) → IfOk (sayings_from said lines) (λ all. AllByRecursion IsLawful (commands_of all))
-  unfolding sayings_from
+  lawful_lines : (said : List LineMeaning) (lines : List (List ℕ)) → AllByRecursion IsLawful (commands_of said) → IfOk (meanings_from said lines) (λ all. AllByRecursion IsLawful (commands_of all))
+  unfolding meanings_from
   lawful_lines said [] all = all
   lawful_lines said (line ∷ lines) all =
-      went_on {A = Saying} {B = List Saying} IsLawfulSaying (λ (s : List Saying). AllByRecursion IsLawful (commands_of s)) (located (length said + 1) (next_of said line)) _
-      (lawful_located (length said + 1) (next_of said line) (lawful_line (nat_le 256 (length (commands_of said))) (has_wait said) (words_of_line line)))
+      went_on {A = LineMeaning} {B = List LineMeaning} IsLawfulMeaning (λ (s : List LineMeaning). AllByRecursion IsLawful (commands_of s)) (located fault_at (length said + 1) (next_of said line)) _
+      (was_located IsLawfulMeaning fault_at (length said + 1) (next_of said line) (lawful_line (nat_le 256 (length (commands_of said))) (has_wait said) (words_of_line line)))
       (λ next one. lawful_lines (said ++ next ∷ []) lines (lawful_more said next all one))
 
   pub lawful_script : (bytes : List ℕ) (commands : List Command) (wait : ℕ) → IsScript bytes commands wait → AllByRecursion IsLawful commands
   lawful_script bytes commands wait is =
-      let s = sayings bytes commands wait is in
-      subst (λ (cs : List Command). AllByRecursion IsLawful cs) (sym s.2) (IfOk-at_ok (λ (all : List Saying). AllByRecursion IsLawful (commands_of all)) s.1 (lawful_lines [] (lines_of bytes) tt))
+      let s = meanings bytes commands wait is in
+      subst (λ (cs : List Command). AllByRecursion IsLawful cs) (sym s.2) (IfOk-at_ok (λ (all : List LineMeaning). AllByRecursion IsLawful (commands_of all)) s.1 (lawful_lines [] (lines_of bytes) tt))

@@ -2,7 +2,6 @@ pub mod LineLaws
 pub mod Lawful
 pub mod OptionWords
 pub mod ScriptLines
-pub mod Bounds
 pub mod Ends
 pub mod Said
 pub mod Expiry

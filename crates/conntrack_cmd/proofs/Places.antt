@@ -6,12 +6,13 @@ use Rattle.std.proofs.lemmas.List.{append-nil}
 use Rattle.history_book.specs.declared.answer.Row.{Row}
 use Rattle.history_book.specs.declared.event.Event.{Event}
 use Rattle.history_book.specs.declared.event.Event.TheVariants.{Destroy}
-use Rattle.history_book.specs.declared.event.Note.{Note}
 use Rattle.history_book.specs.declared.event.Why.{Why}
 use Rattle.history_book.specs.declared.filter.Filter.{Filter}
 use Rattle.history_book.specs.declared.record.Record.{Record}
 use Rattle.history_book.specs.declared.desk.Hold.{Hold}
-use Rattle.history_book.specs.Desk.{Destroys, HoldsOneMore, IsLiveIn, IsRecord, Looked, SamePlaces, Saw}
+use Rattle.history_book.specs.Desk.{Destroys, HoldsOneMore, IsLiveIn, IsRecord, SamePlaces}
+use Rattle.history_book.specs.SightLaws.{GoingOnAddsUp}
+use Rattle.history_book.specs.WentOn.{Looked, MadeEvent, Saw}
 use Rattle.history_book.specs.Held.{held_id}
 use Rattle.history_book.specs.Places.{HoldsNothing, HoldsOne, OneHoldHasItsId}
 use Rattle.history_book.specs.Filter.{passes}
@@ -35,14 +36,6 @@ starts_trans c b a (r, e) (q, f) = (q ++ r, e ∙ ap (λ (l : List Event). l ++ 
 
 pub starts_longer : (b a : List Event) → StartsWith b a → length a ≤ length b
 starts_longer b a (r, e) = omega (arith, ap length e, length-append a r)
-
-pub saw_trans : (a b c : Sight) → Saw a b → Saw b c → Saw a c
-saw_trans a b c s t = record {
-  front = starts_trans c.front b.front a.front t.front s.front;
-  own = t.own ∙ s.own;
-  spare = t.spare ∙ s.spare;
-  sizes = t.sizes ∙ s.sizes;
-}
 
 -- what is found passes the test
 pub found_has : {X : Type 0} (p : X → Bool) (xs : List X) (y : X) → find p xs ≡ Some y → p y ≡ true
@@ -94,21 +87,21 @@ module _ (states : StatesStay) (keep : EntriesKeepTheirPlace) (name : PlacesName
       → Looked mid then gone (λ s. record_of id s ≡ None) → StartsWith new.front then.front
       → Visited new.front test place (length old.front) (length new.front) []
   gone_visited test mid then at gone id held looked starts =
-      held_visited test mid at id [] held (starts_trans new.front then.front mid.front starts looked.saw.front)
-      (inr (missed_at test mid then gone id (λ s. record_of id s ≡ None) held.saw.front looked starts (λ s e. ap (is_live_and test) e)))
+      held_visited test mid at id [] held (starts_trans new.front then.front mid.front starts looked.saw.went.front)
+      (inr (missed_at test mid then gone id (λ s. record_of id s ≡ None) held.saw.went.front looked starts (λ s e. ap (is_live_and test) e)))
 
   pub failed_visited : (test : Record → Bool) (mid then : Sight) (at seen id : ℕ) (r : Record) → Looked old mid at (IsLiveIn place id)
       → Looked mid then seen (IsRecord id r) → StartsWith new.front then.front → test r ≡ false
       → Visited new.front test place (length old.front) (length new.front) []
   failed_visited test mid then at seen id r held looked starts fails =
-      held_visited test mid at id [] held (starts_trans new.front then.front mid.front starts looked.saw.front)
-      (inr (missed_at test mid then seen id (IsRecord id r) held.saw.front looked starts (λ s e. ap (is_live_and test) e ∙ fails)))
+      held_visited test mid at id [] held (starts_trans new.front then.front mid.front starts looked.saw.went.front)
+      (inr (missed_at test mid then seen id (IsRecord id r) held.saw.went.front looked starts (λ s e. ap (is_live_and test) e ∙ fails)))
 
   pub row_visited : (test : Record → Bool) (mid then : Sight) (at seen id : ℕ) (r : Record) → Looked old mid at (IsLiveIn place id)
       → Looked mid then seen (IsRecord id r) → StartsWith new.front then.front
       → Visited new.front test place (length old.front) (length new.front) (record { subject = r; at = seen } ∷ [])
   row_visited test mid then at seen id r held looked starts =
-      held_visited test mid at id (record { subject = r; at = seen } ∷ []) held (starts_trans new.front then.front mid.front starts looked.saw.front)
+      held_visited test mid at id (record { subject = r; at = seen } ∷ []) held (starts_trans new.front then.front mid.front starts looked.saw.went.front)
       (inl (own_row id (record { subject = r; at = seen }) (has_id_of id (after then.front seen) r looked.fact.fact)))
 
   -- the record that was seen has the place
@@ -123,7 +116,7 @@ module _ (states : StatesStay) (keep : EntriesKeepTheirPlace) (name : PlacesName
   pub row_placed : (mid then : Sight) (at seen id : ℕ) (r : Record) → Looked old mid at (IsLiveIn place id)
       → Looked mid then seen (IsRecord id r) → StartsWith new.front then.front → r.place ≡ place
   row_placed mid then at seen id r held looked starts =
-      placed_at mid at seen id r held (starts_trans new.front then.front mid.front starts looked.saw.front)
+      placed_at mid at seen id r held (starts_trans new.front then.front mid.front starts looked.saw.went.front)
       (at_grows states new.front then.front seen (IsRecord id r) starts looked.fact)
 
   pub row_is : (filter : Filter) (mid then : Sight) (at seen id : ℕ) (r : Record) → Looked old mid at (IsLiveIn place id)
@@ -132,7 +125,7 @@ module _ (states : StatesStay) (keep : EntriesKeepTheirPlace) (name : PlacesName
   row_is filter mid then at seen id r held looked starts passed =
       let grown : At new.front seen (IsRecord id r) = at_grows states new.front then.front seen (IsRecord id r) starts looked.fact in
       record {
-        low = omega (arith, starts_longer mid.front old.front held.saw.front, looked.low);
+        low = omega (arith, starts_longer mid.front old.front held.saw.went.front, looked.low);
         high = grown.within;
         live = subst (λ i. At new.front seen (IsRecord i r)) (sym (has_id_of id (after then.front seen) r looked.fact.fact)) grown;
         passes = passed;
@@ -141,10 +134,10 @@ module _ (states : StatesStay) (keep : EntriesKeepTheirPlace) (name : PlacesName
   module _ (dead : DestroyedIdsStayDead) (events : EventsStay) (why : Why) (mid then : Sight) (at number id : ℕ) (r : Record)
       (held : Looked old mid at (IsLiveIn place id)) (d : Destroys id why mid then number r) (saw : Saw then new) where
     found : At new.front number (IsRecord id r)
-    found = at_grows states new.front then.front number (IsRecord id r) saw.front d.found
+    found = at_grows states new.front then.front number (IsRecord id r) saw.went.front d.found
 
     starts : StartsWith new.front mid.front
-    starts = starts_trans new.front then.front mid.front saw.front d.made.front
+    starts = starts_trans new.front then.front mid.front saw.went.front d.made.went.front
 
     same : r.id ≡ id
     same = has_id_of id (after new.front number) r found.fact
@@ -154,28 +147,24 @@ module _ (states : StatesStay) (keep : EntriesKeepTheirPlace) (name : PlacesName
 
     pub killed_visited : (test : Record → Bool) → Visited new.front test place (length old.front) (length new.front) []
     killed_visited test =
-        let longer : length then.front ≤ length new.front = starts_longer new.front then.front saw.front in
+        let longer : length then.front ≤ length new.front = starts_longer new.front then.front saw.went.front in
         let none : record_of id (after new.front (number + 1)) ≡ None =
         gone_from id (after new.front (number + 1))
         (dead new.sizes new.front number (number + 1) id why known.legal
-        (events new.front then.front number (Destroy id why) saw.front d.made.happened) (omega arith) (omega (arith, longer, d.made.high))) in
+        (events new.front then.front number (Destroy id why) saw.went.front d.made.happened) (omega arith) (omega (arith, longer, d.made.high))) in
         held_visited test mid at id [] held starts
         (inr (record {
           at = number + 1;
-          low = omega (arith, starts_longer mid.front old.front held.saw.front, d.made.low);
+          low = omega (arith, starts_longer mid.front old.front held.saw.went.front, d.made.low);
           high = omega (arith, longer, d.made.high);
           missed = ap (is_live_and test) none;
         }))
 
-    pub killed_row : DestroysRow why old new (record { subject = r; at = number })
-    killed_row = record {
-      front = starts_trans new.front mid.front old.front starts held.saw.front;
-      own = saw.own ∙ d.made.own ∙ ap (λ (l : List Note). l ++ record { number = number; event = Destroy id why } ∷ []) held.saw.own
-          ∙ ap (λ (i : ℕ). old.own ++ record { number = number; event = Destroy i why } ∷ []) (sym same);
-      spare = sym held.saw.spare ∙ d.made.spare ∙ ap (λ n. n + 1) (sym saw.spare);
-      sizes = saw.sizes ∙ d.made.sizes ∙ held.saw.sizes;
-      low = omega (arith, starts_longer mid.front old.front held.saw.front, d.made.low);
-      high = omega (arith, starts_longer new.front then.front saw.front, d.made.high);
+    pub killed_row : GoingOnAddsUp → DestroysRow why old new (record { subject = r; at = number })
+    killed_row going = record {
+      made = subst (λ (i : ℕ). MadeEvent old new number (Destroy i why)) (sym same)
+          ((going.event old then new number (Destroy id why)).1
+          ((going.event old mid then number (Destroy id why)).0 held.saw d.made) saw);
       destroyed = record {
         event = refl;
         number = refl;

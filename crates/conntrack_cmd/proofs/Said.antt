@@ -1,8 +1,7 @@
 -- What is said of a sweep between two looks.
-use Rattle.std.proofs.Common.{◌≡◌, ℕ, ◌+◌, ◌<◌, ◌≤◌, Bool, true, List, [], ◌∷◌, ◌++◌, length, refl, sym, ap, subst, ◌∙◌, arith}
+use Rattle.std.proofs.Common.{◌≡◌, ℕ, ◌+◌, ◌<◌, ◌≤◌, Bool, true, List, [], ◌∷◌, length, refl, sym, ap, subst, ◌∙◌, arith}
 use Rattle.std.specs.List.{AllByRecursion}
 use Rattle.std.specs.List.Sorted.{IsNonDecreasingBy, IsPermutation}
-use Rattle.std.proofs.lemmas.List.{append-nil}
 use Rattle.history_book.specs.declared.answer.Row.{Row}
 use Rattle.history_book.specs.declared.answer.Said.{Said}
 use Rattle.history_book.specs.declared.answer.Said.TheVariants as said
@@ -13,7 +12,8 @@ use Rattle.history_book.specs.declared.event.Why.TheVariants as why
 use Rattle.history_book.specs.declared.filter.Filter.{Filter}
 use Rattle.history_book.specs.declared.record.Record.{Record}
 use Rattle.history_book.specs.declared.sizes.Sizes.{Sizes}
-use Rattle.history_book.specs.Desk.{Looked}
+use Rattle.history_book.specs.SightLaws.{GoingOnAddsUp}
+use Rattle.history_book.specs.WentOn.{Looked}
 use Rattle.history_book.specs.Filter.{passes}
 use Rattle.history_book.specs.History.{is_legal}
 use Rattle.history_book.specs.Laws.{EntriesKeepTheirPlace, EventsStay, GoneEntriesStayGone, LiveRecordsAreConfirmed, PlacesAreInThePool, StatesStay}
@@ -31,7 +31,7 @@ use Rattle.conntrack_cmd.specs.Internal.Spoken.{Speaks}
 use Rattle.conntrack_cmd.specs.Internal.Sweep.{AreVisited}
 use Rattle.conntrack_cmd.proofs.Ends.{all_have_rows, each_permuted, has_row_permuted, in_order, none_left, passes_same}
 use Rattle.conntrack_cmd.proofs.Growth.{at_grows, destroyed_grow, happened_grows}
-use Rattle.conntrack_cmd.proofs.Places.{starts_longer, starts_trans}
+use Rattle.conntrack_cmd.proofs.Places.{starts_longer}
 use Rattle.conntrack_cmd.proofs.Sweeps.{all_visited_grow, each_map}
 
 -- each event destroyed an entry for the reason
@@ -51,19 +51,17 @@ visited_between states keep b new test entries low high from to rows was known s
     (subst (λ (z : Sizes). is_legal z b.front ≡ true) (sym same) was.legal) test entries low high from to rows rows first order last within
     (λ id h. h) visited)
 
-module _ (states : StatesStay) (old a b new : Sight) (from to : ℕ) (F G : State → Type 0) (first : Looked old a from F)
+module _ (going : GoingOnAddsUp) (states : StatesStay) (old a b new : Sight) (from to : ℕ) (F G : State → Type 0) (first : Looked old a from F)
     (last : Looked b new to G) where
   -- events made between the two looks
   pub made_between : EventsStay → (asked : Command) (spoken : Said) (notes : List Note) → MadeNotes a b notes
       → length notes ≤ old.sizes.entries + old.sizes.expectations → HoldsNothing new
       → FitsCommandFrom new.front asked notes spoken from to → Speaks asked old new (record { said = spoken; from = from; to = to })
   made_between events asked spoken notes made few empty fits =
-      let longer : length a.front ≤ length b.front = starts_longer b.front a.front made.front in
+      let longer : length a.front ≤ length b.front = starts_longer b.front a.front made.went.front in
       record {
-        front = starts_trans new.front b.front old.front last.saw.front (starts_trans b.front a.front old.front made.front first.saw.front);
-        sizes = last.saw.sizes ∙ made.sizes ∙ first.saw.sizes;
         own = notes;
-        added = last.saw.own ∙ made.own ∙ ap (λ (l : List Note). l ++ notes) first.saw.own;
+        went = going.before old b new notes (going.after old a b notes first.saw made.went) last.saw;
         few = few;
         fits = record {
           later = first.low;
@@ -72,7 +70,7 @@ module _ (states : StatesStay) (old a b new : Sight) (from to : ℕ) (F G : Stat
           events = each_map (λ (n : Note). Happened new.front (length a.front) n × (n.number < length b.front))
               (λ (n : Note). Happened new.front from n × (n.number < to)) notes
               (λ n h. (record { event = h.0.event; later = omega (arith, h.0.later, first.fact.within) }, omega (arith, h.1, last.low)))
-              (happened_grows events states new.front b.front last.saw.front (length a.front) (length b.front) notes made.happened);
+              (happened_grows events states new.front b.front last.saw.went.front (length a.front) (length b.front) notes made.happened);
           fits = fits;
         };
         empty = empty;
@@ -83,15 +81,9 @@ module _ (states : StatesStay) (old a b new : Sight) (from to : ℕ) (F G : Stat
       → HoldsNothing new → IsKnown new
       → Speaks (command.List filter) old new (record { said = said.Listed sorted; from = from; to = to })
   list_speaks events keep pool filter rows sorted l same rises empty known =
-      let longer : length a.front ≤ length b.front = starts_longer b.front a.front l.saw.front in
+      let longer : length a.front ≤ length b.front = starts_longer b.front a.front l.saw.went.front in
       made_between events (command.List filter) (said.Listed sorted) []
-      (record {
-        front = l.saw.front;
-        sizes = l.saw.sizes;
-        own = l.saw.own ∙ sym (append-nil a.own);
-        spare = omega (arith, l.saw.spare);
-        happened = tt;
-      })
+      (record { went = l.saw.went; happened = tt })
       (omega arith) empty
       (record {
         rows = sorted;
@@ -103,14 +95,14 @@ module _ (states : StatesStay) (old a b new : Sight) (from to : ℕ) (F G : Stat
             (λ r h. record {
               low = omega (arith, h.low, first.fact.within);
               high = omega (arith, h.high, last.low);
-              live = at_grows states new.front b.front _ _ last.saw.front h.live;
+              live = at_grows states new.front b.front _ _ last.saw.went.front h.live;
               passes = h.passes;
             }) l.each);
         whole = λ id lived. has_row_permuted id rows sorted.items same
             (all_have_rows keep pool new.sizes new.front known.legal (passes filter) from to rows
             (omega (arith, first.fact.within, longer, last.low))
-            (visited_between states keep b new (passes filter) a.sizes.entries (length a.front) (length b.front) from to rows l.known known last.saw.front
-            last.saw.sizes (ap (λ (z : Sizes). z.entries) (sym (last.saw.sizes ∙ l.saw.sizes))) first.fact.within longer (omega arith) last.low l.visited) id lived);
+            (visited_between states keep b new (passes filter) a.sizes.entries (length a.front) (length b.front) from to rows l.known known last.saw.went.front
+            last.saw.went.pass.sizes (ap (λ (z : Sizes). z.entries) (sym (last.saw.went.pass.sizes ∙ l.saw.went.pass.sizes))) first.fact.within longer (omega arith) last.low l.visited) id lived);
       })
 
   pub delete_speaks : EventsStay → EntriesKeepTheirPlace → PlacesAreInThePool → LiveRecordsAreConfirmed → GoneEntriesStayGone
@@ -119,19 +111,19 @@ module _ (states : StatesStay) (old a b new : Sight) (from to : ℕ) (F G : Stat
       → IsNonDecreasingBy (λ r. r.subject.id) sorted.items → HoldsNothing new → IsKnown new
       → Speaks (command.Delete filter) old new (record { said = said.Deleted sorted; from = from; to = to })
   delete_speaks events keep pool confirmed gone filter rows sorted d same rises empty known =
-      let longer : length a.front ≤ length b.front = starts_longer b.front a.front d.made.front in
+      let longer : length a.front ≤ length b.front = starts_longer b.front a.front d.made.went.front in
       made_between events (command.Delete filter) (said.Deleted sorted) d.notes d.made
-      (omega (arith, d.as_many, d.few, ap (λ (z : Sizes). z.entries) first.saw.sizes)) empty
+      (omega (arith, d.as_many, d.few, ap (λ (z : Sizes). z.entries) first.saw.went.pass.sizes)) empty
       (record {
         rows = sorted;
         is = refl;
         found = rows;
-        each = destroyed_grow events states new.front b.front last.saw.front (why.Deleted filter) d.notes rows d.each;
+        each = destroyed_grow events states new.front b.front last.saw.went.front (why.Deleted filter) d.notes rows d.each;
         same = same;
         order = in_order rows sorted.items same rises d.places.once;
         left = none_left keep pool new.sizes new.front known.legal confirmed gone (passes filter) (passes_same filter) from to
-            (visited_between states keep b new (passes filter) a.sizes.entries (length a.front) (length b.front) from to [] d.known known last.saw.front
-            last.saw.sizes (ap (λ (z : Sizes). z.entries) (sym (last.saw.sizes ∙ d.made.sizes))) first.fact.within longer (omega arith) last.low d.visited);
+            (visited_between states keep b new (passes filter) a.sizes.entries (length a.front) (length b.front) from to [] d.known known last.saw.went.front
+            last.saw.went.pass.sizes (ap (λ (z : Sizes). z.entries) (sym (last.saw.went.pass.sizes ∙ d.made.went.pass.sizes))) first.fact.within longer (omega arith) last.low d.visited);
       })
 
   pub flush_speaks : EventsStay → EntriesKeepTheirPlace → PlacesAreInThePool → LiveRecordsAreConfirmed → GoneEntriesStayGone
@@ -139,13 +131,13 @@ module _ (states : StatesStay) (old a b new : Sight) (from to : ℕ) (F G : Stat
       → Speaks command.Flush old new (record { said = said.Flushed; from = from; to = to })
   flush_speaks events keep pool confirmed gone ended c empty known =
       let d = c.destroying in
-      let longer : length a.front ≤ length b.front = starts_longer b.front a.front d.made.front in
+      let longer : length a.front ≤ length b.front = starts_longer b.front a.front d.made.went.front in
       made_between events command.Flush said.Flushed d.notes d.made
-      (omega (arith, d.as_many, d.few, ap (λ (z : Sizes). z.entries) first.saw.sizes)) empty
+      (omega (arith, d.as_many, d.few, ap (λ (z : Sizes). z.entries) first.saw.went.pass.sizes)) empty
       (record {
         is = refl;
         each = destroyed_for b.front why.Flushed d.notes c.rows d.each;
         left = none_left keep pool new.sizes new.front known.legal confirmed gone (λ r. true) (λ r s o e. refl) from to
-            (visited_between states keep b new (λ r. true) a.sizes.entries (length a.front) (length b.front) from to [] d.known known last.saw.front
-            last.saw.sizes (ap (λ (z : Sizes). z.entries) (sym (last.saw.sizes ∙ d.made.sizes))) first.fact.within longer (omega arith) last.low d.visited);
+            (visited_between states keep b new (λ r. true) a.sizes.entries (length a.front) (length b.front) from to [] d.known known last.saw.went.front
+            last.saw.went.pass.sizes (ap (λ (z : Sizes). z.entries) (sym (last.saw.went.pass.sizes ∙ d.made.went.pass.sizes))) first.fact.within longer (omega arith) last.low d.visited);
       })

@@ -5,168 +5,168 @@ use Rattle.std.specs.Option.{unwrap_or}
 use Rattle.file_text.specs.Reading.{◌>>=◌}
 use Rattle.file_text.specs.Text.{lines_of, words_of_line}
 use Rattle.conntrack_cmd.specs.declared.command.Command.{Command}
-use Rattle.conntrack_cmd.specs.declared.command.Saying.{Saying}
-use Rattle.conntrack_cmd.specs.declared.command.Saying.TheVariants as saying
+use Rattle.conntrack_cmd.specs.declared.command.LineMeaning.{LineMeaning}
+use Rattle.conntrack_cmd.specs.declared.command.LineMeaning.TheVariants as meaning
 use Rattle.conntrack_cmd.specs.declared.read.ScriptKind.{ScriptKind}
 use Rattle.conntrack_cmd.specs.declared.read.ScriptKind.TheVariants as kind
 use Rattle.conntrack_cmd.specs.declared.read.ScriptFault.{ScriptFault}
 use Rattle.conntrack_cmd.specs.Internal.{wait_after}
 use Rattle.conntrack_cmd.specs.Line.{command_of, line_of, wait_of}
-use Rattle.conntrack_cmd.specs.Script.{before_wait, commands_of, has_wait, next_of, sayings_from, script_of, script_of_sayings}
+use Rattle.conntrack_cmd.specs.Script.{before_wait, commands_of, has_wait, next_of, meanings_from, script_of, script_of_meanings}
 
-pub commands_joined : (said more : List Saying) → commands_of (said ++ more) ≡ commands_of said ++ commands_of more
+pub commands_joined : (said more : List LineMeaning) → commands_of (said ++ more) ≡ commands_of said ++ commands_of more
 commands_joined [] more = refl
-commands_joined (saying.Nothing ∷ said) more = commands_joined said more
-commands_joined (saying.Command c ∷ said) more = ap (λ (cs : List Command). c ∷ cs) (commands_joined said more)
-commands_joined (saying.Wait ∷ said) more = commands_joined said more
+commands_joined (meaning.Nothing ∷ said) more = commands_joined said more
+commands_joined (meaning.Command c ∷ said) more = ap (λ (cs : List Command). c ∷ cs) (commands_joined said more)
+commands_joined (meaning.Wait ∷ said) more = commands_joined said more
 
 -- a `wait` that was said stays, and the commands before it
-stays_waited : (said more : List Saying) → has_wait said ≡ true → has_wait (said ++ more) ≡ true
+stays_waited : (said more : List LineMeaning) → has_wait said ≡ true → has_wait (said ++ more) ≡ true
 stays_waited [] more waited = absurd (cc)
-stays_waited (saying.Nothing ∷ said) more waited = stays_waited said more waited
-stays_waited (saying.Command c ∷ said) more waited = stays_waited said more waited
-stays_waited (saying.Wait ∷ said) more waited = refl
+stays_waited (meaning.Nothing ∷ said) more waited = stays_waited said more waited
+stays_waited (meaning.Command c ∷ said) more waited = stays_waited said more waited
+stays_waited (meaning.Wait ∷ said) more waited = refl
 
-stays_before : (said more : List Saying) → has_wait said ≡ true → before_wait (said ++ more) ≡ before_wait said
+stays_before : (said more : List LineMeaning) → has_wait said ≡ true → before_wait (said ++ more) ≡ before_wait said
 stays_before [] more waited = absurd (cc)
-stays_before (saying.Nothing ∷ said) more waited = stays_before said more waited
-stays_before (saying.Command c ∷ said) more waited = ap (λ (n : ℕ). n + 1) (stays_before said more waited)
-stays_before (saying.Wait ∷ said) more waited = refl
+stays_before (meaning.Nothing ∷ said) more waited = stays_before said more waited
+stays_before (meaning.Command c ∷ said) more waited = ap (λ (n : ℕ). n + 1) (stays_before said more waited)
+stays_before (meaning.Wait ∷ said) more waited = refl
 
 -- where none was said, what is said next decides
-next_waits : (said more : List Saying) → has_wait said ≡ false → has_wait (said ++ more) ≡ has_wait more
+next_waits : (said more : List LineMeaning) → has_wait said ≡ false → has_wait (said ++ more) ≡ has_wait more
 next_waits [] more none = refl
-next_waits (saying.Nothing ∷ said) more none = next_waits said more none
-next_waits (saying.Command c ∷ said) more none = next_waits said more none
-next_waits (saying.Wait ∷ said) more none = absurd (cc)
+next_waits (meaning.Nothing ∷ said) more none = next_waits said more none
+next_waits (meaning.Command c ∷ said) more none = next_waits said more none
+next_waits (meaning.Wait ∷ said) more none = absurd (cc)
 
-next_before : (said more : List Saying) → has_wait said ≡ false → before_wait (said ++ more) ≡ length (commands_of said) + before_wait more
+next_before : (said more : List LineMeaning) → has_wait said ≡ false → before_wait (said ++ more) ≡ length (commands_of said) + before_wait more
 next_before [] more none = omega arith
-next_before (saying.Nothing ∷ said) more none = next_before said more none
-next_before (saying.Command c ∷ said) more none = omega (arith, next_before said more none)
-next_before (saying.Wait ∷ said) more none = absurd (cc)
+next_before (meaning.Nothing ∷ said) more none = next_before said more none
+next_before (meaning.Command c ∷ said) more none = omega (arith, next_before said more none)
+next_before (meaning.Wait ∷ said) more none = absurd (cc)
 
 -- without `wait`, all commands stand before it
-all_before : (said : List Saying) → has_wait said ≡ false → before_wait said ≡ length (commands_of said)
+all_before : (said : List LineMeaning) → has_wait said ≡ false → before_wait said ≡ length (commands_of said)
 all_before [] none = refl
-all_before (saying.Nothing ∷ said) none = all_before said none
-all_before (saying.Command c ∷ said) none = omega (arith, all_before said none)
-all_before (saying.Wait ∷ said) none = absurd (cc)
+all_before (meaning.Nothing ∷ said) none = all_before said none
+all_before (meaning.Command c ∷ said) none = omega (arith, all_before said none)
+all_before (meaning.Wait ∷ said) none = absurd (cc)
 
-pub at_most_all : (said : List Saying) → before_wait said ≤ length (commands_of said)
+pub at_most_all : (said : List LineMeaning) → before_wait said ≤ length (commands_of said)
 at_most_all [] = omega arith
-at_most_all (saying.Nothing ∷ said) = at_most_all said
-at_most_all (saying.Command c ∷ said) = omega (arith, at_most_all said)
-at_most_all (saying.Wait ∷ said) = omega arith
+at_most_all (meaning.Nothing ∷ said) = at_most_all said
+at_most_all (meaning.Command c ∷ said) = omega (arith, at_most_all said)
+at_most_all (meaning.Wait ∷ said) = omega arith
 
 -- what is kept of `wait`
-abbrev pub Keeps : Option ℕ → List Saying → Type 0
+abbrev pub Keeps : Option ℕ → List LineMeaning → Type 0
 Keeps None said = has_wait said ≡ false
 Keeps (Some count) said = (has_wait said ≡ true) × (before_wait said ≡ count)
 
-kept_test : (wait : Option ℕ) (said : List Saying) → Keeps wait said → is_some wait ≡ has_wait said
+kept_test : (wait : Option ℕ) (said : List LineMeaning) → Keeps wait said → is_some wait ≡ has_wait said
 kept_test None said none = sym none
 kept_test (Some count) said (waited, is) = sym waited
 
-kept_more : (wait : Option ℕ) (said : List Saying) (next : Saying) (count : ℕ) → Keeps wait said → count ≡ length (commands_of said) → (next ≡ saying.Wait → has_wait said ≡ false) →
+kept_more : (wait : Option ℕ) (said : List LineMeaning) (next : LineMeaning) (count : ℕ) → Keeps wait said → count ≡ length (commands_of said) → (next ≡ meaning.Wait → has_wait said ≡ false) →
     Keeps (wait_after wait next count) (said ++ next ∷ [])
-kept_more None said saying.Nothing count none all first = next_waits said (saying.Nothing ∷ []) none ∙ refl
-kept_more None said (saying.Command c) count none all first = next_waits said (saying.Command c ∷ []) none ∙ refl
-kept_more None said saying.Wait count none all first =
-    (next_waits said (saying.Wait ∷ []) none, omega (arith, next_before said (saying.Wait ∷ []) none))
-kept_more (Some n) said saying.Nothing count (waited, is) all first =
-    (stays_waited said (saying.Nothing ∷ []) waited, stays_before said (saying.Nothing ∷ []) waited ∙ is)
-kept_more (Some n) said (saying.Command c) count (waited, is) all first =
-    (stays_waited said (saying.Command c ∷ []) waited, stays_before said (saying.Command c ∷ []) waited ∙ is)
-kept_more (Some n) said saying.Wait count (waited, is) all first =
+kept_more None said meaning.Nothing count none all first = next_waits said (meaning.Nothing ∷ []) none ∙ refl
+kept_more None said (meaning.Command c) count none all first = next_waits said (meaning.Command c ∷ []) none ∙ refl
+kept_more None said meaning.Wait count none all first =
+    (next_waits said (meaning.Wait ∷ []) none, omega (arith, next_before said (meaning.Wait ∷ []) none))
+kept_more (Some n) said meaning.Nothing count (waited, is) all first =
+    (stays_waited said (meaning.Nothing ∷ []) waited, stays_before said (meaning.Nothing ∷ []) waited ∙ is)
+kept_more (Some n) said (meaning.Command c) count (waited, is) all first =
+    (stays_waited said (meaning.Command c ∷ []) waited, stays_before said (meaning.Command c ∷ []) waited ∙ is)
+kept_more (Some n) said meaning.Wait count (waited, is) all first =
     let none : has_wait said ≡ false = first refl in absurd (cc)
 
 -- a line says a command only where there is room, and `wait` only where none was said
-chosen_command : (test full : Bool) (wait told : Result Saying ScriptKind) (c : Command) → (wait ≡ Ok (saying.Command c) → ⊥) →
-    (if test then wait else (if full then Err kind.TooMany else told)) ≡ Ok (saying.Command c) → full ≡ false
+chosen_command : (test full : Bool) (wait told : Result LineMeaning ScriptKind) (c : Command) → (wait ≡ Ok (meaning.Command c) → ⊥) →
+    (if test then wait else (if full then Err kind.TooMany else told)) ≡ Ok (meaning.Command c) → full ≡ false
 chosen_command true full wait told c never said = absurd (never said)
 chosen_command false false wait told c never said = refl
 chosen_command false true wait told c never said = absurd (cc)
 
-no_command : (waited : Bool) (words : List (List ℕ)) (c : Command) → wait_of waited words ≡ Ok (saying.Command c) → ⊥
+no_command : (waited : Bool) (words : List (List ℕ)) (c : Command) → wait_of waited words ≡ Ok (meaning.Command c) → ⊥
 no_command true [] c said = cc
 no_command false [] c said = cc
 no_command true (word ∷ words) c said = cc
 no_command false (word ∷ words) c said = cc
 
-pub has_room : (full waited : Bool) (words : List (List ℕ)) (c : Command) → line_of full waited words ≡ Ok (saying.Command c) → full ≡ false
+pub has_room : (full waited : Bool) (words : List (List ℕ)) (c : Command) → line_of full waited words ≡ Ok (meaning.Command c) → full ≡ false
 unfolding line_of
 has_room full waited [] c said = absurd (cc)
 has_room full waited (word ∷ words) c said =
     chosen_command (bytes_eq word (codes "wait")) full (wait_of waited words) _ c (no_command waited words c) said
 
-not_wait : (read : Result Command ScriptKind) → (read >>= λ (c : Command). Ok (saying.Command c)) ≡ Ok saying.Wait → ⊥
+not_wait : (read : Result Command ScriptKind) → (read >>= λ (c : Command). Ok (meaning.Command c)) ≡ Ok meaning.Wait → ⊥
 not_wait (Ok c) said = cc
 not_wait (Err k) said = cc
 
-chosen_wait : (test full waited : Bool) (wait told : Result Saying ScriptKind) → (wait ≡ Ok saying.Wait → waited ≡ false) → (told ≡ Ok saying.Wait → ⊥) →
-    (if test then wait else (if full then Err kind.TooMany else told)) ≡ Ok saying.Wait → waited ≡ false
+chosen_wait : (test full waited : Bool) (wait told : Result LineMeaning ScriptKind) → (wait ≡ Ok meaning.Wait → waited ≡ false) → (told ≡ Ok meaning.Wait → ⊥) →
+    (if test then wait else (if full then Err kind.TooMany else told)) ≡ Ok meaning.Wait → waited ≡ false
 chosen_wait true full waited wait told first never said = first said
 chosen_wait false false waited wait told first never said = absurd (never said)
 chosen_wait false true waited wait told first never said = absurd (cc)
 
-wait_first : (waited : Bool) (words : List (List ℕ)) → wait_of waited words ≡ Ok saying.Wait → waited ≡ false
+wait_first : (waited : Bool) (words : List (List ℕ)) → wait_of waited words ≡ Ok meaning.Wait → waited ≡ false
 wait_first true [] said = absurd (cc)
 wait_first false [] said = refl
 wait_first true (word ∷ words) said = absurd (cc)
 wait_first false (word ∷ words) said = refl
 
-pub is_first : (full waited : Bool) (words : List (List ℕ)) → line_of full waited words ≡ Ok saying.Wait → waited ≡ false
+pub is_first : (full waited : Bool) (words : List (List ℕ)) → line_of full waited words ≡ Ok meaning.Wait → waited ≡ false
 unfolding line_of
 is_first full waited [] said = absurd (cc)
 is_first full waited (word ∷ words) said =
     chosen_wait (bytes_eq word (codes "wait")) full waited (wait_of waited words) _ (wait_first waited words) (not_wait (command_of word words)) said
 
 -- what lines said, and one more
-pub few_more : (said : List Saying) (next : Saying) → length (commands_of said) ≤ 256 → ((c : Command) → next ≡ saying.Command c → nat_le 256 (length (commands_of said)) ≡ false) →
+pub few_more : (said : List LineMeaning) (next : LineMeaning) → length (commands_of said) ≤ 256 → ((c : Command) → next ≡ meaning.Command c → nat_le 256 (length (commands_of said)) ≡ false) →
     length (commands_of (said ++ next ∷ [])) ≤ 256
-few_more said saying.Nothing few room = omega (arith, ap length (commands_joined said (saying.Nothing ∷ [])), length-append (commands_of said) [])
-few_more said (saying.Command c) few room =
+few_more said meaning.Nothing few room = omega (arith, ap length (commands_joined said (meaning.Nothing ∷ [])), length-append (commands_of said) [])
+few_more said (meaning.Command c) few room =
     let not_full = room c refl in
     let below : length (commands_of said) < 256 = grind (arith, nat_tests, not_full) in
-    omega (arith, ap length (commands_joined said (saying.Command c ∷ [])), length-append (commands_of said) (c ∷ []))
-few_more said saying.Wait few room = omega (arith, ap length (commands_joined said (saying.Wait ∷ [])), length-append (commands_of said) [])
+    omega (arith, ap length (commands_joined said (meaning.Command c ∷ [])), length-append (commands_of said) (c ∷ []))
+few_more said meaning.Wait few room = omega (arith, ap length (commands_joined said (meaning.Wait ∷ [])), length-append (commands_of said) [])
 
 -- so many lines are read, which say this, and what is left decides
 pub record HasRead (bytes rest : List ℕ) (commands : List Command) (wait : Option ℕ) (number : ℕ) : Type 0 where
-  pub said : List Saying
-  pub same : sayings_from said (lines_of rest) ≡ sayings_from [] (lines_of bytes)
+  pub said : List LineMeaning
+  pub same : meanings_from said (lines_of rest) ≡ meanings_from [] (lines_of bytes)
   pub numbered : number ≡ length said
   pub fits : number + length rest ≤ length bytes
   pub commands_are : commands ≡ commands_of said
   pub keeps : Keeps wait said
   pub few : length commands ≤ 256
 
-line_said : (said : List Saying) (line : List ℕ) (lines : List (List ℕ)) (next : Saying) → next_of said line ≡ Ok next → sayings_from (said ++ next ∷ []) lines ≡ sayings_from said (line ∷ lines)
-unfolding sayings_from
+line_said : (said : List LineMeaning) (line : List ℕ) (lines : List (List ℕ)) (next : LineMeaning) → next_of said line ≡ Ok next → meanings_from (said ++ next ∷ []) lines ≡ meanings_from said (line ∷ lines)
+unfolding meanings_from
 line_said said line lines next is = rw is
 
-line_faulty : (said : List Saying) (line : List ℕ) (lines : List (List ℕ)) (k : ScriptKind) → next_of said line ≡ Err k → sayings_from said (line ∷ lines) ≡ Err (record { line = length said + 1; kind = k })
-unfolding sayings_from
+line_faulty : (said : List LineMeaning) (line : List ℕ) (lines : List (List ℕ)) (k : ScriptKind) → next_of said line ≡ Err k → meanings_from said (line ∷ lines) ≡ Err (record { line = length said + 1; kind = k })
+unfolding meanings_from
 line_faulty said line lines k is = rw is
 
-told_here : (said : List Saying) (commands : List Command) (wait : Option ℕ) (line : List ℕ) (read : Result Saying ScriptKind) → commands ≡ commands_of said → Keeps wait said →
+told_here : (said : List LineMeaning) (commands : List Command) (wait : Option ℕ) (line : List ℕ) (read : Result LineMeaning ScriptKind) → commands ≡ commands_of said → Keeps wait said →
     line_of (nat_le 256 (length commands)) (is_some wait) (words_of_line line) ≡ read → next_of said line ≡ read
 told_here said commands wait line read are keeps told =
     subst (λ (cs : List Command). line_of (nat_le 256 (length cs)) (has_wait said) (words_of_line line) ≡ read) are
     (subst (λ (waited : Bool). line_of (nat_le 256 (length commands)) waited (words_of_line line) ≡ read) (kept_test wait said keeps) told)
 
 -- a line that has no fault is read
-pub read_more : (bytes rest line behind : List ℕ) (commands longer : List Command) (wait later : Option ℕ) (number : ℕ) (next : Saying) → HasRead bytes rest commands wait number →
+pub read_more : (bytes rest line behind : List ℕ) (commands longer : List Command) (wait later : Option ℕ) (number : ℕ) (next : LineMeaning) → HasRead bytes rest commands wait number →
     lines_of rest ≡ line ∷ lines_of behind → length behind < length rest → line_of (nat_le 256 (length commands)) (is_some wait) (words_of_line line) ≡ Ok next →
     longer ≡ commands ++ commands_of (next ∷ []) → later ≡ wait_after wait next (length commands) → HasRead bytes behind longer later (number + 1)
 read_more bytes rest line behind commands longer wait later number next read here less told grown after =
-    let said : List Saying = read.said in
+    let said : List LineMeaning = read.said in
     let is : next_of said line ≡ Ok next = told_here said commands wait line (Ok next) read.commands_are read.keeps told in
     let are : longer ≡ commands_of (said ++ next ∷ []) = grown ∙ (ap (λ (cs : List Command). cs ++ commands_of (next ∷ [])) read.commands_are ∙ sym (commands_joined said (next ∷ []))) in
     record {
       said = said ++ next ∷ [];
-      same = line_said said line (lines_of behind) next is ∙ (ap (λ (lines : List (List ℕ)). sayings_from said lines) (sym here) ∙ read.same);
+      same = line_said said line (lines_of behind) next is ∙ (ap (λ (lines : List (List ℕ)). meanings_from said lines) (sym here) ∙ read.same);
       numbered = omega (arith, read.numbered, length-append said (next ∷ []));
       fits = omega (arith, read.fits);
       commands_are = are;
@@ -178,21 +178,21 @@ read_more bytes rest line behind commands longer wait later number next read her
           (λ c e. has_room (nat_le 256 (length (commands_of said))) (has_wait said) (words_of_line line) c (is ∙ ap Ok e)));
     }
 
-ended : (bytes : List ℕ) (read : Result (List Saying) ScriptFault) → sayings_from [] (lines_of bytes) ≡ read → script_of bytes ≡ (read >>= λ (said : List Saying). Ok (script_of_sayings said))
-ended bytes read is = ap (λ (r : Result (List Saying) ScriptFault). r >>= λ (said : List Saying). Ok (script_of_sayings said)) is
+ended : (bytes : List ℕ) (read : Result (List LineMeaning) ScriptFault) → meanings_from [] (lines_of bytes) ≡ read → script_of bytes ≡ (read >>= λ (said : List LineMeaning). Ok (script_of_meanings said))
+ended bytes read is = ap (λ (r : Result (List LineMeaning) ScriptFault). r >>= λ (said : List LineMeaning). Ok (script_of_meanings said)) is
 
 -- a line that has a fault is the first
 pub found_fault : (bytes rest line behind : List ℕ) (commands : List Command) (wait : Option ℕ) (number : ℕ) (k : ScriptKind) → HasRead bytes rest commands wait number →
     lines_of rest ≡ line ∷ lines_of behind → line_of (nat_le 256 (length commands)) (is_some wait) (words_of_line line) ≡ Err k → script_of bytes ≡ Err (record { line = number + 1; kind = k })
 found_fault bytes rest line behind commands wait number k read here told =
     let is : next_of read.said line ≡ Err k = told_here read.said commands wait line (Err k) read.commands_are read.keeps told in
-    let same : sayings_from [] (lines_of bytes) ≡ Err (record { line = length read.said + 1; kind = k }) =
-    sym read.same ∙ (ap (λ (lines : List (List ℕ)). sayings_from read.said lines) here ∙ line_faulty read.said line (lines_of behind) k is) in
+    let same : meanings_from [] (lines_of bytes) ≡ Err (record { line = length read.said + 1; kind = k }) =
+    sym read.same ∙ (ap (λ (lines : List (List ℕ)). meanings_from read.said lines) here ∙ line_faulty read.said line (lines_of behind) k is) in
     ended bytes (Err (record { line = length read.said + 1; kind = k })) same
     ∙ ap (λ (n : ℕ). Err (record { line = n; kind = k })) (omega (arith, read.numbered))
 
-nothing_left : (said : List Saying) → sayings_from said (lines_of []) ≡ Ok said
-unfolding sayings_from lines_of
+nothing_left : (said : List LineMeaning) → meanings_from said (lines_of []) ≡ Ok said
+unfolding meanings_from lines_of
 nothing_left said = refl
 
 -- behind the last line all is read
@@ -201,7 +201,7 @@ all_read bytes [] commands wait number read empty =
     ended bytes (Ok read.said) (sym read.same ∙ nothing_left read.said) ∙ ap (λ (cs : List Command). Ok (cs, before_wait read.said)) (sym read.commands_are)
 all_read bytes (b ∷ rest) commands wait number read empty = absurd (omega arith)
 
-kept_number : (wait : Option ℕ) (said : List Saying) (all : ℕ) → Keeps wait said → all ≡ length (commands_of said) → before_wait said ≡ unwrap_or wait all
+kept_number : (wait : Option ℕ) (said : List LineMeaning) (all : ℕ) → Keeps wait said → all ≡ length (commands_of said) → before_wait said ≡ unwrap_or wait all
 kept_number None said all none is = all_before said none ∙ sym is
 kept_number (Some count) said all (waited, is) same = is
 

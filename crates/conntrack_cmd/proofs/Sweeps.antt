@@ -1,10 +1,9 @@
 -- One place more.
-use Rattle.std.proofs.Common.{◌≡◌, ℕ, ◌+◌, ◌<◌, ◌≤◌, Bool, true, false, cond, List, [], ◌∷◌, ◌++◌, length, refl, sym, ap, subst, ◌∙◌, ◌⊎◌, inl, inr, Option, Some, None, arith, append_assoc, length-append}
-use Rattle.std.specs.List.{All, AllByRecursion}
-use Rattle.std.specs.Prelude.{◌==◌, ◌≢◌, ◌||◌, slice_get}
+use Rattle.std.proofs.Common.{◌≡◌, ℕ, ◌+◌, ◌<◌, ◌≤◌, Bool, true, false, cond, List, [], ◌∷◌, ◌++◌, length, refl, sym, ap, subst, ◌∙◌, ◌⊎◌, inl, inr, Option, Some, None, arith, length-append}
+use Rattle.std.specs.List.{AllByRecursion}
+use Rattle.std.specs.Prelude.{◌==◌, ◌≢◌, ◌||◌}
 use Rattle.std.proofs.lemmas.Bool.{eqb-false, eqb-true, ne_eqb}
 use Rattle.std.proofs.lemmas.List.{append-nil}
-use Rattle.std.proofs.lemmas.List.Elements.{recursion_from_All}
 use Rattle.std.proofs.lemmas.List.Folds.{list_any-append}
 use Rattle.std.proofs.lemmas.List.Sums.{sum_by-append, sum_by-cons}
 use Rattle.history_book.specs.declared.answer.Row.{Row}
@@ -15,7 +14,8 @@ use Rattle.history_book.specs.declared.event.Why.{Why}
 use Rattle.history_book.specs.declared.filter.Filter.{Filter}
 use Rattle.history_book.specs.declared.record.Record.{Record}
 use Rattle.history_book.specs.declared.sizes.Sizes.{Sizes}
-use Rattle.history_book.specs.Desk.{Saw}
+use Rattle.history_book.specs.SightLaws.{GoingOnAddsUp}
+use Rattle.history_book.specs.WentOn.{Saw}
 use Rattle.history_book.specs.Filter.{passes}
 use Rattle.history_book.specs.History.{after, is_legal}
 use Rattle.history_book.specs.Laws.{EntriesKeepTheirPlace, EventsStay, StatesStay}
@@ -29,7 +29,7 @@ use Rattle.conntrack_cmd.specs.Answer.{AreDestroyed, IsDestroyed, IsRow, has_row
 use Rattle.conntrack_cmd.specs.Internal.Loops.{AreOfPlaces, IsCounting, IsDestroying, IsListing, WasLive, times}
 use Rattle.conntrack_cmd.specs.Internal.Sweep.{AreVisited, DestroysRow, Missed, Visited}
 use Rattle.conntrack_cmd.proofs.Growth.{at_grows, destroyed_grow, happened_grows}
-use Rattle.conntrack_cmd.proofs.Places.{starts_longer, starts_refl, starts_trans, saw_trans}
+use Rattle.conntrack_cmd.proofs.Places.{starts_longer, starts_refl}
 
 pub each_push : {X : Type 0} (P : X → Type 0) (xs : List X) (x : X) → AllByRecursion P xs → P x → AllByRecursion P (xs ++ x ∷ [])
 each_push P [] x h p = (p, tt)
@@ -150,7 +150,7 @@ module _ (states : StatesStay) (keep : EntriesKeepTheirPlace) where
         (times_none row.subject.id rows (no_row_yet sizes log count row legal live placed rows h.live below));
   }
 
-  module _ (old now new : Sight) (count : ℕ) where
+  module _ (going : GoingOnAddsUp) (old now new : Sight) (count : ℕ) where
     -- the visits of earlier places, and that of the next
     visits_more : (test : Record → Bool) (rows more : List Row) → IsKnown now → IsKnown new → now.sizes ≡ old.sizes → new.sizes ≡ now.sizes
         → StartsWith now.front old.front → StartsWith new.front now.front
@@ -187,8 +187,8 @@ module _ (states : StatesStay) (keep : EntriesKeepTheirPlace) where
         each_map (IsRow now.front filter (length old.front) (length now.front)) (IsRow new.front filter (length old.front) (length new.front)) rows
         (λ r h. record {
           low = h.low;
-          high = omega (arith, h.high, starts_longer new.front now.front saw.front);
-          live = at_grows states new.front now.front _ _ saw.front h.live;
+          high = omega (arith, h.high, starts_longer new.front now.front saw.went.front);
+          live = at_grows states new.front now.front _ _ saw.went.front h.live;
           passes = h.passes;
         }) each
 
@@ -196,12 +196,12 @@ module _ (states : StatesStay) (keep : EntriesKeepTheirPlace) where
         → Visited new.front (passes filter) count (length now.front) (length new.front) [] → HoldsNothing new → IsKnown new
         → IsListing filter old new (count + 1) rows
     listing_none filter rows l saw visit empty known = record {
-      saw = saw_trans old now new l.saw saw;
+      saw = going.seen old now new l.saw saw;
       few = omega (arith, l.few);
       each = rows_wider filter rows saw l.each;
-      places = places_grow new.front now.front count rows saw.front l.places;
+      places = places_grow new.front now.front count rows saw.went.front l.places;
       visited = subst (AreVisited new.front (passes filter) (count + 1) (length old.front) (length new.front)) (append-nil rows)
-          (visits_more (passes filter) rows [] l.known known l.saw.sizes saw.sizes l.saw.front saw.front l.visited visit);
+          (visits_more (passes filter) rows [] l.known known l.saw.went.pass.sizes saw.went.pass.sizes l.saw.went.front saw.went.front l.visited visit);
       empty = empty;
       known = known;
     }
@@ -211,18 +211,18 @@ module _ (states : StatesStay) (keep : EntriesKeepTheirPlace) where
         → Visited new.front (passes filter) count (length now.front) (length new.front) (row ∷ []) → HoldsNothing new → IsKnown new
         → IsListing filter old new (count + 1) (rows ++ row ∷ [])
     listing_some filter rows row l saw is placed visit empty known = record {
-      saw = saw_trans old now new l.saw saw;
+      saw = going.seen old now new l.saw saw;
       few = omega (arith, length-append rows (row ∷ []), l.few);
       each = each_push (IsRow new.front filter (length old.front) (length new.front)) rows row (rows_wider filter rows saw l.each)
           (record {
-            low = omega (arith, is.low, starts_longer now.front old.front l.saw.front);
+            low = omega (arith, is.low, starts_longer now.front old.front l.saw.went.front);
             high = is.high;
             live = is.live;
             passes = is.passes;
           });
-      places = places_push new.sizes new.front count rows row known.legal (places_grow new.front now.front count rows saw.front l.places)
+      places = places_push new.sizes new.front count rows row known.legal (places_grow new.front now.front count rows saw.went.front l.places)
           l.places.below is.live placed;
-      visited = visits_more (passes filter) rows (row ∷ []) l.known known l.saw.sizes saw.sizes l.saw.front saw.front l.visited visit;
+      visited = visits_more (passes filter) rows (row ∷ []) l.known known l.saw.went.pass.sizes saw.went.pass.sizes l.saw.went.front saw.went.front l.visited visit;
       empty = empty;
       known = known;
     }
@@ -248,27 +248,17 @@ module _ (states : StatesStay) (keep : EntriesKeepTheirPlace) where
       destroying_none saw visit empty known = record {
         notes = d.notes;
         made = record {
-          front = starts_trans new.front now.front old.front saw.front d.made.front;
-          sizes = saw.sizes ∙ d.made.sizes;
-          own = saw.own ∙ d.made.own;
-          spare = omega (arith, d.made.spare, saw.spare);
-          happened = made_wider saw.front;
+          went = going.before old now new d.notes d.made.went saw;
+          happened = made_wider saw.went.front;
         };
         few = omega (arith, d.few);
         as_many = d.as_many;
-        each = destroyed_grow events states new.front now.front saw.front why d.notes rows d.each;
-        places = places_grow new.front now.front count rows saw.front d.places;
-        visited = visits_more (is_reason why) [] [] d.known known d.made.sizes saw.sizes d.made.front saw.front d.visited visit;
+        each = destroyed_grow events states new.front now.front saw.went.front why d.notes rows d.each;
+        places = places_grow new.front now.front count rows saw.went.front d.places;
+        visited = visits_more (is_reason why) [] [] d.known known d.made.went.pass.sizes saw.went.pass.sizes d.made.went.front saw.went.front d.visited visit;
         empty = empty;
         known = known;
       }
-
-      was_made : (row : Row) → DestroysRow why now new row → IsKnown new → slice_get new.front row.at ≡ Some (Destroy row.subject.id why)
-      was_made row k known =
-          let note : Note = record { number = row.at; event = Destroy row.subject.id why } in
-          each_last (λ (n : Note). slice_get new.front n.number ≡ Some n.event) now.own note
-          (recursion_from_All (λ (n : Note). slice_get new.front n.number ≡ Some n.event) (now.own ++ note ∷ [])
-          (subst (All (λ (n : Note). slice_get new.front n.number ≡ Some n.event)) k.own known.own))
 
       destroying_some : (row : Row) → DestroysRow why now new row → row.subject.place ≡ count
           → Visited new.front (is_reason why) count (length now.front) (length new.front) [] → HoldsNothing new
@@ -278,21 +268,20 @@ module _ (states : StatesStay) (keep : EntriesKeepTheirPlace) where
           record {
             notes = d.notes ++ note ∷ [];
             made = record {
-              front = starts_trans new.front now.front old.front k.front d.made.front;
-              sizes = k.sizes ∙ d.made.sizes;
-              own = k.own ∙ ap (λ (l : List Note). l ++ note ∷ []) d.made.own ∙ append_assoc old.own d.notes (note ∷ []);
-              spare = omega (arith, d.made.spare, k.spare, length-append d.notes (note ∷ []));
+              went = going.twice old now new d.notes (note ∷ []) d.made.went k.made.went;
               happened = each_push (λ (n : Note). Happened new.front (length old.front) n × (n.number < length new.front)) d.notes note
-                  (made_wider k.front)
-                  (record { event = was_made row k known; later = omega (arith, k.low, starts_longer now.front old.front d.made.front) }, k.high);
+                  (made_wider k.made.went.front) (
+                    record { event = k.made.happened; later = omega (arith, k.made.low, starts_longer now.front old.front d.made.went.front) },
+                    k.made.high,
+                  );
             };
             few = omega (arith, length-append rows (row ∷ []), d.few);
             as_many = length-append d.notes (note ∷ []) ∙ ap (λ n. n + 1) d.as_many ∙ sym (length-append rows (row ∷ []));
             each = destroyed_push why new.front d.notes rows note row
-                (destroyed_grow events states new.front now.front k.front why d.notes rows d.each) k.destroyed;
-            places = places_push new.sizes new.front count rows row known.legal (places_grow new.front now.front count rows k.front d.places)
+                (destroyed_grow events states new.front now.front k.made.went.front why d.notes rows d.each) k.destroyed;
+            places = places_push new.sizes new.front count rows row known.legal (places_grow new.front now.front count rows k.made.went.front d.places)
                 d.places.below k.destroyed.found placed;
-            visited = visits_more (is_reason why) [] [] d.known known d.made.sizes k.sizes d.made.front k.front d.visited visit;
+            visited = visits_more (is_reason why) [] [] d.known known d.made.went.pass.sizes k.made.went.pass.sizes d.made.went.front k.made.went.front d.visited visit;
             empty = empty;
             known = known;
           }
@@ -324,9 +313,9 @@ module _ (states : StatesStay) (keep : EntriesKeepTheirPlace) where
     }
 
 -- before the first place
-pub listing_start : (filter : Filter) (s : Sight) → HoldsNothing s → IsKnown s → IsListing filter s s 0 []
-listing_start filter s empty known = record {
-  saw = record { front = starts_refl s.front; own = refl; spare = refl; sizes = refl };
+pub listing_start : GoingOnAddsUp → (filter : Filter) (s : Sight) → HoldsNothing s → IsKnown s → IsListing filter s s 0 []
+listing_start going filter s empty known = record {
+  saw = going.resting s;
   few = omega arith;
   each = tt;
   places = record { live = tt; below = tt; once = λ id. omega arith };
@@ -335,10 +324,10 @@ listing_start filter s empty known = record {
   known = known;
 }
 
-pub destroying_start : (why : Why) (s : Sight) → HoldsNothing s → IsKnown s → IsDestroying why s s 0 []
-destroying_start why s empty known = record {
+pub destroying_start : GoingOnAddsUp → (why : Why) (s : Sight) → HoldsNothing s → IsKnown s → IsDestroying why s s 0 []
+destroying_start going why s empty known = record {
   notes = [];
-  made = record { front = starts_refl s.front; sizes = refl; own = sym (append-nil s.own); spare = omega arith; happened = tt };
+  made = record { went = (going.resting s).went; happened = tt };
   few = omega arith;
   as_many = refl;
   each = tt;
@@ -348,5 +337,5 @@ destroying_start why s empty known = record {
   known = known;
 }
 
-pub counting_start : (why : Why) (s : Sight) → HoldsNothing s → IsKnown s → IsCounting why s s 0 0
-counting_start why s empty known = record { rows = []; destroying = destroying_start why s empty known; exact = refl }
+pub counting_start : GoingOnAddsUp → (why : Why) (s : Sight) → HoldsNothing s → IsKnown s → IsCounting why s s 0 0
+counting_start going why s empty known = record { rows = []; destroying = destroying_start going why s empty known; exact = refl }

@@ -129,7 +129,7 @@ IsUnexpectAt moment note = (id : ℕ) × (note.event ≡ Unexpect id moment)
 -- an expectation is there, and is not due at the moment
 abbrev pub is_there_and_late : ℕ → Option Expectation → Bool
 is_there_and_late moment None = false
-is_there_and_late moment (Some e) = not (expected.is_due moment e)
+is_there_and_late moment (Some e) = not (expected.is_awaited moment e)
 
 -- no expectation that was late at the first point is there at the last
 abbrev pub NoLateIsLeft : List Event → ℕ → ℕ → ℕ → Type 0

@@ -4,11 +4,11 @@ pub mod Loops
 pub mod Spoken
 pub mod Sweep
 use Rattle.std.specs.Prelude.{ℕ, Option, Some}
-use Rattle.conntrack_cmd.specs.declared.command.Saying.{Saying}
-use Rattle.conntrack_cmd.specs.declared.command.Saying.TheVariants as saying
+use Rattle.conntrack_cmd.specs.declared.command.LineMeaning.{LineMeaning}
+use Rattle.conntrack_cmd.specs.declared.command.LineMeaning.TheVariants as meaning
 
 -- the number of commands before `wait`, if one was said before this or is said by it, behind so many commands
-abbrev pub wait_after : Option ℕ → Saying → ℕ → Option ℕ
-wait_after wait saying.Nothing count = wait
-wait_after wait (saying.Command c) count = wait
-wait_after wait saying.Wait count = Some count
+abbrev pub wait_after : Option ℕ → LineMeaning → ℕ → Option ℕ
+wait_after wait meaning.Nothing count = wait
+wait_after wait (meaning.Command c) count = wait
+wait_after wait meaning.Wait count = Some count

@@ -4,8 +4,8 @@ use Rattle.file_text.specs.Reading.{◌>>=◌, required}
 use Rattle.file_text.specs.Text.{number_in}
 use Rattle.conntrack_cmd.specs.declared.command.Command.{Command}
 use Rattle.conntrack_cmd.specs.declared.command.Command.TheVariants as command
-use Rattle.conntrack_cmd.specs.declared.command.Saying.{Saying}
-use Rattle.conntrack_cmd.specs.declared.command.Saying.TheVariants as saying
+use Rattle.conntrack_cmd.specs.declared.command.LineMeaning.{LineMeaning}
+use Rattle.conntrack_cmd.specs.declared.command.LineMeaning.TheVariants as meaning
 use Rattle.conntrack_cmd.specs.declared.read.ScriptKind.{ScriptKind}
 use Rattle.conntrack_cmd.specs.declared.read.ScriptKind.TheVariants as kind
 use Rattle.conntrack_cmd.specs.Options.{filter_of, tuple_of}
@@ -51,14 +51,14 @@ command_of word words =
     (if bytes_eq word (codes "expire") then expire_of words else Err kind.Command)))))
 
 -- `wait` stands alone, and once in a script
-abbrev pub wait_of : Bool → List (List ℕ) → Result Saying ScriptKind
+abbrev pub wait_of : Bool → List (List ℕ) → Result LineMeaning ScriptKind
 wait_of waited (word ∷ words) = Err kind.Option
-wait_of false [] = Ok saying.Wait
+wait_of false [] = Ok meaning.Wait
 wait_of true [] = Err kind.Repeat
 
 -- a line that is skipped says nothing, others `wait` or a command; where the script is full, no command may follow
-unfoldable pub line_of : Bool → Bool → List (List ℕ) → Result Saying ScriptKind
-line_of full waited [] = Ok saying.Nothing
+unfoldable pub line_of : Bool → Bool → List (List ℕ) → Result LineMeaning ScriptKind
+line_of full waited [] = Ok meaning.Nothing
 line_of full waited (word ∷ words) =
     if bytes_eq word (codes "wait") then wait_of waited words else
-    (if full then Err kind.TooMany else (command_of word words >>= λ c. Ok (saying.Command c)))
+    (if full then Err kind.TooMany else (command_of word words >>= λ c. Ok (meaning.Command c)))

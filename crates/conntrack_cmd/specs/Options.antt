@@ -1,40 +1,47 @@
 -- The options of a command, word by word.
-use Rattle.std.specs.Prelude.{ℕ, ◌&&◌, ◌||◌, Bool, true, false, if◌then◌else◌, List, [], ◌∷◌, Option, Some, None, is_none, Result, Ok, Err, codes, bytes_eq}
+use Rattle.std.specs.Prelude.{ℕ, ◌&&◌, ◌||◌, Bool, true, false, if◌then◌else◌, List, [], ◌∷◌, Option, None, is_none, Result, Ok, Err, codes, bytes_eq}
 use Rattle.tuple_core.specs.declared.Proto.{Proto}
-use Rattle.tuple_core.specs.declared.Proto.TheVariants.{Icmp, Tcp, Udp}
 use Rattle.tuple_core.specs.declared.Tuple.{Tuple}
+use Rattle.file_text.specs.Protocols.{has_ports, proto_named}
 use Rattle.file_text.specs.Reading.{◌>>=◌, once, required}
 use Rattle.file_text.specs.Text.{address_of, port_of}
 use Rattle.history_book.specs.declared.filter.Filter.{Filter}
 use Rattle.conntrack_cmd.specs.declared.read.ScriptKind.{ScriptKind}
 use Rattle.conntrack_cmd.specs.declared.read.ScriptKind.TheVariants as kind
 
--- the value of `-p`; a command for one flow takes TCP and UDP only
-unfoldable pub proto_of : Bool → List ℕ → Option Proto
-proto_of for_flow word =
-    if bytes_eq word (codes "tcp") then Some Tcp else (if bytes_eq word (codes "udp") then Some Udp else
-    (if bytes_eq word (codes "icmp") then (if for_flow then None else Some Icmp) else None))
+-- the protocol that a command takes; one for one flow takes only those that have ports
+abbrev pub taken_proto : Bool → Option Proto → Option Proto
+taken_proto false proto = proto
+taken_proto true proto = if has_ports proto then proto else None
 
 abbrev pub with_proto : Bool → Filter → List ℕ → Result Filter ScriptKind
-with_proto for_flow f value = once kind.Repeat f.proto (required kind.Value (proto_of for_flow value) >>= λ p. Ok (record f { proto = Some p }))
+with_proto for_flow f value =
+    once kind.Repeat f.proto (required kind.Value (taken_proto for_flow (proto_named value))) >>= λ proto. Ok (record f { proto = proto })
+
+-- an address, and a port, as the value of an option that stands once
+abbrev pub address_once : Option ℕ → List ℕ → Result (Option ℕ) ScriptKind
+address_once old value = once kind.Repeat old (required kind.Value (address_of value))
+
+abbrev pub port_once : Option ℕ → List ℕ → Result (Option ℕ) ScriptKind
+port_once old value = once kind.Repeat old (required kind.Value (port_of 0 value))
 
 abbrev pub with_src : Filter → List ℕ → Result Filter ScriptKind
-with_src f value = once kind.Repeat f.src (required kind.Value (address_of value) >>= λ a. Ok (record f { src = Some a }))
+with_src f value = address_once f.src value >>= λ src. Ok (record f { src = src })
 
 abbrev pub with_dst : Filter → List ℕ → Result Filter ScriptKind
-with_dst f value = once kind.Repeat f.dst (required kind.Value (address_of value) >>= λ a. Ok (record f { dst = Some a }))
+with_dst f value = address_once f.dst value >>= λ dst. Ok (record f { dst = dst })
 
 abbrev pub with_reply_src : Filter → List ℕ → Result Filter ScriptKind
-with_reply_src f value = once kind.Repeat f.reply_src (required kind.Value (address_of value) >>= λ a. Ok (record f { reply_src = Some a }))
+with_reply_src f value = address_once f.reply_src value >>= λ src. Ok (record f { reply_src = src })
 
 abbrev pub with_reply_dst : Filter → List ℕ → Result Filter ScriptKind
-with_reply_dst f value = once kind.Repeat f.reply_dst (required kind.Value (address_of value) >>= λ a. Ok (record f { reply_dst = Some a }))
+with_reply_dst f value = address_once f.reply_dst value >>= λ dst. Ok (record f { reply_dst = dst })
 
 abbrev pub with_sport : Filter → List ℕ → Result Filter ScriptKind
-with_sport f value = once kind.Repeat f.sport (required kind.Value (port_of 0 value) >>= λ p. Ok (record f { sport = Some p }))
+with_sport f value = port_once f.sport value >>= λ sport. Ok (record f { sport = sport })
 
 abbrev pub with_dport : Filter → List ℕ → Result Filter ScriptKind
-with_dport f value = once kind.Repeat f.dport (required kind.Value (port_of 0 value) >>= λ p. Ok (record f { dport = Some p }))
+with_dport f value = port_once f.dport value >>= λ dport. Ok (record f { dport = dport })
 
 -- a command for one flow takes no address of its replies
 abbrev pub with_reply : Bool → Filter → List ℕ → List ℕ → Result Filter ScriptKind
@@ -61,13 +68,6 @@ options_from for_flow f (name ∷ value ∷ words) = with_option for_flow f name
 -- without options, all entries are meant
 abbrev pub everything : Filter
 everything = record { proto = None; src = None; dst = None; reply_src = None; reply_dst = None; sport = None; dport = None }
-
--- the protocol has ports
-abbrev pub has_ports : Option Proto → Bool
-has_ports None = false
-has_ports (Some Icmp) = false
-has_ports (Some Tcp) = true
-has_ports (Some Udp) = true
 
 -- ports stand beside TCP or UDP
 abbrev pub beside_ports : Filter → Result Filter ScriptKind

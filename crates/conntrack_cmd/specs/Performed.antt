@@ -1,20 +1,17 @@
 -- What performing one command leaves of a desk.
-use Rattle.std.specs.Prelude.{◌≡◌, ℕ, ◌+◌, ◌≤◌, List, [], ◌++◌, length}
+use Rattle.std.specs.Prelude.{◌≡◌, ℕ, ◌+◌, ◌≤◌, List, [], length}
 use Rattle.history_book.specs.declared.answer.Answer.{Answer}
 use Rattle.history_book.specs.declared.event.Note.{Note}
-use Rattle.history_book.specs.Point.{StartsWith}
 use Rattle.history_book.specs.Sight.{Sight}
-use Rattle.conntrack_cmd.specs.declared.command.Command.{Command}
+use Rattle.history_book.specs.WentOn.{WentOn}
 use Rattle.conntrack_cmd.specs.Answer.{FitsCommand}
+use Rattle.conntrack_cmd.specs.declared.command.Command.{Command}
 
--- The desk saw no less than before. Its further own events, at most as many as there are entries and expectations, are
--- those of the answer, and the answer fits the command on the new front; it names the moment that it was given. No
--- place is held or owed.
+-- The desk went on by the events of the answer, at most as many as there are entries and expectations, and the answer fits
+-- the command on the new front; it names the moment that it was given. No place is held or owed.
 pub record Performed (asked : Command) (moment : ℕ) (old new : Sight) (answer : Answer) : Type 0 where
-  pub front : StartsWith new.front old.front
-  pub sizes : new.sizes ≡ old.sizes
   pub own : List Note
-  pub added : new.own ≡ old.own ++ own
+  pub went : WentOn old new own
   pub first : answer.first ≡ length old.own
   pub made : answer.made ≡ length own
   pub few : length own ≤ old.sizes.entries + old.sizes.expectations

@@ -3,15 +3,15 @@ use Rattle.std.specs.Prelude.{◌≡◌, ◌⊎◌, ◌≤◌, ◌+◌, ◌^◌,
 use Rattle.std.specs.List.{AllByRecursion}
 use Rattle.tuple_core.specs.Tuple.{is_valid}
 use Rattle.history_book.specs.declared.filter.Filter.{Filter}
+use Rattle.file_text.specs.Protocols.{has_ports}
 use Rattle.file_text.specs.Text.{lines_of, words_of_line}
 use Rattle.conntrack_cmd.specs.declared.command.Command.{Command}
 use Rattle.conntrack_cmd.specs.declared.command.Command.TheVariants as command
-use Rattle.conntrack_cmd.specs.declared.command.Saying.{Saying}
-use Rattle.conntrack_cmd.specs.declared.command.Saying.TheVariants as saying
+use Rattle.conntrack_cmd.specs.declared.command.LineMeaning.{LineMeaning}
+use Rattle.conntrack_cmd.specs.declared.command.LineMeaning.TheVariants as meaning
 use Rattle.conntrack_cmd.specs.declared.read.ScriptFault.{ScriptFault}
-use Rattle.conntrack_cmd.specs.Options.{has_ports}
 use Rattle.conntrack_cmd.specs.Line.{line_of}
-use Rattle.conntrack_cmd.specs.Script.{before_wait, commands_of, IsScript, HasFault, next_of, sayings_from}
+use Rattle.conntrack_cmd.specs.Script.{before_wait, commands_of, IsScript, HasFault, next_of, meanings_from}
 
 -- bytes are one script at most
 abbrev pub ScriptsAreUnique : Type 0
@@ -32,29 +32,29 @@ BytesHaveScriptOrFault =
     (bytes : List ℕ) → ((commands : List Command) × (wait : ℕ) × IsScript bytes commands wait) ⊎ ((fault : ScriptFault) × HasFault bytes fault)
 
 -- each line by itself says this
-abbrev pub Say : List (List ℕ) → List Saying → Type 0
-Say [] said = said ≡ []
-Say (line ∷ lines) said =
-    (first : Saying) × (others : List Saying) × (said ≡ first ∷ others) × (line_of false false (words_of_line line) ≡ Ok first) × Say lines others
+abbrev pub LinesMean : List (List ℕ) → List LineMeaning → Type 0
+LinesMean [] meanings = meanings ≡ []
+LinesMean (line ∷ lines) meanings =
+    (first : LineMeaning) × (others : List LineMeaning) × (meanings ≡ first ∷ others) × (line_of false false (words_of_line line) ≡ Ok first) × LinesMean lines others
 
 -- how many lines say `wait`
-abbrev pub waits_of : List Saying → ℕ
+abbrev pub waits_of : List LineMeaning → ℕ
 waits_of [] = 0
-waits_of (saying.Nothing ∷ said) = waits_of said
-waits_of (saying.Command c ∷ said) = waits_of said
-waits_of (saying.Wait ∷ said) = waits_of said + 1
+waits_of (meaning.Nothing ∷ meanings) = waits_of meanings
+waits_of (meaning.Command c ∷ meanings) = waits_of meanings
+waits_of (meaning.Wait ∷ meanings) = waits_of meanings + 1
 
 -- the commands of a script are what its lines say, in their order, and `wait` stands behind as many as it says
 abbrev pub ScriptsSayTheirCommands : Type 0
 ScriptsSayTheirCommands =
     (bytes : List ℕ) (commands : List Command) (wait : ℕ) → IsScript bytes commands wait
-    → (said : List Saying) × Say (lines_of bytes) said × (commands ≡ commands_of said) × (wait ≡ before_wait said)
+    → (meanings : List LineMeaning) × LinesMean (lines_of bytes) meanings × (commands ≡ commands_of meanings) × (wait ≡ before_wait meanings)
 
 -- bytes whose lines say at most 256 commands, and `wait` at most once, are a script of them
 abbrev pub LinesMakeScripts : Type 0
 LinesMakeScripts =
-    (bytes : List ℕ) (said : List Saying) → Say (lines_of bytes) said → length (commands_of said) ≤ 256 → waits_of said ≤ 1
-    → IsScript bytes (commands_of said) (before_wait said)
+    (bytes : List ℕ) (meanings : List LineMeaning) → LinesMean (lines_of bytes) meanings → length (commands_of meanings) ≤ 256 → waits_of meanings ≤ 1
+    → IsScript bytes (commands_of meanings) (before_wait meanings)
 
 -- there are at most 256 commands, and `wait` is at most their number
 abbrev pub ScriptsAreShort : Type 0
@@ -85,9 +85,9 @@ pub record IsFirst (bytes : List ℕ) (fault : ScriptFault) : Type 0 where
   pub behind : List (List ℕ)
   pub lines : lines_of bytes ≡ before ++ line ∷ behind
   pub number : fault.line ≡ length before + 1
-  pub said : List Saying
-  pub flawless : sayings_from [] before ≡ Ok said
-  pub faulty : next_of said line ≡ Err fault.kind
+  pub meanings : List LineMeaning
+  pub flawless : meanings_from [] before ≡ Ok meanings
+  pub faulty : next_of meanings line ≡ Err fault.kind
 
 -- a fault is that of the first faulty line
 abbrev pub FaultsAreFirst : Type 0

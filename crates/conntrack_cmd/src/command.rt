@@ -28,7 +28,7 @@ pub type Commands = RoomList<Command>;
 
 /// What a line says.
 #[derive(Clone, Copy)]
-pub enum Saying {
+pub enum LineMeaning {
     /// Nothing: the line is skipped.
     Nothing,
     /// A command.

@@ -18,6 +18,7 @@ use history_book::laws::{
     entries_keep_their_place, events_stay, gone_entries_stay_gone, live_records_are_confirmed,
     places_are_in_the_pool, states_stay,
 };
+use history_book::sight_laws::going_on_adds_up;
 use std::sync::Wait;
 
 /// Lists the entries that pass the filter, in the list that it takes.
@@ -30,6 +31,7 @@ pub fn list_entries<R: Wait, D: Desk>(rt: &R, desk: &mut D, filter: &Filter, row
 {
     entries_keep_their_place();
     events_stay();
+    going_on_adds_up();
     places_are_in_the_pool();
     states_stay();
     let mut rows = rows;
@@ -56,6 +58,7 @@ pub fn delete_entries<R: Wait, D: Desk>(rt: &R, desk: &mut D, filter: &Filter, r
 {
     entries_keep_their_place();
     events_stay();
+    going_on_adds_up();
     gone_entries_stay_gone();
     live_records_are_confirmed();
     places_are_in_the_pool();
@@ -83,6 +86,7 @@ pub fn flush_entries<R: Wait, D: Desk>(rt: &R, desk: &mut D) -> Spoken
 {
     entries_keep_their_place();
     events_stay();
+    going_on_adds_up();
     gone_entries_stay_gone();
     live_records_are_confirmed();
     places_are_in_the_pool();

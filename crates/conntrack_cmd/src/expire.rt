@@ -13,10 +13,11 @@ use history_book::answer::Said;
 use history_book::desk::Desk;
 use history_book::event::Why;
 use history_book::laws::{
-    entries_keep_their_place, events_stay, expectations_are_expected, expectations_are_in_order,
-    gone_expectations_stay_gone, places_are_in_the_pool, states_stay,
+    entries_keep_their_place, events_stay, expectations_are_expected, expectations_are_few,
+    expectations_are_in_order, gone_expectations_stay_gone, places_are_in_the_pool, states_stay,
 };
 use history_book::report::Expectations;
+use history_book::sight_laws::going_on_adds_up;
 use std::sync::Wait;
 
 /// Destroys the entries that are expired at the moment, and then ends the expectations that are due no longer; the
@@ -32,7 +33,9 @@ pub fn expire<R: Wait, D: Desk>(rt: &R, desk: &mut D, listed: Expectations, mome
     entries_keep_their_place();
     events_stay();
     expectations_are_expected();
+    expectations_are_few();
     expectations_are_in_order();
+    going_on_adds_up();
     gone_expectations_stay_gone();
     places_are_in_the_pool();
     states_stay();

@@ -11,6 +11,7 @@ use history_book::desk::Desk;
 use history_book::laws::{events_stay, expectations_are_expected, states_follow, states_stay};
 use history_book::outcome::UnexpectOutcome;
 use history_book::report::Expectations;
+use history_book::sight_laws::going_on_adds_up;
 use std::sync::Wait;
 
 /// Ends an expectation that is due no longer at the moment, if it is still there; says whether it made an event.
@@ -27,10 +28,11 @@ fn end_one<R: Wait, D: Desk>(rt: &R, desk: &mut D, e: &Expectation, moment: u64)
 {
     events_stay();
     expectations_are_expected();
+    going_on_adds_up();
     states_follow();
     states_stay();
-    let is_due = moment < e.deadline;
-    if is_due {
+    let is_awaited = moment < e.deadline;
+    if is_awaited {
         return false;
     }
     match desk.unexpect(rt, e.id, moment) {
@@ -49,6 +51,7 @@ pub fn end_late<R: Wait, D: Desk>(rt: &R, desk: &mut D, listed: &Expectations, m
     ensures { IsEnding moment (D.sight desk.old) (D.sight desk.new) listed.now.items (length listed.now.items) result }
 {
     events_stay();
+    going_on_adds_up();
     states_stay();
     let mut next = 0;
     let mut ended = 0;

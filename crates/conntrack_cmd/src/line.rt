@@ -4,7 +4,7 @@ ghost use Rattle.std.specs.Prelude.{◌≡◌};
 ghost use Rattle.file_text.specs.Text.{words_of, words_of_line};
 ghost use Rattle.conntrack_cmd.specs.Line.{alone, command_of, expire_of, is_expect, line_of, list_of, moment_in, wait_of};
 
-use crate::command::{Command, Saying};
+use crate::command::{Command, LineMeaning};
 use crate::options::{read_filter, read_tuple};
 use crate::read::ScriptKind;
 use file_text::lines::{first_word, next_word};
@@ -61,9 +61,7 @@ fn read_expire(words: &[u8]) -> Result<Command, ScriptKind>
     let Some((word, behind)) = next_word(words) else {
         return Err(ScriptKind::Value);
     };
-    let Some(moment) = read_moment(word) else {
-        return Err(ScriptKind::Value);
-    };
+    let moment = read_moment(word).ok_or(ScriptKind::Value)?;
     alone(Command::Expire(moment), behind)
 }
 
@@ -92,7 +90,7 @@ fn read_command(word: &[u8], words: &[u8]) -> Result<Command, ScriptKind>
 }
 
 /// `wait`, which stands alone and once in a script.
-fn read_wait(waited: bool, words: &[u8]) -> Result<Saying, ScriptKind>
+fn read_wait(waited: bool, words: &[u8]) -> Result<LineMeaning, ScriptKind>
     ensures { result ≡ wait_of waited (words_of words.now) }
 {
     if next_word(words).is_some() {
@@ -101,17 +99,17 @@ fn read_wait(waited: bool, words: &[u8]) -> Result<Saying, ScriptKind>
     if waited {
         Err(ScriptKind::Repeat)
     } else {
-        Ok(Saying::Wait)
+        Ok(LineMeaning::Wait)
     }
 }
 
 /// What a line says. Where the script is full, it may not be a command, and where it waited, not `wait`.
 #[tactic(auto, unfolding(crate::specs::Line::line_of))]
-pub(crate) fn read_line(line: &[u8], full: bool, waited: bool) -> Result<Saying, ScriptKind>
+pub(crate) fn read_line(line: &[u8], full: bool, waited: bool) -> Result<LineMeaning, ScriptKind>
     ensures { result ≡ line_of full waited (words_of_line line.now) }
 {
     let Some((word, words)) = first_word(line) else {
-        return Ok(Saying::Nothing);
+        return Ok(LineMeaning::Nothing);
     };
     if word == b"wait".as_slice() {
         return read_wait(waited, words);
@@ -120,5 +118,5 @@ pub(crate) fn read_line(line: &[u8], full: bool, waited: bool) -> Result<Saying,
         return Err(ScriptKind::TooMany);
     }
     let command = read_command(word, words)?;
-    Ok(Saying::Command(command))
+    Ok(LineMeaning::Command(command))
 }

@@ -13,6 +13,7 @@ use history_book::laws::{found_are_found_again, states_stay};
 use history_book::outcome::{FindOutcome, LiveCount, PeekOutcome};
 use history_book::places::{give_up, one_hold_has_its_id};
 use history_book::report::Expectations;
+use history_book::sight_laws::{going_on_adds_up, seeing_adds_up};
 use std::sync::Wait;
 use tuple_core::Tuple;
 
@@ -39,6 +40,7 @@ pub fn list_expected<R: Wait, D: Desk>(rt: &R, desk: &mut D, listed: Expectation
 {
     let mut listed = listed;
     let at = desk.expects(rt, &mut listed);
+    listed.fit();
     Spoken {
         said: Said::Expectations(listed),
         from: at,
@@ -54,7 +56,9 @@ fn look_once<R: Wait, D: Desk>(rt: &R, desk: &mut D, t: &Tuple) -> Option<Spoken
     ensures knows { IsKnown (D.sight desk.new) }
 {
     found_are_found_again();
+    going_on_adds_up();
     one_hold_has_its_id();
+    seeing_adds_up();
     states_stay();
     match desk.find(rt, t) {
         FindOutcome::Absent { at } => Some(Spoken {
@@ -87,6 +91,8 @@ pub fn look_up<R: Wait, D: Desk>(rt: &R, desk: &mut D, t: &Tuple) -> Spoken
     ensures says { Speaks (Get t.now) (D.sight desk.old) (D.sight desk.new) result }
     ensures knows { IsKnown (D.sight desk.new) }
 {
+    going_on_adds_up();
+    seeing_adds_up();
     'looks: for _ in rt.forever() {
         if let Some(spoken) = look_once(rt, desk, t) {
             return spoken;

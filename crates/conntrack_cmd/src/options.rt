@@ -1,148 +1,41 @@
 //! The options of a command.
 
 ghost use Rattle.std.specs.Prelude.{◌≡◌, ◌≤◌, [], length, drop, get_or};
-ghost use Rattle.file_text.specs.Reading.{once, required};
-ghost use Rattle.file_text.specs.Text.{address_of, port_of, words_of};
-ghost use Rattle.conntrack_cmd.specs.Options.{beside_ports, everything, filter_of, flow_of, options_from, proto_of, tuple_of, with_dport, with_dst, with_option, with_proto, with_reply, with_reply_dst, with_reply_src, with_sport, with_src};
-ghost use Rattle.conntrack_cmd.specs.declared.read.ScriptKind.TheVariants.{Value};
+ghost use Rattle.file_text.specs.Text.{words_of};
+ghost use Rattle.conntrack_cmd.specs.Options.{address_once, beside_ports, everything, filter_of, flow_of, options_from, port_once, taken_proto, tuple_of, with_option, with_reply};
 
 use crate::read::ScriptKind;
 use file_text::lines::next_word;
 use file_text::numbers::{read_address, read_port};
+use file_text::options::{has_ports, once, read_proto};
 use history_book::filter::Filter;
 use tuple_core::{Proto, Tuple};
 
-/// The protocol of this name. A command for one flow takes TCP and UDP only.
-#[tactic(auto, unfolding(crate::specs::Options::proto_of))]
-fn read_proto(one: bool, word: &[u8]) -> Option<Proto>
-    ensures { result ≡ proto_of one word.now }
+/// The protocol, where the command takes it: one for one flow takes only those that have ports.
+fn taken_proto(one: bool, proto: Option<Proto>) -> Option<Proto>
+    ensures { result ≡ taken_proto one proto }
 {
-    match word {
-        b"tcp" => Some(Proto::Tcp),
-        b"udp" => Some(Proto::Udp),
-        b"icmp" => { if one { None } else { Some(Proto::Icmp) } }
-        _ => None,
+    if one && !has_ports(proto) {
+        None
+    } else {
+        proto
     }
 }
 
-/// An address, or the result's fault.
-fn want_address(text: &[u8]) -> Result<u32, ScriptKind>
-    ensures { result ≡ required Value (address_of text.now) }
+/// The option with the address that is its value.
+fn address_once(old: Option<u32>, value: &[u8]) -> Result<Option<u32>, ScriptKind>
+    ensures { result ≡ address_once old value.now }
 {
-    match read_address(text) {
-        Some(address) => Ok(address),
-        None => Err(ScriptKind::Value),
-    }
+    let read = read_address(value).ok_or(ScriptKind::Value);
+    once(old, read, ScriptKind::Repeat)
 }
 
-/// A port, or the result's fault.
-fn want_port(text: &[u8]) -> Result<u16, ScriptKind>
-    ensures { result ≡ required Value (port_of 0 text.now) }
+/// The option with the port that is its value.
+fn port_once(old: Option<u16>, value: &[u8]) -> Result<Option<u16>, ScriptKind>
+    ensures { result ≡ port_once old value.now }
 {
-    match read_port(text, 0) {
-        Some(port) => Ok(port),
-        None => Err(ScriptKind::Value),
-    }
-}
-
-/// What is meant, with `-p` and its value.
-fn with_proto(one: bool, filter: Filter, value: &[u8]) -> Result<Filter, ScriptKind>
-    ensures { result ≡ with_proto one filter value.now }
-{
-    if filter.proto.is_some() {
-        return Err(ScriptKind::Repeat);
-    }
-    match read_proto(one, value) {
-        Some(proto) => Ok(Filter {
-            proto: Some(proto),
-            ..filter
-        }),
-        None => Err(ScriptKind::Value),
-    }
-}
-
-/// What is meant, with `-s` and its value.
-fn with_src(filter: Filter, value: &[u8]) -> Result<Filter, ScriptKind>
-    ensures { result ≡ with_src filter value.now }
-{
-    if filter.src.is_some() {
-        return Err(ScriptKind::Repeat);
-    }
-    let address = want_address(value)?;
-    Ok(Filter {
-        src: Some(address),
-        ..filter
-    })
-}
-
-/// What is meant, with `-d` and its value.
-fn with_dst(filter: Filter, value: &[u8]) -> Result<Filter, ScriptKind>
-    ensures { result ≡ with_dst filter value.now }
-{
-    if filter.dst.is_some() {
-        return Err(ScriptKind::Repeat);
-    }
-    let address = want_address(value)?;
-    Ok(Filter {
-        dst: Some(address),
-        ..filter
-    })
-}
-
-/// What is meant, with `-r` and its value.
-fn with_reply_src(filter: Filter, value: &[u8]) -> Result<Filter, ScriptKind>
-    ensures { result ≡ with_reply_src filter value.now }
-{
-    if filter.reply_src.is_some() {
-        return Err(ScriptKind::Repeat);
-    }
-    let address = want_address(value)?;
-    Ok(Filter {
-        reply_src: Some(address),
-        ..filter
-    })
-}
-
-/// What is meant, with `-q` and its value.
-fn with_reply_dst(filter: Filter, value: &[u8]) -> Result<Filter, ScriptKind>
-    ensures { result ≡ with_reply_dst filter value.now }
-{
-    if filter.reply_dst.is_some() {
-        return Err(ScriptKind::Repeat);
-    }
-    let address = want_address(value)?;
-    Ok(Filter {
-        reply_dst: Some(address),
-        ..filter
-    })
-}
-
-/// What is meant, with `--sport` and its value.
-fn with_sport(filter: Filter, value: &[u8]) -> Result<Filter, ScriptKind>
-    ensures { result ≡ with_sport filter value.now }
-{
-    if filter.sport.is_some() {
-        return Err(ScriptKind::Repeat);
-    }
-    let port = want_port(value)?;
-    Ok(Filter {
-        sport: Some(port),
-        ..filter
-    })
-}
-
-/// What is meant, with `--dport` and its value.
-fn with_dport(filter: Filter, value: &[u8]) -> Result<Filter, ScriptKind>
-    ensures { result ≡ with_dport filter value.now }
-{
-    if filter.dport.is_some() {
-        return Err(ScriptKind::Repeat);
-    }
-    let port = want_port(value)?;
-    Ok(Filter {
-        dport: Some(port),
-        ..filter
-    })
+    let read = read_port(value, 0).ok_or(ScriptKind::Value);
+    once(old, read, ScriptKind::Repeat)
 }
 
 /// What is meant, with an address of the replies. A command for one flow takes none.
@@ -152,9 +45,17 @@ fn with_reply(one: bool, filter: Filter, name: &[u8], value: &[u8]) -> Result<Fi
     if one {
         Err(ScriptKind::Option)
     } else if name == b"-r".as_slice() {
-        with_reply_src(filter, value)
+        let reply_src = address_once(filter.reply_src, value)?;
+        Ok(Filter {
+            reply_src,
+            ..filter
+        })
     } else if name == b"-q".as_slice() {
-        with_reply_dst(filter, value)
+        let reply_dst = address_once(filter.reply_dst, value)?;
+        Ok(Filter {
+            reply_dst,
+            ..filter
+        })
     } else {
         Err(ScriptKind::Option)
     }
@@ -166,15 +67,21 @@ fn with_option(one: bool, filter: Filter, name: &[u8], value: &[u8]) -> Result<F
     ensures { result ≡ with_option one filter name.now value.now }
 {
     if name == b"-p".as_slice() {
-        with_proto(one, filter, value)
+        let read = taken_proto(one, read_proto(value)).ok_or(ScriptKind::Value);
+        let proto = once(filter.proto, read, ScriptKind::Repeat)?;
+        Ok(Filter { proto, ..filter })
     } else if name == b"-s".as_slice() {
-        with_src(filter, value)
+        let src = address_once(filter.src, value)?;
+        Ok(Filter { src, ..filter })
     } else if name == b"-d".as_slice() {
-        with_dst(filter, value)
+        let dst = address_once(filter.dst, value)?;
+        Ok(Filter { dst, ..filter })
     } else if name == b"--sport".as_slice() {
-        with_sport(filter, value)
+        let sport = port_once(filter.sport, value)?;
+        Ok(Filter { sport, ..filter })
     } else if name == b"--dport".as_slice() {
-        with_dport(filter, value)
+        let dport = port_once(filter.dport, value)?;
+        Ok(Filter { dport, ..filter })
     } else {
         with_reply(one, filter, name, value)
     }
@@ -217,14 +124,14 @@ fn read_options(one: bool, words: &[u8]) -> Result<Filter, ScriptKind>
     }
 }
 
-/// What is meant, where ports stand beside TCP or UDP.
+/// What is meant, where ports stand only beside a protocol that has ports.
 fn beside_ports(filter: Filter) -> Result<Filter, ScriptKind>
     ensures { result ≡ beside_ports filter }
 {
-    match filter.proto {
-        Some(Proto::Tcp) | Some(Proto::Udp) => Ok(filter),
-        _ if filter.sport.is_none() && filter.dport.is_none() => Ok(filter),
-        _ => Err(ScriptKind::Option),
+    if has_ports(filter.proto) || (filter.sport.is_none() && filter.dport.is_none()) {
+        Ok(filter)
+    } else {
+        Err(ScriptKind::Option)
     }
 }
 

@@ -3,8 +3,8 @@
 ghost use Rattle.std.specs.Prelude.{◌≡◌, ◌+◌, ◌≤◌, ◌^◌, [], length, IfOk, OnOk, OnErr};
 ghost use Rattle.history_book.specs.Desk.{IsReady};
 ghost use Rattle.history_book.specs.Places.{HoldsNothing};
-ghost use Rattle.history_book.specs.Point.{StartsWith};
 ghost use Rattle.history_book.specs.Sight.{IsKnown};
+ghost use Rattle.history_book.specs.WentOn.{WentOn};
 ghost use Rattle.conntrack_cmd.specs.Internal.Spoken.{Speaks};
 ghost use Rattle.conntrack_cmd.specs.Moment.{moment_of};
 ghost use Rattle.conntrack_cmd.specs.Performed.{Performed};
@@ -88,11 +88,9 @@ pub fn perform<R: Wait, D: Desk>(
     requires nothing_held { (D.sight desk.old).held ≡ [] }
     requires nothing_owed { (D.sight desk.old).owed ≡ [] }
     ensures performed { IfOk result (Performed command.now moment (D.sight desk.old) (D.sight desk.new)) }
-    ensures own { OnErr result ((D.sight desk.new).own ≡ (D.sight desk.old).own) }
+    ensures went { OnErr result (WentOn (D.sight desk.old) (D.sight desk.new) []) }
     ensures held { OnErr result ((D.sight desk.new).held ≡ []) }
     ensures owed { OnErr result ((D.sight desk.new).owed ≡ []) }
-    ensures front { OnErr result (StartsWith (D.sight desk.new).front (D.sight desk.old).front) }
-    ensures sizes { OnErr result ((D.sight desk.new).sizes ≡ (D.sight desk.old).sizes) }
     ensures knows { IsKnown (D.sight desk.new) }
 {
     let first = desk.made();

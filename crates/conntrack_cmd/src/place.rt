@@ -1,7 +1,7 @@
 //! Looks at one place of the pool: its entry is listed, or destroyed.
 
 ghost use Rattle.std.specs.Prelude.{◌≡◌, ◌+◌, ◌<◌, ◌≤◌, ◌^◌, ℕ, true, [], length, IfSome, option_to_list};
-ghost use Rattle.history_book.specs.Desk.{Saw};
+ghost use Rattle.history_book.specs.WentOn.{Saw};
 ghost use Rattle.history_book.specs.Filter.{passes};
 ghost use Rattle.history_book.specs.Legality.{is_reason, reason_moment_of};
 ghost use Rattle.history_book.specs.Places.{HoldsNothing};
@@ -19,6 +19,7 @@ use history_book::laws::{
 };
 use history_book::outcome::{HoldOutcome, KillOutcome, PeekOutcome};
 use history_book::places::{give_up, one_hold_has_its_id};
+use history_book::sight_laws::{going_on_adds_up, seeing_adds_up};
 use std::sync::Wait;
 
 /// The row of the entry that is live in the place, if one is and it passes the filter.
@@ -43,6 +44,7 @@ pub fn list_place<R: Wait, D: Desk>(
     events_stay();
     one_hold_has_its_id();
     places_name_entries();
+    seeing_adds_up();
     states_stay();
     unused_places_are_nobodys();
     match desk.hold(rt, place) {
@@ -82,8 +84,10 @@ pub fn destroy_place<R: Wait, D: Desk>(rt: &R, desk: &mut D, why: Why, place: u3
     destroyed_ids_stay_dead();
     entries_keep_their_place();
     events_stay();
+    going_on_adds_up();
     one_hold_has_its_id();
     places_name_entries();
+    seeing_adds_up();
     states_stay();
     unused_places_are_nobodys();
     match desk.hold(rt, place) {

@@ -5,7 +5,7 @@ ghost use Rattle.conntrack_cmd.specs.Internal.{wait_after};
 ghost use Rattle.conntrack_cmd.specs.Line.{number_of_kind};
 ghost use Rattle.conntrack_cmd.specs.Script.{commands_of, IsReason, IsScript};
 
-use crate::command::{Commands, Saying};
+use crate::command::{Commands, LineMeaning};
 use crate::line::read_line;
 use file_text::lines::next_line;
 use std::alloc::Global;
@@ -76,10 +76,10 @@ impl From<NoMemory> for ScriptError {
 }
 
 /// Appends the command, if the line says one.
-fn append(commands: &mut Commands, saying: Saying) -> Result<(), NoMemory>
-    ensures { OnOk result (commands.new.items ≡ commands.old.items ++ commands_of (saying ∷ [])) }
+fn append(commands: &mut Commands, meaning: LineMeaning) -> Result<(), NoMemory>
+    ensures { OnOk result (commands.new.items ≡ commands.old.items ++ commands_of (meaning ∷ [])) }
 {
-    if let Saying::Command(command) = saying {
+    if let LineMeaning::Command(command) = meaning {
         commands.reserve(1)?;
         commands.push(command);
     }
@@ -87,11 +87,11 @@ fn append(commands: &mut Commands, saying: Saying) -> Result<(), NoMemory>
 }
 
 /// How many commands stand before `wait`, if a line up to this one says it.
-fn wait_after(wait: Option<u32>, saying: Saying, count: u32) -> Option<u32>
-    ensures { result ≡ wait_after wait saying count }
+fn wait_after(wait: Option<u32>, meaning: LineMeaning, count: u32) -> Option<u32>
+    ensures { result ≡ wait_after wait meaning count }
 {
-    match saying {
-        Saying::Wait => Some(count),
+    match meaning {
+        LineMeaning::Wait => Some(count),
         _ => wait,
     }
 }
@@ -112,12 +112,12 @@ pub fn read_script(alloc: Global, bytes: &[u8]) -> Result<Script, ScriptError>
         number += 1;
         let (line, behind) = next_line(rest);
         let count = commands.len();
-        let saying = match read_line(line, count >= MOST_COMMANDS, wait.is_some()) {
-            Ok(saying) => saying,
+        let meaning = match read_line(line, count >= MOST_COMMANDS, wait.is_some()) {
+            Ok(meaning) => meaning,
             Err(kind) => return Err(ScriptError::Fault(ScriptFault { line: number, kind })),
         };
-        append(&mut commands, saying)?;
-        wait = wait_after(wait, saying, count as u32);
+        append(&mut commands, meaning)?;
+        wait = wait_after(wait, meaning, count as u32);
         rest = behind;
     }
     let all = commands.len() as u32;

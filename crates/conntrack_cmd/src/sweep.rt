@@ -13,6 +13,7 @@ use history_book::desk::Desk;
 use history_book::event::Why;
 use history_book::filter::Filter;
 use history_book::laws::{entries_keep_their_place, events_stay, states_stay};
+use history_book::sight_laws::going_on_adds_up;
 use std::sync::Wait;
 
 /// Lists the entries that pass the filter, in the order of their places.
@@ -26,8 +27,9 @@ pub fn list_all<R: Wait, D: Desk>(rt: &R, desk: &mut D, filter: &Filter, rows: &
     ensures room { rows.new.room ≡ rows.old.room }
 {
     entries_keep_their_place();
-    states_stay();
+    going_on_adds_up();
     let places = desk.places();
+    states_stay();
     let mut next = 0;
     'places: while next < places {
         let place = next;
@@ -53,8 +55,9 @@ pub fn destroy_all<R: Wait, D: Desk>(rt: &R, desk: &mut D, why: Why, rows: &mut 
 {
     entries_keep_their_place();
     events_stay();
-    states_stay();
+    going_on_adds_up();
     let places = desk.places();
+    states_stay();
     let mut next = 0;
     'places: while next < places {
         let place = next;
@@ -76,8 +79,9 @@ pub fn count_destroyed<R: Wait, D: Desk>(rt: &R, desk: &mut D, why: Why) -> u32
 {
     entries_keep_their_place();
     events_stay();
-    states_stay();
+    going_on_adds_up();
     let places = desk.places();
+    states_stay();
     let mut next = 0;
     let mut ended = 0;
     'places: while next < places {

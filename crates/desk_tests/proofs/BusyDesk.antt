@@ -28,28 +28,29 @@ use Rattle.history_book.specs.declared.outcome.PeekOutcome.{PeekOutcome}
 use Rattle.history_book.specs.declared.outcome.PeekOutcome.TheVariants as peek
 use Rattle.history_book.specs.declared.outcome.ReleaseOutcome.{ReleaseOutcome}
 use Rattle.history_book.specs.declared.outcome.ReleaseOutcome.TheVariants as release
-use Rattle.history_book.specs.declared.outcome.KillOutcome.{KillOutcome}
-use Rattle.history_book.specs.declared.outcome.KillOutcome.TheVariants as kill
 use Rattle.history_book.specs.declared.outcome.TakeOutcome.{TakeOutcome}
 use Rattle.history_book.specs.declared.outcome.TakeOutcome.TheVariants as take
 use Rattle.history_book.specs.declared.outcome.TouchOutcome.{TouchOutcome}
 use Rattle.history_book.specs.declared.outcome.TouchOutcome.TheVariants as touch
 use Rattle.history_book.specs.declared.record.Flow.{Flow}
 use Rattle.history_book.specs.declared.sizes.Sizes.{Sizes}
-use Rattle.history_book.specs.Desk.{ConfirmSays, Destroys, FindSays, HoldSays, HoldsOneMore, KeepsPlace, KillSays, PeekSays, ReleaseSays, Looked, MadeEvent, OwesPlace, RecycleSays, SamePlaces, Saw, TakeSays, Takes, TouchSays, Touches}
+use Rattle.history_book.specs.Desk.{ConfirmSays, Destroys, FindSays, HoldSays, IsRecord, PeekSays, ReleaseSays, SamePlaces, TakeSays, Takes, TouchSays, Touches}
 use Rattle.history_book.specs.DeskExpectations.{ExpectSays, MakesExpect, expectation_at}
-use Rattle.history_book.specs.Entry.{confirmed_by, is_helped_entry}
-use Rattle.history_book.specs.Held.{held_for, held_id, is_at, is_held, paid, without}
-use Rattle.history_book.specs.Point.{StartsWith}
+use Rattle.history_book.specs.Entry.{confirmed_by, is_helped_entry, is_of_entry}
+use Rattle.history_book.specs.Held.{held_for, held_id, is_at, is_held, is_owed, without}
+use Rattle.history_book.specs.Point.{At, StartsWith}
 use Rattle.history_book.specs.Sight.{IsKnown, Sight}
 use Rattle.history_book.specs.Record.{has_id}
 use Rattle.history_book.specs.History.{after, is_legal, is_legal_from}
+use Rattle.history_book.specs.Laws.{EntriesKeepTheirProtocol}
 use Rattle.history_book.specs.Legality.{has_helper, may_happen}
 use Rattle.history_book.specs.State.{State, empty_state, next, record_of}
+use Rattle.history_book.specs.WentOn.{IsSamePass, MadeEvent, Saw}
 use Rattle.history_book.specs.declared.event.Event.TheVariants.{Claim, Confirm, Destroy, Expect, Touch, Unexpect}
 use Rattle.history_book.specs.declared.record.Record.{Record}
 use Rattle.proto_rules.specs.declared.Outcome.TheVariants.{Accept}
 use Rattle.proto_rules.specs.declared.Part.{Part}
+use Rattle.proto_rules.specs.Protocol.{is_of_protocol}
 use Rattle.proto_rules.specs.Step.{step_of}
 use Rattle.desk_tests.specs.Busy.{IsBusy, Went, seen_by}
 
@@ -86,10 +87,10 @@ went_refl s b a le known = record {
 pub went_saw : (old new : Sight) → Saw old new → SamePlaces old new → IsKnown new → Went old new 1 0
 went_saw old new saw same known = record {
   known = known;
-  front = saw.front;
+  front = saw.went.front;
   held = same.held;
   owed = same.owed;
-  sizes = saw.sizes;
+  sizes = saw.went.pass.sizes;
   fewer = omega arith;
   spare = omega (arith, saw.spare);
 }
@@ -97,10 +98,10 @@ went_saw old new saw same known = record {
 pub went_made : (old new : Sight) (n : ℕ) (e : Event) → MadeEvent old new n e → SamePlaces old new → IsKnown new → Went old new 1 0
 went_made old new n e made same known = record {
   known = known;
-  front = made.front;
+  front = made.went.front;
   held = same.held;
   owed = same.owed;
-  sizes = made.sizes;
+  sizes = made.went.pass.sizes;
   fewer = omega arith;
   spare = omega (arith, made.spare);
 }
@@ -108,23 +109,12 @@ went_made old new n e made same known = record {
 pub went_after : (old mid new : Sight) (b a : ℕ) → Saw old mid → SamePlaces old mid → Went mid new b a → Went old new b a
 went_after old mid new b a saw same went = record {
   known = went.known;
-  front = starts_trans new.front mid.front old.front went.front saw.front;
+  front = starts_trans new.front mid.front old.front went.front saw.went.front;
   held = went.held ∙ same.held;
   owed = went.owed ∙ same.owed;
-  sizes = went.sizes ∙ saw.sizes;
+  sizes = went.sizes ∙ saw.went.pass.sizes;
   fewer = went.fewer;
   spare = omega (arith, went.spare, saw.spare);
-}
-
-pub went_less : (old new : Sight) (b a : ℕ) → Went old new 1 0 → b ≡ a + 1 → Went old new b a
-went_less old new b a went one = record {
-  known = went.known;
-  front = went.front;
-  held = went.held;
-  owed = went.owed;
-  sizes = went.sizes;
-  fewer = omega (arith, one);
-  spare = omega (arith, went.spare, one);
 }
 
 pub went_touch : (place : ℕ) (d : Direction) (segment : Segment) (moment : ℕ) (old new : Sight) (r : TouchOutcome)
@@ -147,18 +137,21 @@ went_expect place want moment old new (expect.ExpectFull at) says known = went_s
 pub went_then : (old mid new : Sight) (b a : ℕ) → Went old mid b a → Saw mid new → SamePlaces mid new → IsKnown new → Went old new b a
 went_then old mid new b a went saw same known = record {
   known = known;
-  front = starts_trans new.front mid.front old.front saw.front went.front;
+  front = starts_trans new.front mid.front old.front saw.went.front went.front;
   held = same.held ∙ went.held;
   owed = same.owed ∙ went.owed;
-  sizes = saw.sizes ∙ went.sizes;
+  sizes = saw.went.pass.sizes ∙ went.sizes;
   fewer = went.fewer;
   spare = omega (arith, went.spare, saw.spare);
 }
 
-pub went_kill : (place : ℕ) (w : Why) (old new : Sight) (r : KillOutcome) → KillSays place w old new r → IsKnown new → Went old new 1 0
-went_kill place w old new (kill.Killed n subject) says known = went_made old new n _ says.made says.same known
-went_kill place w old new (kill.Gone at) says known = went_saw old new says.0.saw says.1 known
-went_kill place w old new (kill.Not subject at) says known = went_saw old new says.0.saw says.2 known
+-- a packet of the protocol of what was read is one of the entry
+pub read_protocol : EntriesKeepTheirProtocol → (place : ℕ) (segment : Segment) (old new : Sight) (subject : Record) (at : ℕ) → IsKnown new
+    → PeekSays place old new (peek.Seen subject at) → is_of_protocol segment subject.part.kind ≡ true
+    → is_of_entry segment (held_id place new.held) new.front ≡ true
+read_protocol keep place segment old new subject at known says of =
+    ap (λ (l : List Hold). is_of_entry segment (held_id place l) new.front) says.1.held
+    ∙ keep new.sizes new.front at (held_id place old.held) subject segment known.legal says.0.fact.fact ∙ of
 
 -- the other pass holds one place more
 pub record Holding (place : ℕ) (old s : Sight) : Type 0 where
@@ -184,83 +177,51 @@ for_others place id (h ∷ hs) none = first (is_at place h) refl none (for_other
 pub holding_confirmed : (place : ℕ) (flow : Flow) (old mid new : Sight) (r : ConfirmOutcome) → Takes old mid place
     → ConfirmSays place flow mid new r → Holding place old new
 holding_confirmed place flow old mid new (confirm.Confirmed id) taken says = record {
-  front = starts_trans new.front mid.front old.front says.made.front taken.saw.front;
+  front = starts_trans new.front mid.front old.front says.made.went.front taken.saw.went.front;
   id = Some id;
   held = says.held ∙ ap (held_for place id) taken.holds.held
       ∙ ap (λ (b : Bool). cond b (record { place = place; id = Some id }) (record { place = place; id = None }) ∷ held_for place id old.held) (eq-eqb place place refl)
       ∙ ap (λ (l : List Hold). record { place = place; id = Some id } ∷ l) (for_others place id old.held taken.unheld);
   owed = says.owed ∙ taken.holds.owed;
-  sizes = says.made.sizes ∙ taken.saw.sizes;
+  sizes = says.made.went.pass.sizes ∙ taken.saw.went.pass.sizes;
   spare = omega (arith, says.made.spare, taken.saw.spare);
 }
 holding_confirmed place flow old mid new (confirm.Clash id d both at) taken says = record {
-  front = starts_trans new.front mid.front old.front says.0.saw.front taken.saw.front;
+  front = starts_trans new.front mid.front old.front says.0.saw.went.front taken.saw.went.front;
   id = None;
   held = says.1.held ∙ taken.holds.held;
   owed = says.1.owed ∙ taken.holds.owed;
-  sizes = says.0.saw.sizes ∙ taken.saw.sizes;
+  sizes = says.0.saw.went.pass.sizes ∙ taken.saw.went.pass.sizes;
   spare = omega (arith, says.0.saw.spare, taken.saw.spare);
 }
 
 pub holding_found : (t : Tuple) (place id : ℕ) (d : Direction) (at : ℕ) (old mid new : Sight)
     → FindSays t old mid (find.Found place id d at) → Went mid new 1 0 → Holding place old new
 holding_found t place id d at old mid new says went = record {
-  front = starts_trans new.front mid.front old.front went.front says.0.saw.front;
+  front = starts_trans new.front mid.front old.front went.front says.0.saw.went.front;
   id = Some id;
   held = went.held ∙ says.1.held;
   owed = went.owed ∙ says.1.owed;
-  sizes = went.sizes ∙ says.0.saw.sizes;
+  sizes = went.sizes ∙ says.0.saw.went.pass.sizes;
   spare = omega (arith, went.spare, says.0.saw.spare);
 }
 
 let_go : (place : ℕ) (id : Option ℕ) (held : List Hold) → without place (record { place = place; id = id } ∷ held) ≡ held
 let_go place id held = ap (λ (b : Bool). cond b held (record { place = place; id = id } ∷ without place held)) (eq-eqb place place refl)
 
-paid_first : (place : ℕ) (owed : List ℕ) → paid place (place ∷ owed) ≡ owed
-paid_first place owed = ap (λ (b : Bool). cond b owed (place ∷ paid place owed)) (eq-eqb place place refl)
-
-pub went_kept : (place : ℕ) (old mid new : Sight) → Holding place old mid → KeepsPlace place mid new → IsKnown new → Went old new 1 0
-went_kept place old mid new holds keeps known = record {
+pub went_back : (place : ℕ) (old mid new : Sight) → Holding place old mid → Saw mid new → new.held ≡ without place mid.held
+    → new.owed ≡ mid.owed → IsKnown new → Went old new 1 0
+went_back place old mid new holds saw held owed known = record {
   known = known;
-  front = starts_trans new.front mid.front old.front keeps.saw.front holds.front;
-  held = keeps.held ∙ ap (without place) holds.held ∙ let_go place holds.id old.held;
-  owed = keeps.owed ∙ holds.owed;
-  sizes = keeps.saw.sizes ∙ holds.sizes;
+  front = starts_trans new.front mid.front old.front saw.went.front holds.front;
+  held = held ∙ ap (without place) holds.held ∙ let_go place holds.id old.held;
+  owed = owed ∙ holds.owed;
+  sizes = saw.went.pass.sizes ∙ holds.sizes;
   fewer = omega arith;
-  spare = omega (arith, keeps.saw.spare, holds.spare);
-}
-
-pub went_recycled : (place : ℕ) (old mid late new : Sight) → Holding place old mid → OwesPlace place mid late → RecycleSays place late new
-    → IsKnown new → Went old new 1 0
-went_recycled place old mid late new holds owes says known = record {
-  known = known;
-  front = starts_trans new.front late.front old.front says.saw.front
-      (starts_trans late.front mid.front old.front owes.saw.front holds.front);
-  held = says.held ∙ owes.held ∙ ap (without place) holds.held ∙ let_go place holds.id old.held;
-  owed = says.owed ∙ ap (paid place) (owes.owed ∙ ap (λ (l : List ℕ). place ∷ l) holds.owed) ∙ paid_first place old.owed;
-  sizes = says.saw.sizes ∙ owes.saw.sizes ∙ holds.sizes;
-  fewer = omega arith;
-  spare = omega (arith, says.saw.spare, owes.saw.spare, holds.spare);
+  spare = omega (arith, saw.spare, holds.spare);
 }
 
 -- This pass's calls.
-
--- a desk that saw further events
-abbrev pub moved : Sight → List Event → List Note → ℕ → Sight
-moved old front own spare = record {
-  front = front;
-  own = own;
-  held = old.held;
-  owed = old.owed;
-  spare = spare;
-  sizes = old.sizes;
-}
-
-pub moved_by : (old mid : Sight) (b a : ℕ) → Went old mid b a → mid ≡ moved old mid.front mid.own mid.spare
-moved_by old mid b a went =
-    ap (λ (h : List Hold). record { front = mid.front; own = mid.own; held = h; owed = mid.owed; spare = mid.spare; sizes = mid.sizes }) went.held
-    ∙ ap (λ (l : List ℕ). record { front = mid.front; own = mid.own; held = old.held; owed = l; spare = mid.spare; sizes = mid.sizes }) went.owed
-    ∙ ap (λ (z : Sizes). record { front = mid.front; own = mid.own; held = old.held; owed = old.owed; spare = mid.spare; sizes = z }) went.sizes
 
 found_has : {X : Type 0} (p : X → Bool) (xs : List X) (y : X) → find_in p xs ≡ Some y → p y ≡ true
 found_has p [] y h = cc
@@ -277,112 +238,77 @@ has_id_of id s r h = eqb-true r.id id (found_has (has_id id) s.records r h)
 accepted : (p q : Part) → Accept p ≡ Accept q → p ≡ q
 accepted p q e = cc
 
-module _ (old : Sight) (f : List Event) (o : List Note) (k : ℕ) (start : StartsWith f old.front) (lone : old.sizes.passes ≡ 1)
-    (new : Sight) (notes : List Note) (spare : ℕ) where
-  saw : Saw (moved old f o k) new → Saw (seen_by old notes spare) (seen_by new notes spare)
-  saw s = record {
-    front = starts_trans new.front f old.front s.front start;
-    own = refl;
-    spare = refl;
-    sizes = ap (λ (z : Sizes). record z { passes = 2 }) s.sizes;
-  }
+same_pass : (old mid new : Sight) (notes items : List Note) (spare spare' b a : ℕ) → Went old mid b a → IsSamePass mid new
+    → IsSamePass (seen_by old notes spare) (seen_by new items spare')
+same_pass old mid new notes items spare spare' b a went pass = record {
+  tracker = refl;
+  sizes = ap (λ (z : Sizes). record z { passes = 2 }) (pass.sizes ∙ went.sizes);
+  shares = refl;
+  returned = refl;
+  gathered = refl;
+}
 
-  looked : (at : ℕ) (F : State → Type 0) → Looked (moved old f o k) new at F → Looked (seen_by old notes spare) (seen_by new notes spare) at F
-  looked at F l = record {
-    saw = saw l.saw;
-    low = omega (arith, l.low, starts_longer f old.front start);
-    fact = l.fact;
-  }
+pub saw_went : (old mid new : Sight) (notes : List Note) (spare b a : ℕ) → Went old mid b a → Saw mid new
+    → Saw (seen_by old notes spare) (seen_by new notes spare)
+saw_went old mid new notes spare b a went saw = record {
+  went = record {
+    front = starts_trans new.front mid.front old.front saw.went.front went.front;
+    own = sym (append-nil notes);
+    spare = omega arith;
+    pass = same_pass old mid new notes notes spare spare b a went saw.went.pass;
+  };
+  spare = refl;
+}
 
-  same : SamePlaces (moved old f o k) new → SamePlaces (seen_by old notes spare) (seen_by new notes spare)
-  same s = record { held = s.held; owed = s.owed }
-
-  more : (place : ℕ) (id : Option ℕ) → HoldsOneMore (moved old f o k) new place id
-      → HoldsOneMore (seen_by old notes spare) (seen_by new notes spare) place id
-  more place id h = record { held = h.held; owed = h.owed }
-
-  made : (spare' n : ℕ) (e : Event) → MadeEvent (moved old f o k) new n e → spare ≡ spare' + 1
-      → MadeEvent (seen_by old notes spare) (seen_by new (notes ++ record { number = n; event = e } ∷ []) spare') n e
-  made spare' n e m one = record {
-    front = starts_trans new.front f old.front m.front start;
-    own = refl;
-    spare = one;
-    sizes = ap (λ (z : Sizes). record z { passes = 2 }) m.sizes;
-    low = omega (arith, m.low, starts_longer f old.front start);
-    high = m.high;
-    happened = m.happened;
-  }
-
-  pub moved_take : (r : TakeOutcome) → TakeSays (moved old f o k) new r → TakeSays (seen_by old notes spare) (seen_by new notes spare) r
-  moved_take (take.Taken place) says = record {
-    saw = saw says.saw;
-    below = says.below;
-    unheld = says.unheld;
-    unowed = says.unowed;
-    holds = more place None says.holds;
-    alone = λ one. absurd (omega (arith, one));
-  }
-  moved_take (take.Full at) says = record {
-    looked = record {
-      saw = saw says.looked.saw;
-      low = omega (arith, says.looked.low, starts_longer f old.front start);
-      fact = record { within = says.looked.fact.within; fact = omega (arith, says.looked.fact.fact, lone) };
-    };
-    same = same says.same;
-    alone = λ one place below. absurd (omega (arith, one));
-  }
-
-  pub moved_touched : (id : ℕ) (d : Direction) (segment : Segment) (moment n spare' : ℕ) (before : Record) (later : Part)
-      → Touches id d segment moment (moved old f o k) new n before → step_of before.part d segment moment ≡ Accept later
-      → spare ≡ spare' + 1
-      → Touches id d segment moment (seen_by old notes spare)
-      (seen_by new (notes ++ record { number = n; event = Touch before.id d segment moment later } ∷ []) spare') n before
-  moved_touched id d segment moment n spare' before later says step one =
-      let named : before.id ≡ id = has_id_of id (after new.front n) before says.found.fact in
-      let parts : says.after ≡ later = accepted says.after later (sym says.step ∙ step) in
-      let event : Touch id d segment moment says.after ≡ Touch before.id d segment moment later =
-      ap (λ i. Touch i d segment moment says.after) (sym named) ∙ ap (Touch before.id d segment moment) parts in
-      record {
-        after = later;
-        made = subst
-            (λ i. MadeEvent (seen_by old notes spare)
-            (seen_by new (notes ++ record { number = n; event = Touch before.id d segment moment later } ∷ []) spare') n (Touch i d segment moment later))
-            named
-            (made spare' n (Touch before.id d segment moment later) (subst (MadeEvent (moved old f o k) new n) event says.made) one);
-        found = says.found;
-        step = step;
-        same = record { held = says.same.held; owed = says.same.owed };
-      }
-
-  pub moved_killed : (id : ℕ) (w : Why) (n spare' : ℕ) (subject : Record) → Destroys id w (moved old f o k) new n subject
-      → spare ≡ spare' + 1
-      → Destroys id w (seen_by old notes spare)
-      (seen_by new (notes ++ record { number = n; event = Destroy subject.id w } ∷ []) spare') n subject
-  moved_killed id w n spare' subject says one =
-      let named : subject.id ≡ id = has_id_of id (after new.front n) subject says.found.fact in
-      record {
-        made = subst
-            (λ i. MadeEvent (seen_by old notes spare)
-            (seen_by new (notes ++ record { number = n; event = Destroy subject.id w } ∷ []) spare') n (Destroy i w))
-            named
-            (made spare' n (Destroy subject.id w)
-            (subst (λ i. MadeEvent (moved old f o k) new n (Destroy i w)) (sym named) says.made) one);
-        found = says.found;
-        reason = says.reason;
-        same = record { held = says.same.held; owed = says.same.owed };
-      }
-
-  pub moved_made : (spare' n : ℕ) (e : Event) → MadeEvent (moved old f o k) new n e → SamePlaces (moved old f o k) new
-      → spare ≡ spare' + 1
-      → MadeEvent (seen_by old notes spare) (seen_by new (notes ++ record { number = n; event = e } ∷ []) spare') n e
-      × SamePlaces (seen_by old notes spare) (seen_by new (notes ++ record { number = n; event = e } ∷ []) spare')
-  moved_made spare' n e m places one = (made spare' n e m one, record { held = places.held; owed = places.owed })
+event_went : (old mid new : Sight) (notes items : List Note) (spare spare' b a n : ℕ) (e : Event) → Went old mid b a
+    → MadeEvent mid new n e → items ≡ notes ++ record { number = n; event = e } ∷ [] → spare ≡ spare' + 1
+    → MadeEvent (seen_by old notes spare) (seen_by new items spare') n e
+event_went old mid new notes items spare spare' b a n e went made pushed one = record {
+  went = record {
+    front = starts_trans new.front mid.front old.front made.went.front went.front;
+    own = pushed;
+    spare = omega (arith, one);
+    pass = same_pass old mid new notes items spare spare' b a went made.went.pass;
+  };
+  spare = one;
+  low = omega (arith, made.low, starts_longer mid.front old.front went.front);
+  high = made.high;
+  happened = made.happened;
+}
 
 pub take_went : (old mid new : Sight) (notes : List Note) (spare b a : ℕ) (r : TakeOutcome) → Went old mid b a
     → old.sizes.passes ≡ 1 → TakeSays mid new r → TakeSays (seen_by old notes spare) (seen_by new notes spare) r
-take_went old mid new notes spare b a r went lone says =
-    moved_take old mid.front mid.own mid.spare went.front lone new notes spare r
-    (subst (λ (m : Sight). TakeSays m new r) (moved_by old mid b a went) says)
+take_went old mid new notes spare b a (take.Taken place) went lone says = record {
+  saw = saw_went old mid new notes spare b a went says.saw;
+  below = subst (λ (z : Sizes). place < z.entries) went.sizes says.below;
+  unheld = ap (is_held place) (sym went.held) ∙ says.unheld;
+  unowed = ap (is_owed place) (sym went.owed) ∙ says.unowed;
+  holds = record {
+    held = says.holds.held ∙ ap (λ (l : List Hold). record { place = place; id = None } ∷ l) went.held;
+    owed = says.holds.owed ∙ went.owed;
+  };
+  alone = λ one. absurd (omega (arith, one));
+}
+take_went old mid new notes spare b a (take.Full at) went lone says = record {
+  looked = record {
+    saw = saw_went old mid new notes spare b a went says.looked.saw;
+    low = omega (arith, says.looked.low, starts_longer mid.front old.front went.front);
+    fact = record {
+      within = says.looked.fact.within;
+      fact = omega (
+        arith,
+        says.looked.fact.fact,
+        lone,
+        ap (λ (z : Sizes). z.entries) went.sizes,
+        ap (λ (z : Sizes). z.passes) went.sizes,
+        ap length went.held,
+        ap length went.owed,
+      );
+    };
+  };
+  same = record { held = says.same.held ∙ went.held; owed = says.same.owed ∙ went.owed };
+  alone = λ one place below. absurd (omega (arith, one));
+}
 
 pub take_saw : (mid new : Sight) (r : TakeOutcome) → TakeSays mid new r → Saw mid new
 take_saw mid new (take.Taken place) says = says.saw
@@ -428,6 +354,10 @@ known_seen inner notes capacity spare others b = record {
   once = b.known.once;
   places = b.known.places;
   spared = b.few;
+  shared = omega arith;
+  passes = omega arith;
+  gathered = λ i d short. absurd (omega (arith, short));
+  gathered_few = omega arith;
   alone = λ one. absurd (omega (arith, one));
 }
 
@@ -447,8 +377,8 @@ pub busy_saw : (old new : Sight) (notes : List Note) (capacity spare a : ℕ) �
     → IsKnown new → IsBusy new notes capacity spare a
 busy_saw old new notes capacity spare a busy saw known = record {
   known = known;
-  lone = ap (λ (z : Sizes). z.passes) saw.sizes ∙ busy.lone;
-  own = λ i d h. get_grows new.front old.front _ _ saw.front (busy.own i d h);
+  lone = ap (λ (z : Sizes). z.passes) saw.went.pass.sizes ∙ busy.lone;
+  own = λ i d h. get_grows new.front old.front _ _ saw.went.front (busy.own i d h);
   ordered = busy.ordered;
   room = busy.room;
   few = busy.few;
@@ -463,9 +393,9 @@ busy_made old new notes capacity spare spare' a n e busy made known one =
     length-append notes (record { number = n; event = e } ∷ []) in
     record {
       known = known;
-      lone = ap (λ (z : Sizes). z.passes) made.sizes ∙ busy.lone;
+      lone = ap (λ (z : Sizes). z.passes) made.went.pass.sizes ∙ busy.lone;
       own = All-push (λ (x : Note). slice_get new.front x.number ≡ Some x.event) notes (record { number = n; event = e })
-          (λ i d h. get_grows new.front old.front _ _ made.front (busy.own i d h)) made.happened;
+          (λ i d h. get_grows new.front old.front _ _ made.went.front (busy.own i d h)) made.happened;
       ordered = all_pairs_push (λ (x y : Note). x.number < y.number) notes (record { number = n; event = e }) busy.ordered
           (λ i d h. omega (arith, slice_get_within old.front _ _ (busy.own i d h), made.low));
       room = omega (arith, busy.room, longer, one);
@@ -502,37 +432,48 @@ kill_made id w mid new n subject says =
     subst (λ i. MadeEvent mid new n (Destroy i w)) (sym (has_id_of id (after new.front n) subject says.found.fact)) says.made
 
 pub touched_went : (place : ℕ) (old mid new : Sight) (notes items : List Note) (spare spare' b a : ℕ) (d : Direction) (segment : Segment)
-    (moment n : ℕ) (before : Record) (later : Part) → Went old mid b a → old.sizes.passes ≡ 1
+    (moment n : ℕ) (before : Record) (later : Part) → Went old mid b a
     → Touches (held_id place mid.held) d segment moment mid new n before → step_of before.part d segment moment ≡ Accept later
     → items ≡ notes ++ record { number = n; event = Touch before.id d segment moment later } ∷ [] → spare ≡ spare' + 1
     → Touches (held_id place old.held) d segment moment (seen_by old notes spare) (seen_by new items spare') n before
-touched_went place old mid new notes items spare spare' b a d segment moment n before later went lone says step pushed one =
-    subst (λ (l : List Note). Touches (held_id place old.held) d segment moment (seen_by old notes spare) (seen_by new l spare') n before)
-    (sym pushed)
-    (moved_touched old mid.front mid.own mid.spare went.front lone new notes spare (held_id place old.held) d segment moment n spare' before later
-    (subst (λ (m : Sight). Touches (held_id place m.held) d segment moment m new n before) (moved_by old mid b a went) says) step one)
+touched_went place old mid new notes items spare spare' b a d segment moment n before later went says step pushed one =
+    let named : before.id ≡ held_id place mid.held = has_id_of (held_id place mid.held) (after new.front n) before says.found.fact in
+    subst (λ i. Touches i d segment moment (seen_by old notes spare) (seen_by new items spare') n before)
+    (named ∙ ap (held_id place) went.held)
+    (record {
+      after = later;
+      made = event_went old mid new notes items spare spare' b a n (Touch before.id d segment moment later) went
+          (touch_made (held_id place mid.held) d segment moment mid new n before later says step) pushed one;
+      found = subst (λ i. At new.front n (IsRecord i before)) (sym named) says.found;
+      step = step;
+      same = record { held = says.same.held ∙ went.held; owed = says.same.owed ∙ went.owed };
+    })
 
 pub killed_went : (place : ℕ) (old mid new : Sight) (notes items : List Note) (spare spare' b a : ℕ) (w : Why) (n : ℕ)
-    (subject : Record) → Went old mid b a → old.sizes.passes ≡ 1 → Destroys (held_id place mid.held) w mid new n subject
+    (subject : Record) → Went old mid b a → Destroys (held_id place mid.held) w mid new n subject
     → items ≡ notes ++ record { number = n; event = Destroy subject.id w } ∷ [] → spare ≡ spare' + 1
     → Destroys (held_id place old.held) w (seen_by old notes spare) (seen_by new items spare') n subject
-killed_went place old mid new notes items spare spare' b a w n subject went lone says pushed one =
-    subst (λ (l : List Note). Destroys (held_id place old.held) w (seen_by old notes spare) (seen_by new l spare') n subject)
-    (sym pushed)
-    (moved_killed old mid.front mid.own mid.spare went.front lone new notes spare (held_id place old.held) w n spare' subject
-    (subst (λ (m : Sight). Destroys (held_id place m.held) w m new n subject) (moved_by old mid b a went) says) one)
+killed_went place old mid new notes items spare spare' b a w n subject went says pushed one =
+    let named : subject.id ≡ held_id place mid.held = has_id_of (held_id place mid.held) (after new.front n) subject says.found.fact in
+    subst (λ i. Destroys i w (seen_by old notes spare) (seen_by new items spare') n subject)
+    (named ∙ ap (held_id place) went.held)
+    (record {
+      made = event_went old mid new notes items spare spare' b a n (Destroy subject.id w) went
+          (kill_made (held_id place mid.held) w mid new n subject says) pushed one;
+      found = subst (λ i. At new.front n (IsRecord i subject)) (sym named) says.found;
+      reason = says.reason;
+      same = record { held = says.same.held ∙ went.held; owed = says.same.owed ∙ went.owed };
+    })
 
 -- an event of this pass after the other's turn
 pub made_went : (old mid new : Sight) (notes items : List Note) (spare spare' b a n : ℕ) (e : Event) → Went old mid b a
-    → old.sizes.passes ≡ 1 → MadeEvent mid new n e → SamePlaces mid new
+    → MadeEvent mid new n e → SamePlaces mid new
     → items ≡ notes ++ record { number = n; event = e } ∷ [] → spare ≡ spare' + 1
     → MadeEvent (seen_by old notes spare) (seen_by new items spare') n e × SamePlaces (seen_by old notes spare) (seen_by new items spare')
-made_went old mid new notes items spare spare' b a n e went lone event same pushed one =
-    subst (λ (l : List Note). MadeEvent (seen_by old notes spare) (seen_by new l spare') n e
-    × SamePlaces (seen_by old notes spare) (seen_by new l spare')) (sym pushed)
-    (moved_made old mid.front mid.own mid.spare went.front lone new notes spare spare' n e
-    (subst (λ (m : Sight). MadeEvent m new n e) (moved_by old mid b a went) event)
-    (subst (λ (m : Sight). SamePlaces m new) (moved_by old mid b a went) same) one)
+made_went old mid new notes items spare spare' b a n e went event same pushed one = (
+  event_went old mid new notes items spare spare' b a n e went event pushed one,
+  record { held = same.held ∙ went.held; owed = same.owed ∙ went.owed },
+)
 
 -- the id of what was read is that for which the place is held
 pub read_id : (place : ℕ) (mid seen : Sight) (subject : Record) (at : ℕ) → PeekSays place mid seen (peek.Seen subject at)
@@ -556,17 +497,17 @@ expect_noted items notes id noted e replaced moment pushed same =
     pushed ∙ ap (λ (x : Expectation). notes ++ record { number = id; event = Expect x replaced moment } ∷ []) same
 
 pub expected_went : (place : ℕ) (want : Want) (moment : ℕ) (old mid seen new : Sight) (notes items : List Note) (spare spare' b a : ℕ)
-    (subject : Record) (at id : ℕ) (replaced : Option ℕ) → Went old mid b a → old.sizes.passes ≡ 1 → IsKnown seen
+    (subject : Record) (at id : ℕ) (replaced : Option ℕ) → Went old mid b a → IsKnown seen
     → PeekSays place mid seen (peek.Seen subject at) → ExpectSays place want moment seen new (expect.Expected id replaced)
     → items ≡ notes ++ record { number = id; event = Expect (expectation_at id subject.id want moment) replaced moment } ∷ []
     → spare ≡ spare' + 1
     → MakesExpect (held_id place old.held) want moment (seen_by old notes spare) (seen_by new items spare') id replaced
-expected_went place want moment old mid seen new notes items spare spare' b a subject at id replaced went lone known read says pushed one =
+expected_went place want moment old mid seen new notes items spare spare' b a subject at id replaced went known read says pushed one =
     let named : subject.id ≡ held_id place old.held =
     sym (read_id place mid seen subject at read) ∙ ap (held_id place) (read.1.held ∙ went.held) in
     subst (λ m. MakesExpect m want moment (seen_by old notes spare) (seen_by new items spare') id replaced) named
     (made_went old seen new notes items spare spare' b a id (Expect (expectation_at id subject.id want moment) replaced moment)
-    (went_then old mid seen b a went read.0.saw read.1 known) lone
+    (went_then old mid seen b a went read.0.saw read.1 known)
     (expect_made place want moment mid seen new subject at id replaced read says) says.1 pushed one)
 
 -- an entry that has the helper is one that has it when the history goes on
@@ -581,7 +522,7 @@ pub still_helped : (place : ℕ) (old mid seen : Sight) (b a : ℕ) → Went old
     → is_helped_entry (held_id place old.held) old.front ≡ true → is_helped_entry (held_id place seen.held) seen.front ≡ true
 still_helped place old mid seen b a went saw same helped =
     subst (λ (held : List Hold). is_helped_entry (held_id place held) seen.front ≡ true) (sym (same.held ∙ went.held))
-    (helped_grows (held_id place old.held) seen.front old.front (starts_trans seen.front mid.front old.front saw.front went.front) helped)
+    (helped_grows (held_id place old.held) seen.front old.front (starts_trans seen.front mid.front old.front saw.went.front went.front) helped)
 
 pub one_less : (seen : Sight) (spare : ℕ) → spare ≡ seen.spare → 1 ≤ seen.spare → spare ≡ (spare - 1) + 1
 one_less seen spare same some = omega (arith, same, some)

@@ -1,11 +1,11 @@
 -- For tests: a pass of two, and what the other pass does before a call of it. The inner sight has the events
 -- of both passes, and is that of a tracker of one.
-use Rattle.std.specs.Prelude.{◌≡◌, ℕ, ◌+◌, ◌<◌, ◌≤◌, ◌^◌, Some, List, length, slice_get, All, AllPairs}
+use Rattle.std.specs.Prelude.{◌≡◌, ℕ, ◌+◌, ◌<◌, ◌≤◌, ◌^◌, List, [], length, AllPairs}
 use Rattle.history_book.specs.declared.event.Note.{Note}
 use Rattle.history_book.specs.Point.{StartsWith}
-use Rattle.history_book.specs.Sight.{IsKnown, Sight}
+use Rattle.history_book.specs.Sight.{AreEventsOf, IsKnown, Sight}
 
--- what the pass knows that made these events alone
+-- what the pass knows that made these events alone: it has one of the two shares
 abbrev pub seen_by : Sight → List Note → ℕ → Sight
 seen_by inner notes spare = record {
   front = inner.front;
@@ -13,7 +13,11 @@ seen_by inner notes spare = record {
   held = inner.held;
   owed = inner.owed;
   spare = spare;
+  tracker = [];
   sizes = record inner.sizes { passes = 2 };
+  shares = 1;
+  returned = 0;
+  gathered = [];
 }
 
 -- the notes are events of the inner history in the order of their numbers, and there is room for further
@@ -21,7 +25,7 @@ seen_by inner notes spare = record {
 pub record IsBusy (inner : Sight) (notes : List Note) (capacity spare others : ℕ) : Type 0 where
   pub known : IsKnown inner
   pub lone : inner.sizes.passes ≡ 1
-  pub own : All (λ n. slice_get inner.front n.number ≡ Some n.event) notes
+  pub own : AreEventsOf inner.front notes
   pub ordered : AllPairs (λ m n. m.number < n.number) notes
   pub room : length notes + spare ≤ capacity
   pub few : length notes + spare ≤ 2 ^ 30

@@ -1,6 +1,6 @@
 //! Packets over a desk of one entry, which is ended by hand between them.
 
-ghost use Rattle.std.specs.Prelude.{◌≡◌, ◌+◌, ◌≤◌, ◌^◌};
+ghost use Rattle.std.specs.Prelude.{◌≡◌, ◌+◌, ◌≤◌, ◌^◌, []};
 ghost use Rattle.history_book.specs.Sizes.{AreWithinLimits};
 
 use book_desk::desk::PlainDesk;
@@ -8,12 +8,15 @@ use history_book::desk::Desk;
 use history_book::event::Why;
 use history_book::outcome::{HoldOutcome, KillOutcome, ReleaseOutcome};
 use history_book::sizes::Sizes;
-use history_book::verdict::Class;
+use history_book::verdict::{Class, Verdict};
 use nat_setup::rule::Rules;
 use packet_headers::frame::{Frame, Link};
 use packet_path::handle::handle;
 use packet_path::setup::{Ports, Setup};
+use std::process::Abort;
+use std::sync::Wait;
 use std::test::Fail;
+use tuple_core::NoMemory;
 
 /// A query of UDP from 10.0.0.1:5000 to 10.0.0.2:53.
 const QUERY: [u8; 32] = [
@@ -54,30 +57,60 @@ fn frame(moment: u32) -> Frame
     }
 }
 
-#[test]
-fn an_entry_ended_by_hand_makes_room(rt: HostRuntime) -> Result<(), Fail> {
-    let mut desk = PlainDesk::new(rt.alloc(), sizes())?;
-    desk.ready(64)?;
+/// What becomes of a packet at this moment, without rules.
+fn handled<R: Wait + Abort + AllocGlobal>(
+    rt: &R,
+    desk: &mut PlainDesk,
+    packet: &[u8; 32],
+    moment: u32,
+) -> Result<Verdict, NoMemory>
+    requires held { desk.old.held ≡ [] }
+    requires owed { desk.old.owed ≡ [] }
+    ensures held { desk.new.held ≡ [] }
+    ensures owed { desk.new.owed ≡ [] }
+{
+    assert!(rt; desk.made() < 1000);
     let setup = Setup {
         rules: Rules::new(rt.alloc(), 0)?,
         ftp: Ports::new(rt.alloc(), 0)?,
     };
-    let first = handle(&rt, &mut desk, &QUERY, &frame(1_000_000), &setup)?;
-    assert!(rt; matches!(first.class, Class::Made { id: 0, at: 1, .. }));
-    let full = handle(&rt, &mut desk, &ANOTHER, &frame(2_000_000), &setup)?;
-    assert!(rt; matches!(full.class, Class::Full { at: 1 }));
-    let HoldOutcome::Held { id, at } = desk.hold(&rt, 0) else {
+    handle(rt, desk, packet, &frame(moment), &setup)
+}
+
+/// Ends the one entry, which is expired at 31 s.
+fn end_entry<R: Wait + Abort>(rt: &R, desk: &mut PlainDesk) -> Result<(), NoMemory>
+    requires held { desk.old.held ≡ [] }
+    requires owed { desk.old.owed ≡ [] }
+    ensures held { desk.new.held ≡ [] }
+    ensures owed { desk.new.owed ≡ [] }
+{
+    assert_eq!(rt; desk.places(), 1);
+    assert!(rt; desk.made() < 1000);
+    desk.ready(1)?;
+    let HoldOutcome::Held { id, at } = desk.hold(rt, 0) else {
         panic!(rt; "the place is empty");
     };
     assert_eq!(rt; (id, at), (0, 1));
     let why = Why::Expired { moment: 31_000_000 };
-    let killed = desk.kill(&rt, 0, why);
+    let killed = desk.kill(rt, 0, why);
     assert!(rt; matches!(killed, KillOutcome::Killed { number: 1, .. }));
-    let ReleaseOutcome::Last = desk.release(&rt, 0) else {
+    let ReleaseOutcome::Last = desk.release(rt, 0) else {
         panic!(rt; "the place is kept");
     };
-    desk.recycle(&rt, 0);
-    let again = handle(&rt, &mut desk, &ANOTHER, &frame(32_000_000), &setup)?;
+    desk.recycle(rt, 0);
+    Ok(())
+}
+
+#[test]
+fn an_entry_ended_by_hand_makes_room(rt: HostRuntime) -> Result<(), Fail> {
+    let mut desk = PlainDesk::new(rt.alloc(), sizes())?;
+    desk.ready(64)?;
+    let first = handled(&rt, &mut desk, &QUERY, 1_000_000)?;
+    assert!(rt; matches!(first.class, Class::Made { id: 0, at: 1, .. }));
+    let full = handled(&rt, &mut desk, &ANOTHER, 2_000_000)?;
+    assert!(rt; matches!(full.class, Class::Full { at: 1 }));
+    end_entry(&rt, &mut desk)?;
+    let again = handled(&rt, &mut desk, &ANOTHER, 32_000_000)?;
     assert!(rt; matches!(again.class, Class::Made { id: 2, at: 3, .. }));
     assert_eq!(rt; (again.first, again.made), (2, 1));
     Ok(())

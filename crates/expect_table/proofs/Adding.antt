@@ -8,7 +8,7 @@ use Rattle.std.proofs.lemmas.List.Kept.{AllPairs-filter}
 use Rattle.std.proofs.lemmas.List.Quantifiers.{all_pairs_remove, all_pairs_push}
 use Rattle.expect_table.specs.declared.expectation.Expectation.{Expectation}
 use Rattle.expect_table.specs.declared.table.AddOutcome.TheVariants.{Added, Full}
-use Rattle.expect_table.specs.Expectations.{add_outcome, AreInOrder, outcome_of_older, outcome_of_rival, with_one, without_master}
+use Rattle.expect_table.specs.Expectations.{add_outcome, AreOrderedOneAMaster, outcome_of_older, outcome_of_rival, with_one, without_master}
 use Rattle.expect_table.specs.Match.{has_id, is_of, is_rival}
 use Rattle.expect_table.proofs.Removal.{IsAlone}
 
@@ -31,14 +31,14 @@ alone_of f n (e ∷ es) h = (
   alone_of f n es (λ i j d below within. h (suc i) (suc j) d (omega arith) (omega arith)),
 )
 
-pub alone_master : (master : ℕ) (es : List Expectation) → AreInOrder es → IsAlone (is_of master) es
+pub alone_master : (master : ℕ) (es : List Expectation) → AreOrderedOneAMaster es → IsAlone (is_of master) es
 alone_master master es order = alone_of (λ e. e.master) master es order.masters
 
-pub alone_id : (id : ℕ) (es : List Expectation) → AreInOrder es → IsAlone (has_id id) es
+pub alone_id : (id : ℕ) (es : List Expectation) → AreOrderedOneAMaster es → IsAlone (has_id id) es
 alone_id id es order =
     alone_of (λ e. e.id) id es (λ i j d below within same. omega (arith, order.ids i j d below within, same))
 
-pub order_removed : (es : List Expectation) (i : ℕ) → i < length es → AreInOrder es → AreInOrder (remove es i)
+pub order_removed : (es : List Expectation) (i : ℕ) → i < length es → AreOrderedOneAMaster es → AreOrderedOneAMaster (remove es i)
 order_removed es i within order = record {
   ids = all_pairs_remove (λ d e. d.id < e.id) es i within order.ids;
   masters = all_pairs_remove (λ d e. d.master ≢ e.master) es i within order.masters;
@@ -84,7 +84,7 @@ room_left room es e moment replaced within added = by_rival (find (is_rival e mo
     by_rival None h = by_older (find (is_of e.master) es) refl h
 
 -- the expectations stay in order with one more behind them
-pub order_added : (es : List Expectation) (e : Expectation) → AreInOrder es → All (λ o. o.id < e.id) es → AreInOrder (with_one es e)
+pub order_added : (es : List Expectation) (e : Expectation) → AreOrderedOneAMaster es → All (λ o. o.id < e.id) es → AreOrderedOneAMaster (with_one es e)
 order_added es e order newer =
     let others : List Expectation = without_master e.master es in
     record {
@@ -113,7 +113,7 @@ adds_by_room room es e moment none no_older =
     ap (λ o. outcome_of_rival o (outcome_of_older (find (is_of e.master) es) (nat_lt (length es) room))) none
     ∙ ap (λ o. outcome_of_older o (nat_lt (length es) room)) no_older
 
-pub order_filtered : (keep : Expectation → Bool) (es : List Expectation) → AreInOrder es → AreInOrder (filter keep es)
+pub order_filtered : (keep : Expectation → Bool) (es : List Expectation) → AreOrderedOneAMaster es → AreOrderedOneAMaster (filter keep es)
 order_filtered keep es order = record {
   ids = AllPairs-filter (λ d o. d.id < o.id) keep es order.ids;
   masters = AllPairs-filter (λ d o. d.master ≢ o.master) keep es order.masters;

@@ -7,7 +7,7 @@ use Rattle.expect_table.specs.declared.table.AddOutcome.TheVariants.{Added, Clas
 use Rattle.expect_table.specs.Match.{has_id, is_match, is_of, is_rival}
 
 -- the ids rise, and no master has two
-pub record AreInOrder (es : List Expectation) : Type 0 where
+pub record AreOrderedOneAMaster (es : List Expectation) : Type 0 where
   pub ids : AllPairs (λ d e. d.id < e.id) es
   pub masters : AllPairs (λ d e. d.master ≢ e.master) es
 

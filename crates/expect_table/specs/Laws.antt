@@ -1,13 +1,13 @@
 -- What keeps a list of expectations in order.
 use Rattle.std.specs.Prelude.{◌<◌, Bool, List, filter, All}
 use Rattle.expect_table.specs.declared.expectation.Expectation.{Expectation}
-use Rattle.expect_table.specs.Expectations.{AreInOrder, with_one}
+use Rattle.expect_table.specs.Expectations.{AreOrderedOneAMaster, with_one}
 
 -- one that is newer than all of the list may be added
 abbrev pub AddingKeepsOrder : Type 0
 AddingKeepsOrder =
-    (es : List Expectation) (e : Expectation) → AreInOrder es → All (λ o. o.id < e.id) es → AreInOrder (with_one es e)
+    (es : List Expectation) (e : Expectation) → AreOrderedOneAMaster es → All (λ o. o.id < e.id) es → AreOrderedOneAMaster (with_one es e)
 
 -- any may be taken out
 abbrev pub RemovingKeepsOrder : Type 0
-RemovingKeepsOrder = (keep : Expectation → Bool) (es : List Expectation) → AreInOrder es → AreInOrder (filter keep es)
+RemovingKeepsOrder = (keep : Expectation → Bool) (es : List Expectation) → AreOrderedOneAMaster es → AreOrderedOneAMaster (filter keep es)

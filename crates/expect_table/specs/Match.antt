@@ -15,12 +15,12 @@ abbrev pub is_wanted : Want → Tuple → Bool
 is_wanted w t = number_of t.proto == number_of Tcp && w.src == t.src && w.dst == t.dst && w.port == t.b
 
 -- it is still expected at the moment
-abbrev pub is_due : ℕ → Expectation → Bool
-is_due moment e = nat_lt moment e.deadline
+abbrev pub is_awaited : ℕ → Expectation → Bool
+is_awaited moment e = nat_lt moment e.deadline
 
 -- it matches a packet with this tuple at the moment
 abbrev pub is_match : Tuple → ℕ → Expectation → Bool
-is_match t moment e = is_wanted e.want t && is_due moment e
+is_match t moment e = is_wanted e.want t && is_awaited moment e
 
 -- it has the id
 abbrev pub has_id : ℕ → Expectation → Bool
@@ -32,4 +32,4 @@ is_of master e = e.master == master
 
 -- it stands in the way of the first: another master's, of the same want, and still expected
 abbrev pub is_rival : Expectation → ℕ → Expectation → Bool
-is_rival e moment other = not (is_of e.master other) && same_want e.want other.want && is_due moment other
+is_rival e moment other = not (is_of e.master other) && same_want e.want other.want && is_awaited moment other

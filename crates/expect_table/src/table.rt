@@ -3,7 +3,7 @@
 ghost use Rattle.std.specs.Prelude.{◌≡◌, ◌<◌, ◌≤◌, [], All, IfOk, length, slice_get, find, position};
 ghost use Rattle.std.specs.List.{list_any};
 ghost use Rattle.expect_table.specs.Expectations.{add_outcome, after_add, id_of, matching, without_id, without_master};
-ghost use Rattle.expect_table.specs.Match.{has_id, is_due, is_match, is_of, is_rival, is_wanted, same_want};
+ghost use Rattle.expect_table.specs.Match.{has_id, is_awaited, is_match, is_of, is_rival, is_wanted, same_want};
 
 use crate::expectation::{Expectation, Want};
 use room_list::RoomList;
@@ -37,14 +37,14 @@ impl Model for ExpectTable {
     ghost use Rattle.std.specs.Prelude.{◌≤◌, length};
     ghost use Rattle.room_list.specs.Roomed.{Roomed};
     ghost use Rattle.expect_table.specs.declared.expectation.Expectation.{Expectation};
-    ghost use Rattle.expect_table.specs.Expectations.{AreInOrder};
+    ghost use Rattle.expect_table.specs.Expectations.{AreOrderedOneAMaster};
 
     ghost Value = { Roomed Expectation };
 
     ghost view = { λ t. record { items = t.items.items; room = t.room } };
 
     ghost invariant = { λ t.
-        (length t.items.items ≤ t.room) × (t.room ≤ t.items.room) × AreInOrder t.items.items };
+        (length t.items.items ≤ t.room) × (t.room ≤ t.items.room) × AreOrderedOneAMaster t.items.items };
 }
 
 /// Whether two wants are the same.

@@ -1,5 +1,4 @@
 pub mod Bounds
 pub mod Digits
 pub mod Parts
-pub mod Reading
 pub mod Words

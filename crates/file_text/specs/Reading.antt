@@ -1,5 +1,5 @@
 -- What is read piece by piece, until a fault.
-use Rattle.std.specs.Prelude.{Option, Some, None, Result, Ok, Err}
+use Rattle.std.specs.Prelude.{ℕ, Option, Some, None, Result, Ok, Err, ok_or}
 
 -- go on with what was read; a fault stays
 infixl 10 ◌>>=◌
@@ -9,10 +9,15 @@ abbrev pub ◌>>=◌ : {A B E : Type 0} → Result A E → (A → Result B E) �
 
 -- what is not there is this fault
 abbrev pub required : {A E : Type 0} → E → Option A → Result A E
-required fault None = Err fault
-required fault (Some x) = Ok x
+required fault read = ok_or read fault
 
--- what is there already may not be read again: that is this fault
-abbrev pub once : {A B E : Type 0} → E → Option A → Result B E → Result B E
-once fault None read = read
-once fault (Some x) read = Err fault
+-- an option gets the value that is read for it; where it has one already, that is this fault
+abbrev pub once : {A E : Type 0} → E → Option A → Result A E → Result (Option A) E
+once fault (Some old) read = Err fault
+once fault None (Ok x) = Ok (Some x)
+once fault None (Err e) = Err e
+
+-- what is wrong is told with the number of its line
+abbrev pub located : {A K F : Type 0} → (ℕ → K → F) → ℕ → Result A K → Result A F
+located fault number (Ok x) = Ok x
+located fault number (Err kind) = Err (fault number kind)

@@ -3,6 +3,8 @@
 use crate::halves::split_once;
 use crate::lines::{first_word, next_line, next_word};
 use crate::numbers::{number, read_address, read_port};
+use crate::options::{has_ports, once, read_proto};
+use tuple_core::Proto;
 
 #[test]
 fn lines(rt: HostRuntime) {
@@ -120,4 +122,34 @@ fn halves(rt: HostRuntime) {
         None => assert!(rt; false),
     }
     assert!(rt; split_once(b"123", b':').is_none());
+}
+
+#[test]
+fn protocols(rt: HostRuntime) {
+    let cases = [
+        ("tcp", Some(Proto::Tcp), true),
+        ("udp", Some(Proto::Udp), true),
+        ("icmp", Some(Proto::Icmp), false),
+        ("TCP", None, false),
+        ("tcp ", None, false),
+        ("", None, false),
+    ];
+    for (word, want, ports) in cases {
+        let proto = read_proto(word.as_bytes());
+        assert!(rt; proto == want, "{word}");
+        assert!(rt; has_ports(proto) == ports, "{word}");
+    }
+}
+
+#[test]
+fn values_stand_once(rt: HostRuntime) {
+    let cases = [
+        (None, Ok(7u16), Ok(Some(7u16))),
+        (None, Err(2u8), Err(2u8)),
+        (Some(3), Ok(7), Err(1)),
+        (Some(3), Err(2), Err(1)),
+    ];
+    for (old, read, want) in cases {
+        assert!(rt; once(old, read, 1u8) == want);
+    }
 }

@@ -227,7 +227,7 @@ by_proto s proto.Icmp = is_of_protocol s kind.Icmp
 
 reads_proto : (s : Segment) (k : PartKind) → is_of_protocol s k ≡ by_proto s (proto_of k)
 unfolding by_proto
-reads_proto (segment.Tcp flags) (kind.Tcp state) = refl
+reads_proto (segment.Tcp k) (kind.Tcp state) = refl
 reads_proto segment.Udp (kind.Tcp state) = refl
 reads_proto (segment.Icmp type) (kind.Tcp state) = refl
 reads_proto s kind.Udp = refl

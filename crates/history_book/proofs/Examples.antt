@@ -129,14 +129,14 @@ opens id second = Confirm (record {
 
 -- a segment of the connection at this second leaves this part
 abbrev passes : Direction → Kind → ℕ → Part → Event
-passes direction flags second after = Touch 0 direction (segment.Tcp flags) (second * 1000000) after
+passes direction k second after = Touch 0 direction (segment.Tcp k) (second * 1000000) after
 
 -- a segment at this second resets the connection, or reopens it
 abbrev resets : Kind → ℕ → Event
-resets flags second = Destroy 0 (Reset (segment.Tcp flags) (second * 1000000))
+resets k second = Destroy 0 (Reset (segment.Tcp k) (second * 1000000))
 
 abbrev reopens : Direction → Kind → ℕ → Event
-reopens direction flags second = Destroy 0 (Reopened direction (segment.Tcp flags) (second * 1000000))
+reopens direction k second = Destroy 0 (Reopened direction (segment.Tcp k) (second * 1000000))
 
 -- it begins at 1 s and is answered at 2 s
 abbrev opened : List Event

@@ -4,7 +4,7 @@ use Rattle.std.specs.List.{AllByRecursion, filter, find}
 use Rattle.std.specs.Prelude.{map, ◌==◌}
 use Rattle.std.proofs.lemmas.Bool.{and_parts, eqb-false, eqb-true, ne_eqb, false≢true}
 use Rattle.std.proofs.lemmas.List.Elements.{All-from_recursion}
-use Rattle.expect_table.specs.Expectations.{AreInOrder, add_outcome, with_one, without_master}
+use Rattle.expect_table.specs.Expectations.{AreOrderedOneAMaster, add_outcome, with_one, without_master}
 use Rattle.expect_table.specs.Laws.{AddingKeepsOrder, RemovingKeepsOrder}
 use Rattle.expect_table.specs.Match.{is_of}
 use Rattle.expect_table.specs.Match as match
@@ -42,7 +42,7 @@ each_more P (y ∷ ys) x (h, hs) one = (h, each_more P ys x hs one)
 
 -- the ids of the expectations rise, and each was an event before event n
 pub record Ordered (n : ℕ) (s : State) : Type 0 where
-  pub order : AreInOrder s.expects
+  pub order : AreOrderedOneAMaster s.expects
   pub older : AllByRecursion (λ e. e.id < n) s.expects
 
 older_more : (m n : ℕ) (es : List Expectation) → m < n + 1 → AllByRecursion (λ e. e.id < m) es → AllByRecursion (λ e. e.id < n) es
@@ -55,7 +55,7 @@ ordered_later m n s le h = record { order = h.order; older = older_more m n s.ex
 -- an event that leaves the expectations, and one that takes some out
 ordered_same : (n : ℕ) (s t : State) → t.expects ≡ s.expects → Ordered n s → Ordered (n + 1) t
 ordered_same n s t same h = record {
-  order = subst AreInOrder (sym same) h.order;
+  order = subst AreOrderedOneAMaster (sym same) h.order;
   older = subst (λ (es : List Expectation). AllByRecursion (λ e. e.id < n + 1) es) (sym same)
       (older_more n (n + 1) s.expects (omega arith) h.older);
 }
@@ -64,7 +64,7 @@ module _ (adding : AddingKeepsOrder) (removing : RemovingKeepsOrder) where
   ordered_left : (n : ℕ) (keep : Expectation → Bool) (s t : State) → t.expects ≡ filter keep s.expects → Ordered n s
       → Ordered (n + 1) t
   ordered_left n keep s t same h = record {
-    order = subst AreInOrder (sym same) (removing keep s.expects h.order);
+    order = subst AreOrderedOneAMaster (sym same) (removing keep s.expects h.order);
     older = subst (λ (es : List Expectation). AllByRecursion (λ e. e.id < n + 1) es) (sym same)
         (each_filter (λ (e : Expectation). e.id < n + 1) keep s.expects (older_more n (n + 1) s.expects (omega arith) h.older));
   }
@@ -103,7 +103,7 @@ module _ (adding : AddingKeepsOrder) (removing : RemovingKeepsOrder) where
       let parts = and_parts (may_happen sizes s n e) (is_legal_from sizes (next s e) (n + 1) es) legal in
       ordered_run sizes (n + 1) m p (next s e) es parts.1 (omega arith) (ordered_next sizes n s e parts.0 h)
 
-  none_in_order : AreInOrder []
+  none_in_order : AreOrderedOneAMaster []
   none_in_order = record {
     ids = λ i j d below short. absurd (omega arith);
     masters = λ i j d below short. absurd (omega arith);

@@ -2,8 +2,7 @@
 use Rattle.std.proofs.Common.{◌≡◌, ℕ, ◌≤◌, Bool, true, false, cond, List, [], ◌∷◌, length, refl, ap, ◌∙◌, Some, None, arith}
 use Rattle.std.proofs.lemmas.Bool.{eq-eqb}
 use Rattle.history_book.specs.declared.desk.Hold.{Hold}
-use Rattle.history_book.specs.Desk.{KeepsPlace, OwesPlace, RecycleSays}
-use Rattle.history_book.specs.Held.{held_id, is_at, is_held, paid, without}
+use Rattle.history_book.specs.Held.{held_id, is_at, is_held, without}
 use Rattle.history_book.specs.Sight.{Sight}
 use Rattle.history_book.specs.Places.{HoldsNothing, HoldsOne}
 
@@ -17,21 +16,11 @@ only_reference place [] held few = refl
 only_reference place (h ∷ []) held few = first_only place h (is_at place h) refl held
 only_reference place (h ∷ g ∷ hs) held few = absurd (omega (arith, few))
 
-pub kept_nothing : (place : ℕ) (old new : Sight) → is_held place old.held ≡ true → length old.held ≤ 1 → old.owed ≡ []
-    → KeepsPlace place old new → HoldsNothing new
-kept_nothing place old new held few owed keeps = record {
-  held = keeps.held ∙ only_reference place old.held held few;
-  owed = keeps.owed ∙ owed;
-}
-
-paid_all : (place : ℕ) → paid place (place ∷ []) ≡ []
-paid_all place = ap (λ b. cond b [] (place ∷ [])) (eq-eqb place place refl)
-
-pub recycled_nothing : (place : ℕ) (old mid new : Sight) → is_held place old.held ≡ true → length old.held ≤ 1 → old.owed ≡ []
-    → OwesPlace place old mid → RecycleSays place mid new → HoldsNothing new
-recycled_nothing place old mid new held few owed owes paying = record {
-  held = paying.held ∙ owes.held ∙ only_reference place old.held held few;
-  owed = paying.owed ∙ ap (paid place) (owes.owed ∙ ap (λ (l : List ℕ). place ∷ l) owed) ∙ paid_all place;
+pub nothing_left : (place : ℕ) (old new : Sight) → is_held place old.held ≡ true → length old.held ≤ 1 → old.owed ≡ []
+    → new.held ≡ without place old.held → new.owed ≡ old.owed → HoldsNothing new
+nothing_left place old new held few owed less same = record {
+  held = less ∙ only_reference place old.held held few;
+  owed = same ∙ owed;
 }
 
 -- the id for which the one place is held

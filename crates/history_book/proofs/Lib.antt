@@ -14,5 +14,8 @@ pub mod Expected
 pub mod Gone
 pub mod HeldPlaces
 pub mod Placed
+pub mod Room
+pub mod Expecting
+pub mod Sights
 pub mod Examples
 pub mod Merging

@@ -1,9 +1,8 @@
 -- What the calls of a desk on entries and places answer. Old and new are what the desk knows before the call and after it.
-use Rattle.std.specs.Prelude.{◌≡◌, ℕ, ◌+◌, ◌-◌, ◌<◌, ◌≤◌, Bool, true, false, ◌&&◌, ◌||◌, not, Option, Some, None, [], ◌∷◌, ◌++◌, length, slice_get}
+use Rattle.std.specs.Prelude.{◌≡◌, ℕ, ◌+◌, ◌-◌, ◌<◌, ◌≤◌, Bool, true, false, ◌&&◌, ◌||◌, not, Option, Some, None, ◌∷◌, length}
 use Rattle.tuple_core.specs.declared.Direction.{Direction}
 use Rattle.tuple_core.specs.declared.Segment.{Segment}
 use Rattle.tuple_core.specs.declared.Tuple.{Tuple}
-use Rattle.history_book.specs.declared.event.Event.{Event}
 use Rattle.history_book.specs.declared.event.Event.TheVariants.{Confirm, Touch, Destroy}
 use Rattle.history_book.specs.declared.event.Why.{Why}
 use Rattle.history_book.specs.declared.outcome.ConfirmOutcome.{ConfirmOutcome}
@@ -29,38 +28,16 @@ use Rattle.history_book.specs.Entry.{record_for}
 use Rattle.history_book.specs.Held.{held_for, held_id, is_held, is_owed, paid, without}
 use Rattle.history_book.specs.History.{after}
 use Rattle.history_book.specs.Legality.{is_reason}
-use Rattle.history_book.specs.Point.{At, StartsWith}
+use Rattle.history_book.specs.Point.{At}
 use Rattle.history_book.specs.Record.{has_original, has_reply}
 use Rattle.history_book.specs.Sight.{Sight}
+use Rattle.history_book.specs.WentOn.{Looked, MadeEvent, Saw}
 use Rattle.history_book.specs.Sizes.{fewest_of_full}
 use Rattle.history_book.specs.State.{Found, State, is_unused, live_under, record_of, winner}
 use Rattle.proto_rules.specs.declared.Outcome.{Outcome}
 use Rattle.proto_rules.specs.declared.Outcome.TheVariants as outcome
 use Rattle.proto_rules.specs.declared.Part.{Part}
 use Rattle.proto_rules.specs.Step.{step_of}
-
--- the desk saw no less than before, and made no event
-pub record Saw (old new : Sight) : Type 0 where
-  pub front : StartsWith new.front old.front
-  pub own : new.own ≡ old.own
-  pub spare : new.spare ≡ old.spare
-  pub sizes : new.sizes ≡ old.sizes
-
--- it looked: this was so at the point, which is no older than what it had seen
-pub record Looked (old new : Sight) (at : ℕ) (F : State → Type 0) : Type 0 where
-  pub saw : Saw old new
-  pub low : length old.front ≤ at
-  pub fact : At new.front at F
-
--- it made one event of its own, of which it had not seen the number
-pub record MadeEvent (old new : Sight) (number : ℕ) (event : Event) : Type 0 where
-  pub front : StartsWith new.front old.front
-  pub own : new.own ≡ old.own ++ record { number = number; event = event } ∷ []
-  pub spare : old.spare ≡ new.spare + 1
-  pub sizes : new.sizes ≡ old.sizes
-  pub low : length old.front ≤ number
-  pub high : number < length new.front
-  pub happened : slice_get new.front number ≡ Some event
 
 -- the references and the owed places are as before
 pub record SamePlaces (old new : Sight) : Type 0 where
@@ -129,6 +106,11 @@ pub record IsWinner (flow : Flow) (id : ℕ) (direction : Direction) (both : Boo
   pub directed : found.direction ≡ direction
   pub same : both ≡ (has_original flow.original found.subject && has_reply flow.reply found.subject)
 
+-- the entry of the id stands in the flow's way, while the place that was taken for the flow is no entry's
+pub record IsClash (place : ℕ) (flow : Flow) (id : ℕ) (direction : Direction) (both : Bool) (s : State) : Type 0 where
+  pub winner : IsWinner flow id direction both s
+  pub unused : is_unused place s ≡ true
+
 -- the flow is an entry, and the place that was taken is held for it
 pub record Confirms (place : ℕ) (flow : Flow) (old new : Sight) (id : ℕ) : Type 0 where
   pub made : MadeEvent old new id (Confirm (record_for flow id place))
@@ -138,7 +120,7 @@ pub record Confirms (place : ℕ) (flow : Flow) (old new : Sight) (id : ℕ) : T
 abbrev pub ConfirmSays : ℕ → Flow → Sight → Sight → ConfirmOutcome → Type 0
 ConfirmSays place flow old new (confirm.Confirmed id) = Confirms place flow old new id
 ConfirmSays place flow old new (confirm.Clash id direction both at) =
-    Looked old new at (IsWinner flow id direction both) × SamePlaces old new
+    Looked old new at (IsClash place flow id direction both) × SamePlaces old new
 
 -- the entry of the id is this record
 abbrev pub IsRecord : ℕ → Record → State → Type 0

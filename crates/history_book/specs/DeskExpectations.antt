@@ -14,11 +14,12 @@ use Rattle.history_book.specs.declared.outcome.ExpectOutcome.{ExpectOutcome}
 use Rattle.history_book.specs.declared.outcome.ExpectOutcome.TheVariants as expect
 use Rattle.history_book.specs.declared.outcome.UnexpectOutcome.{UnexpectOutcome}
 use Rattle.history_book.specs.declared.outcome.UnexpectOutcome.TheVariants as unexpect
-use Rattle.history_book.specs.Desk.{IsGoneAt, Looked, MadeEvent, SamePlaces}
+use Rattle.history_book.specs.Desk.{IsGoneAt, SamePlaces}
 use Rattle.history_book.specs.Held.{held_id}
 use Rattle.history_book.specs.Legality.{expected_for, has_helper}
 use Rattle.history_book.specs.Sight.{Sight}
 use Rattle.history_book.specs.State.{State, record_of}
+use Rattle.history_book.specs.WentOn.{Looked, MadeEvent}
 
 -- what an entry expects from a moment on, as event n
 abbrev pub expectation_at : ℕ → ℕ → Want → ℕ → Expectation

@@ -5,7 +5,7 @@ use Rattle.history_book.specs.declared.event.Event.TheVariants.{Confirm, Destroy
 use Rattle.history_book.specs.declared.event.Why.{Why}
 use Rattle.history_book.specs.declared.record.Record.{Record}
 use Rattle.history_book.specs.declared.sizes.Sizes.{Sizes}
-use Rattle.expect_table.specs.Expectations.{AreInOrder}
+use Rattle.expect_table.specs.Expectations.{AreOrderedOneAMaster}
 use Rattle.expect_table.specs.Match as expected
 use Rattle.expect_table.specs.declared.expectation.Expectation.{Expectation}
 use Rattle.history_book.specs.Entry.{is_helped_entry, is_of_entry}
@@ -13,7 +13,7 @@ use Rattle.history_book.specs.Legality.{has_helper, is_of_one_protocol, may_happ
 use Rattle.history_book.specs.History.{after, is_legal}
 use Rattle.history_book.specs.Point.{StartsWith}
 use Rattle.history_book.specs.Sight.{WasConfirmedIn}
-use Rattle.history_book.specs.State.{Found, live_under, next, record_of}
+use Rattle.history_book.specs.State.{Found, is_unused, live_under, next, record_of}
 use Rattle.proto_rules.specs.Protocol.{is_of_protocol}
 use Rattle.tuple_core.specs.declared.Segment.{Segment}
 use Rattle.tuple_core.specs.declared.Tuple.{Tuple}
@@ -139,7 +139,7 @@ MastersHaveTheHelper =
 abbrev pub ExpectationsAreInOrder : Type 0
 ExpectationsAreInOrder =
     (sizes : Sizes) (log : List Event) (p : ℕ) → is_legal sizes log ≡ true
-    → AreInOrder (after log p).expects × All (λ e. e.id < p) (after log p).expects
+    → AreOrderedOneAMaster (after log p).expects × All (λ e. e.id < p) (after log p).expects
 
 -- a live record has the helper where the Confirm that made it gave it the helper, and only there
 abbrev pub EntriesKeepTheirHelper : Type 0
@@ -188,3 +188,14 @@ abbrev pub PlacesNameEntries : Type 0
 PlacesNameEntries =
     (sizes : Sizes) (log : List Event) (p id other : ℕ) (r q : Record) → is_legal sizes log ≡ true
     → record_of id (after log p) ≡ Some r → record_of other (after log p) ≡ Some q → r.place ≡ q.place → id ≡ other
+
+-- where a place of the pool is no entry's, fewer entries are live than there are places
+abbrev pub UnusedPlacesAreRoom : Type 0
+UnusedPlacesAreRoom =
+    (sizes : Sizes) (log : List Event) (p place : ℕ) → is_legal sizes log ≡ true → place < sizes.entries
+    → is_unused place (after log p) ≡ true → length (after log p).records < sizes.entries
+
+-- in every state of a legal history no more is expected than there is room for
+abbrev pub ExpectationsAreFew : Type 0
+ExpectationsAreFew =
+    (sizes : Sizes) (log : List Event) (p : ℕ) → is_legal sizes log ≡ true → length (after log p).expects ≤ sizes.expectations

@@ -1,7 +1,7 @@
 -- Which events may happen in a state of the table, in a tracker of some sizes.
 use Rattle.std.specs.Prelude.{ℕ, ◌+◌, Bool, true, false, not, ◌==◌, ◌&&◌, nat_lt, Option, Some, None, find}
 use Rattle.expect_table.specs.Expectations.{add_outcome, matching}
-use Rattle.expect_table.specs.Match.{has_id, is_due}
+use Rattle.expect_table.specs.Match.{has_id, is_awaited}
 use Rattle.expect_table.specs.declared.expectation.Expectation.{Expectation}
 use Rattle.expect_table.specs.declared.table.AddOutcome.{AddOutcome}
 use Rattle.expect_table.specs.declared.table.AddOutcome.TheVariants as add
@@ -132,7 +132,7 @@ may_claim (Some e) id master = has_id id e && e.master == master
 -- an expectation may end where there is one that is due no longer
 abbrev pub may_unexpect : Option Expectation → ℕ → Bool
 may_unexpect None moment = false
-may_unexpect (Some e) moment = not (is_due moment e)
+may_unexpect (Some e) moment = not (is_awaited moment e)
 
 -- event n may happen in this state of a tracker of these sizes
 abbrev pub may_happen : Sizes → State → ℕ → Event → Bool

@@ -8,6 +8,7 @@ pub mod Point
 pub mod Find
 pub mod Label
 pub mod Notes
+pub mod Mark
 pub mod Numbered
 pub mod Merge
 pub mod Internal
@@ -16,6 +17,13 @@ pub mod Laws
 pub mod StateLaws
 pub mod Held
 pub mod Sight
+pub mod WentOn
+pub mod SightLaws
 pub mod Places
+pub mod Fresh
+pub mod Leave
+pub mod Split
+pub mod Join
+pub mod Close
 pub mod Desk
 pub mod DeskExpectations

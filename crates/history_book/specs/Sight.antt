@@ -1,5 +1,5 @@
 -- What a desk knows of the tracker.
-use Rattle.std.specs.Prelude.{◌≡◌, ◌≢◌, ℕ, ◌+◌, ◌<◌, ◌≤◌, ◌^◌, true, false, Option, Some, None, List, [], ◌∷◌, length, slice_get, All, AllPairs, IsSome}
+use Rattle.std.specs.Prelude.{◌≡◌, ◌≢◌, ℕ, ◌+◌, ◌*◌, ◌<◌, ◌≤◌, ◌^◌, true, false, Option, Some, None, List, [], ◌∷◌, length, slice_get, All, AllPairs, IsSome}
 use Rattle.history_book.specs.declared.desk.Hold.{Hold}
 use Rattle.history_book.specs.declared.event.Event.{Event}
 use Rattle.history_book.specs.declared.event.Event.TheVariants.{Confirm}
@@ -11,19 +11,30 @@ use Rattle.history_book.specs.History.{is_legal}
 
 -- The front is the first events of the one history, as far as the desk has seen it; then its own events
 -- with their numbers, the references that it keeps and the places that it owes, the newest first, and for
--- how many further own events it has room. The sizes are those of the tracker.
+-- how many further own events it has room. The desk is one pass of a tracker, which is told from others by
+-- some numbers (by none where no desk joins another) and has these sizes. It has shares of the tracker's
+-- passes, which it may hand over to further desks; of the desks that joined it, it has the shares that they
+-- returned, and the events that they made.
 pub record Sight : Type 0 where
   pub front : List Event
   pub own : List Note
   pub held : List Hold
   pub owed : List ℕ
   pub spare : ℕ
+  pub tracker : List ℕ
   pub sizes : Sizes
+  pub shares : ℕ
+  pub returned : ℕ
+  pub gathered : List Note
 
 -- these events with their numbers, which rise from n by one
 abbrev pub notes_from : ℕ → List Event → List Note
 notes_from n [] = []
 notes_from n (e ∷ es) = record { number = n; event = e } ∷ notes_from (n + 1) es
+
+-- each note is the event of the history at its number
+abbrev pub AreEventsOf : List Event → List Note → Type 0
+AreEventsOf log notes = All (λ n. slice_get log n.number ≡ Some n.event) notes
 
 -- the entry of the id was confirmed in the place
 pub record WasConfirmedIn (front : List Event) (place id : ℕ) : Type 0 where
@@ -47,12 +58,13 @@ pub record IsForOne (g h : Hold) : Type 0 where
 
 -- The front is a legal history; the own events are events of it, in the order of their numbers. Held and
 -- owed places are four at most; no place is both, and none is owed twice. Own events and spare are 2^30 at
--- most. A pass that is the only one has made every event itself, so that each of its answers is of the
--- present state.
+-- most. A desk has a share at least, and with those that were returned to it no more than there are passes;
+-- what it gathered are events of the front, at most 2^30 for each returned share. A pass that is the only
+-- one has made every event itself, so that each of its answers is of the present state.
 pub record IsKnown (s : Sight) : Type 0 where
   pub legal : is_legal s.sizes s.front ≡ true
   pub few : length s.front < 2 ^ 40
-  pub own : All (λ n. slice_get s.front n.number ≡ Some n.event) s.own
+  pub own : AreEventsOf s.front s.own
   pub ordered : AllPairs (λ m n. m.number < n.number) s.own
   pub held : All (IsHoldOf s) s.held
   pub agreed : AllPairs IsForOne s.held
@@ -61,4 +73,8 @@ pub record IsKnown (s : Sight) : Type 0 where
   pub once : AllPairs (λ p q. p ≢ q) s.owed
   pub places : length s.held + length s.owed ≤ 4
   pub spared : length s.own + s.spare ≤ 2 ^ 30
+  pub shared : 1 ≤ s.shares
+  pub passes : s.shares + s.returned ≤ s.sizes.passes
+  pub gathered : AreEventsOf s.front s.gathered
+  pub gathered_few : length s.gathered ≤ 2 ^ 30 * s.returned
   pub alone : s.sizes.passes ≡ 1 → s.own ≡ notes_from 0 s.front

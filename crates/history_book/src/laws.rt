@@ -8,7 +8,8 @@ ghost use Rattle.history_book.specs.Laws.{RecordsAreOfOneProtocol};
 ghost use Rattle.history_book.specs.Laws.{EntriesKeepTheirProtocol, FoundAreFoundAgain};
 ghost use Rattle.history_book.specs.Laws.{ExpectationsAreExpected, FoundKeepTheirProtocol, GoneEntriesStayGone};
 ghost use Rattle.history_book.specs.Laws.{GoneExpectationsStayGone, LateEntriesAreNew, PlacesAreInThePool};
-ghost use Rattle.history_book.specs.Laws.{EntriesKeepTheirPlace, PlacesNameEntries};
+ghost use Rattle.history_book.specs.Laws.{EntriesKeepTheirPlace, ExpectationsAreFew, PlacesNameEntries};
+ghost use Rattle.history_book.specs.Laws.{UnusedPlacesAreRoom};
 ghost use Rattle.history_book.specs.Laws.{EntriesKeepTheirHelper, ExpectationsAreInOrder, MastersHaveTheHelper};
 ghost use Rattle.history_book.specs.StateLaws.{SameTupleIsEquality};
 ghost use Rattle.history_book.specs.StateLaws.{AbsentTuplesAreNobodys, FreeIsAbsent};
@@ -195,4 +196,14 @@ pub fn live_records_have_the_protocol()
 /// No live record has an unused place.
 pub fn unused_places_are_nobodys()
     ensures { UnusedPlacesAreNobodys }
+{}
+
+/// Where a place of the pool is no entry's, fewer entries are live than there are places.
+pub fn unused_places_are_room()
+    ensures { UnusedPlacesAreRoom }
+{}
+
+/// In every state of a legal history no more is expected than there is room for.
+pub fn expectations_are_few()
+    ensures { ExpectationsAreFew }
 {}

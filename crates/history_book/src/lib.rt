@@ -13,6 +13,7 @@ pub mod outcome;
 pub mod places;
 pub mod record;
 pub mod report;
+pub mod sight_laws;
 pub mod sizes;
 #[cfg(test)]
 mod tests;

@@ -6,16 +6,16 @@ use Rattle.nat_setup.specs.declared.rule.Side.{Side}
 use Rattle.nat_setup.specs.declared.read.RuleKind.{RuleKind}
 use Rattle.nat_setup.specs.declared.read.RuleKind.TheVariants.{Word}
 use Rattle.nat_setup.specs.declared.read.RuleFault.{RuleFault}
-use Rattle.file_text.proofs.Reading.{came_to, same_read, stopped}
-use Rattle.file_text.specs.Reading.{◌>>=◌, required}
+use Rattle.file_text.specs.ReadingLaws.{came_to, read_there, same_read, stopped, wrong_there}
+use Rattle.file_text.specs.Reading.{◌>>=◌, located, required}
 use Rattle.file_text.specs.Text.{lines_of, words_of_line}
 use Rattle.nat_setup.specs.RuleText.{line_of, rule_from, rule_of, new_rule, side_of}
-use Rattle.nat_setup.specs.RuleFile.{located, rules_from, HasFault}
-use Rattle.nat_setup.specs.RuleLaws.{Say, IsFirst}
+use Rattle.nat_setup.specs.RuleFile.{fault_at, rules_from, HasFault}
+use Rattle.nat_setup.specs.RuleLaws.{LinesGiveRules, IsFirst}
 
-not_located : {A : Type 0} (number : ℕ) (read : Result A RuleKind) (x : A) → located number read ≡ Ok x → read ≡ Ok x
-not_located number (Ok y) x done = cc
-not_located number (Err kind) x done = absurd (cc)
+pub either : (read : Result (List Rule) RuleFault) → ((rules : List Rule) × (read ≡ Ok rules)) ⊎ ((fault : RuleFault) × (read ≡ Err fault))
+either (Ok rules) = inl (rules, refl)
+either (Err fault) = inr (fault, refl)
 
 -- a full file's lines say what they say where there is room
 with_room : (full : Bool) (words : List (List ℕ)) (rule : Option Rule) → line_of full words ≡ Ok rule → line_of false words ≡ Ok rule
@@ -39,14 +39,14 @@ unfolding line_of
 nothing_said full [] said = refl
 nothing_said full (word ∷ words) said = absurd (never_nothing word words said)
 
-pub say : (number count : ℕ) (lines : List (List ℕ)) (rules : List Rule) → rules_from number count lines ≡ Ok rules → Say lines rules
+pub say : (number count : ℕ) (lines : List (List ℕ)) (rules : List Rule) → rules_from number count lines ≡ Ok rules → LinesGiveRules lines rules
 unfolding rules_from
 say number count [] rules read = cc
 say number count (line ∷ lines) rules read =
     let here = line_of (nat_le 256 count) (words_of_line line) in
-    let h = came_to (located number here) (λ (rule : Option Rule). rules_from (number + 1) (count + length (option_to_list rule)) lines >>= λ (others : List Rule). Ok (option_to_list rule ++ others)) rules read in
+    let h = came_to (located fault_at number here) (λ (rule : Option Rule). rules_from (number + 1) (count + length (option_to_list rule)) lines >>= λ (others : List Rule). Ok (option_to_list rule ++ others)) rules read in
     let k = came_to (rules_from (number + 1) (count + length (option_to_list h.0)) lines) (λ (others : List Rule). Ok (option_to_list h.0 ++ others)) rules h.2 in
-    (h.0, k.0, sym (same_read (Ok (option_to_list h.0 ++ k.0)) (option_to_list h.0 ++ k.0) rules refl k.2), with_room (nat_le 256 count) (words_of_line line) h.0 (not_located number here h.0 h.1), say (number + 1) (count + length (option_to_list h.0)) lines k.0 k.1)
+    (h.0, k.0, sym (same_read (Ok (option_to_list h.0 ++ k.0)) (option_to_list h.0 ++ k.0) rules refl k.2), with_room (nat_le 256 count) (words_of_line line) h.0 (read_there fault_at number here h.0 h.1), say (number + 1) (count + length (option_to_list h.0)) lines k.0 k.1)
 
 said_here : (count : ℕ) (words : List (List ℕ)) (rule : Option Rule) → line_of false words ≡ Ok rule → count + length (option_to_list rule) ≤ 256 → line_of (nat_le 256 count) words ≡ Ok rule
 said_here count words None said few = nothing_said (nat_le 256 count) words said
@@ -55,7 +55,7 @@ said_here count words (Some rule) said few =
     let room : nat_le 256 count ≡ false = grind (arith, nat_tests) in
     rw room said
 
-pub make : (number count : ℕ) (lines : List (List ℕ)) (rules : List Rule) → Say lines rules → count + length rules ≤ 256 → rules_from number count lines ≡ Ok rules
+pub make : (number count : ℕ) (lines : List (List ℕ)) (rules : List Rule) → LinesGiveRules lines rules → count + length rules ≤ 256 → rules_from number count lines ≡ Ok rules
 unfolding rules_from
 make number count [] rules none few = ap Ok (sym none)
 make number count (line ∷ lines) rules (rule, others, is, said, more) few =
@@ -75,26 +75,21 @@ pub record IsFirstFrom (number count : ℕ) (lines : List (List ℕ)) (fault : R
   pub flawless : rules_from number count before ≡ Ok rules
   pub faulty : line_of (nat_le 256 (count + length rules)) (words_of_line line) ≡ Err fault.kind
 
-located_line : {A : Type 0} (number : ℕ) (read : Result A RuleKind) (fault : RuleFault) → located number read ≡ Err fault → fault.line ≡ number
-located_line number (Ok x) fault is = absurd (cc)
-located_line number (Err kind) fault is = cc
-
-located_kind : {A : Type 0} (number : ℕ) (read : Result A RuleKind) (fault : RuleFault) → located number read ≡ Err fault → read ≡ Err fault.kind
-located_kind number (Ok x) fault is = absurd (cc)
-located_kind number (Err kind) fault is = cc
-
-here_first : (number count : ℕ) (line : List ℕ) (lines : List (List ℕ)) (fault : RuleFault) → located number (line_of (nat_le 256 count) (words_of_line line)) ≡ Err fault → IsFirstFrom number count (line ∷ lines) fault
+here_first : (number count : ℕ) (line : List ℕ) (lines : List (List ℕ)) (fault : RuleFault) → located fault_at number (line_of (nat_le 256 count) (words_of_line line)) ≡ Err fault → IsFirstFrom number count (line ∷ lines) fault
 unfolding rules_from
-here_first number count line lines fault is = record {
-  before = [];
-  line = line;
-  behind = lines;
-  lines_are = refl;
-  number_is = located_line number (line_of (nat_le 256 count) (words_of_line line)) fault is ∙ (omega arith);
-  rules = [];
-  flawless = refl;
-  faulty = subst (λ (n : ℕ). line_of (nat_le 256 n) (words_of_line line) ≡ Err fault.kind) (omega arith) (located_kind number (line_of (nat_le 256 count) (words_of_line line)) fault is);
-}
+here_first number count line lines fault is =
+    let wrong = wrong_there fault_at number (line_of (nat_le 256 count) (words_of_line line)) fault is in
+    record {
+      before = [];
+      line = line;
+      behind = lines;
+      lines_are = refl;
+      number_is = omega (arith, ap (λ (f : RuleFault). f.line) wrong.2);
+      rules = [];
+      flawless = refl;
+      faulty = subst (λ (n : ℕ). line_of (nat_le 256 n) (words_of_line line) ≡ Err fault.kind) (omega arith)
+          (wrong.1 ∙ ap (λ (f : RuleFault). Err f.kind) wrong.2);
+    }
 
 later_first : (number count : ℕ) (line : List ℕ) (lines : List (List ℕ)) (fault : RuleFault) (rule : Option Rule) → line_of (nat_le 256 count) (words_of_line line) ≡ Ok rule →
     IsFirstFrom (number + 1) (count + length (option_to_list rule)) lines fault → IsFirstFrom number count (line ∷ lines) fault
@@ -119,13 +114,13 @@ first_behind number count line lines fault rule said again (inr (others, read, i
 
 first_of : (number count : ℕ) (line : List ℕ) (lines : List (List ℕ)) (fault : RuleFault) →
     ((n c : ℕ) → rules_from n c lines ≡ Err fault → IsFirstFrom n c lines fault) →
-    (located number (line_of (nat_le 256 count) (words_of_line line)) ≡ Err fault)
-    ⊎ ((rule : Option Rule) × (located number (line_of (nat_le 256 count) (words_of_line line)) ≡ Ok rule)
+    (located fault_at number (line_of (nat_le 256 count) (words_of_line line)) ≡ Err fault)
+    ⊎ ((rule : Option Rule) × (located fault_at number (line_of (nat_le 256 count) (words_of_line line)) ≡ Ok rule)
     × ((rules_from (number + 1) (count + length (option_to_list rule)) lines >>= λ (others : List Rule). Ok (option_to_list rule ++ others)) ≡ Err fault)) →
     IsFirstFrom number count (line ∷ lines) fault
 first_of number count line lines fault again (inl is) = here_first number count line lines fault is
 first_of number count line lines fault again (inr (rule, said, is)) =
-    first_behind number count line lines fault rule (not_located number (line_of (nat_le 256 count) (words_of_line line)) rule said) again
+    first_behind number count line lines fault rule (read_there fault_at number (line_of (nat_le 256 count) (words_of_line line)) rule said) again
     (stopped (rules_from (number + 1) (count + length (option_to_list rule)) lines) (λ (others : List Rule). Ok (option_to_list rule ++ others)) fault is)
 
 first : (number count : ℕ) (lines : List (List ℕ)) (fault : RuleFault) → rules_from number count lines ≡ Err fault → IsFirstFrom number count lines fault
@@ -133,7 +128,7 @@ unfolding rules_from
 first number count [] fault read = absurd (cc)
 first number count (line ∷ lines) fault read =
     first_of number count line lines fault (λ n c again. first n c lines fault again)
-    (stopped (located number (line_of (nat_le 256 count) (words_of_line line))) (λ (rule : Option Rule). rules_from (number + 1) (count + length (option_to_list rule)) lines >>= λ (others : List Rule). Ok (option_to_list rule ++ others)) fault read)
+    (stopped (located fault_at number (line_of (nat_le 256 count) (words_of_line line))) (λ (rule : Option Rule). rules_from (number + 1) (count + length (option_to_list rule)) lines >>= λ (others : List Rule). Ok (option_to_list rule ++ others)) fault read)
 
 pub fault_first : (bytes : List ℕ) (fault : RuleFault) → HasFault bytes fault → IsFirst bytes fault
 fault_first bytes fault has =
@@ -166,11 +161,11 @@ make_fault number count [] line behind rules kind place read faulty at =
     same_place number place kind (rules_from number count (line ∷ behind)) (omega arith) (located_fault number line count behind kind here)
 make_fault number count (b ∷ bs) line behind rules kind place read faulty at =
     let said = line_of (nat_le 256 count) (words_of_line b) in
-    let h = came_to (located number said) (λ (rule : Option Rule). rules_from (number + 1) (count + length (option_to_list rule)) bs >>= λ (others : List Rule). Ok (option_to_list rule ++ others)) rules read in
+    let h = came_to (located fault_at number said) (λ (rule : Option Rule). rules_from (number + 1) (count + length (option_to_list rule)) bs >>= λ (others : List Rule). Ok (option_to_list rule ++ others)) rules read in
     let k = came_to (rules_from (number + 1) (count + length (option_to_list h.0)) bs) (λ (others : List Rule). Ok (option_to_list h.0 ++ others)) rules h.2 in
     let is : option_to_list h.0 ++ k.0 ≡ rules = same_read (Ok (option_to_list h.0 ++ k.0)) (option_to_list h.0 ++ k.0) rules refl k.2 in
     let long : count + length rules ≡ count + length (option_to_list h.0) + length k.0 = omega (arith, ap length is, length-append (option_to_list h.0) k.0) in
-    let here : said ≡ Ok h.0 = not_located number said h.0 h.1 in
+    let here : said ≡ Ok h.0 = read_there fault_at number said h.0 h.1 in
     let more : rules_from (number + 1) (count + length (option_to_list h.0)) (bs ++ line ∷ behind) ≡ Err (record { line = place; kind = kind }) =
     make_fault (number + 1) (count + length (option_to_list h.0)) bs line behind k.0 kind place k.1
     (subst (λ (n : ℕ). line_of (nat_le 256 n) (words_of_line line) ≡ Err kind) long faulty) (omega arith) in

@@ -9,14 +9,20 @@ use Rattle.nat_setup.specs.declared.rule.Rule.{Rule}
 use Rattle.nat_setup.specs.declared.rule.Side.{Side}
 use Rattle.nat_setup.specs.declared.read.RuleKind.{RuleKind}
 use Rattle.nat_setup.specs.declared.read.RuleKind.TheVariants.{Word, Address, Prefix, Range}
-use Rattle.nat_setup.specs.Internal.Reading.{IsUnaimed}
-use Rattle.nat_setup.specs.Rule.{IsBlock, IsLawfulRule, IsRange, has_ports, is_portless}
-use Rattle.nat_setup.specs.RuleFile.{IsRulesFile, located, rules_from}
-use Rattle.nat_setup.specs.RuleText.{block_of, block_of_halves, ended, length_of, line_of, new_rule, ports_of, ports_of_halves, proto_of, rising, rule_from, rule_of, side_of, target_of_halves, with_dport, with_dst, with_option, with_proto, with_sport, with_src, with_target}
+use Rattle.nat_setup.specs.Rule.{IsBlock, IsLawfulRule, IsRange, is_portless}
+use Rattle.file_text.specs.Protocols.{has_ports, proto_named}
+use Rattle.nat_setup.specs.RuleFile.{IsRulesFile, fault_at, rules_from}
+use Rattle.nat_setup.specs.RuleText.{block_of, block_of_halves, ended, length_of, line_of, new_rule, ports_of, ports_of_halves, rising, rule_from, rule_of, side_of, target_of_halves, with_dport, with_dst, with_option, with_proto, with_sport, with_src, with_target}
 use Rattle.file_text.specs.Laws.{NumbersStayWithin}
-use Rattle.file_text.proofs.Reading.{needed, was_once, went_on, went_on_with, where_read}
-use Rattle.file_text.specs.Reading.{required}
+use Rattle.file_text.specs.ReadingLaws.{needed, was_located, was_once, went_on, went_on_with, where_read}
+use Rattle.file_text.specs.Reading.{located, once, required}
 use Rattle.file_text.specs.Text.{address_of, decimal_of, halves_at, lines_of, port_of, words_of_line}
+
+-- a rule whose target is not read yet
+record IsUnaimed (rule : Rule) : Type 0 where
+  src : IsBlock rule.src
+  dst : IsBlock rule.dst
+  ports : rule.ports ≡ None
 
 module _ (numbers : NumbersStayWithin) where
   short_length : (text : List ℕ) → IfSome (length_of text) (λ n. n ≤ 32)
@@ -52,23 +58,31 @@ module _ (numbers : NumbersStayWithin) where
   -- an option more leaves a rule without a target lawful
   module _ (rule : Rule) (value : List ℕ) (is : IsUnaimed rule) where
     kept_proto : IfOk (with_proto rule value) IsUnaimed
-    kept_proto = was_once IsUnaimed Word rule.proto _ (went_on_with IsUnaimed (required Word (proto_of value)) _ (λ p. record { src = is.src; dst = is.dst; ports = is.ports }))
+    kept_proto = went_on_with IsUnaimed (once Word rule.proto (required Word (proto_named value))) _ (λ p. record { src = is.src; dst = is.dst; ports = is.ports })
+
+    short_once : (old : Option Block) → IfOk (once Word old (block_of value)) IsBlock
+    short_once old = blocks (once Word old (block_of value)) (was_once (λ (block : Block). block.length ≤ 32) Word old (block_of value) (short_block value))
+      where
+        blocks : (read : Result (Option Block) RuleKind) → IfOk read (λ block. IfSome block (λ b. b.length ≤ 32)) → IfOk read IsBlock
+        blocks (Ok None) h = tt
+        blocks (Ok (Some block)) h = h
+        blocks (Err k) h = tt
 
     kept_src : IfOk (with_src rule value) IsUnaimed
     kept_src =
-        was_once IsUnaimed Word rule.src _ (went_on {A = Block} {B = Rule} (λ (block : Block). block.length ≤ 32) IsUnaimed (block_of value) _ (short_block value)
-        (λ block short. record { src = short; dst = is.dst; ports = is.ports }))
+        went_on {A = Option Block} {B = Rule} IsBlock IsUnaimed (once Word rule.src (block_of value)) _ (short_once rule.src)
+        (λ block short. record { src = short; dst = is.dst; ports = is.ports })
 
     kept_dst : IfOk (with_dst rule value) IsUnaimed
     kept_dst =
-        was_once IsUnaimed Word rule.dst _ (went_on {A = Block} {B = Rule} (λ (block : Block). block.length ≤ 32) IsUnaimed (block_of value) _ (short_block value)
-        (λ block short. record { src = is.src; dst = short; ports = is.ports }))
+        went_on {A = Option Block} {B = Rule} IsBlock IsUnaimed (once Word rule.dst (block_of value)) _ (short_once rule.dst)
+        (λ block short. record { src = is.src; dst = short; ports = is.ports })
 
     kept_sport : IfOk (with_sport rule value) IsUnaimed
-    kept_sport = was_once IsUnaimed Word rule.sport _ (went_on_with IsUnaimed (required Range (port_of 1 value)) _ (λ p. record { src = is.src; dst = is.dst; ports = is.ports }))
+    kept_sport = went_on_with IsUnaimed (once Word rule.sport (required Range (port_of 1 value))) _ (λ p. record { src = is.src; dst = is.dst; ports = is.ports })
 
     kept_dport : IfOk (with_dport rule value) IsUnaimed
-    kept_dport = was_once IsUnaimed Word rule.dport _ (went_on_with IsUnaimed (required Range (port_of 1 value)) _ (λ p. record { src = is.src; dst = is.dst; ports = is.ports }))
+    kept_dport = went_on_with IsUnaimed (once Word rule.dport (required Range (port_of 1 value))) _ (λ p. record { src = is.src; dst = is.dst; ports = is.ports })
 
     kept : (name : List ℕ) → IfOk (with_option rule name value) IsUnaimed
     unfolding with_option
@@ -136,10 +150,6 @@ module _ (numbers : NumbersStayWithin) where
   line_fits true (word ∷ words) = tt
   line_fits false (word ∷ words) = rule_fits word words
 
-  located_fits : {A : Type 0} (P : A → Type 0) (number : ℕ) (read : Result A RuleKind) → IfOk read P → IfOk (located number read) P
-  located_fits P number (Ok x) is = is
-  located_fits P number (Err kind) is = tt
-
   -- rules are lawful, and with those before them at most 256
   record AreLawful (count : ℕ) (rules : List Rule) : Type 0 where
     lawful : AllByRecursion IsLawfulRule rules
@@ -157,8 +167,8 @@ module _ (numbers : NumbersStayWithin) where
   unfolding rules_from
   lawful_lines number count [] = record { lawful = tt; few = λ below. omega arith }
   lawful_lines number count (line ∷ lines) =
-      went_on {A = Option Rule} {B = List Rule} (Fits (nat_le 256 count)) (AreLawful count) (located number (line_of (nat_le 256 count) (words_of_line line))) _
-      (located_fits (Fits (nat_le 256 count)) number (line_of (nat_le 256 count) (words_of_line line)) (line_fits (nat_le 256 count) (words_of_line line)))
+      went_on {A = Option Rule} {B = List Rule} (Fits (nat_le 256 count)) (AreLawful count) (located fault_at number (line_of (nat_le 256 count) (words_of_line line))) _
+      (was_located (Fits (nat_le 256 count)) fault_at number (line_of (nat_le 256 count) (words_of_line line)) (line_fits (nat_le 256 count) (words_of_line line)))
       (λ rule one. went_on {A = List Rule} {B = List Rule} (AreLawful (count + length (option_to_list rule))) (AreLawful count)
       (rules_from (number + 1) (count + length (option_to_list rule)) lines) _ (lawful_lines (number + 1) (count + length (option_to_list rule)) lines)
       (λ rules more. joined count rule rules one more))

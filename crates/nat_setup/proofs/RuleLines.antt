@@ -1,11 +1,8 @@
 -- The rules of a file, line by line.
-use Rattle.std.proofs.Common.{◌≡◌, ◌∙◌, ℕ, ◌+◌, ◌<◌, ◌≤◌, false, nat_le, List, [], ◌∷◌, ◌++◌, length, Option, Some, None, Result, Ok, Err, IfSome, option_to_list, arith, refl, sym, ap, append_assoc, append-nil, length-append}
-use Rattle.std.proofs.lemmas.Bool.Decides.{nat_tests}
-use Rattle.std.specs.List.{AllByRecursion}
+use Rattle.std.proofs.Common.{◌≡◌, ◌∙◌, ℕ, ◌+◌, ◌<◌, ◌≤◌, nat_le, List, [], ◌∷◌, ◌++◌, length, Option, Result, Ok, Err, option_to_list, arith, refl, sym, ap, append_assoc, append-nil, length-append}
 use Rattle.nat_setup.specs.declared.rule.Rule.{Rule}
 use Rattle.nat_setup.specs.declared.read.RuleKind.{RuleKind}
 use Rattle.nat_setup.specs.declared.read.RuleFault.{RuleFault}
-use Rattle.nat_setup.specs.Rule.{IsLawfulRule}
 use Rattle.file_text.specs.Reading.{◌>>=◌}
 use Rattle.file_text.specs.Text.{lines_of, words_of_line}
 use Rattle.nat_setup.specs.RuleText.{line_of}
@@ -19,8 +16,6 @@ with_front front read = read >>= λ (rules : List Rule). Ok (front ++ rules)
 pub record HasRead (bytes rest : List ℕ) (items : List Rule) (number : ℕ) : Type 0 where
   pub same : with_front items (rules_from (number + 1) (length items) (lines_of rest)) ≡ file_of bytes
   pub fits : number + length rest ≤ length bytes
-  pub lawful : AllByRecursion IsLawfulRule items
-  pub few : length items ≤ 256
 
 front_of_both : (items more : List Rule) (read : Result (List Rule) RuleFault) → with_front (items ++ more) read ≡ with_front items (read >>= λ (rules : List Rule). Ok (more ++ rules))
 front_of_both items more (Ok rules) = rw append_assoc
@@ -37,31 +32,18 @@ line_faulty : (items : List Rule) (number : ℕ) (line : List ℕ) (lines : List
 unfolding rules_from
 line_faulty items number line lines kind said = rw said
 
-few_more : (items : List Rule) (rule : Option Rule) → length items ≤ 256 → IfSome rule (λ _. nat_le 256 (length items) ≡ false) → length (items ++ option_to_list rule) ≤ 256
-few_more items None few room = rw length-append (omega arith)
-few_more items (Some rule) few room =
-    let below : length items < 256 = grind (arith, nat_tests) in
-    rw length-append (omega arith)
-
-lawful_more : (items : List Rule) (rule : Option Rule) → AllByRecursion IsLawfulRule items → IfSome rule IsLawfulRule → AllByRecursion IsLawfulRule (items ++ option_to_list rule)
-lawful_more [] None all one = all
-lawful_more [] (Some rule) all one = (one, tt)
-lawful_more (item ∷ items) rule all one = (all.0, lawful_more items rule all.1 one)
-
 more_items : (bytes rest line behind : List ℕ) (items : List Rule) (number : ℕ) (rule : Option Rule) → HasRead bytes rest items number → lines_of rest ≡ line ∷ lines_of behind → length behind < length rest →
-    line_of (nat_le 256 (length items)) (words_of_line line) ≡ Ok rule → IfSome rule IsLawfulRule → IfSome rule (λ _. nat_le 256 (length items) ≡ false) → HasRead bytes behind (items ++ option_to_list rule) (number + 1)
-more_items bytes rest line behind items number rule read here less said lawful room = record {
+    line_of (nat_le 256 (length items)) (words_of_line line) ≡ Ok rule → HasRead bytes behind (items ++ option_to_list rule) (number + 1)
+more_items bytes rest line behind items number rule read here less said = record {
   same = line_said items (number + 1) line (lines_of behind) rule said ∙ (ap (λ (lines : List (List ℕ)). with_front items (rules_from (number + 1) (length items) lines)) (sym here) ∙ read.same);
   fits = omega (arith, read.fits);
-  lawful = lawful_more items rule read.lawful lawful;
-  few = few_more items rule read.few room;
 }
 
 -- a line that has no fault is read
 pub read_more : (bytes rest line behind : List ℕ) (items longer : List Rule) (number : ℕ) (rule : Option Rule) → HasRead bytes rest items number → lines_of rest ≡ line ∷ lines_of behind → length behind < length rest →
-    line_of (nat_le 256 (length items)) (words_of_line line) ≡ Ok rule → IfSome rule IsLawfulRule → IfSome rule (λ _. nat_le 256 (length items) ≡ false) → longer ≡ items ++ option_to_list rule → HasRead bytes behind longer (number + 1)
-read_more bytes rest line behind items longer number rule read here less said lawful room is =
-    rw is (more_items bytes rest line behind items number rule read here less said lawful room)
+    line_of (nat_le 256 (length items)) (words_of_line line) ≡ Ok rule → longer ≡ items ++ option_to_list rule → HasRead bytes behind longer (number + 1)
+read_more bytes rest line behind items longer number rule read here less said is =
+    rw is (more_items bytes rest line behind items number rule read here less said)
 
 -- a line that has a fault is the first
 pub found_fault : (bytes rest line behind : List ℕ) (items : List Rule) (number : ℕ) (kind : RuleKind) → HasRead bytes rest items number → lines_of rest ≡ line ∷ lines_of behind →

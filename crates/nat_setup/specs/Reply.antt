@@ -32,27 +32,27 @@ changed_at Destination t Udp address number = record t { dst = address; b = numb
 abbrev pub reply_with : Rule → Tuple → ℕ → Tuple
 reply_with rule t number = inverse (changed_at rule.side t t.proto rule.target number)
 
-abbrev pub is_between : ℕ → ℕ → ℕ → Bool
-is_between low high number = nat_le low number && nat_le number high
+abbrev pub is_in_range : ℕ → ℕ → ℕ → Bool
+is_in_range low high number = nat_le low number && nat_le number high
 
 -- source ports are exchanged for ports of the same kind: below 512, below 1024, and above
 abbrev pub is_alike : ℕ → ℕ → Bool
 is_alike own number =
-    (if nat_lt own 512 then is_between 1 511 number else
-    (if nat_lt own 1024 then is_between 600 1023 number else is_between 1024 65535 number))
+    (if nat_lt own 512 then is_in_range 1 511 number else
+    (if nat_lt own 1024 then is_in_range 600 1023 number else is_in_range 1024 65535 number))
 
 -- The numbers that a rule without ports allows. The flow's own one is among them in every case; the
 -- destination port of TCP and UDP stays as it is.
 abbrev pub is_default : Side → Proto → ℕ → ℕ → Bool
-is_default Source Icmp own number = is_between 0 65535 number
+is_default Source Icmp own number = is_in_range 0 65535 number
 is_default Source Tcp own number = number == own || is_alike own number
 is_default Source Udp own number = number == own || is_alike own number
-is_default Destination Icmp own number = is_between 0 65535 number
+is_default Destination Icmp own number = is_in_range 0 65535 number
 is_default Destination Tcp own number = number == own
 is_default Destination Udp own number = number == own
 
 abbrev pub is_allowed_by : Option PortRange → Rule → Tuple → ℕ → Bool
-is_allowed_by (Some ports) rule t number = is_between ports.low ports.high number
+is_allowed_by (Some ports) rule t number = is_in_range ports.low ports.high number
 is_allowed_by None rule t number = is_default rule.side t.proto (own_number rule t) number
 
 -- the rule allows the flow to have the number

@@ -1,9 +1,9 @@
 -- Which flows a rule is for.
-use Rattle.std.specs.Prelude.{◌≡◌, ℕ, ◌-◌, ◌/◌, ◌^◌, ◌≤◌, Bool, true, false, ◌==◌, ◌&&◌, ◌||◌, Option, Some, None, is_none}
+use Rattle.std.specs.Prelude.{◌≡◌, ℕ, ◌-◌, ◌/◌, ◌^◌, ◌≤◌, Bool, true, ◌==◌, ◌&&◌, ◌||◌, Option, Some, None, is_none, List, find}
 use Rattle.tuple_core.specs.declared.Proto.{Proto}
-use Rattle.tuple_core.specs.declared.Proto.TheVariants.{Icmp, Tcp, Udp}
 use Rattle.tuple_core.specs.declared.Tuple.{Tuple}
 use Rattle.tuple_core.specs.Tuple.{number_of}
+use Rattle.file_text.specs.Protocols.{has_ports}
 use Rattle.nat_setup.specs.declared.rule.Block.{Block}
 use Rattle.nat_setup.specs.declared.rule.PortRange.{PortRange}
 use Rattle.nat_setup.specs.declared.rule.Rule.{Rule}
@@ -31,6 +31,10 @@ matches t rule =
     is_proto rule.proto t.proto && is_from rule.src t.src && is_from rule.dst t.dst
     && is_port rule.sport t.a && is_port rule.dport t.b
 
+-- the first of the rules that is for flows with this original tuple
+abbrev pub rule_for : List Rule → Tuple → Option Rule
+rule_for rules t = find (matches t) rules
+
 -- a block has a length of at most 32
 abbrev pub IsBlock : Option Block → Type 0
 IsBlock None = Unit {0}
@@ -40,13 +44,6 @@ IsBlock (Some block) = block.length ≤ 32
 abbrev pub IsRange : Option PortRange → Type 0
 IsRange None = Unit {0}
 IsRange (Some range) = range.low ≤ range.high
-
--- the protocol has ports
-abbrev pub has_ports : Option Proto → Bool
-has_ports None = false
-has_ports (Some Icmp) = false
-has_ports (Some Tcp) = true
-has_ports (Some Udp) = true
 
 -- the rule names no port
 abbrev pub is_portless : Rule → Bool

@@ -5,20 +5,19 @@ use Rattle.nat_setup.specs.declared.read.RuleKind.{RuleKind}
 use Rattle.nat_setup.specs.declared.read.RuleFault.{RuleFault}
 use Rattle.nat_setup.specs.declared.read.RuleError.{RuleError}
 use Rattle.nat_setup.specs.declared.read.RuleError.TheVariants.{Fault, NoMemory}
-use Rattle.file_text.specs.Reading.{◌>>=◌}
+use Rattle.file_text.specs.Reading.{◌>>=◌, located}
 use Rattle.file_text.specs.Text.{lines_of, words_of_line}
 use Rattle.nat_setup.specs.RuleText.{line_of}
 
 -- a fault of the line of this number
-abbrev pub located : {A : Type 0} → ℕ → Result A RuleKind → Result A RuleFault
-located number (Ok x) = Ok x
-located number (Err kind) = Err (record { line = number; kind = kind })
+abbrev pub fault_at : ℕ → RuleKind → RuleFault
+fault_at number kind = record { line = number; kind = kind }
 
 -- the rules of the lines from this number on, behind so many rules; 256 rules fill a file
 unfoldable pub rules_from : ℕ → ℕ → List (List ℕ) → Result (List Rule) RuleFault
 rules_from number count [] = Ok []
 rules_from number count (line ∷ lines) =
-    located number (line_of (nat_le 256 count) (words_of_line line)) >>= λ rule.
+    located fault_at number (line_of (nat_le 256 count) (words_of_line line)) >>= λ rule.
     rules_from (number + 1) (count + length (option_to_list rule)) lines >>= λ rules. Ok (option_to_list rule ++ rules)
 
 -- the rules of a file, or its first fault

@@ -25,18 +25,18 @@ abbrev pub BytesHaveRulesOrFault : Type 0
 BytesHaveRulesOrFault = (bytes : List ℕ) → ((rules : List Rule) × IsRulesFile bytes rules) ⊎ ((fault : RuleFault) × HasFault bytes fault)
 
 -- each line says a rule or nothing, and the rules are what the lines say, in their order
-abbrev pub Say : List (List ℕ) → List Rule → Type 0
-Say [] rules = rules ≡ []
-Say (line ∷ lines) rules =
-    (rule : Option Rule) × (others : List Rule) × (rules ≡ option_to_list rule ++ others) × (line_of false (words_of_line line) ≡ Ok rule) × Say lines others
+abbrev pub LinesGiveRules : List (List ℕ) → List Rule → Type 0
+LinesGiveRules [] rules = rules ≡ []
+LinesGiveRules (line ∷ lines) rules =
+    (rule : Option Rule) × (others : List Rule) × (rules ≡ option_to_list rule ++ others) × (line_of false (words_of_line line) ≡ Ok rule) × LinesGiveRules lines others
 
 -- the lines of a file of rules say its rules
 abbrev pub FilesSayTheirRules : Type 0
-FilesSayTheirRules = (bytes : List ℕ) (rules : List Rule) → IsRulesFile bytes rules → Say (lines_of bytes) rules
+FilesSayTheirRules = (bytes : List ℕ) (rules : List Rule) → IsRulesFile bytes rules → LinesGiveRules (lines_of bytes) rules
 
 -- bytes whose lines say at most 256 rules are a file of them
 abbrev pub LinesMakeFiles : Type 0
-LinesMakeFiles = (bytes : List ℕ) (rules : List Rule) → Say (lines_of bytes) rules → length rules ≤ 256 → IsRulesFile bytes rules
+LinesMakeFiles = (bytes : List ℕ) (rules : List Rule) → LinesGiveRules (lines_of bytes) rules → length rules ≤ 256 → IsRulesFile bytes rules
 
 -- the rules of a file are lawful, and at most 256
 abbrev pub RulesAreLawful : Type 0

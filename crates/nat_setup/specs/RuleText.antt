@@ -1,7 +1,5 @@
 -- What a line of a rules file says, word by word.
 use Rattle.std.specs.Prelude.{ℕ, ◌||◌, Bool, nat_le, if◌then◌else◌, List, [], ◌∷◌, Option, Some, None, Result, Ok, Err, codes, bytes_eq}
-use Rattle.tuple_core.specs.declared.Proto.{Proto}
-use Rattle.tuple_core.specs.declared.Proto.TheVariants.{Icmp, Tcp, Udp}
 use Rattle.nat_setup.specs.declared.rule.Side.{Side}
 use Rattle.nat_setup.specs.declared.rule.Side.TheVariants.{Source, Destination}
 use Rattle.nat_setup.specs.declared.rule.Block.{Block}
@@ -9,7 +7,8 @@ use Rattle.nat_setup.specs.declared.rule.PortRange.{PortRange}
 use Rattle.nat_setup.specs.declared.rule.Rule.{Rule}
 use Rattle.nat_setup.specs.declared.read.RuleKind.{RuleKind}
 use Rattle.nat_setup.specs.declared.read.RuleKind.TheVariants.{Word, Address, Prefix, Range, TooMany}
-use Rattle.nat_setup.specs.Rule.{has_ports, is_portless}
+use Rattle.nat_setup.specs.Rule.{is_portless}
+use Rattle.file_text.specs.Protocols.{has_ports, proto_named}
 use Rattle.file_text.specs.Reading.{◌>>=◌, once, required}
 use Rattle.file_text.specs.Text.{address_of, halves_at, number_in, port_of}
 
@@ -24,12 +23,6 @@ number_of_kind TooMany = 5
 -- `snat` changes the source, `dnat` the destination
 unfoldable pub side_of : List ℕ → Option Side
 side_of word = if bytes_eq word (codes "snat") then Some Source else (if bytes_eq word (codes "dnat") then Some Destination else None)
-
--- the value of `-p`
-unfoldable pub proto_of : List ℕ → Option Proto
-proto_of word =
-    if bytes_eq word (codes "tcp") then Some Tcp else (if bytes_eq word (codes "udp") then Some Udp else
-    (if bytes_eq word (codes "icmp") then Some Icmp else None))
 
 -- a length is a number from 0 to 32
 unfoldable pub length_of : List ℕ → Option ℕ
@@ -66,19 +59,19 @@ with_target rule text = target_of_halves rule text (halves_at 58 text)
 
 -- an option that the line has already is a wrong word
 abbrev pub with_proto : Rule → List ℕ → Result Rule RuleKind
-with_proto rule value = once Word rule.proto (required Word (proto_of value) >>= λ p. Ok (record rule { proto = Some p }))
+with_proto rule value = once Word rule.proto (required Word (proto_named value)) >>= λ proto. Ok (record rule { proto = proto })
 
 abbrev pub with_src : Rule → List ℕ → Result Rule RuleKind
-with_src rule value = once Word rule.src (block_of value >>= λ b. Ok (record rule { src = Some b }))
+with_src rule value = once Word rule.src (block_of value) >>= λ src. Ok (record rule { src = src })
 
 abbrev pub with_dst : Rule → List ℕ → Result Rule RuleKind
-with_dst rule value = once Word rule.dst (block_of value >>= λ b. Ok (record rule { dst = Some b }))
+with_dst rule value = once Word rule.dst (block_of value) >>= λ dst. Ok (record rule { dst = dst })
 
 abbrev pub with_sport : Rule → List ℕ → Result Rule RuleKind
-with_sport rule value = once Word rule.sport (required Range (port_of 1 value) >>= λ p. Ok (record rule { sport = Some p }))
+with_sport rule value = once Word rule.sport (required Range (port_of 1 value)) >>= λ sport. Ok (record rule { sport = sport })
 
 abbrev pub with_dport : Rule → List ℕ → Result Rule RuleKind
-with_dport rule value = once Word rule.dport (required Range (port_of 1 value) >>= λ p. Ok (record rule { dport = Some p }))
+with_dport rule value = once Word rule.dport (required Range (port_of 1 value)) >>= λ dport. Ok (record rule { dport = dport })
 
 -- the rule with the option of this name; there are no other options
 unfoldable pub with_option : Rule → List ℕ → List ℕ → Result Rule RuleKind

@@ -2,7 +2,7 @@
 
 ghost use Rattle.std.specs.Prelude.{◌≡◌, ◌==◌, ◌&&◌, ◌||◌, ◌≤◌, ℕ, true};
 ghost use Rattle.tuple_core.specs.Tuple.{is_valid};
-ghost use Rattle.nat_setup.specs.Reply.{changed_at, is_allowed, is_alike, is_between, own_number, reply_with};
+ghost use Rattle.nat_setup.specs.Reply.{changed_at, is_allowed, is_alike, is_in_range, own_number, reply_with};
 ghost use Rattle.nat_setup.specs.Rule.{IsLawfulRule};
 
 use crate::rule::{PortRange, Rule, Side};
@@ -72,7 +72,7 @@ pub fn reply_with(rule: &Rule, t: &Tuple, number: u16) -> Tuple
 /// The ports that are of the same kind as this one.
 fn alike(port: u16) -> PortRange
     ensures up { result.low ≤ result.high }
-    ensures exact { (number : ℕ) → is_alike port number ≡ is_between result.low result.high number }
+    ensures exact { (number : ℕ) → is_alike port number ≡ is_in_range result.low result.high number }
 {
     let (low, high) = if port < 512 {
         (1, 511)
@@ -98,7 +98,7 @@ pub fn choice_for(rule: &Rule, t: &Tuple) -> Choice
     requires { IsLawfulRule rule.now }
     ensures up { result.low ≤ result.high }
     ensures exact { (number : ℕ) → is_allowed rule.now t.now number
-        ≡ (is_between result.low result.high number || (result.keeps_own && number == own_number rule.now t.now)) }
+        ≡ (is_in_range result.low result.high number || (result.keeps_own && number == own_number rule.now t.now)) }
 {
     let own = own_number(rule, t);
     let (ports, keeps_own) = match (rule.ports, rule.side, t.proto) {

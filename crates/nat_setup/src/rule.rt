@@ -1,8 +1,8 @@
 //! A rule, and which flows it is for.
 
-ghost use Rattle.std.specs.Prelude.{◌≡◌, ◌≤◌, find};
+ghost use Rattle.std.specs.Prelude.{◌≡◌, ◌≤◌};
 ghost use Rattle.std.specs.List.{AllByRecursion};
-ghost use Rattle.nat_setup.specs.Rule.{IsBlock, is_from, is_in_block, is_port, is_proto, IsLawfulRule, matches};
+ghost use Rattle.nat_setup.specs.Rule.{IsBlock, is_from, is_in_block, is_port, is_proto, IsLawfulRule, matches, rule_for};
 
 use room_list::RoomList;
 use tuple_core::{Proto, Tuple};
@@ -106,7 +106,7 @@ pub(crate) fn matches(rule: &Rule, t: &Tuple) -> bool
 /// The first of the rules that is for flows with this original tuple.
 pub(crate) fn rule_for(rules: &[Rule], t: &Tuple) -> Option<Rule>
     requires { AllByRecursion IsLawfulRule rules.now }
-    ensures { result ≡ find (matches t.now) rules.now }
+    ensures { result ≡ rule_for rules.now t.now }
 {
     for rule in rules {
         if matches(rule, t) {

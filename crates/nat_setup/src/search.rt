@@ -2,16 +2,18 @@
 
 ghost use Rattle.std.specs.Prelude.{◌≡◌, ◌+◌, ◌≤◌, true, length};
 ghost use Rattle.tuple_core.specs.Tuple.{is_valid};
-ghost use Rattle.history_book.specs.Desk.{SamePlaces, Saw};
-ghost use Rattle.history_book.specs.Held.{is_held, without};
+ghost use Rattle.history_book.specs.Desk.{SamePlaces};
 ghost use Rattle.history_book.specs.Sight.{IsKnown};
+ghost use Rattle.history_book.specs.WentOn.{Saw};
 ghost use Rattle.nat_setup.specs.Internal.Search.{ProbeSays, SearchSays};
 
 use crate::reply::reply_with;
 use crate::rule::Rule;
 use history_book::desk::Desk;
-use history_book::laws::states_stay;
-use history_book::outcome::{FindOutcome, ReleaseOutcome};
+use history_book::laws::{free_is_absent, states_stay};
+use history_book::outcome::FindOutcome;
+use history_book::places::give_back;
+use history_book::sight_laws::seeing_adds_up;
 use std::sync::Wait;
 use tuple_core::Tuple;
 
@@ -42,20 +44,6 @@ pub enum Search {
     AllTaken { to: u64 },
 }
 
-/// Gives up a reference; the place is not owed afterwards.
-fn give_up<R: Wait, D: Desk>(rt: &R, desk: &mut D, place: u32)
-    requires { is_held place (D.sight desk.old).held ≡ true }
-    ensures saw { Saw (D.sight desk.old) (D.sight desk.new) }
-    ensures held { (D.sight desk.new).held ≡ without place (D.sight desk.old).held }
-    ensures owed { (D.sight desk.new).owed ≡ (D.sight desk.old).owed }
-    ensures knows { IsKnown (D.sight desk.new) }
-{
-    match desk.release(rt, place) {
-        ReleaseOutcome::Kept => {}
-        ReleaseOutcome::Last => desk.recycle(rt, place),
-    }
-}
-
 /// Looks whether anything is live under a tuple.
 pub fn look<R: Wait, D: Desk>(rt: &R, desk: &mut D, t: &Tuple) -> Probe
     requires { length (D.sight desk.old).held + length (D.sight desk.old).owed ≤ 3 }
@@ -63,18 +51,20 @@ pub fn look<R: Wait, D: Desk>(rt: &R, desk: &mut D, t: &Tuple) -> Probe
     ensures same { SamePlaces (D.sight desk.old) (D.sight desk.new) }
     ensures knows { IsKnown (D.sight desk.new) }
 {
+    free_is_absent();
+    seeing_adds_up();
     states_stay();
     match desk.find(rt, t) {
         FindOutcome::Absent { at } => Probe::Free { at },
         FindOutcome::Found { place, at, .. } => {
-            give_up(rt, desk, place);
+            give_back(rt, desk, place);
             Probe::Taken { at }
         }
     }
 }
 
 /// Looks for a free number in a stretch.
-pub fn search_between<R: Wait, D: Desk>(
+pub fn search_stretch<R: Wait, D: Desk>(
     rt: &R,
     desk: &mut D,
     rule: &Rule,
@@ -92,6 +82,7 @@ pub fn search_between<R: Wait, D: Desk>(
     ensures same { SamePlaces (D.sight desk.old) (D.sight desk.new) }
     ensures knows { IsKnown (D.sight desk.new) }
 {
+    seeing_adds_up();
     states_stay();
     let mut to = stretch.since;
     for number in stretch.lowest..stretch.end {

@@ -1,20 +1,22 @@
 //! The translation of a flow by the rules: a reply tuple that was free.
 
-ghost use Rattle.std.specs.Prelude.{◌≡◌, ◌+◌, ◌≤◌, ◌||◌, false, true, find, length, Some};
+ghost use Rattle.std.specs.Prelude.{◌≡◌, ◌+◌, ◌≤◌, ◌||◌, false, true, length, Some};
 ghost use Rattle.std.specs.List.{AllByRecursion};
 ghost use Rattle.tuple_core.specs.Tuple.{is_valid};
-ghost use Rattle.history_book.specs.Desk.{SamePlaces, Saw};
+ghost use Rattle.history_book.specs.Desk.{SamePlaces};
 ghost use Rattle.history_book.specs.Sight.{IsKnown};
-ghost use Rattle.nat_setup.specs.Reply.{is_between};
-ghost use Rattle.nat_setup.specs.Rule.{IsLawfulRule, matches};
+ghost use Rattle.history_book.specs.WentOn.{Saw};
+ghost use Rattle.nat_setup.specs.Reply.{is_in_range};
+ghost use Rattle.nat_setup.specs.Rule.{IsLawfulRule, rule_for};
 ghost use Rattle.nat_setup.specs.Internal.Search.{SearchSays, others_of};
 ghost use Rattle.nat_setup.specs.Translation.{IsValidFor, TranslateSays};
 
 use crate::reply::{Choice, choice_for, own_number, reply_with};
 use crate::rule::{Rule, Rules, rule_for};
-use crate::search::{Probe, Search, Stretch, look, search_between};
+use crate::search::{Probe, Search, Stretch, look, search_stretch};
 use history_book::desk::Desk;
 use history_book::laws::states_stay;
+use history_book::sight_laws::seeing_adds_up;
 use std::sync::Wait;
 use tuple_core::{Tuple, bucket_of};
 
@@ -39,7 +41,7 @@ pub enum TranslateOutcome {
 
 /// Whether the flow's own number is among those of the choice.
 fn has_own(choice: &Choice, own: u16) -> bool
-    ensures { result ≡ (is_between choice.now.low choice.now.high own || choice.now.keeps_own) }
+    ensures { result ≡ (is_in_range choice.now.low choice.now.high own || choice.now.keeps_own) }
 {
     choice.keeps_own || (choice.low <= own && own <= choice.high)
 }
@@ -86,6 +88,7 @@ fn search_choice<R: Wait, D: Desk>(
     ensures same { SamePlaces (D.sight desk.old) (D.sight desk.new) }
     ensures knows { IsKnown (D.sight desk.new) }
 {
+    seeing_adds_up();
     states_stay();
     let middle = first_tried(choice, t) as u32;
     let upper = Stretch {
@@ -95,7 +98,7 @@ fn search_choice<R: Wait, D: Desk>(
         from,
         since: from,
     };
-    match search_between(rt, desk, rule, t, upper) {
+    match search_stretch(rt, desk, rule, t, upper) {
         Search::Found { reply, at } => Search::Found { reply, at },
         Search::AllTaken { to } => {
             let lower = Stretch {
@@ -104,7 +107,7 @@ fn search_choice<R: Wait, D: Desk>(
                 since: to,
                 ..upper
             };
-            search_between(rt, desk, rule, t, lower)
+            search_stretch(rt, desk, rule, t, lower)
         }
     }
 }
@@ -121,6 +124,7 @@ fn translate_by<R: Wait, D: Desk>(rt: &R, desk: &mut D, rule: &Rule, t: &Tuple) 
     ensures same { SamePlaces (D.sight desk.old) (D.sight desk.new) }
     ensures knows { IsKnown (D.sight desk.new) }
 {
+    seeing_adds_up();
     states_stay();
     let own = own_number(rule, t);
     let choice = choice_for(rule, t);
@@ -153,13 +157,14 @@ pub fn translate<R: Wait, D: Desk>(
     requires lawful { AllByRecursion IsLawfulRule rules.now.items }
     requires valid { is_valid t.now ≡ true }
     requires room { length (D.sight desk.old).held + length (D.sight desk.old).owed ≤ 3 }
-    ensures says { TranslateSays (find (matches t.now) rules.now.items) t.now
+    ensures says { TranslateSays (rule_for rules.now.items t.now) t.now
         (D.sight desk.old) (D.sight desk.new) result }
     ensures protocol { IsValidFor t.now result }
     ensures saw { Saw (D.sight desk.old) (D.sight desk.new) }
     ensures same { SamePlaces (D.sight desk.old) (D.sight desk.new) }
     ensures knows { IsKnown (D.sight desk.new) }
 {
+    seeing_adds_up();
     match rule_for(rules.as_slice(), t) {
         Some(rule) => translate_by(rt, desk, &rule, t),
         None => {

@@ -1,5 +1,5 @@
 -- Attempts that follow one another, over what the desk knew.
-use Rattle.std.proofs.Common.{◌≡◌, ℕ, ◌+◌, ◌≤◌, List, [], ◌∷◌, ◌++◌, length, None, refl, sym, ap, subst, ◌∙◌, arith, append_assoc, length-append}
+use Rattle.std.proofs.Common.{◌≡◌, ℕ, ◌≤◌, List, [], ◌∷◌, ◌++◌, length, None, refl, sym, ap, subst, ◌∙◌, arith, append_assoc, length-append}
 use Rattle.std.specs.List.{AllByRecursion}
 use Rattle.std.proofs.lemmas.List.{append-nil}
 use Rattle.tuple_core.specs.declared.Tuple.{Tuple}
@@ -7,20 +7,22 @@ use Rattle.history_book.specs.declared.event.Event.{Event}
 use Rattle.history_book.specs.declared.event.Note.{Note}
 use Rattle.history_book.specs.declared.sizes.Sizes.{Sizes}
 use Rattle.history_book.specs.declared.verdict.Class.{Class}
-use Rattle.history_book.specs.Desk.{Saw}
+use Rattle.history_book.specs.WentOn.{Saw}
 use Rattle.history_book.specs.Laws.{EventsStay, StatesStay}
-use Rattle.history_book.specs.Notes.{mark_past}
+use Rattle.history_book.specs.Mark.{mark_past}
 use Rattle.history_book.specs.Point.{At, StartsWith}
 use Rattle.history_book.specs.Sight.{Sight}
+use Rattle.history_book.specs.SightLaws.{GoingOnAddsUp, SeeingAddsUp}
 use Rattle.history_book.specs.State.{live_under}
 use Rattle.packet_path.specs.declared.attempt.Attempt.{Attempt}
 use Rattle.packet_path.specs.declared.attempt.Attempt.TheVariants.{Again, Done, Killed}
-use Rattle.packet_path.specs.declared.packet.FlowPacket.{FlowPacket}
+use Rattle.packet_path.specs.Packet.{FlowPacket}
 use Rattle.packet_path.specs.Absent.{WasAbsent}
 use Rattle.packet_path.specs.Internal.Attempt.{Answers, AttemptSays, KilledOne}
 use Rattle.packet_path.specs.Packet.{Given, IsFlow}
 use Rattle.packet_path.specs.declared.setup.Setup.{Setup}
-use Rattle.packet_path.specs.Verdict.{AnswersFlow, FitsFrame, KillsAll, points_of}
+use Rattle.history_book.specs.Mark.{points_of}
+use Rattle.packet_path.specs.Verdict.{AnswersFlow, FitsFrame, KillsAll}
 use Rattle.packet_path.proofs.Growth.{at_grows, frame_grows, kills_all_grows, kills_grows}
 use Rattle.packet_path.proofs.Marks.{happened_lower}
 
@@ -38,47 +40,38 @@ pub points_more : (m n : ℕ) (ps : List ℕ) → m ≤ n → AllByRecursion (λ
 points_more m n [] le h = tt
 points_more m n (p ∷ ps) le (h, hs) = (omega (arith, h), points_more m n ps le hs)
 
-module _ (states : StatesStay) (events : EventsStay) where
+module _ (states : StatesStay) (events : EventsStay) (going : GoingOnAddsUp) (twice : SeeingAddsUp) where
   -- an answer of a desk that had seen more is one of a desk that had seen less
   pub answers_after : (setup : Setup) (a b c : Sight) (packet : FlowPacket) (n from : ℕ) (k : Class) → Saw a b → Answers setup b c packet n from k
       → Answers setup a c packet n from k
   answers_after setup a b c packet n from k saw ans = record {
-    front = starts_trans c.front b.front a.front ans.front saw.front;
-    sizes = ans.sizes ∙ saw.sizes;
     rest = ans.rest;
-    own = ans.own ∙ ap (λ (l : List Note). l ++ ans.rest) saw.own;
+    went = going.after a b c ans.rest saw ans.went;
     few = ans.few;
-    spare = omega (arith, ans.spare, saw.spare);
     points = ans.points;
     fits = λ given mark kills flow count killed le.
-        subst (λ (z : Sizes). FitsFrame setup z c.front mark given (kills ++ ans.rest) k) saw.sizes
-        (ans.fits given mark kills flow count (kills_all_grows events states b.front a.front saw.front mark packet kills killed) le);
+        subst (λ (z : Sizes). FitsFrame setup z c.front mark given (kills ++ ans.rest) k) saw.went.pass.sizes
+        (ans.fits given mark kills flow count (kills_all_grows events states b.front a.front saw.went.front mark packet kills killed) le);
   }
 
   -- an answer stays when the desk sees more
   pub answers_before : (setup : Setup) (a b c : Sight) (packet : FlowPacket) (n from : ℕ) (k : Class) → Answers setup a b packet n from k → Saw b c
       → Answers setup a c packet n from k
   answers_before setup a b c packet n from k ans saw = record {
-    front = starts_trans c.front b.front a.front saw.front ans.front;
-    sizes = saw.sizes ∙ ans.sizes;
     rest = ans.rest;
-    own = saw.own ∙ ans.own;
+    went = going.before a b c ans.rest ans.went saw;
     few = ans.few;
-    spare = omega (arith, ans.spare, saw.spare);
-    points = points_more (length b.front) (length c.front) (points_of k) (starts_longer c.front b.front saw.front) ans.points;
+    points = points_more (length b.front) (length c.front) (points_of k) (starts_longer c.front b.front saw.went.front) ans.points;
     fits = λ given mark kills flow count killed le.
-        frame_grows events states c.front b.front saw.front setup a.sizes mark given (kills ++ ans.rest) k
+        frame_grows events states c.front b.front saw.went.front setup a.sizes mark given (kills ++ ans.rest) k
         (ans.fits given mark kills flow count killed le);
   }
 
   pub killed_after : (a b c : Sight) (packet : FlowPacket) (n from : ℕ) → Saw a b → KilledOne b c packet n from → KilledOne a c packet n from
   killed_after a b c packet n from saw one = record {
     few = one.few;
-    front = starts_trans c.front b.front a.front one.front saw.front;
-    sizes = one.sizes ∙ saw.sizes;
     note = one.note;
-    own = one.own ∙ ap (λ (l : List Note). l ++ one.note ∷ []) saw.own;
-    spare = sym saw.spare ∙ one.spare;
+    went = going.after a b c (one.note ∷ []) saw one.went;
     high = one.high;
     kill = one.kill;
   }
@@ -86,45 +79,31 @@ module _ (states : StatesStay) (events : EventsStay) where
   pub killed_before : (a b c : Sight) (packet : FlowPacket) (n from : ℕ) → KilledOne a b packet n from → Saw b c → KilledOne a c packet n from
   killed_before a b c packet n from one saw = record {
     few = one.few;
-    front = starts_trans c.front b.front a.front saw.front one.front;
-    sizes = saw.sizes ∙ one.sizes;
     note = one.note;
-    own = saw.own ∙ one.own;
-    spare = one.spare ∙ ap (λ n. n + 1) (sym saw.spare);
-    high = omega (arith, one.high, starts_longer c.front b.front saw.front);
-    kill = kills_grows events states c.front b.front saw.front from packet one.note one.kill;
-  }
-
-  pub saw_trans : (a b c : Sight) → Saw a b → Saw b c → Saw a c
-  saw_trans a b c s t = record {
-    front = starts_trans c.front b.front a.front t.front s.front;
-    own = t.own ∙ s.own;
-    spare = t.spare ∙ s.spare;
-    sizes = t.sizes ∙ s.sizes;
+    went = going.before a b c (one.note ∷ []) one.went saw;
+    high = omega (arith, one.high, starts_longer c.front b.front saw.went.front);
+    kill = kills_grows events states c.front b.front saw.went.front from packet one.note one.kill;
   }
 
   pub attempt_after : (setup : Setup) (a b c : Sight) (packet : FlowPacket) (n from : ℕ) (r : Attempt) → Saw a b → AttemptSays setup b c packet n from r
       → AttemptSays setup a c packet n from r
   attempt_after setup a b c packet n from (Done k) saw h = answers_after setup a b c packet n from k saw h
   attempt_after setup a b c packet n from Killed saw h = killed_after a b c packet n from saw h
-  attempt_after setup a b c packet n from Again saw h = saw_trans a b c saw h
+  attempt_after setup a b c packet n from Again saw h = twice a b c saw h
 
   pub attempt_before : (setup : Setup) (a b c : Sight) (packet : FlowPacket) (n from : ℕ) (r : Attempt) → AttemptSays setup a b packet n from r → Saw b c
       → AttemptSays setup a c packet n from r
   attempt_before setup a b c packet n from (Done k) h saw = answers_before setup a b c packet n from k h saw
   attempt_before setup a b c packet n from Killed h saw = killed_before a b c packet n from h saw
-  attempt_before setup a b c packet n from Again h saw = saw_trans a b c h saw
+  attempt_before setup a b c packet n from Again h saw = twice a b c h saw
 
   -- an attempt that answers from a point on answers from any earlier one on
   pub answers_from : (setup : Setup) (a b : Sight) (packet : FlowPacket) (n f from : ℕ) (k : Class) → f ≤ from → Answers setup a b packet n from k
       → Answers setup a b packet n f k
   answers_from setup a b packet n f from k le ans = record {
-    front = ans.front;
-    sizes = ans.sizes;
     rest = ans.rest;
-    own = ans.own;
+    went = ans.went;
     few = ans.few;
-    spare = ans.spare;
     points = ans.points;
     fits = λ given mark kills flow count killed h. ans.fits given mark kills flow count killed (omega (arith, h));
   }
@@ -134,11 +113,8 @@ module _ (states : StatesStay) (events : EventsStay) where
   attempt_from setup a b packet n f from (Done k) le h = answers_from setup a b packet n f from k le h
   attempt_from setup a b packet n f from Killed le h = record {
     few = h.few;
-    front = h.front;
-    sizes = h.sizes;
     note = h.note;
-    own = h.own;
-    spare = h.spare;
+    went = h.went;
     high = h.high;
     kill = record {
       happened = happened_lower b.front f from h.note le h.kill.happened;
@@ -149,10 +125,11 @@ module _ (states : StatesStay) (events : EventsStay) where
   }
   attempt_from setup a b packet n f from Again le h = h
 
+module _ (states : StatesStay) (events : EventsStay) where
   -- what is said of a packet after its kills
   pub flow_answer : (longer log : List Event) (starts : StartsWith longer log) (mark : ℕ) (given : Given) (packet : FlowPacket)
-      (kills rest : List Note) (P : FlowPacket → ℕ → ℕ → List Note → Type 0) → IsFlow given packet → length kills ≤ 4
-      → KillsAll log mark packet kills → P packet (length kills) (mark_past mark kills) rest
+      (kills rest : List Note) (P : FlowPacket → ℕ → List Note → Type 0) → IsFlow given packet → length kills ≤ 4
+      → KillsAll log mark packet kills → P packet (mark_past mark kills) rest
       → AnswersFlow longer mark given (kills ++ rest) P
   flow_answer longer log starts mark given packet kills rest P flow few killed fits = record {
     packet = packet;
@@ -173,12 +150,9 @@ module _ (states : StatesStay) (events : EventsStay) where
       → FitsFrame setup old.sizes new.front mark given (kills ++ []) k)
       → Answers setup old new packet n from k
   silent_answer setup old new packet n from k saw points fits = record {
-    front = saw.front;
-    sizes = saw.sizes;
     rest = [];
-    own = saw.own ∙ sym (append-nil old.own);
+    went = saw.went;
     few = omega arith;
-    spare = omega (arith, saw.spare);
     points = points;
     fits = fits;
   }
@@ -202,6 +176,3 @@ module _ (states : StatesStay) (events : EventsStay) where
     before = high;
     absent = at_grows states longer log absent_at (λ s. live_under t s ≡ None) starts absent;
   }
-
-  pub saw_refl : (s : Sight) → Saw s s
-  saw_refl s = record { front = starts_refl s.front; own = refl; spare = refl; sizes = refl }

@@ -1,8 +1,8 @@
 -- What is said of a packet that would begin a flow.
-use Rattle.std.proofs.Common.{◌≡◌, ℕ, ◌+◌, ◌≤◌, Bool, true, false, cond, List, [], ◌∷◌, ◌++◌, length, Option, Some, None, refl, sym, ap, subst, ◌∙◌, ◌⊎◌, inl, inr, ⊎_elim, arith, append_assoc, length-append}
-use Rattle.std.specs.List.{AllByRecursion}
-use Rattle.std.specs.Prelude.{◌&&◌, IsSome, option_to_list, unwrap_or}
-use Rattle.tuple_core.specs.Inverse.{inverse}
+use Rattle.std.proofs.Common.{◌≡◌, ℕ, ◌+◌, ◌<◌, ◌≤◌, Bool, true, false, cond, List, [], ◌∷◌, ◌++◌, length, Option, Some, None, refl, sym, ap, subst, ◌∙◌, ◌⊎◌, inl, inr, ⊎_elim, arith, length-append}
+use Rattle.std.specs.List.{All, AllByRecursion}
+use Rattle.std.proofs.lemmas.List.Elements.{recursion_from_All}
+use Rattle.std.specs.Prelude.{◌&&◌, IsSome, option_to_list}
 use Rattle.std.proofs.lemmas.Bool.{and_parts, eqb-true, true≢false}
 use Rattle.std.proofs.Math.Bool.{and_assoc}
 use Rattle.tuple_core.specs.declared.Direction.{Direction}
@@ -11,6 +11,7 @@ use Rattle.tuple_core.specs.declared.Tuple.{Tuple}
 use Rattle.proto_rules.specs.declared.Part.{Part}
 use Rattle.proto_rules.specs.Start.{start_of}
 use Rattle.history_book.specs.declared.event.Event.TheVariants.{Confirm}
+use Rattle.history_book.specs.declared.desk.Hold.{Hold}
 use Rattle.history_book.specs.declared.event.Note.{Note}
 use Rattle.history_book.specs.declared.outcome.ClaimOutcome.{ClaimOutcome}
 use Rattle.history_book.specs.declared.record.Flow.{Flow}
@@ -24,31 +25,35 @@ use Rattle.history_book.specs.declared.event.Event.{Event}
 use Rattle.history_book.specs.declared.sizes.Sizes.{Sizes}
 use Rattle.nat_setup.specs.declared.rule.Rule.{Rule}
 use Rattle.nat_setup.specs.declared.translate.TranslateOutcome.TheVariants as translate
-use Rattle.nat_setup.specs.Translation.{IsBetween, TranslateSays}
+use Rattle.nat_setup.specs.Rule.{rule_for}
+use Rattle.nat_setup.specs.Translation.{TranslateSays, WasTranslated}
 use Rattle.packet_path.specs.declared.begin.NewReply.{NewReply}
 use Rattle.packet_path.specs.declared.setup.Setup.{Setup}
-use Rattle.packet_path.specs.Begun.{rule_for, WasTranslated, WouldBegin}
+use Rattle.packet_path.specs.Begun.{WouldBegin}
 use Rattle.packet_path.specs.Made.{is_helped}
 use Rattle.packet_path.specs.Packet.{Given}
-use Rattle.packet_path.specs.Verdict.{AnswersFlow, FitsFrame, points_of, translated_points}
-use Rattle.history_book.specs.Desk.{Confirms, FindsFull, IsWinner, Looked, MadeEvent, Saw}
+use Rattle.history_book.specs.Mark.{points_of, translated_points}
+use Rattle.packet_path.specs.Verdict.{AnswersFlow, FitsFrame}
+use Rattle.history_book.specs.Desk.{Confirms, FindsFull, IsClash, IsWinner, SamePlaces}
+use Rattle.history_book.specs.WentOn.{Looked, MadeEvent, Saw, WentOn}
 use Rattle.history_book.specs.Entry.{record_for}
 use Rattle.history_book.specs.History.{after, is_legal}
-use Rattle.history_book.specs.Laws.{EventsStay, LateEntriesAreNew, StatesStay}
+use Rattle.history_book.specs.Laws.{EventsStay, LateEntriesAreNew, StatesStay, UnusedPlacesAreRoom}
 use Rattle.history_book.specs.Legality.{same_proto}
-use Rattle.history_book.specs.Notes.{mark_past}
-use Rattle.history_book.specs.Places.{HoldsNothing}
+use Rattle.history_book.specs.Mark.{mark_past}
+use Rattle.history_book.specs.Places.{HoldsNothing, HoldsOne}
 use Rattle.history_book.specs.Point.{At, StartsWith}
 use Rattle.history_book.specs.Record.{has_original, has_reply, has_tuple}
-use Rattle.history_book.specs.Sight.{IsKnown, Sight}
+use Rattle.history_book.specs.Sight.{IsHoldOf, IsKnown, Sight}
+use Rattle.history_book.specs.SightLaws.{GoingOnAddsUp, RestingIsSeeing}
 use Rattle.history_book.specs.State.{Found, State, first_found, live_under, winner}
-use Rattle.history_book.specs.StateLaws.{AbsentTuplesAreNobodys}
-use Rattle.packet_path.specs.declared.packet.FlowPacket.{FlowPacket}
+use Rattle.history_book.specs.StateLaws.{AbsentTuplesAreNobodys, FreeIsAbsent}
+use Rattle.packet_path.specs.Packet.{FlowPacket}
 use Rattle.packet_path.specs.Internal.Attempt.{Answers, IsFoundFor, claimed_master, unclaimed_at}
 use Rattle.packet_path.specs.Winner.{IsNewWinner, MeetsWinner}
 use Rattle.packet_path.proofs.Claims.{LookedFor}
 use Rattle.packet_path.proofs.Growth.{at_grows, claims_grows, translated_grows}
-use Rattle.packet_path.proofs.Attempts.{absent_upto, flow_answer, points_more, saw_refl, silent, silent_answer, starts_longer, starts_refl, starts_trans}
+use Rattle.packet_path.proofs.Attempts.{absent_upto, flow_answer, points_more, silent, silent_answer, starts_longer, starts_refl}
 
 -- the flow that a packet begins
 abbrev pub flow_of : FlowPacket → Part → Tuple → Bool → Option ℕ → Flow
@@ -76,6 +81,25 @@ found_later log (Some rule) t from upto later (Chosen chosen taken_at) reply le 
   },
 )
 
+-- and from each earlier one on
+found_earlier : (log : List Event) (rule : Option Rule) (t : Tuple) (lower from upto : ℕ) (translated : Translated) (reply : Tuple)
+    → lower ≤ from → WasTranslated log rule t from upto translated reply → WasTranslated log rule t lower upto translated reply
+found_earlier log None t lower from upto Plain reply le h = h
+found_earlier log None t lower from upto (Chosen chosen taken_at) reply le h = h
+found_earlier log (Some rule) t lower from upto Plain reply le h = h
+found_earlier log (Some rule) t lower from upto (Chosen chosen None) reply le h = (
+  h.0,
+  record {
+    lawful = h.1.lawful;
+    tried = omega arith;
+    free = record { point = h.1.free.point; low = omega (arith, h.1.free.low, le); high = h.1.free.high; fact = h.1.free.fact };
+  },
+)
+found_earlier log (Some rule) t lower from upto (Chosen chosen (Some p)) reply le h = (
+  h.0,
+  record { lawful = h.1.lawful; tried = omega (arith, h.1.tried, le); free = h.1.free },
+)
+
 -- the point that a translation names is no later than the last
 found_points : (log : List Event) (rule : Option Rule) (t : Tuple) (from upto : ℕ) (translated : Translated) (reply : Tuple)
     → WasTranslated log rule t from upto translated reply → AllByRecursion (λ p. p ≤ upto) (translated_points translated)
@@ -85,37 +109,58 @@ found_points log (Some rule) t from upto Plain reply h = absurd h
 found_points log (Some rule) t from upto (Chosen chosen None) reply h = tt
 found_points log (Some rule) t from upto (Chosen chosen (Some p)) reply h = (omega (arith, h.1.free.low, h.1.free.high), tt)
 
+-- a place that is held for no entry is one of the pool
+place_below : (s : Sight) (place : ℕ) → IsKnown s → HoldsOne (record { place = place; id = None }) s → place < s.sizes.entries
+place_below s place known one =
+    let hold : Hold = record { place = place; id = None } in
+    (recursion_from_All (IsHoldOf s) (hold ∷ []) (subst (All (IsHoldOf s)) one.held known.held)).0.0
+
+-- where a flow met a winner, a place was had for it, so not all places are those of live entries
+pub had_place : UnusedPlacesAreRoom → (old mid new : Sight) (flow : Flow) (place id at : ℕ) (d : Direction) (both : Bool) → IsKnown new
+    → HoldsOne (record { place = place; id = None }) old → SamePlaces old mid → SamePlaces mid new
+    → Looked mid new at (IsClash place flow id d both) → At new.front at (λ s. length s.records < new.sizes.entries)
+had_place room old mid new flow place id at d both known one same then looked = record {
+  within = looked.fact.within;
+  fact = room new.sizes new.front at place known.legal
+      (place_below new place known (record { held = then.held ∙ same.held ∙ one.held; owed = then.owed ∙ same.owed ∙ one.owed }))
+      looked.fact.fact.unused;
+}
+
+-- of a clash the winner alone
+pub winner_looked : (mid new : Sight) (flow : Flow) (place id at : ℕ) (d : Direction) (both : Bool)
+    → Looked mid new at (IsClash place flow id d both) → Looked mid new at (IsWinner flow id d both)
+winner_looked mid new flow place id at d both looked = record {
+  saw = looked.saw;
+  low = looked.low;
+  fact = record { within = looked.fact.within; fact = looked.fact.fact.winner };
+}
+
 module _ (states : StatesStay) (events : EventsStay) where
-  pub no_entry : (setup : Setup) (s : Sight) (packet : FlowPacket) (n at : ℕ) → n ≤ 4
+  pub no_entry : RestingIsSeeing → (setup : Setup) (s : Sight) (packet : FlowPacket) (n at : ℕ) → n ≤ 4
       → At s.front at (λ x. live_under packet.tuple x ≡ None)
       → start_of packet.segment packet.moment ≡ None → Answers setup s s packet n at (class.NoEntry at)
-  no_entry setup s packet n at few absent none =
-      silent states events setup s s packet n at at (class.NoEntry at) (saw_refl states events s) absent.within refl
+  no_entry resting setup s packet n at few absent none =
+      silent states events setup s s packet n at at (class.NoEntry at) (resting s) absent.within refl
       (λ given mark kills flow count killed le.
       flow_answer states events s.front s.front (starts_refl s.front) mark given packet kills [] _ flow (omega (arith, count)) killed
       (record { own = refl; from = le; absent = absent; starts = none }))
 
   -- no number of the rule was free
-  pub no_port : (setup : Setup) (rule : Option Rule) (old new : Sight) (packet : FlowPacket) (n absent_at from to : ℕ) → n ≤ 4
+  pub no_port : (setup : Setup) (old new : Sight) (packet : FlowPacket) (n absent_at from to : ℕ) → n ≤ 4
       → At old.front absent_at (λ x. live_under packet.tuple x ≡ None) → IsSome (start_of packet.segment packet.moment)
-      → rule_for setup packet.tuple ≡ rule → Saw old new → TranslateSays rule packet.tuple old new (translate.NoPort from to)
+      → Saw old new → TranslateSays (rule_for setup.rules.items packet.tuple) packet.tuple old new (translate.NoPort from to)
       → Answers setup old new packet n absent_at (class.NoPort from to)
-  no_port setup None old new packet n absent_at from to few absent starts first saw finds = absurd finds
-  no_port setup (Some rule) old new packet n absent_at from to few absent starts first saw finds =
+  no_port setup old new packet n absent_at from to few absent starts saw (low, had) =
       silent_answer states events setup old new packet n absent_at (class.NoPort from to) saw
-      (omega (arith, finds.ordered, finds.high), (finds.high, tt))
+      (omega (arith, had.ordered, had.within), (had.within, tt))
       (λ given mark kills flow count killed le.
-      flow_answer states events new.front old.front saw.front mark given packet kills [] _ flow (omega (arith, count)) killed
+      flow_answer states events new.front old.front saw.went.front mark given packet kills [] _ flow (omega (arith, count)) killed
       (record {
         own = refl;
         starts = starts;
-        absent = absent_upto states events new.front old.front (mark_past mark kills) absent_at from packet.tuple saw.front le
-            (omega (arith, absent.within, finds.low)) absent;
-        rule = rule;
-        first = first;
-        ordered = finds.ordered;
-        within = finds.high;
-        taken = finds.taken;
+        absent = absent_upto states events new.front old.front (mark_past mark kills) absent_at from packet.tuple saw.went.front le
+            (omega (arith, absent.within, low)) absent;
+        taken = had;
       }))
 
   -- from each mark up to the point at which nothing was live under its tuple, the packet would begin a flow
@@ -127,8 +172,8 @@ module _ (states : StatesStay) (events : EventsStay) where
   would_begin setup longer log packet k absent_at upto found starts low high begins is = record {
     starts = begins;
     absent = absent_upto states events longer log k absent_at upto packet.tuple starts low (omega (arith, is.absent.within, high)) is.absent;
-    found = found_later longer (rule_for setup packet.tuple) packet.tuple absent_at (length log) upto found.translated found.reply high
-        (translated_grows events states longer log starts (rule_for setup packet.tuple) packet.tuple absent_at (length log) found.translated
+    found = found_later longer (rule_for setup.rules.items packet.tuple) packet.tuple absent_at (length log) upto found.translated found.reply high
+        (translated_grows events states longer log starts (rule_for setup.rules.items packet.tuple) packet.tuple absent_at (length log) found.translated
         found.reply is.translation);
   }
 
@@ -137,61 +182,22 @@ module _ (states : StatesStay) (events : EventsStay) where
       → StartsWith longer log → IsFoundFor setup packet log absent_at found → IsFoundFor setup packet longer absent_at found
   still_found setup packet log longer absent_at found starts is = record {
     absent = at_grows states longer log absent_at (λ x. live_under packet.tuple x ≡ None) starts is.absent;
-    translation = found_later longer (rule_for setup packet.tuple) packet.tuple absent_at (length log) (length longer) found.translated
+    translation = found_later longer (rule_for setup.rules.items packet.tuple) packet.tuple absent_at (length log) (length longer) found.translated
         found.reply (starts_longer longer log starts)
-        (translated_grows events states longer log starts (rule_for setup packet.tuple) packet.tuple absent_at (length log)
+        (translated_grows events states longer log starts (rule_for setup.rules.items packet.tuple) packet.tuple absent_at (length log)
         found.translated found.reply is.translation);
   }
 
-  -- no rule is seen the flow: its reply tuple is the inverse
-  pub plain_found : (setup : Setup) (rule : Option Rule) (packet : FlowPacket) (old new : Sight) (absent_at : ℕ) (reply : Tuple)
-      → rule_for setup packet.tuple ≡ rule → reply ≡ inverse packet.tuple
+  -- the reply tuple that was found for the flow after nothing was live under its tuple
+  pub reply_found : (setup : Setup) (packet : FlowPacket) (old new : Sight) (absent_at : ℕ) (reply : Tuple) (translated : Translated)
       → At old.front absent_at (λ x. live_under packet.tuple x ≡ None) → Saw old new
-      → TranslateSays rule packet.tuple old new translate.Plain
-      → IsFoundFor setup packet new.front absent_at (record { reply = reply; translated = Plain })
-  plain_found setup None packet old new absent_at reply first same absent saw says =
-      let grown = at_grows states new.front old.front absent_at (λ x. live_under packet.tuple x ≡ None) saw.front absent in
-      record {
-        absent = grown;
-        translation = subst (λ (o : Option Rule). WasTranslated new.front o packet.tuple absent_at (length new.front) Plain reply) (sym first)
-            same;
-      }
-  plain_found setup (Some rule) packet old new absent_at reply first same absent saw says = absurd says
-
-  -- the first rule for the flow chose its reply tuple
-  pub chosen_found : (setup : Setup) (rule : Option Rule) (packet : FlowPacket) (old new : Sight) (absent_at : ℕ) (reply : Tuple)
-      (taken_at : Option ℕ) → rule_for setup packet.tuple ≡ rule
-      → At old.front absent_at (λ x. live_under packet.tuple x ≡ None) → Saw old new
-      → TranslateSays rule packet.tuple old new (translate.Chosen reply taken_at)
-      → IsFoundFor setup packet new.front absent_at (record { reply = reply; translated = Chosen reply taken_at })
-  chosen_found setup None packet old new absent_at reply taken_at first absent saw says = absurd says
-  chosen_found setup (Some rule) packet old new absent_at reply taken_at first absent saw says =
-      record {
-        absent = at_grows states new.front old.front absent_at (λ x. live_under packet.tuple x ≡ None) saw.front absent;
-        translation = subst
-            (λ (o : Option Rule). WasTranslated new.front o packet.tuple absent_at (length new.front) (Chosen reply taken_at) reply)
-            (sym first) (
-              refl,
-              record {
-                lawful = says.lawful;
-                tried = tried taken_at says.tried;
-                free = record {
-                  point = says.free.point;
-                  low = not_before taken_at says.free.low;
-                  high = says.free.high;
-                  fact = says.free.fact;
-                };
-              },
-            );
-      }
-    where
-      tried : (p : Option ℕ) → IsBetween (length old.front) (length new.front) p → absent_at ≤ unwrap_or p absent_at
-      tried None h = omega arith
-      tried (Some p) h = omega (arith, absent.within, h.0)
-
-      not_before : (p : Option ℕ) → unwrap_or p (length old.front) ≤ says.free.point → unwrap_or p absent_at ≤ says.free.point
-      not_before None h = omega (arith, absent.within, h)
-      not_before (Some p) h = h
+      → WasTranslated new.front (rule_for setup.rules.items packet.tuple) packet.tuple (length old.front) (length new.front) translated reply
+      → IsFoundFor setup packet new.front absent_at (record { reply = reply; translated = translated })
+  reply_found setup packet old new absent_at reply translated absent saw was = record {
+    absent = at_grows states new.front old.front absent_at (λ x. live_under packet.tuple x ≡ None) saw.went.front absent;
+    translation = found_earlier new.front (rule_for setup.rules.items packet.tuple) packet.tuple absent_at (length old.front) (length new.front)
+        translated reply absent.within was;
+  }
 
   pub full : (setup : Setup) (old new : Sight) (packet : FlowPacket) (found : NewReply) (n absent_at at : ℕ) → n ≤ 4
       → HoldsNothing old → IsFoundFor setup packet old.front absent_at found → IsSome (start_of packet.segment packet.moment)
@@ -199,12 +205,12 @@ module _ (states : StatesStay) (events : EventsStay) where
   full setup old new packet found n absent_at at few empty is starts finds =
       silent states events setup old new packet n absent_at at (class.Full at) finds.looked.saw finds.looked.fact.within refl
       (λ given mark kills flow count killed le.
-      flow_answer states events new.front old.front finds.looked.saw.front mark given packet kills [] _ flow (omega (arith, count)) killed
+      flow_answer states events new.front old.front finds.looked.saw.went.front mark given packet kills [] _ flow (omega (arith, count)) killed
       (record {
         own = refl;
         translated = found.translated;
         reply = found.reply;
-        begun = would_begin setup new.front old.front packet (mark_past mark kills) absent_at at found finds.looked.saw.front le
+        begun = would_begin setup new.front old.front packet (mark_past mark kills) absent_at at found finds.looked.saw.went.front le
             finds.looked.low starts is;
         full = record {
           within = finds.looked.fact.within;
@@ -213,33 +219,31 @@ module _ (states : StatesStay) (events : EventsStay) where
       }))
 
   -- a packet confirmed the entry of its flow, after it was looked for among the expectations
-  pub made_answer : (setup : Setup) (old mid new : Sight) (packet : FlowPacket) (part : Part) (found : NewReply) (n absent_at place id : ℕ)
+  pub made_answer : GoingOnAddsUp → (setup : Setup) (old mid new : Sight) (packet : FlowPacket) (part : Part) (found : NewReply) (n absent_at place id : ℕ)
       (answer : ClaimOutcome) → n ≤ 4 → start_of packet.segment packet.moment ≡ Some part
       → IsFoundFor setup packet old.front absent_at found → LookedFor packet old mid answer
       → Confirms place (flow_of packet part found.reply (is_helped setup found.reply) (claimed_master answer)) mid new id
       → Answers setup old new packet n absent_at (class.Made id (id + 1) found.translated (unclaimed_at answer))
-  made_answer setup old mid new packet part found n absent_at place id answer few starts is looked confirms =
+  made_answer going setup old mid new packet part found n absent_at place id answer few starts is looked confirms =
       let subject : Record =
       record_for (flow_of packet part found.reply (is_helped setup found.reply) (claimed_master answer)) id place in
       let note : Note = record { number = id; event = Confirm subject } in
       let made : MadeEvent mid new id (Confirm subject) = confirms.made in
-      let front : StartsWith new.front old.front = starts_trans new.front mid.front old.front made.front looked.front in
-      let longer : length old.front ≤ length mid.front = starts_longer mid.front old.front looked.front in
+      let went : WentOn old new (looked.claims ++ note ∷ []) = going.twice old mid new looked.claims (note ∷ []) looked.went made.went in
+      let front : StartsWith new.front old.front = went.front in
+      let longer : length old.front ≤ length mid.front = starts_longer mid.front old.front looked.went.front in
       record {
-        front = front;
-        sizes = made.sizes ∙ looked.sizes;
         rest = looked.claims ++ note ∷ [];
-        own = made.own ∙ ap (λ (l : List Note). l ++ note ∷ []) looked.own ∙ append_assoc old.own looked.claims (note ∷ []);
+        went = went;
         few = omega (arith, length-append looked.claims (note ∷ []), looked.few);
-        spare = omega (arith, length-append looked.claims (note ∷ []), made.spare, looked.spare);
         points = (
           omega (arith, made.high),
           both_points (length new.front) (unclaimed_at answer) (translated_points found.translated)
               (points_more (length mid.front) (length new.front) (option_to_list (unclaimed_at answer))
-              (starts_longer new.front mid.front made.front) looked.points)
+              (starts_longer new.front mid.front made.went.front) looked.points)
               (points_more (length old.front) (length new.front) (translated_points found.translated)
               (omega (arith, longer, made.low, made.high))
-              (found_points old.front (rule_for setup packet.tuple) packet.tuple absent_at (length old.front) found.translated found.reply
+              (found_points old.front (rule_for setup.rules.items packet.tuple) packet.tuple absent_at (length old.front) found.translated found.reply
               is.translation)),
         );
         fits = λ given mark kills flows count killed le.
@@ -254,7 +258,7 @@ module _ (states : StatesStay) (events : EventsStay) where
               found_at = (length old.front);
               begun = would_begin setup new.front old.front packet (mark_past mark kills) absent_at (length old.front) found front le (omega arith)
                   (subst (λ (o : Option Part). IsSome o) (sym starts) refl) is;
-              claimed = claims_grows events states new.front mid.front made.front packet looked.claims (unclaimed_at answer)
+              claimed = claims_grows events states new.front mid.front made.went.front packet looked.claims (unclaimed_at answer)
                   (claimed_master answer) (length old.front) id (looked.expected (length old.front) id (omega arith) made.low);
               point = refl;
             });
@@ -274,20 +278,20 @@ module _ (states : StatesStay) (events : EventsStay) where
   by_either t u s None found is wins = inr wins
 
   -- the winner is newer than the point at which the packet's tuple was absent, where the rules of a verdict ask for it
-  new_winner : AbsentTuplesAreNobodys → LateEntriesAreNew → (sizes : Sizes) (log : List Event) (rule : Option Rule) (translated : Translated)
+  new_winner : AbsentTuplesAreNobodys → FreeIsAbsent → LateEntriesAreNew → (sizes : Sizes) (log : List Event) (rule : Option Rule) (translated : Translated)
       (t u : Tuple) (absent_at upto at : ℕ) (found : Found) → is_legal sizes log ≡ true → absent_at ≤ at → upto ≤ at
       → live_under t (after log absent_at) ≡ None → winner t u (after log at) ≡ Some found
       → WasTranslated log rule t absent_at upto translated u → IsNewWinner absent_at translated t found.subject
-  new_winner nobodys late sizes log rule Plain t u absent_at upto at found legal order before absent wins is = λ has.
+  new_winner nobodys is_free late sizes log rule Plain t u absent_at upto at found legal order before absent wins is = λ has.
       late sizes log absent_at at t found legal order absent
       (by_own t u (after log at) (live_under t (after log at)) found refl wins nobodys has)
-  new_winner nobodys late sizes log None (Chosen chosen taken_at) t u absent_at upto at found legal order before absent wins is = absurd is
-  new_winner nobodys late sizes log (Some rule) (Chosen chosen taken_at) t u absent_at upto at found legal order before absent wins is =
+  new_winner nobodys is_free late sizes log None (Chosen chosen taken_at) t u absent_at upto at found legal order before absent wins is = absurd is
+  new_winner nobodys is_free late sizes log (Some rule) (Chosen chosen taken_at) t u absent_at upto at found legal order before absent wins is =
       ⊎_elim (λ own. late sizes log absent_at at t found legal order absent own)
       (λ other.
       let free = is.1.free in
       let newer : free.point ≤ found.subject.id = late sizes log free.point at u found legal (omega (arith, free.high, before))
-      (subst (λ (x : Tuple). live_under x (after log free.point) ≡ None) (sym is.0) free.fact.fact) other in
+      (subst (λ (x : Tuple). live_under x (after log free.point) ≡ None) (sym is.0) ((is_free chosen (after log free.point)).1 free.fact.fact)) other in
       omega (arith, newer, free.low, is.1.tried))
       (by_either t u (after log at) (live_under t (after log at)) found refl wins)
 
@@ -308,23 +312,24 @@ module _ (states : StatesStay) (events : EventsStay) where
       )))
       connection
 
-  meets : AbsentTuplesAreNobodys → LateEntriesAreNew → (setup : Setup) (old mid new : Sight) (packet : FlowPacket) (flow : Flow)
+  meets : GoingOnAddsUp → AbsentTuplesAreNobodys → FreeIsAbsent → LateEntriesAreNew → (setup : Setup) (old mid new : Sight) (packet : FlowPacket) (flow : Flow)
       (found : NewReply) (answer : ClaimOutcome) (absent_at id at : ℕ) (d : Direction) (both merged : Bool) → IsKnown new
       → IsSome (start_of packet.segment packet.moment) → IsFoundFor setup packet old.front absent_at found
       → (seen : LookedFor packet old mid answer) → flow.original ≡ packet.tuple → flow.reply ≡ found.reply
-      → Looked mid new at (IsWinner flow id d both)
+      → Looked mid new at (IsWinner flow id d both) → At new.front at (λ s. length s.records < new.sizes.entries)
       → (same_proto packet.tuple.proto proto.Udp && both) ≡ merged
       → (mark : ℕ) (kills : List Note) → mark_past mark kills ≤ absent_at
-      → MeetsWinner setup new.front (mark_past mark kills) packet seen.claims
+      → MeetsWinner setup old.sizes new.front (mark_past mark kills) packet seen.claims
       (record { id = id; at = at; translated = found.translated; merged = merged })
-  meets nobodys late setup old mid new packet flow found answer absent_at id at d both merged known begins is seen original reply looked merges mark
-      kills le =
+  meets going nobodys is_free late setup old mid new packet flow found answer absent_at id at d both merged known begins is seen original reply looked room
+      merges mark kills le =
       let w = looked.fact.fact in
-      let front : StartsWith new.front old.front = starts_trans new.front mid.front old.front looked.saw.front seen.front in
+      let went : WentOn old new seen.claims = going.before old mid new seen.claims seen.went looked.saw in
+      let front : StartsWith new.front old.front = went.front in
       let absent' = at_grows states new.front old.front absent_at (λ x. live_under packet.tuple x ≡ None) front is.absent in
-      let longer : length old.front ≤ length mid.front = starts_longer mid.front old.front seen.front in
+      let longer : length old.front ≤ length mid.front = starts_longer mid.front old.front seen.went.front in
       let before : (length old.front) ≤ at = omega (arith, longer, looked.low) in
-      let rule : Option Rule = rule_for setup packet.tuple in
+      let rule : Option Rule = rule_for setup.rules.items packet.tuple in
       let wins : winner packet.tuple found.reply (after new.front at) ≡ Some w.found =
       ap (λ (t : Tuple). winner t found.reply (after new.front at)) (sym original)
       ∙ ap (λ (u : Tuple). winner flow.original u (after new.front at)) (sym reply) ∙ w.wins in
@@ -337,7 +342,7 @@ module _ (states : StatesStay) (events : EventsStay) where
         begun = would_begin setup new.front old.front packet (mark_past mark kills) absent_at (length old.front) found front le (omega arith) begins is;
         unclaimed = unclaimed_at answer;
         master = claimed_master answer;
-        claimed = claims_grows events states new.front mid.front looked.saw.front packet seen.claims (unclaimed_at answer)
+        claimed = claims_grows events states new.front mid.front looked.saw.went.front packet seen.claims (unclaimed_at answer)
             (claimed_master answer) (length old.front) at (seen.expected (length old.front) at (omega arith) looked.low);
         silent = λ is_merged. not_merged packet both seen.claims seen.connection (merges ∙ is_merged);
         found = w.found;
@@ -347,35 +352,34 @@ module _ (states : StatesStay) (events : EventsStay) where
             (has_reply found.reply w.found.subject)
             ∙ ap (λ b. same_proto packet.tuple.proto proto.Udp && b) (sym same) ∙ merges;
         new = older (mark_past mark kills) absent_at found.translated packet.tuple w.found le
-            (new_winner nobodys late new.sizes new.front rule found.translated packet.tuple found.reply absent_at (length old.front) at w.found known.legal
+            (new_winner nobodys is_free late new.sizes new.front rule found.translated packet.tuple found.reply absent_at (length old.front) at w.found known.legal
             (omega (arith, is.absent.within, before)) before absent'.fact wins
             (translated_grows events states new.front old.front front rule packet.tuple absent_at (length old.front) found.translated found.reply
             is.translation));
+        room = subst (λ (z : Sizes). At new.front at (λ s. length s.records < z.entries)) went.pass.sizes room;
       }
 
   -- a packet met a winner, and its class says just this
-  meets_answer : (setup : Setup) (old mid new : Sight) (packet : FlowPacket) (found : NewReply) (answer : ClaimOutcome) (n absent_at at : ℕ)
-      (k : Class) (P : FlowPacket → ℕ → ℕ → List Note → Type 0) → n ≤ 4 → IsFoundFor setup packet old.front absent_at found
+  meets_answer : GoingOnAddsUp → (setup : Setup) (old mid new : Sight) (packet : FlowPacket) (found : NewReply) (answer : ClaimOutcome) (n absent_at at : ℕ)
+      (k : Class) (P : FlowPacket → ℕ → List Note → Type 0) → n ≤ 4 → IsFoundFor setup packet old.front absent_at found
       → (seen : LookedFor packet old mid answer) → Saw mid new → at ≤ length new.front
       → points_of k ≡ at ∷ translated_points found.translated
       → ((given : Given) (mark : ℕ) (own : List Note) → AnswersFlow new.front mark given own P
       → FitsFrame setup old.sizes new.front mark given own k)
-      → ((mark : ℕ) (kills : List Note) → mark_past mark kills ≤ absent_at → P packet (length kills) (mark_past mark kills) seen.claims)
+      → ((mark : ℕ) (kills : List Note) → mark_past mark kills ≤ absent_at → P packet (mark_past mark kills) seen.claims)
       → Answers setup old new packet n absent_at k
-  meets_answer setup old mid new packet found answer n absent_at at k P few is seen saw within points fits meeting =
-      let front : StartsWith new.front old.front = starts_trans new.front mid.front old.front saw.front seen.front in
+  meets_answer going setup old mid new packet found answer n absent_at at k P few is seen saw within points fits meeting =
+      let went : WentOn old new seen.claims = going.before old mid new seen.claims seen.went saw in
+      let front : StartsWith new.front old.front = went.front in
       record {
-        front = front;
-        sizes = saw.sizes ∙ seen.sizes;
         rest = seen.claims;
-        own = saw.own ∙ seen.own;
+        went = went;
         few = omega (arith, seen.few);
-        spare = omega (arith, seen.spare, saw.spare);
         points = subst (AllByRecursion (λ p. p ≤ length new.front)) (sym points) (
           within,
           points_more (length old.front) (length new.front) (translated_points found.translated)
               (omega (arith, starts_longer new.front old.front front))
-              (found_points old.front (rule_for setup packet.tuple) packet.tuple absent_at (length old.front) found.translated found.reply is.translation),
+              (found_points old.front (rule_for setup.rules.items packet.tuple) packet.tuple absent_at (length old.front) found.translated found.reply is.translation),
         );
         fits = λ given mark kills flows count killed le.
             fits given mark (kills ++ seen.claims)
@@ -383,22 +387,22 @@ module _ (states : StatesStay) (events : EventsStay) where
             (meeting mark kills le));
       }
 
-  pub winner_answer : AbsentTuplesAreNobodys → LateEntriesAreNew → (setup : Setup) (old mid new : Sight) (packet : FlowPacket) (flow : Flow)
+  pub winner_answer : GoingOnAddsUp → AbsentTuplesAreNobodys → FreeIsAbsent → LateEntriesAreNew → (setup : Setup) (old mid new : Sight) (packet : FlowPacket) (flow : Flow)
       (found : NewReply) (answer : ClaimOutcome) (n absent_at id at : ℕ) (d : Direction) (both : Bool) → n ≤ 4 → IsKnown new
       → IsSome (start_of packet.segment packet.moment) → IsFoundFor setup packet old.front absent_at found
       → LookedFor packet old mid answer → flow.original ≡ packet.tuple → flow.reply ≡ found.reply
-      → Looked mid new at (IsWinner flow id d both) → (b : Bool)
+      → Looked mid new at (IsWinner flow id d both) → At new.front at (λ s. length s.records < new.sizes.entries) → (b : Bool)
       → (same_proto packet.tuple.proto proto.Udp && both) ≡ b
       → Answers setup old new packet n absent_at (cond b (class.Merged id at found.translated) (class.Clash id at found.translated))
-  winner_answer nobodys late setup old mid new packet flow found answer n absent_at id at d both few known begins is seen original reply looked true
-      merges =
-      meets_answer setup old mid new packet found answer n absent_at at (class.Merged id at found.translated) _ few is seen looked.saw
+  winner_answer going nobodys is_free late setup old mid new packet flow found answer n absent_at id at d both few known begins is seen original reply looked
+      room true merges =
+      meets_answer going setup old mid new packet found answer n absent_at at (class.Merged id at found.translated) _ few is seen looked.saw
       looked.fact.within refl (λ given mark own h. h)
-      (λ mark kills le. meets nobodys late setup old mid new packet flow found answer absent_at id at d both true known begins is seen original
-      reply looked merges mark kills le)
-  winner_answer nobodys late setup old mid new packet flow found answer n absent_at id at d both few known begins is seen original reply looked false
-      merges =
-      meets_answer setup old mid new packet found answer n absent_at at (class.Clash id at found.translated) _ few is seen looked.saw
+      (λ mark kills le. meets going nobodys is_free late setup old mid new packet flow found answer absent_at id at d both true known begins is seen original
+      reply looked room merges mark kills le)
+  winner_answer going nobodys is_free late setup old mid new packet flow found answer n absent_at id at d both few known begins is seen original reply looked
+      room false merges =
+      meets_answer going setup old mid new packet found answer n absent_at at (class.Clash id at found.translated) _ few is seen looked.saw
       looked.fact.within refl (λ given mark own h. h)
-      (λ mark kills le. meets nobodys late setup old mid new packet flow found answer absent_at id at d both false known begins is seen original
-      reply looked merges mark kills le)
+      (λ mark kills le. meets going nobodys is_free late setup old mid new packet flow found answer absent_at id at d both false known begins is seen original
+      reply looked room merges mark kills le)

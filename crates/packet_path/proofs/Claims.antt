@@ -1,11 +1,10 @@
 -- What is said of a packet that was looked for among the expectations.
-use Rattle.std.proofs.Common.{◌≡◌, ℕ, ◌+◌, ◌≤◌, Bool, true, false, cond, List, [], ◌∷◌, ◌++◌, length, Option, Some, None, refl, sym, ◌∙◌, ◌⊎◌, inl, inr, arith}
+use Rattle.std.proofs.Common.{◌≡◌, ℕ, ◌≤◌, Bool, true, false, cond, List, [], ◌∷◌, length, Option, Some, None, refl, ◌⊎◌, inl, inr, arith}
 use Rattle.std.specs.List.{AllByRecursion, find}
 use Rattle.std.specs.Prelude.{option_to_list, ◌==◌}
 use Rattle.std.proofs.lemmas.Bool.{and_parts, false≢true}
-use Rattle.std.proofs.lemmas.List.{append-nil}
 use Rattle.expect_table.specs.Expectations.{matching}
-use Rattle.expect_table.specs.Match.{is_due, is_match, is_wanted}
+use Rattle.expect_table.specs.Match.{is_awaited, is_match, is_wanted}
 use Rattle.expect_table.specs.declared.expectation.Expectation.{Expectation}
 use Rattle.tuple_core.specs.Tuple.{number_of}
 use Rattle.tuple_core.specs.declared.Proto.TheVariants as proto
@@ -14,24 +13,22 @@ use Rattle.history_book.specs.declared.event.Event.TheVariants.{Claim}
 use Rattle.history_book.specs.declared.event.Note.{Note}
 use Rattle.history_book.specs.declared.outcome.ClaimOutcome.{ClaimOutcome}
 use Rattle.history_book.specs.declared.outcome.ClaimOutcome.TheVariants as claim
+use Rattle.history_book.specs.Desk.{SamePlaces}
 use Rattle.history_book.specs.DeskExpectations.{ClaimSays}
 use Rattle.history_book.specs.History.{after}
 use Rattle.history_book.specs.Laws.{EventsMayHappen}
 use Rattle.history_book.specs.Legality.{may_claim, same_proto}
-use Rattle.history_book.specs.Point.{StartsWith}
 use Rattle.history_book.specs.Sight.{IsKnown, Sight}
-use Rattle.packet_path.specs.declared.packet.FlowPacket.{FlowPacket}
+use Rattle.history_book.specs.WentOn.{WentOn}
+use Rattle.packet_path.specs.Packet.{FlowPacket}
 use Rattle.packet_path.specs.Claim.{ClaimsIfExpected, claim_by}
 use Rattle.packet_path.specs.Internal.Attempt.{claimed_master, unclaimed_at}
 
 -- what looking for the packet left
 pub record LookedFor (packet : FlowPacket) (old mid : Sight) (answer : ClaimOutcome) : Type 0 where
   pub claims : List Note
-  pub front : StartsWith mid.front old.front
-  pub sizes : mid.sizes ≡ old.sizes
-  pub own : mid.own ≡ old.own ++ claims
+  pub went : WentOn old mid claims
   pub few : length claims ≤ 1
-  pub spare : old.spare ≡ mid.spare + length claims
   pub expected : (from upto : ℕ) → from ≤ length old.front → length mid.front ≤ upto
       → ClaimsIfExpected mid.front packet claims (unclaimed_at answer) (claimed_master answer) from upto
   pub points : AllByRecursion (λ p. p ≤ length mid.front) (option_to_list (unclaimed_at answer))
@@ -53,7 +50,7 @@ expected_tcp : (t : Tuple) (moment : ℕ) (id master : ℕ) (es : List Expectati
 expected_tcp t moment id master es None is may = absurd (false≢true may)
 expected_tcp t moment id master es (Some e) is may =
     let passes = found_passes (is_match t moment) es e is in
-    let wanted = (and_parts (is_wanted e.want t) (is_due moment e) passes).0 in
+    let wanted = (and_parts (is_wanted e.want t) (is_awaited moment e) passes).0 in
     let ends = (and_parts _ (e.want.port == t.b) wanted).0 in
     let source = (and_parts _ (e.want.dst == t.dst) ends).0 in
     (and_parts (number_of t.proto == number_of proto.Tcp) (e.want.src == t.src) source).0
@@ -62,11 +59,8 @@ pub looked_for : EventsMayHappen → (packet : FlowPacket) (old mid : Sight) (an
     → ClaimSays packet.tuple packet.moment old mid answer → LookedFor packet old mid answer
 looked_for may packet old mid (claim.Claimed number expectation master) known (made, same) = record {
   claims = claim_by packet number expectation master ∷ [];
-  front = made.front;
-  sizes = made.sizes;
-  own = made.own;
+  went = made.went;
   few = omega arith;
-  spare = made.spare;
   expected = λ from upto low high. record {
     number = number;
     expectation = expectation;
@@ -83,11 +77,8 @@ looked_for may packet old mid (claim.Claimed number expectation master) known (m
 }
 looked_for may packet old mid (claim.Unclaimed at) known (looked, same) = record {
   claims = [];
-  front = looked.saw.front;
-  sizes = looked.saw.sizes;
-  own = looked.saw.own ∙ sym (append-nil old.own);
+  went = looked.saw.went;
   few = omega arith;
-  spare = omega (arith, looked.saw.spare);
   expected = λ from upto low high. record {
     none = refl;
     alone = refl;
@@ -98,3 +89,9 @@ looked_for may packet old mid (claim.Unclaimed at) known (looked, same) = record
   points = (looked.fact.within, tt);
   connection = inl refl;
 }
+
+-- looking for it changes no place
+pub looking_keeps : (packet : FlowPacket) (old mid : Sight) (answer : ClaimOutcome) → ClaimSays packet.tuple packet.moment old mid answer
+    → SamePlaces old mid
+looking_keeps packet old mid (claim.Claimed number expectation master) says = says.1
+looking_keeps packet old mid (claim.Unclaimed at) says = says.1

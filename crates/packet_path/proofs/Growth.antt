@@ -17,13 +17,14 @@ use Rattle.history_book.specs.declared.verdict.Ftp.TheVariants as ftp
 use Rattle.history_book.specs.declared.verdict.Translated.{Translated}
 use Rattle.history_book.specs.declared.verdict.Translated.TheVariants.{Plain, Chosen}
 use Rattle.nat_setup.specs.declared.rule.Rule.{Rule}
-use Rattle.nat_setup.specs.Translation.{Between, GivesUpOwn}
+use Rattle.nat_setup.specs.Rule.{rule_for}
+use Rattle.nat_setup.specs.Translation.{AccountsForOwn, AtSomePoint, WasChosen, WasTranslated}
 use Rattle.packet_path.specs.Absent.{WasAbsent}
-use Rattle.packet_path.specs.Begun.{rule_for, WasChosen, WasTranslated, WouldBegin}
+use Rattle.packet_path.specs.Begun.{WouldBegin}
 use Rattle.packet_path.specs.Claim.{ClaimsIfExpected}
 use Rattle.packet_path.specs.FtpPart.{FtpFits, RefusesEnd}
 use Rattle.packet_path.specs.Passed.{IsPassing}
-use Rattle.packet_path.specs.declared.packet.FlowPacket.{FlowPacket}
+use Rattle.packet_path.specs.Packet.{FlowPacket}
 use Rattle.packet_path.specs.Packet.{Given}
 use Rattle.packet_path.specs.declared.setup.Setup.{Setup}
 use Rattle.packet_path.specs.Winner.{Meeting, MeetsWinner}
@@ -69,8 +70,8 @@ module _ (events : EventsStay) (states : StatesStay) (longer log : List Event) (
   kills_all_grows mark packet [] k = tt
   kills_all_grows mark packet (n ∷ ns) (k, ks) = (kills_grows mark packet n k, kills_all_grows (n.number + 1) packet ns ks)
 
-  flow_grows : (mark : ℕ) (given : Given) (own : List Note) (P Q : FlowPacket → ℕ → ℕ → List Note → Type 0)
-      → ((packet : FlowPacket) (kills k : ℕ) (rest : List Note) → P packet kills k rest → Q packet kills k rest)
+  flow_grows : (mark : ℕ) (given : Given) (own : List Note) (P Q : FlowPacket → ℕ → List Note → Type 0)
+      → ((packet : FlowPacket) (k : ℕ) (rest : List Note) → P packet k rest → Q packet k rest)
       → AnswersFlow log mark given own P → AnswersFlow longer mark given own Q
   flow_grows mark given own P Q then f = record {
     packet = f.packet;
@@ -80,7 +81,7 @@ module _ (events : EventsStay) (states : StatesStay) (longer log : List Event) (
     all = f.all;
     few = f.few;
     killed = kills_all_grows mark f.packet f.kills f.killed;
-    fits = then f.packet _ _ f.rest f.fits;
+    fits = then f.packet _ f.rest f.fits;
   }
 
   looked_grows : (mark : ℕ) (inner : Tuple) (at : ℕ) (found : Option Found) → LooksUp log mark inner at found
@@ -106,18 +107,18 @@ module _ (events : EventsStay) (states : StatesStay) (longer log : List Event) (
     absent = at_grows states longer log _ _ starts a.absent;
   }
 
-  pub between_grows : (from to : ℕ) (F : State → Type 0) → Between log from to F → Between longer from to F
-  between_grows from to F b = record {
+  pub some_point_grows : (from to : ℕ) (F : State → Type 0) → AtSomePoint log from to F → AtSomePoint longer from to F
+  some_point_grows from to F b = record {
     point = b.point;
     low = b.low;
     high = b.high;
     fact = at_grows states longer log b.point F starts b.fact;
   }
 
-  gives_up_grows : (rule : Rule) (t : Tuple) (number : ℕ) (taken_at : Option ℕ)
-      → GivesUpOwn log rule t number taken_at → GivesUpOwn longer rule t number taken_at
-  gives_up_grows rule t number None h = h
-  gives_up_grows rule t number (Some p) h = (h.0, at_grows states longer log p _ starts h.1)
+  accounts_grow : (rule : Rule) (t : Tuple) (number : ℕ) (taken_at : Option ℕ)
+      → AccountsForOwn log rule t number taken_at → AccountsForOwn longer rule t number taken_at
+  accounts_grow rule t number None h = h
+  accounts_grow rule t number (Some p) h = (h.0, at_grows states longer log p _ starts h.1)
 
   chosen_grows : (rule : Rule) (t reply : Tuple) (taken_at : Option ℕ) (from upto : ℕ)
       → WasChosen log rule t reply taken_at from upto → WasChosen longer rule t reply taken_at from upto
@@ -126,10 +127,10 @@ module _ (events : EventsStay) (states : StatesStay) (longer log : List Event) (
       number = c.lawful.number;
       allowed = c.lawful.allowed;
       gives = c.lawful.gives;
-      own = gives_up_grows rule t c.lawful.number taken_at c.lawful.own;
+      own = accounts_grow rule t c.lawful.number taken_at c.lawful.own;
     };
     tried = c.tried;
-    free = between_grows _ upto _ c.free;
+    free = some_point_grows _ upto _ c.free;
   }
 
   pub translated_grows : (rule : Option Rule) (t : Tuple) (from upto : ℕ) (translated : Translated) (reply : Tuple)
@@ -145,7 +146,7 @@ module _ (events : EventsStay) (states : StatesStay) (longer log : List Event) (
   begun_grows setup k packet translated reply upto b = record {
     starts = b.starts;
     absent = absent_grows k packet.tuple upto b.absent;
-    found = translated_grows (rule_for setup packet.tuple) packet.tuple b.absent.at upto translated reply b.found;
+    found = translated_grows (rule_for setup.rules.items packet.tuple) packet.tuple b.absent.at upto translated reply b.found;
   }
 
   pub claims_grows : (packet : FlowPacket) (claims : List Note) (unclaimed master : Option ℕ) (from upto : ℕ)
@@ -209,9 +210,9 @@ module _ (events : EventsStay) (states : StatesStay) (longer log : List Event) (
       }))
       (λ r. inr r) p
 
-  winner_grows : (setup : Setup) (k : ℕ) (packet : FlowPacket) (rest : List Note) (said : Meeting)
-      → MeetsWinner setup log k packet rest said → MeetsWinner setup longer k packet rest said
-  winner_grows setup k packet rest said m = record {
+  winner_grows : (setup : Setup) (sizes : Sizes) (k : ℕ) (packet : FlowPacket) (rest : List Note) (said : Meeting)
+      → MeetsWinner setup sizes log k packet rest said → MeetsWinner setup sizes longer k packet rest said
+  winner_grows setup sizes k packet rest said m = record {
     reply = m.reply;
     found_at = m.found_at;
     begun = begun_grows setup k packet said.translated m.reply m.found_at m.begun;
@@ -224,6 +225,7 @@ module _ (events : EventsStay) (states : StatesStay) (longer log : List Event) (
     named = m.named;
     merge = m.merge;
     new = m.new;
+    room = at_grows states longer log _ _ starts m.room;
   }
 
   pub frame_grows : (setup : Setup) (sizes : Sizes) (mark : ℕ) (given : Given) (own : List Note) (verdict : Class)
@@ -232,14 +234,14 @@ module _ (events : EventsStay) (states : StatesStay) (longer log : List Event) (
   frame_grows setup sizes mark given own class.BadHeader f = f
   frame_grows setup sizes mark given own (class.NoEntry at) f =
       flow_grows mark given own _ _
-      (λ packet kills k rest b. record {
+      (λ packet k rest b. record {
         own = b.own;
         from = b.from;
         absent = at_grows states longer log _ _ starts b.absent;
         starts = b.starts;
       }) f
   frame_grows setup sizes mark given own (class.BadState id at) f =
-      flow_grows mark given own _ _ (λ packet kills k rest l. leaves_grows k packet rest id at _ l) f
+      flow_grows mark given own _ _ (λ packet k rest l. leaves_grows k packet rest id at _ l) f
   frame_grows setup sizes mark given own (class.ErrorLost at) f =
       error_still given own _ _ (λ inner outer l. looked_grows mark inner at _ l) f
   frame_grows setup sizes mark given own (class.ErrorAddress id at) f =
@@ -261,7 +263,7 @@ module _ (events : EventsStay) (states : StatesStay) (longer log : List Event) (
       }) f
   frame_grows setup sizes mark given own (class.Made id at translated unclaimed) f =
       flow_grows mark given own _ _
-      (λ packet kills k rest m. record {
+      (λ packet k rest m. record {
         subject = m.subject;
         claims = m.claims;
         own = m.own;
@@ -275,7 +277,7 @@ module _ (events : EventsStay) (states : StatesStay) (longer log : List Event) (
       }) f
   frame_grows setup sizes mark given own (class.Passed label id at ftp) f =
       flow_grows mark given own _ _
-      (λ packet kills k rest m. record {
+      (λ packet k rest m. record {
         note = m.note;
         found = m.found;
         further = m.further;
@@ -288,26 +290,28 @@ module _ (events : EventsStay) (states : StatesStay) (longer log : List Event) (
         point = m.point;
       }) f
   frame_grows setup sizes mark given own (class.Ignored id at) f =
-      flow_grows mark given own _ _ (λ packet kills k rest l. leaves_grows k packet rest id at _ l) f
+      flow_grows mark given own _ _ (λ packet k rest l. leaves_grows k packet rest id at _ l) f
   frame_grows setup sizes mark given own (class.Merged id at translated) f =
-      flow_grows mark given own _ _ (λ packet kills k rest m. winner_grows setup k packet rest _ m) f
+      flow_grows mark given own _ _ (λ packet k rest m. winner_grows setup sizes k packet rest _ m) f
   frame_grows setup sizes mark given own (class.Clash id at translated) f =
-      flow_grows mark given own _ _ (λ packet kills k rest m. winner_grows setup k packet rest _ m) f
+      flow_grows mark given own _ _ (λ packet k rest m. winner_grows setup sizes k packet rest _ m) f
   frame_grows setup sizes mark given own (class.NoPort from to) f =
       flow_grows mark given own _ _
-      (λ packet kills k rest m. record {
+      (λ packet k rest m. record {
         own = m.own;
         starts = m.starts;
         absent = absent_grows k packet.tuple from m.absent;
-        rule = m.rule;
-        first = m.first;
-        ordered = m.ordered;
-        within = longer_within to m.within;
-        taken = λ number allowed. between_grows from to _ (m.taken number allowed);
+        taken = record {
+          rule = m.taken.rule;
+          is_first = m.taken.is_first;
+          ordered = m.taken.ordered;
+          within = longer_within to m.taken.within;
+          taken = λ number allowed. some_point_grows from to _ (m.taken.taken number allowed);
+        };
       }) f
   frame_grows setup sizes mark given own (class.Full at) f =
       flow_grows mark given own _ _
-      (λ packet kills k rest m. record {
+      (λ packet k rest m. record {
         own = m.own;
         translated = m.translated;
         reply = m.reply;
@@ -315,8 +319,9 @@ module _ (events : EventsStay) (states : StatesStay) (longer log : List Event) (
         full = at_grows states longer log _ _ starts m.full;
       }) f
   frame_grows setup sizes mark given own (class.Contended id at) f =
-      flow_grows mark given own _ _
-      (λ packet kills k rest m. (
-        m.0,
-        ⊎_elim (λ l. inl (leaves_grows k packet rest id at _ l)) (λ l. inr (leaves_grows k packet rest id at _ l)) m.1,
-      )) f
+      record {
+        four = f.four;
+        stands = flow_grows mark given own _ _
+            (λ packet k rest m.
+            ⊎_elim (λ l. inl (leaves_grows k packet rest id at _ l)) (λ l. inr (leaves_grows k packet rest id at _ l)) m) f.stands;
+      }

@@ -1,8 +1,7 @@
 -- One kill after another, and what is left when a frame is handled.
-use Rattle.std.proofs.Common.{◌≡◌, ℕ, ◌+◌, ◌-◌, max, ◌≤◌, List, [], ◌∷◌, ◌++◌, length, Some, refl, sym, ap, subst, ◌∙◌, arith, append_assoc, length-append}
+use Rattle.std.proofs.Common.{◌≡◌, ℕ, ◌+◌, ◌-◌, max, ◌≤◌, List, [], ◌∷◌, ◌++◌, length, Some, refl, sym, ap, subst, ◌∙◌, arith, length-append}
 use Rattle.std.specs.List.{AllByRecursion}
 use Rattle.std.specs.Prelude.{◌≢◌}
-use Rattle.std.proofs.lemmas.List.{append-nil}
 use Rattle.tuple_core.specs.Inverse.{inverse}
 use Rattle.tuple_core.specs.declared.Direction.{Direction}
 use Rattle.tuple_core.specs.declared.Tuple.{Tuple}
@@ -11,25 +10,28 @@ use Rattle.history_book.specs.declared.event.Note.{Note}
 use Rattle.history_book.specs.declared.record.Record.{Record}
 use Rattle.history_book.specs.declared.sizes.Sizes.{Sizes}
 use Rattle.history_book.specs.declared.verdict.Verdict.{Verdict}
-use Rattle.history_book.specs.Desk.{IsLiveUnder, IsReady, Looked, Saw}
+use Rattle.history_book.specs.Desk.{IsLiveUnder, IsReady}
+use Rattle.history_book.specs.SightLaws.{GoingOnAddsUp}
+use Rattle.history_book.specs.WentOn.{Looked, Saw, WentOn}
 use Rattle.history_book.specs.History.{after}
 use Rattle.history_book.specs.Laws.{EventsStay, StatesStay}
-use Rattle.history_book.specs.Notes.{mark_past}
+use Rattle.history_book.specs.Mark.{mark_past}
 use Rattle.history_book.specs.Places.{HoldsNothing}
 use Rattle.history_book.specs.Point.{StartsWith}
 use Rattle.history_book.specs.Sight.{IsKnown, Sight}
 use Rattle.history_book.specs.State.{live_under}
-use Rattle.packet_path.specs.declared.packet.FlowPacket.{FlowPacket}
+use Rattle.packet_path.specs.Packet.{FlowPacket}
 use Rattle.packet_path.specs.Error.{AnswersError, IsMisdirected, IsRelated, LooksUp}
 use Rattle.packet_headers.specs.declared.packet.Packet.TheVariants as packet
 use Rattle.packet_path.specs.Internal.Attempt.{Answers, IsKilling, KilledOne}
 use Rattle.packet_path.specs.Handled.{Handled}
 use Rattle.packet_path.specs.Packet.{Given, IsFlow}
 use Rattle.packet_path.specs.declared.setup.Setup.{Setup}
-use Rattle.packet_path.specs.Verdict.{FitsFrame, Kills, KillsAll, points_of}
+use Rattle.history_book.specs.Mark.{points_of}
+use Rattle.packet_path.specs.Verdict.{FitsFrame, Kills, KillsAll}
 use Rattle.packet_path.proofs.Growth.{at_grows, kills_all_grows}
 use Rattle.packet_path.proofs.Marks.{happened_lower, mark_past-le}
-use Rattle.packet_path.proofs.Attempts.{starts_longer, starts_trans}
+use Rattle.packet_path.proofs.Attempts.{starts_longer}
 
 kills_push : (log : List Event) (m from : ℕ) (packet : FlowPacket) (kills : List Note) (note : Note) → KillsAll log m packet kills
     → mark_past m kills ≤ from → Kills log from packet note → KillsAll log m packet (kills ++ note ∷ [])
@@ -49,23 +51,21 @@ mark_push : (m : ℕ) (kills : List Note) (note : Note) → mark_past m (kills +
 mark_push m [] note = refl
 mark_push m (k ∷ ks) note = mark_push (max m (k.number + 1)) ks note
 
-module _ (states : StatesStay) (events : EventsStay) (old : Sight) (packet : FlowPacket) where
+module _ (states : StatesStay) (events : EventsStay) (going : GoingOnAddsUp) (old : Sight) (packet : FlowPacket) where
   -- one kill more
   pub killing_more : (now new : Sight) (n : ℕ) → IsKilling old now packet n → KilledOne now new packet n (length now.front)
       → HoldsNothing new → IsKnown new → IsKilling old new packet (n + 1)
   killing_more now new n k one empty known =
       let grown : KillsAll new.front (length old.front) packet k.kills =
-      kills_all_grows events states new.front now.front one.front (length old.front) packet k.kills k.all in
+      kills_all_grows events states new.front now.front one.went.front (length old.front) packet k.kills k.all in
       record {
-        front = starts_trans new.front now.front old.front one.front k.front;
-        sizes = one.sizes ∙ k.sizes;
         kills = k.kills ++ one.note ∷ [];
-        own = one.own ∙ ap (λ (l : List Note). l ++ one.note ∷ []) k.own ∙ append_assoc old.own k.kills (one.note ∷ []);
+        went = going.twice old now new k.kills (one.note ∷ []) k.went one.went;
         count = length-append k.kills (one.note ∷ []) ∙ ap (λ m. m + 1) k.count;
         few = omega (arith, one.few);
         all = kills_push new.front (length old.front) (length now.front) packet k.kills one.note grown k.mark one.kill;
-        mark = omega (arith, mark_push (length old.front) k.kills one.note, k.mark, one.high, starts_longer new.front now.front one.front);
-        spare = omega (arith, k.spare, one.spare);
+        mark = omega (arith, mark_push (length old.front) k.kills one.note, k.mark, one.high, starts_longer new.front now.front one.went.front);
+        spare = omega (arith, k.spare, one.went.spare);
         empty = empty;
         known = known;
       }
@@ -74,14 +74,12 @@ module _ (states : StatesStay) (events : EventsStay) (old : Sight) (packet : Flo
   pub killing_again : (now new : Sight) (n : ℕ) → IsKilling old now packet n → Saw now new → HoldsNothing new → IsKnown new
       → IsKilling old new packet n
   killing_again now new n k saw empty known = record {
-    front = starts_trans new.front now.front old.front saw.front k.front;
-    sizes = saw.sizes ∙ k.sizes;
     kills = k.kills;
-    own = saw.own ∙ k.own;
+    went = going.before old now new k.kills k.went saw;
     count = k.count;
     few = k.few;
-    all = kills_all_grows events states new.front now.front saw.front (length old.front) packet k.kills k.all;
-    mark = omega (arith, k.mark, starts_longer new.front now.front saw.front);
+    all = kills_all_grows events states new.front now.front saw.went.front (length old.front) packet k.kills k.all;
+    mark = omega (arith, k.mark, starts_longer new.front now.front saw.went.front);
     spare = omega (arith, k.spare, saw.spare);
     empty = empty;
     known = known;
@@ -92,18 +90,14 @@ module _ (states : StatesStay) (events : EventsStay) (old : Sight) (packet : Flo
       → Answers setup now new packet n (length now.front) verdict.class → HoldsNothing new → verdict.first ≡ length old.own
       → verdict.made ≡ length new.own - length old.own → Handled setup given old new verdict
   killing_done setup now new n verdict given flow k a empty first made =
-      let own : new.own ≡ old.own ++ (k.kills ++ a.rest) =
-      a.own ∙ ap (λ (l : List Note). l ++ a.rest) k.own ∙ append_assoc old.own k.kills a.rest in
+      let went : WentOn old new (k.kills ++ a.rest) = going.twice old now new k.kills a.rest k.went a.went in
       record {
-        front = starts_trans new.front now.front old.front a.front k.front;
-        sizes = a.sizes ∙ k.sizes;
         own = k.kills ++ a.rest;
-        added = own;
+        went = went;
         first = first;
-        made = omega (arith, made, ap length own, length-append old.own (k.kills ++ a.rest));
+        made = omega (arith, made, ap length went.own, length-append old.own (k.kills ++ a.rest));
         few = omega (arith, length-append k.kills a.rest, k.count, k.few, a.few);
-        spare = omega (arith, length-append k.kills a.rest, k.count, k.spare, a.spare);
-        fits = subst (λ (z : Sizes). FitsFrame setup z new.front (length old.front) given (k.kills ++ a.rest) verdict.class) k.sizes
+        fits = subst (λ (z : Sizes). FitsFrame setup z new.front (length old.front) given (k.kills ++ a.rest) verdict.class) k.went.pass.sizes
             (a.fits given (length old.front) k.kills flow k.count k.all k.mark);
         points = a.points;
         held = empty.held;
@@ -118,14 +112,22 @@ handled_ready setup k old mid new given verdict ready h =
     let own : mid.own ≡ old.own = ap (λ (s : Sight). s.own) ready.same in
     let sizes : mid.sizes ≡ old.sizes = ap (λ (s : Sight). s.sizes) ready.same in
     record {
-      front = subst (StartsWith new.front) front h.front;
-      sizes = h.sizes ∙ sizes;
       own = h.own;
-      added = h.added ∙ ap (λ (l : List Note). l ++ h.own) own;
+      went = record {
+        front = subst (StartsWith new.front) front h.went.front;
+        own = h.went.own ∙ ap (λ (l : List Note). l ++ h.own) own;
+        spare = omega (arith, h.went.spare, ready.kept);
+        pass = record {
+          tracker = h.went.pass.tracker ∙ ap (λ (s : Sight). s.tracker) ready.same;
+          sizes = h.went.pass.sizes ∙ sizes;
+          shares = h.went.pass.shares ∙ ap (λ (s : Sight). s.shares) ready.same;
+          returned = h.went.pass.returned ∙ ap (λ (s : Sight). s.returned) ready.same;
+          gathered = h.went.pass.gathered ∙ ap (λ (s : Sight). s.gathered) ready.same;
+        };
+      };
       first = h.first ∙ ap length own;
       made = h.made;
       few = h.few;
-      spare = omega (arith, h.spare, ready.kept);
       fits = subst (λ (l : List Event). FitsFrame setup old.sizes new.front (length l) given h.own verdict.class) front
           (subst (λ (z : Sizes). FitsFrame setup z new.front (length mid.front) given h.own verdict.class) sizes h.fits);
       points = h.points;
@@ -139,14 +141,11 @@ pub handled_silent : (setup : Setup) (old new : Sight) (given : Given) (verdict 
     → FitsFrame setup old.sizes new.front (length old.front) given [] verdict.class
     → AllByRecursion (λ p. p ≤ length new.front) (points_of verdict.class) → Handled setup given old new verdict
 handled_silent setup old new given verdict saw empty first made fits points = record {
-  front = saw.front;
-  sizes = saw.sizes;
   own = [];
-  added = saw.own ∙ sym (append-nil old.own);
+  went = saw.went;
   first = first;
   made = made;
   few = omega arith;
-  spare = omega (arith, saw.spare);
   fits = fits;
   points = points;
   held = empty.held;
@@ -162,7 +161,7 @@ error_found states old mid new inner looked_up place id at d same looked saw =
     record {
       from = looked.low;
       live = at_grows states new.front mid.front at
-          (λ s. live_under (inverse inner) s ≡ Some (record { subject = subject; direction = d })) saw.front
+          (λ s. live_under (inverse inner) s ≡ Some (record { subject = subject; direction = d })) saw.went.front
           (record {
             within = looked.fact.within;
             fact = ap (λ t. live_under t (after mid.front at)) (sym same) ∙ looked.fact.fact.live;

@@ -1,7 +1,8 @@
 -- A verdict that fits from a mark on fits from any lower one: one case for each class.
 use Rattle.std.proofs.Common.{ℕ, ◌+◌, ◌≤◌, List, [], ◌∷◌, max, arith, Option, inl, inr, ⊎_elim}
 use Rattle.tuple_core.specs.declared.Tuple.{Tuple}
-use Rattle.history_book.specs.Notes.{Happened, mark_past}
+use Rattle.history_book.specs.Mark.{mark_past}
+use Rattle.history_book.specs.Notes.{Happened}
 use Rattle.history_book.specs.State.{Found}
 use Rattle.history_book.specs.declared.event.Event.{Event}
 use Rattle.history_book.specs.declared.event.Note.{Note}
@@ -10,7 +11,7 @@ use Rattle.history_book.specs.declared.sizes.Sizes.{Sizes}
 use Rattle.history_book.specs.declared.verdict.Class.{Class}
 use Rattle.history_book.specs.declared.verdict.Class.TheVariants as class
 use Rattle.proto_rules.specs.declared.Outcome.{Outcome}
-use Rattle.packet_path.specs.declared.packet.FlowPacket.{FlowPacket}
+use Rattle.packet_path.specs.Packet.{FlowPacket}
 use Rattle.packet_path.specs.Packet.{Given}
 use Rattle.packet_path.specs.Unchanged.{LeavesEntry}
 use Rattle.packet_path.specs.Error.{LooksUp}
@@ -54,8 +55,8 @@ kills_lower log m n packet (x ∷ xs) le (k, ks) =
     (record { happened = happened_lower log m n x le k.happened; found = k.found; live = k.live; kill = k.kill }, ks)
 
 module _ (log : List Event) (m n : ℕ) (le : m ≤ n) where
-  flow_lower : (given : Given) (own : List Note) (P Q : FlowPacket → ℕ → ℕ → List Note → Type 0)
-      → ((packet : FlowPacket) (kills j k : ℕ) (rest : List Note) → j ≤ k → P packet kills k rest → Q packet kills j rest)
+  flow_lower : (given : Given) (own : List Note) (P Q : FlowPacket → ℕ → List Note → Type 0)
+      → ((packet : FlowPacket) (j k : ℕ) (rest : List Note) → j ≤ k → P packet k rest → Q packet j rest)
       → AnswersFlow log n given own P → AnswersFlow log m given own Q
   flow_lower given own P Q then f = record {
     packet = f.packet;
@@ -65,7 +66,7 @@ module _ (log : List Event) (m n : ℕ) (le : m ≤ n) where
     all = f.all;
     few = f.few;
     killed = kills_lower log m n f.packet f.kills le f.killed;
-    fits = then f.packet _ (mark_past m f.kills) (mark_past n f.kills) f.rest (mark_past-le m n f.kills le) f.fits;
+    fits = then f.packet (mark_past m f.kills) (mark_past n f.kills) f.rest (mark_past-le m n f.kills le) f.fits;
   }
 
   looked_lower : (inner : Tuple) (at : ℕ) (found : Option Found) → LooksUp log n inner at found → LooksUp log m inner at found
@@ -82,9 +83,9 @@ module _ (log : List Event) (m n : ℕ) (le : m ≤ n) where
     step = l.step;
   }
 
-  winner_lower : (setup : Setup) (j k : ℕ) (packet : FlowPacket) (rest : List Note) (said : Meeting) → j ≤ k
-      → MeetsWinner setup log k packet rest said → MeetsWinner setup log j packet rest said
-  winner_lower setup j k packet rest said lower h = record {
+  winner_lower : (setup : Setup) (sizes : Sizes) (j k : ℕ) (packet : FlowPacket) (rest : List Note) (said : Meeting) → j ≤ k
+      → MeetsWinner setup sizes log k packet rest said → MeetsWinner setup sizes log j packet rest said
+  winner_lower setup sizes j k packet rest said lower h = record {
     reply = h.reply;
     found_at = h.found_at;
     begun = begun_lower setup log j k packet said.translated h.reply h.found_at lower h.begun;
@@ -97,6 +98,7 @@ module _ (log : List Event) (m n : ℕ) (le : m ≤ n) where
     named = h.named;
     merge = h.merge;
     new = new_lower j k said.translated packet.tuple h.found.subject lower h.new;
+    room = h.room;
   }
 
   pub frame_lower : (setup : Setup) (sizes : Sizes) (given : Given) (own : List Note) (verdict : Class)
@@ -105,14 +107,14 @@ module _ (log : List Event) (m n : ℕ) (le : m ≤ n) where
   frame_lower setup sizes given own class.BadHeader f = f
   frame_lower setup sizes given own (class.NoEntry at) f =
       flow_lower given own _ _
-      (λ packet kills j k rest lower b. record {
+      (λ packet j k rest lower b. record {
         own = b.own;
         from = omega (arith, b.from, lower);
         absent = b.absent;
         starts = b.starts;
       }) f
   frame_lower setup sizes given own (class.BadState id at) f =
-      flow_lower given own _ _ (λ packet kills j k rest lower l. leaves_lower j k packet rest id at _ lower l) f
+      flow_lower given own _ _ (λ packet j k rest lower l. leaves_lower j k packet rest id at _ lower l) f
   frame_lower setup sizes given own (class.ErrorLost at) f =
       error_still given own _ _ (λ inner outer l. looked_lower inner at _ l) f
   frame_lower setup sizes given own (class.ErrorAddress id at) f =
@@ -134,7 +136,7 @@ module _ (log : List Event) (m n : ℕ) (le : m ≤ n) where
       }) f
   frame_lower setup sizes given own (class.Made id at translated unclaimed) f =
       flow_lower given own _ _
-      (λ packet kills j k rest lower h. record {
+      (λ packet j k rest lower h. record {
         subject = h.subject;
         claims = h.claims;
         own = h.own;
@@ -148,7 +150,7 @@ module _ (log : List Event) (m n : ℕ) (le : m ≤ n) where
       }) f
   frame_lower setup sizes given own (class.Passed label id at ftp) f =
       flow_lower given own _ _
-      (λ packet kills j k rest lower h. record {
+      (λ packet j k rest lower h. record {
         note = h.note;
         found = h.found;
         further = h.further;
@@ -161,26 +163,22 @@ module _ (log : List Event) (m n : ℕ) (le : m ≤ n) where
         point = h.point;
       }) f
   frame_lower setup sizes given own (class.Ignored id at) f =
-      flow_lower given own _ _ (λ packet kills j k rest lower l. leaves_lower j k packet rest id at _ lower l) f
+      flow_lower given own _ _ (λ packet j k rest lower l. leaves_lower j k packet rest id at _ lower l) f
   frame_lower setup sizes given own (class.Merged id at translated) f =
-      flow_lower given own _ _ (λ packet kills j k rest lower h. winner_lower setup j k packet rest _ lower h) f
+      flow_lower given own _ _ (λ packet j k rest lower h. winner_lower setup sizes j k packet rest _ lower h) f
   frame_lower setup sizes given own (class.Clash id at translated) f =
-      flow_lower given own _ _ (λ packet kills j k rest lower h. winner_lower setup j k packet rest _ lower h) f
+      flow_lower given own _ _ (λ packet j k rest lower h. winner_lower setup sizes j k packet rest _ lower h) f
   frame_lower setup sizes given own (class.NoPort from to) f =
       flow_lower given own _ _
-      (λ packet kills j k rest lower h. record {
+      (λ packet j k rest lower h. record {
         own = h.own;
         starts = h.starts;
         absent = absent_lower log j k packet.tuple from lower h.absent;
-        rule = h.rule;
-        first = h.first;
-        ordered = h.ordered;
-        within = h.within;
         taken = h.taken;
       }) f
   frame_lower setup sizes given own (class.Full at) f =
       flow_lower given own _ _
-      (λ packet kills j k rest lower h. record {
+      (λ packet j k rest lower h. record {
         own = h.own;
         translated = h.translated;
         reply = h.reply;
@@ -188,8 +186,9 @@ module _ (log : List Event) (m n : ℕ) (le : m ≤ n) where
         full = h.full;
       }) f
   frame_lower setup sizes given own (class.Contended id at) f =
-      flow_lower given own _ _
-      (λ packet kills j k rest lower h. (
-        h.0,
-        ⊎_elim (λ l. inl (leaves_lower j k packet rest id at _ lower l)) (λ l. inr (leaves_lower j k packet rest id at _ lower l)) h.1,
-      )) f
+      record {
+        four = f.four;
+        stands = flow_lower given own _ _
+            (λ packet j k rest lower h.
+            ⊎_elim (λ l. inl (leaves_lower j k packet rest id at _ lower l)) (λ l. inr (leaves_lower j k packet rest id at _ lower l)) h) f.stands;
+      }

@@ -1,5 +1,5 @@
 -- What is said of a packet that met an entry.
-use Rattle.std.proofs.Common.{◌≡◌, ℕ, ◌+◌, ◌<◌, ◌≤◌, Bool, true, false, cond, List, [], ◌∷◌, ◌++◌, length, Some, refl, sym, ap, subst, ◌∙◌, arith, append_assoc, inl, inr}
+use Rattle.std.proofs.Common.{◌≡◌, ℕ, ◌+◌, ◌<◌, ◌≤◌, Bool, true, false, cond, List, [], ◌∷◌, ◌++◌, length, Some, refl, sym, ap, subst, ◌∙◌, arith, length-append, inl, inr}
 use Rattle.std.specs.List.{find}
 use Rattle.std.proofs.lemmas.Bool.{eqb-true}
 use Rattle.tuple_core.specs.declared.Direction.{Direction}
@@ -19,20 +19,22 @@ use Rattle.history_book.specs.declared.sizes.Sizes.{Sizes}
 use Rattle.history_book.specs.declared.verdict.Ftp.{Ftp}
 use Rattle.history_book.specs.declared.verdict.Ftp.TheVariants.{Nothing}
 use Rattle.proto_rules.specs.declared.Part.{Part}
-use Rattle.history_book.specs.Desk.{Destroys, HoldsOneMore, IsLiveUnder, Leaves, Looked, MadeEvent, SamePlaces, StepGives, Touches}
+use Rattle.history_book.specs.Desk.{Destroys, HoldsOneMore, IsLiveUnder, Leaves, SamePlaces, StepGives, Touches}
+use Rattle.history_book.specs.WentOn.{Looked, MadeEvent, WentOn}
 use Rattle.history_book.specs.Entry.{is_helped_entry, is_of_entry, suits_entry}
 use Rattle.history_book.specs.History.{after}
 use Rattle.history_book.specs.Label.{label_of}
 use Rattle.history_book.specs.Laws.{EntriesKeepTheirHelper, EventsStay, FoundAreFoundAgain, FoundKeepTheirProtocol, RecordsAreOfOneProtocol, StatesStay}
-use Rattle.history_book.specs.Notes.{mark_past}
+use Rattle.history_book.specs.Mark.{mark_past}
 use Rattle.history_book.specs.Places.{HoldsNothing}
 use Rattle.history_book.specs.Point.{At, StartsWith}
 use Rattle.history_book.specs.Record.{has_id}
 use Rattle.history_book.specs.Sight.{IsKnown, Sight}
+use Rattle.history_book.specs.SightLaws.{GoingOnAddsUp, RestingIsSeeing}
 use Rattle.history_book.specs.State.{Found, State, live_under, record_of}
 use Rattle.history_book.specs.StateLaws.{LiveRecordsHaveTheProtocol}
 use Rattle.packet_path.specs.declared.attempt.Met.{Met}
-use Rattle.packet_path.specs.declared.packet.FlowPacket.{FlowPacket}
+use Rattle.packet_path.specs.Packet.{FlowPacket}
 use Rattle.packet_path.specs.declared.setup.Setup.{Setup}
 use Rattle.packet_path.specs.Internal.Attempt.{Answers, EndsEntry, Follows, IsClassified, IsMet, KilledOne}
 use Rattle.packet_path.specs.Laws.{SameProtocolIsEquality}
@@ -40,9 +42,10 @@ use Rattle.packet_path.specs.Packet.{Given}
 use Rattle.packet_path.specs.FtpPart.{FtpFits}
 use Rattle.packet_path.specs.Passed.{reset_by, touch_by}
 use Rattle.packet_path.specs.Unchanged.{IsToEnd, LeavesEntry}
-use Rattle.packet_path.specs.Verdict.{AnswersFlow, FitsFrame, IsKillOf, points_of}
+use Rattle.history_book.specs.Mark.{points_of}
+use Rattle.packet_path.specs.Verdict.{AnswersFlow, FitsFrame, IsKillOf}
 use Rattle.packet_path.proofs.Growth.{at_grows}
-use Rattle.packet_path.proofs.Attempts.{flow_answer, saw_refl, silent, starts_longer, starts_refl, starts_trans}
+use Rattle.packet_path.proofs.Attempts.{flow_answer, silent, starts_longer, starts_refl}
 
 -- a record that is found by its id has it
 found_has : {X : Type 0} (p : X → Bool) (xs : List X) (y : X) → find p xs ≡ Some y → p y ≡ true
@@ -84,15 +87,12 @@ module _ (states : StatesStay) (events : EventsStay) where
         → event ≡ reset_by packet (record { subject = before; direction = met.direction })
         → Answers setup old new packet n from (class.Passed (label_of before met.direction) before.id (number + 1) Nothing)
     reset_answer setup n from number event before few low made found same = record {
-      front = made.front;
-      sizes = made.sizes;
       rest = record { number = number; event = event } ∷ [];
-      own = made.own;
+      went = made.went;
       few = omega arith;
-      spare = omega (arith, made.spare);
       points = (omega (arith, made.high), tt);
       fits = λ given mark kills flow count killed le.
-          flow_answer states events new.front old.front made.front mark given packet kills _ _ flow (omega (arith, count)) killed
+          flow_answer states events new.front old.front made.went.front mark given packet kills _ _ flow (omega (arith, count)) killed
           (record {
             note = record { number = number; event = event };
             found = record { subject = before; direction = met.direction };
@@ -102,7 +102,7 @@ module _ (states : StatesStay) (events : EventsStay) where
             passing = inr (record { event = same; none = refl; payload = refl });
             live = record {
               within = found.within;
-              fact = live_again again old new packet met number before known made.front is found.fact;
+              fact = live_again again old new packet met number before known made.went.front is found.fact;
             };
             named = refl;
             labelled = refl;
@@ -111,34 +111,30 @@ module _ (states : StatesStay) (events : EventsStay) where
     }
 
     -- it touched an entry that was this record, and then this came of its payload
-    pub touched_answer : (setup : Setup) (mid : Sight) (n from number : ℕ) (event : Event) (part : Part) (before : Record) (ftp : Ftp)
+    pub touched_answer : GoingOnAddsUp → (setup : Setup) (mid : Sight) (n from number : ℕ) (event : Event) (part : Part) (before : Record) (ftp : Ftp)
         → n ≤ 4 → from ≤ length old.front
         → MadeEvent old mid number event → At mid.front number (λ s. record_of met.id s ≡ Some before)
         → event ≡ touch_by packet (record { subject = before; direction = met.direction }) part
         → Follows packet (record { subject = before; direction = met.direction }) number mid new ftp
         → Answers setup old new packet n from (class.Passed (label_of before met.direction) before.id (number + 1) ftp)
-    touched_answer setup mid n from number event part before ftp few low made found same follows =
-        let front : StartsWith new.front old.front = starts_trans new.front mid.front old.front follows.front made.front in
+    touched_answer going setup mid n from number event part before ftp few low made found same follows =
         let note : Note = record { number = number; event = event } in
-        let grown = at_grows states new.front mid.front number (λ s. record_of met.id s ≡ Some before) follows.front found in
+        let went : WentOn old new (note ∷ follows.further) = going.twice old mid new (note ∷ []) follows.further made.went follows.went in
+        let grown = at_grows states new.front mid.front number (λ s. record_of met.id s ≡ Some before) follows.went.front found in
         record {
-          front = front;
-          sizes = follows.sizes ∙ made.sizes;
           rest = note ∷ follows.further;
-          own = follows.own ∙ ap (λ (l : List Note). l ++ follows.further) made.own
-              ∙ append_assoc old.own (note ∷ []) follows.further;
+          went = went;
           few = omega (arith, follows.few);
-          spare = omega (arith, made.spare, follows.spare);
-          points = (omega (arith, made.high, starts_longer new.front mid.front follows.front), follows.points);
+          points = (omega (arith, made.high, starts_longer new.front mid.front follows.went.front), follows.points);
           fits = λ given mark kills flow count killed le.
-              flow_answer states events new.front old.front front mark given packet kills _ _ flow (omega (arith, count)) killed
+              flow_answer states events new.front old.front went.front mark given packet kills _ _ flow (omega (arith, count)) killed
               (record {
                 note = note;
                 found = record { subject = before; direction = met.direction };
                 further = follows.further;
                 own = refl;
                 happened = record {
-                  event = events new.front mid.front number event follows.front made.happened;
+                  event = events new.front mid.front number event follows.went.front made.happened;
                   later = omega (arith, le, low, made.low);
                 };
                 passing = inl (record {
@@ -147,11 +143,11 @@ module _ (states : StatesStay) (events : EventsStay) where
                   payload = subst
                       (λ (z : Sizes). FtpFits z new.front packet (record { subject = before; direction = met.direction }) number follows.further
                       ftp)
-                      made.sizes follows.fits;
+                      made.went.pass.sizes follows.fits;
                 });
                 live = record {
                   within = grown.within;
-                  fact = live_again again old new packet met number before known front is grown.fact;
+                  fact = live_again again old new packet met number before known went.front is grown.fact;
                 };
                 named = refl;
                 labelled = refl;
@@ -183,18 +179,15 @@ module _ (states : StatesStay) (events : EventsStay) where
         → KilledOne old new packet n from
     killed_answer n from number w subject few low d kill = record {
       few = few;
-      front = d.made.front;
-      sizes = d.made.sizes;
       note = record { number = number; event = Destroy met.id w };
-      own = d.made.own;
-      spare = d.made.spare;
+      went = d.made.went;
       high = d.made.high;
       kill = record {
         happened = record { event = d.made.happened; later = omega (arith, low, d.made.low) };
         found = record { subject = subject; direction = met.direction };
         live = record {
           within = d.found.within;
-          fact = live_again again old new packet met number subject known d.made.front is d.found.fact;
+          fact = live_again again old new packet met number subject known d.made.went.front is d.found.fact;
         };
         kill = kill;
       };
@@ -246,13 +239,15 @@ is_kill why.Flushed s packet met at subject ends = absurd ends
 
 module _ (states : StatesStay) (events : EventsStay) (again : FoundAreFoundAgain) where
   -- after four kills an entry that is to end stands
-  pub contended : (setup : Setup) (w : Why) (s : Sight) (packet : FlowPacket) (met : Met) (at from : ℕ) → IsKnown s → IsMet packet met s
+  pub contended : RestingIsSeeing → (setup : Setup) (w : Why) (s : Sight) (packet : FlowPacket) (met : Met) (at from : ℕ) → IsKnown s → IsMet packet met s
       → EndsEntry packet met at w s → from ≤ at → Answers setup s s packet 4 from (class.Contended met.id at)
-  contended setup w s packet met at from known is ends low =
-      silent states events setup s s packet 4 from at (class.Contended met.id at) (saw_refl states events s) (within w ends) refl
-      (λ given mark kills flow count killed le.
-      flow_answer states events s.front s.front (starts_refl s.front) mark given packet kills [] _ flow (omega (arith, count)) killed
-      (count, to_end w ends mark kills le))
+  contended resting setup w s packet met at from known is ends low =
+      silent states events setup s s packet 4 from at (class.Contended met.id at) (resting s) (within w ends) refl
+      (λ given mark kills flow count killed le. record {
+        four = omega (arith, length-append kills [], count);
+        stands = flow_answer states events s.front s.front (starts_refl s.front) mark given packet kills [] _ flow (omega (arith, count)) killed
+            (to_end w ends mark kills le);
+      })
     where
       within : (w : Why) → EndsEntry packet met at w s → at ≤ length s.front
       within (why.Expired moment) e = e.1.within
@@ -275,24 +270,24 @@ module _ (states : StatesStay) (events : EventsStay) (again : FoundAreFoundAgain
   pub left_as_it_is : (setup : Setup) (o : Outcome) (k : Class) (old new : Sight) (packet : FlowPacket) (met : Met) (n at : ℕ) → n ≤ 4 → IsKnown new
       → IsMet packet met old → Leaves met.id met.direction packet.segment packet.moment o old new at → points_of k ≡ at ∷ []
       → ((given : Given) (mark : ℕ) (own : List Note)
-      → AnswersFlow new.front mark given own (λ p killed from rest. LeavesEntry new.front from p rest met.id at o)
+      → AnswersFlow new.front mark given own (λ p from rest. LeavesEntry new.front from p rest met.id at o)
       → FitsFrame setup old.sizes new.front mark given own k)
       → Answers setup old new packet n (length old.front) k
   left_as_it_is setup o k old new packet met n at few known is left points fits =
       silent states events setup old new packet n (length old.front) at k left.0.saw left.0.fact.within points
       (λ given mark kills flow count killed le.
       fits given mark (kills ++ [])
-      (flow_answer states events new.front old.front left.0.saw.front mark given packet kills [] _ flow (omega (arith, count)) killed
-      (stands states events again old new packet met known is (length old.front) at o left.0.saw.front left.0.fact mark kills le
+      (flow_answer states events new.front old.front left.0.saw.went.front mark given packet kills [] _ flow (omega (arith, count)) killed
+      (stands states events again old new packet met known is (length old.front) at o left.0.saw.went.front left.0.fact mark kills le
       left.0.low)))
 
   -- a packet touched the entry that it met, and then this came of its payload
-  pub touched : (setup : Setup) (old mid new : Sight) (packet : FlowPacket) (met : Met) (n number : ℕ) (before : Record) (ftp : Ftp) → n ≤ 4
+  pub touched : GoingOnAddsUp → (setup : Setup) (old mid new : Sight) (packet : FlowPacket) (met : Met) (n number : ℕ) (before : Record) (ftp : Ftp) → n ≤ 4
       → IsKnown new → IsMet packet met old → Touches met.id met.direction packet.segment packet.moment old mid number before
       → Follows packet (record { subject = before; direction = met.direction }) number mid new ftp
       → Answers setup old new packet n (length old.front) (class.Passed (label_of before met.direction) before.id (number + 1) ftp)
-  touched setup old mid new packet met n number before ftp few known is touches follows =
-      touched_answer states events again old new packet met known is setup mid n (length old.front) number _ touches.after before ftp few
+  touched going setup old mid new packet met n number before ftp few known is touches follows =
+      touched_answer states events again old new packet met known is going setup mid n (length old.front) number _ touches.after before ftp few
       (omega arith) touches.made touches.found
       (ap (λ i. Touch i met.direction packet.segment packet.moment touches.after)
       (sym (has_id_of met.id (after mid.front number) before touches.found.fact)))

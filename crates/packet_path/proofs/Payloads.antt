@@ -1,59 +1,50 @@
 -- What comes of the payload of a packet that an entry accepted.
-use Rattle.std.proofs.Common.{ℕ, ◌<◌, ◌≤◌, [], ◌∷◌, length, Option, Some, None, refl, sym, subst, ◌∙◌, arith}
+use Rattle.std.proofs.Common.{ℕ, ◌<◌, ◌≤◌, [], ◌∷◌, length, Option, Some, None, refl, subst, arith}
 use Rattle.std.specs.List.{AllByRecursion}
-use Rattle.std.proofs.lemmas.List.{append-nil}
 use Rattle.expect_table.specs.declared.expectation.Want.{Want}
 use Rattle.expect_table.specs.declared.table.AddOutcome.{AddOutcome}
 use Rattle.expect_table.specs.declared.table.AddOutcome.TheVariants as add
 use Rattle.history_book.specs.declared.sizes.Sizes.{Sizes}
 use Rattle.history_book.specs.declared.verdict.Ftp.{Ftp}
 use Rattle.history_book.specs.declared.verdict.Ftp.TheVariants as ftp
-use Rattle.history_book.specs.Desk.{IsGoneAt, Saw}
+use Rattle.history_book.specs.Desk.{IsGoneAt}
+use Rattle.history_book.specs.WentOn.{Saw}
 use Rattle.history_book.specs.DeskExpectations.{AddGives, AddsNothing, MakesExpect}
 use Rattle.history_book.specs.Point.{At}
 use Rattle.history_book.specs.Sight.{Sight}
+use Rattle.history_book.specs.SightLaws.{RestingIsSeeing}
 use Rattle.history_book.specs.State.{Found}
-use Rattle.packet_path.specs.declared.packet.FlowPacket.{FlowPacket}
+use Rattle.packet_path.specs.Packet.{FlowPacket}
 use Rattle.packet_path.specs.FtpPart.{Asks, NamesNone, FtpFits, RefusesEnd, expect_by}
 use Rattle.packet_path.specs.Internal.Attempt.{Follows}
-use Rattle.packet_path.specs.Verdict.{ftp_points}
-use Rattle.packet_path.proofs.Attempts.{starts_refl}
+use Rattle.history_book.specs.Mark.{ftp_points}
 
 module _ (packet : FlowPacket) (found : Found) (touched : ℕ) where
   -- no event was made
   silently : (old new : Sight) (part : Ftp) → Saw old new → AllByRecursion (λ p. p ≤ length new.front) (ftp_points part)
       → FtpFits old.sizes new.front packet found touched [] part → Follows packet found touched old new part
   silently old new part saw points fits = record {
-    front = saw.front;
-    sizes = saw.sizes;
     further = [];
-    own = saw.own ∙ sym (append-nil old.own);
+    went = saw.went;
     few = omega arith;
-    spare = omega (arith, saw.spare);
     points = points;
     fits = fits;
   }
 
-  still : (s : Sight) → Saw s s
-  still s = record { front = starts_refl s.front; own = refl; spare = refl; sizes = refl }
+  pub follows_nothing : RestingIsSeeing → (s : Sight) → NamesNone packet found → Follows packet found touched s s ftp.Nothing
+  follows_nothing resting s asks = silently s s ftp.Nothing (resting s) tt (refl, asks)
 
-  pub follows_nothing : (s : Sight) → NamesNone packet found → Follows packet found touched s s ftp.Nothing
-  follows_nothing s asks = silently s s ftp.Nothing (still s) tt (refl, asks)
-
-  pub follows_foreign : (s : Sight) → Asks packet found None → Follows packet found touched s s ftp.Address
-  follows_foreign s asks = silently s s ftp.Address (still s) tt (refl, asks)
+  pub follows_foreign : RestingIsSeeing → (s : Sight) → Asks packet found None → Follows packet found touched s s ftp.Address
+  follows_foreign resting s asks = silently s s ftp.Address (resting s) tt (refl, asks)
 
   module _ (old new : Sight) (want : Want) (asked : Asks packet found (Some want)) (later : touched < length old.front) where
     -- the entry expects it
     pub follows_expected : (id : ℕ) (replaced : Option ℕ) → MakesExpect found.subject.id want packet.moment old new id replaced
         → Follows packet found touched old new (ftp.Expected id)
     follows_expected id replaced (made, same) = record {
-      front = made.front;
-      sizes = made.sizes;
       further = expect_by packet found id want replaced ∷ [];
-      own = made.own;
+      went = made.went;
       few = omega arith;
-      spare = made.spare;
       points = tt;
       fits = record {
         want = want;
@@ -72,7 +63,7 @@ module _ (packet : FlowPacket) (found : Found) (touched : ℕ) where
       own = refl;
       later = omega (arith, later, looked.low);
       gives = subst (λ (z : Sizes). At new.front at (AddGives z.expectations at found.subject.id want packet.moment outcome))
-          looked.saw.sizes looked.fact;
+          looked.saw.went.pass.sizes looked.fact;
     }
 
     pub follows_clash : (id at : ℕ) → AddsNothing found.subject.id want packet.moment (add.Clash id) old new at

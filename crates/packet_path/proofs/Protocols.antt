@@ -10,9 +10,9 @@ use Rattle.packet_headers.specs.ClassifySound.{protocol_of}
 -- the test passes exactly where the protocols are equal
 pub same_protocol : (s : Segment) (k : PartKind)
     → (is_of_protocol s k ≡ true → proto_of k ≡ protocol_of s) × (proto_of k ≡ protocol_of s → is_of_protocol s k ≡ true)
-same_protocol (segment.Tcp flags) (kind.Tcp state) = (λ h. refl, λ h. refl)
-same_protocol (segment.Tcp flags) kind.Udp = (λ h. cc, λ h. cc)
-same_protocol (segment.Tcp flags) kind.Icmp = (λ h. cc, λ h. cc)
+same_protocol (segment.Tcp k) (kind.Tcp state) = (λ h. refl, λ h. refl)
+same_protocol (segment.Tcp k) kind.Udp = (λ h. cc, λ h. cc)
+same_protocol (segment.Tcp k) kind.Icmp = (λ h. cc, λ h. cc)
 same_protocol segment.Udp (kind.Tcp state) = (λ h. cc, λ h. cc)
 same_protocol segment.Udp kind.Udp = (λ h. refl, λ h. refl)
 same_protocol segment.Udp kind.Icmp = (λ h. cc, λ h. cc)

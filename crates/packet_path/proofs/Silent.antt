@@ -41,7 +41,7 @@ module _ (setup : Setup) (sizes : Sizes) (log : List Event) (mark : ℕ) (given 
   untracked_only own (class.Clash id at translated) why is f = let e = f.flow.headers in cc
   untracked_only own (class.NoPort from to) why is f = let e = f.flow.headers in cc
   untracked_only own (class.Full at) why is f = let e = f.flow.headers in cc
-  untracked_only own (class.Contended id at) why is f = let e = f.flow.headers in cc
+  untracked_only own (class.Contended id at) why is f = let e = f.stands.flow.headers in cc
 
   pub invalid_only : (own : List Note) (answer : Class) → given.packet ≡ packet.Invalid
       → FitsFrame setup sizes log mark given own answer → (own ≡ []) × (answer ≡ class.BadHeader)
@@ -59,7 +59,7 @@ module _ (setup : Setup) (sizes : Sizes) (log : List Event) (mark : ℕ) (given 
   invalid_only own (class.Clash id at translated) is f = let e = f.flow.headers in cc
   invalid_only own (class.NoPort from to) is f = let e = f.flow.headers in cc
   invalid_only own (class.Full at) is f = let e = f.flow.headers in cc
-  invalid_only own (class.Contended id at) is f = let e = f.flow.headers in cc
+  invalid_only own (class.Contended id at) is f = let e = f.stands.flow.headers in cc
 
   pub error_silent : (inner : Tuple) (outer : ℕ) (own : List Note) (answer : Class) → given.packet ≡ packet.Error inner outer
       → FitsFrame setup sizes log mark given own answer → own ≡ []
@@ -77,4 +77,4 @@ module _ (setup : Setup) (sizes : Sizes) (log : List Event) (mark : ℕ) (given 
   error_silent inner outer own (class.Clash id at translated) is f = let e = f.flow.headers in cc
   error_silent inner outer own (class.NoPort from to) is f = let e = f.flow.headers in cc
   error_silent inner outer own (class.Full at) is f = let e = f.flow.headers in cc
-  error_silent inner outer own (class.Contended id at) is f = let e = f.flow.headers in cc
+  error_silent inner outer own (class.Contended id at) is f = let e = f.stands.flow.headers in cc

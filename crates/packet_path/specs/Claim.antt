@@ -6,7 +6,7 @@ use Rattle.history_book.specs.declared.event.Event.TheVariants.{Claim}
 use Rattle.history_book.specs.declared.event.Note.{Note}
 use Rattle.history_book.specs.Notes.{Happened}
 use Rattle.history_book.specs.Point.{At}
-use Rattle.packet_path.specs.declared.packet.FlowPacket.{FlowPacket}
+use Rattle.packet_path.specs.Packet.{FlowPacket}
 
 -- the packet's Claim of an expectation of this master, as this event
 abbrev pub claim_by : FlowPacket → (number expectation master : ℕ) → Note

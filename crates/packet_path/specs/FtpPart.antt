@@ -21,7 +21,7 @@ use Rattle.history_book.specs.Legality.{same_proto}
 use Rattle.history_book.specs.Notes.{Happened}
 use Rattle.history_book.specs.Point.{At}
 use Rattle.history_book.specs.State.{Found, record_of}
-use Rattle.packet_path.specs.declared.packet.FlowPacket.{FlowPacket}
+use Rattle.packet_path.specs.Packet.{FlowPacket}
 
 -- the packet is an answer, or one was seen before it
 abbrev pub is_established : Label → Bool
@@ -39,13 +39,13 @@ is_read packet found =
 -- no payload is read, or it names no end
 abbrev pub NamesNone : FlowPacket → Found → Type 0
 NamesNone packet found =
-    (is_read packet found ≡ false) ⊎ ((end : NamedEnd) → NamesEnd found.direction packet.payload.now end → ⊥)
+    (is_read packet found ≡ false) ⊎ ((end : NamedEnd) → NamesEnd found.direction packet.payload end → ⊥)
 
 -- the payload is read and names an end, for which this is wanted; a foreign end is named, and nothing is wanted for it
 pub record Asks (packet : FlowPacket) (found : Found) (want : Option Want) : Type 0 where
   pub read : is_read packet found ≡ true
   pub end : NamedEnd
-  pub names : NamesEnd found.direction packet.payload.now end
+  pub names : NamesEnd found.direction packet.payload end
   pub wants : want_of found.direction found.subject.original found.subject.reply end ≡ want
 
 -- the entry's Expect, as event n

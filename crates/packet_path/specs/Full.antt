@@ -8,7 +8,7 @@ use Rattle.history_book.specs.declared.verdict.Translated.{Translated}
 use Rattle.history_book.specs.Point.{At}
 use Rattle.history_book.specs.Sizes.{fewest_of_full}
 use Rattle.packet_path.specs.Begun.{WouldBegin}
-use Rattle.packet_path.specs.declared.packet.FlowPacket.{FlowPacket}
+use Rattle.packet_path.specs.Packet.{FlowPacket}
 use Rattle.packet_path.specs.declared.setup.Setup.{Setup}
 
 -- no further event; a flow would begin with the packet, with some reply tuple that was found, and later, at this

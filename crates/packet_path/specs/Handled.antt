@@ -1,26 +1,24 @@
 -- What handling one frame leaves of a desk.
-use Rattle.std.specs.Prelude.{◌≡◌, ◌+◌, ◌≤◌, List, [], ◌++◌, length}
+use Rattle.std.specs.Prelude.{◌≡◌, ◌≤◌, List, [], length}
 use Rattle.std.specs.List.{AllByRecursion}
 use Rattle.history_book.specs.declared.event.Note.{Note}
 use Rattle.history_book.specs.declared.verdict.Verdict.{Verdict}
-use Rattle.history_book.specs.Point.{StartsWith}
+use Rattle.history_book.specs.Mark.{points_of}
 use Rattle.history_book.specs.Sight.{Sight}
+use Rattle.history_book.specs.WentOn.{WentOn}
 use Rattle.packet_path.specs.Packet.{Given}
 use Rattle.packet_path.specs.declared.setup.Setup.{Setup}
-use Rattle.packet_path.specs.Verdict.{FitsFrame, points_of}
+use Rattle.packet_path.specs.Verdict.{FitsFrame}
 
--- Of a tracker that is set up so: the desk saw no less than before. Its further own events are those of the
--- verdict, for which it had room, and the verdict fits the frame on the new front: nothing of it is older than
--- what the desk had seen, nor later than what it sees now. No place is held or owed.
+-- Of a tracker that is set up so: the desk went on by the events of the verdict, at most eight, and the verdict fits the
+-- frame on the new front: nothing of it is older than what the desk had seen, nor later than what it sees now. No place is
+-- held or owed.
 pub record Handled (setup : Setup) (given : Given) (old new : Sight) (verdict : Verdict) : Type 0 where
-  pub front : StartsWith new.front old.front
-  pub sizes : new.sizes ≡ old.sizes
   pub own : List Note
-  pub added : new.own ≡ old.own ++ own
+  pub went : WentOn old new own
   pub first : verdict.first ≡ length old.own
   pub made : verdict.made ≡ length own
   pub few : length own ≤ 8
-  pub spare : old.spare ≤ new.spare + length own
   pub fits : FitsFrame setup old.sizes new.front (length old.front) given own verdict.class
   pub points : AllByRecursion (λ p. p ≤ length new.front) (points_of verdict.class)
   pub held : new.held ≡ []

@@ -13,7 +13,7 @@ use Rattle.history_book.specs.Notes.{Happened}
 use Rattle.proto_rules.specs.Start.{start_of}
 use Rattle.packet_path.specs.Begun.{WouldBegin}
 use Rattle.packet_path.specs.Claim.{ClaimsIfExpected}
-use Rattle.packet_path.specs.declared.packet.FlowPacket.{FlowPacket}
+use Rattle.packet_path.specs.Packet.{FlowPacket}
 use Rattle.packet_path.specs.declared.setup.Setup.{Setup}
 
 -- an entry with this reply tuple has the helper: it is of TCP, and its server has one of the ports

@@ -7,7 +7,9 @@ use Rattle.packet_headers.specs.declared.frame.Span.{Span}
 use Rattle.packet_headers.specs.declared.packet.Untracked.{Untracked}
 use Rattle.packet_headers.specs.declared.packet.Untracked.TheVariants as untracked
 use Rattle.packet_headers.specs.Classify.{packet_of}
-use Rattle.packet_path.specs.declared.packet.FlowPacket.{FlowPacket}
+use Rattle.packet_path.specs.declared.packet.FlowView.{FlowView}
+use Rattle.tuple_core.specs.declared.Segment.{Segment}
+use Rattle.tuple_core.specs.declared.Tuple.{Tuple}
 use Rattle.history_book.specs.declared.verdict.UntrackedWhy.{UntrackedWhy}
 use Rattle.history_book.specs.declared.verdict.UntrackedWhy.TheVariants as why
 
@@ -36,12 +38,23 @@ given_by bytes packet moment = record { packet = packet; moment = moment; payloa
 unfoldable pub given_of : List ℕ → Frame → Given
 given_of bytes frame = given_by bytes (packet_of bytes frame) frame.moment
 
+-- a packet of a flow: its tuple, its segment, its moment in microseconds, and its payload as far as it was captured
+pub record FlowPacket : Type 0 where
+  pub tuple : Tuple
+  pub segment : Segment
+  pub moment : ℕ
+  pub payload : List ℕ
+
+-- the packet that the code reads, which has its payload on loan
+abbrev pub flow_packet : FlowView → FlowPacket
+flow_packet view = record { tuple = view.tuple; segment = view.segment; moment = view.moment; payload = view.payload.now }
+
 -- the frame is this packet of a flow
 pub record IsFlow (given : Given) (p : FlowPacket) : Type 0 where
   pub span : Span
   pub headers : given.packet ≡ packet.Flow p.tuple p.segment span
   pub moment : p.moment ≡ given.moment
-  pub payload : p.payload.now ≡ given.payload
+  pub payload : p.payload ≡ given.payload
 
 -- the headers' reason why a frame is not tracked
 abbrev pub cause_of : UntrackedWhy → Untracked

@@ -14,7 +14,7 @@ use Rattle.history_book.specs.Point.{At}
 use Rattle.history_book.specs.State.{Found, live_under}
 use Rattle.history_book.specs.declared.sizes.Sizes.{Sizes}
 use Rattle.packet_path.specs.FtpPart.{FtpFits}
-use Rattle.packet_path.specs.declared.packet.FlowPacket.{FlowPacket}
+use Rattle.packet_path.specs.Packet.{FlowPacket}
 
 -- the Touch of the entry that was found, by this packet
 abbrev pub touch_by : FlowPacket → Found → Part → Event

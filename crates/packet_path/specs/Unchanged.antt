@@ -9,7 +9,7 @@ use Rattle.history_book.specs.declared.event.Event.{Event}
 use Rattle.history_book.specs.declared.event.Note.{Note}
 use Rattle.history_book.specs.Point.{At}
 use Rattle.history_book.specs.State.{Found, live_under}
-use Rattle.packet_path.specs.declared.packet.FlowPacket.{FlowPacket}
+use Rattle.packet_path.specs.Packet.{FlowPacket}
 
 -- no further event; nothing is live under the packet's tuple at this point from k on, and no entry begins
 -- with its segment

@@ -1,27 +1,24 @@
 -- When a verdict fits a frame and the events that the frame made.
-use Rattle.std.specs.Prelude.{◌≡◌, ℕ, ◌+◌, ◌≤◌, ◌⊎◌, true, false, Some, None, List, [], ◌∷◌, ◌++◌, length, option_to_list}
+use Rattle.std.specs.Prelude.{◌≡◌, ℕ, ◌+◌, ◌≤◌, ◌⊎◌, true, false, Some, None, List, [], ◌∷◌, ◌++◌, length}
 use Rattle.history_book.specs.declared.event.Event.{Event}
 use Rattle.history_book.specs.declared.event.Event.TheVariants.{Destroy}
 use Rattle.history_book.specs.declared.event.Note.{Note}
 use Rattle.history_book.specs.declared.event.Why.TheVariants as why
 use Rattle.packet_headers.specs.declared.packet.Packet.TheVariants as packet
 use Rattle.proto_rules.specs.declared.Outcome.TheVariants as outcome
-use Rattle.packet_path.specs.declared.packet.FlowPacket.{FlowPacket}
+use Rattle.packet_path.specs.Packet.{FlowPacket}
 use Rattle.packet_path.specs.Packet.{Given, IsFlow, cause_of}
 use Rattle.packet_path.specs.Unchanged.{BeginsNothing, IsToEnd, LeavesEntry}
 use Rattle.packet_path.specs.Winner.{MeetsWinner}
 use Rattle.history_book.specs.declared.verdict.Class.{Class}
 use Rattle.history_book.specs.declared.verdict.Class.TheVariants as class
-use Rattle.history_book.specs.declared.verdict.Ftp.{Ftp}
-use Rattle.history_book.specs.declared.verdict.Ftp.TheVariants as ftp
-use Rattle.history_book.specs.declared.verdict.Translated.{Translated}
-use Rattle.history_book.specs.declared.verdict.Translated.TheVariants.{Chosen, Plain}
 use Rattle.packet_path.specs.Error.{AnswersError, IsMisdirected, IsRelated, LooksUp}
 use Rattle.packet_path.specs.Full.{FindsNoRoom}
 use Rattle.packet_path.specs.NoPort.{FindsNoNumber}
 use Rattle.packet_path.specs.declared.setup.Setup.{Setup}
 use Rattle.packet_path.specs.Made.{Makes}
-use Rattle.history_book.specs.Notes.{Happened, mark_past}
+use Rattle.history_book.specs.Mark.{mark_past}
+use Rattle.history_book.specs.Notes.{Happened}
 use Rattle.packet_path.specs.Passed.{Passes}
 use Rattle.history_book.specs.Point.{At}
 use Rattle.history_book.specs.State.{Found, live_under}
@@ -47,9 +44,9 @@ KillsAll log mark packet [] = Unit {0}
 KillsAll log mark packet (n ∷ ns) = Kills log mark packet n × KillsAll log (n.number + 1) packet ns
 
 -- it was a packet of a flow; its own events are at most four kills, and then the rest; and this is so of
--- the packet, the number of kills, the mark past them, and the rest
+-- the packet, the mark past the kills, and the rest
 pub record AnswersFlow (log : List Event) (mark : ℕ) (given : Given) (own : List Note)
-    (Fits : FlowPacket → ℕ → ℕ → List Note → Type 0) : Type 0 where
+    (Fits : FlowPacket → ℕ → List Note → Type 0) : Type 0 where
   pub packet : FlowPacket
   pub flow : IsFlow given packet
   pub kills : List Note
@@ -57,18 +54,23 @@ pub record AnswersFlow (log : List Event) (mark : ℕ) (given : Given) (own : Li
   pub all : own ≡ kills ++ rest
   pub few : length kills ≤ 4
   pub killed : KillsAll log mark packet kills
-  pub fits : Fits packet (length kills) (mark_past mark kills) rest
+  pub fits : Fits packet (mark_past mark kills) rest
+
+-- four kills stand, and no other event; and then an entry that the packet would end as well
+pub record Contends (log : List Event) (mark : ℕ) (given : Given) (own : List Note) (id at : ℕ) : Type 0 where
+  pub four : length own ≡ 4
+  pub stands : AnswersFlow log mark given own (λ p k rest. IsToEnd log k p rest id at)
 
 -- The class fits what the tracker was given of a frame and the events that the frame made. The headers
--- alone decide where it is not tracked or a header is wrong. Before Contended exactly four kills stand.
+-- alone decide where it is not tracked or a header is wrong.
 abbrev pub FitsFrame : Setup → Sizes → List Event → ℕ → Given → List Note → Class → Type 0
 FitsFrame setup sizes log mark given own (class.Untracked why) =
     (given.packet ≡ packet.Untracked (cause_of why)) × (own ≡ [])
 FitsFrame setup sizes log mark given own class.BadHeader = (given.packet ≡ packet.Invalid) × (own ≡ [])
 FitsFrame setup sizes log mark given own (class.NoEntry at) =
-    AnswersFlow log mark given own (λ p killed k rest. BeginsNothing log k p rest at)
+    AnswersFlow log mark given own (λ p k rest. BeginsNothing log k p rest at)
 FitsFrame setup sizes log mark given own (class.BadState id at) =
-    AnswersFlow log mark given own (λ p killed k rest. LeavesEntry log k p rest id at outcome.Invalid)
+    AnswersFlow log mark given own (λ p k rest. LeavesEntry log k p rest id at outcome.Invalid)
 FitsFrame setup sizes log mark given own (class.ErrorLost at) =
     AnswersError given own (λ inner outer. LooksUp log mark inner at None)
 FitsFrame setup sizes log mark given own (class.ErrorAddress id at) =
@@ -76,50 +78,18 @@ FitsFrame setup sizes log mark given own (class.ErrorAddress id at) =
 FitsFrame setup sizes log mark given own (class.Error direction id at) =
     AnswersError given own (λ inner outer. IsRelated log mark inner outer direction id at)
 FitsFrame setup sizes log mark given own (class.Made id at translated unclaimed) =
-    AnswersFlow log mark given own (λ p killed k rest. Makes setup log k p rest (record { id = id; at = at; translated = translated; unclaimed = unclaimed }))
+    AnswersFlow log mark given own (λ p k rest. Makes setup log k p rest (record { id = id; at = at; translated = translated; unclaimed = unclaimed }))
 FitsFrame setup sizes log mark given own (class.Passed label id at ftp) =
-    AnswersFlow log mark given own (λ p killed k rest. Passes sizes log k p rest (record { label = label; id = id; at = at; ftp = ftp }))
+    AnswersFlow log mark given own (λ p k rest. Passes sizes log k p rest (record { label = label; id = id; at = at; ftp = ftp }))
 FitsFrame setup sizes log mark given own (class.Ignored id at) =
-    AnswersFlow log mark given own (λ p killed k rest. LeavesEntry log k p rest id at outcome.Ignore)
+    AnswersFlow log mark given own (λ p k rest. LeavesEntry log k p rest id at outcome.Ignore)
 FitsFrame setup sizes log mark given own (class.Merged id at translated) =
-    AnswersFlow log mark given own (λ p killed k rest. MeetsWinner setup log k p rest (record { id = id; at = at; translated = translated; merged = true }))
+    AnswersFlow log mark given own (λ p k rest. MeetsWinner setup sizes log k p rest (record { id = id; at = at; translated = translated; merged = true }))
 FitsFrame setup sizes log mark given own (class.Clash id at translated) =
-    AnswersFlow log mark given own (λ p killed k rest. MeetsWinner setup log k p rest (record { id = id; at = at; translated = translated; merged = false }))
+    AnswersFlow log mark given own (λ p k rest. MeetsWinner setup sizes log k p rest (record { id = id; at = at; translated = translated; merged = false }))
 FitsFrame setup sizes log mark given own (class.NoPort from to) =
-    AnswersFlow log mark given own (λ p killed k rest. FindsNoNumber setup log k p rest from to)
+    AnswersFlow log mark given own (λ p k rest. FindsNoNumber setup log k p rest from to)
 FitsFrame setup sizes log mark given own (class.Full at) =
-    AnswersFlow log mark given own (λ p killed k rest. FindsNoRoom setup sizes log k p rest at)
+    AnswersFlow log mark given own (λ p k rest. FindsNoRoom setup sizes log k p rest at)
 FitsFrame setup sizes log mark given own (class.Contended id at) =
-    AnswersFlow log mark given own (λ p killed k rest. (killed ≡ 4) × IsToEnd log k p rest id at)
-
--- the point that a translation names
-abbrev pub translated_points : Translated → List ℕ
-translated_points Plain = []
-translated_points (Chosen reply taken_at) = option_to_list taken_at
-
--- the points that what came of a payload names
-abbrev pub ftp_points : Ftp → List ℕ
-ftp_points ftp.Nothing = []
-ftp_points (ftp.Expected id) = []
-ftp_points ftp.Address = []
-ftp_points (ftp.Clash id at) = at ∷ []
-ftp_points (ftp.Full at) = at ∷ []
-ftp_points (ftp.Gone at) = at ∷ []
-
--- the points that a verdict names
-abbrev pub points_of : Class → List ℕ
-points_of (class.Untracked why) = []
-points_of class.BadHeader = []
-points_of (class.NoEntry at) = at ∷ []
-points_of (class.BadState id at) = at ∷ []
-points_of (class.ErrorLost at) = at ∷ []
-points_of (class.ErrorAddress id at) = at ∷ []
-points_of (class.Error direction id at) = at ∷ []
-points_of (class.Made id at translated unclaimed) = at ∷ (option_to_list unclaimed ++ translated_points translated)
-points_of (class.Passed label id at payload) = at ∷ ftp_points payload
-points_of (class.Ignored id at) = at ∷ []
-points_of (class.Merged id at translated) = at ∷ translated_points translated
-points_of (class.Clash id at translated) = at ∷ translated_points translated
-points_of (class.NoPort from to) = from ∷ to ∷ []
-points_of (class.Full at) = at ∷ []
-points_of (class.Contended id at) = at ∷ []
+    Contends log mark given own id at

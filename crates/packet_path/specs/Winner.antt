@@ -1,10 +1,11 @@
 -- A packet that would begin a flow, and meets an entry that has one of the flow's tuples.
-use Rattle.std.specs.Prelude.{◌≡◌, ℕ, ◌≤◌, Bool, true, ◌&&◌, Option, Some, List, []}
+use Rattle.std.specs.Prelude.{◌≡◌, ℕ, ◌<◌, ◌≤◌, Bool, true, ◌&&◌, Option, Some, List, [], length}
 use Rattle.tuple_core.specs.declared.Proto.TheVariants as proto
 use Rattle.tuple_core.specs.declared.Tuple.{Tuple}
 use Rattle.history_book.specs.declared.event.Event.{Event}
 use Rattle.history_book.specs.declared.event.Note.{Note}
 use Rattle.history_book.specs.declared.record.Record.{Record}
+use Rattle.history_book.specs.declared.sizes.Sizes.{Sizes}
 use Rattle.history_book.specs.declared.verdict.Translated.{Translated}
 use Rattle.history_book.specs.declared.verdict.Translated.TheVariants.{Plain, Chosen}
 use Rattle.history_book.specs.Legality.{same_proto}
@@ -13,7 +14,7 @@ use Rattle.history_book.specs.Record.{has_original, has_reply, has_tuple}
 use Rattle.history_book.specs.State.{Found, winner}
 use Rattle.packet_path.specs.Begun.{WouldBegin}
 use Rattle.packet_path.specs.Claim.{ClaimsIfExpected}
-use Rattle.packet_path.specs.declared.packet.FlowPacket.{FlowPacket}
+use Rattle.packet_path.specs.Packet.{FlowPacket}
 use Rattle.packet_path.specs.declared.setup.Setup.{Setup}
 
 -- the flow is of UDP, and its two tuples are those of the entry, in this order: the packet is merged into it
@@ -36,8 +37,9 @@ pub record Meeting : Type 0 where
 
 -- No further event but a Claim, where the packet was expected; one that is merged makes none. A flow would begin with
 -- the packet, which was then looked for among the expectations; and later, at this point, the entry is the one that
--- has the packet's tuple, else the one that has the reply tuple. No entry is made, so the master is nobody's.
-pub record MeetsWinner (setup : Setup) (log : List Event) (k : ℕ) (packet : FlowPacket) (rest : List Note)
+-- has the packet's tuple, else the one that has the reply tuple. There a place was had for the flow, so fewer entries
+-- are live than there are places. No entry is made, so the master is nobody's.
+pub record MeetsWinner (setup : Setup) (sizes : Sizes) (log : List Event) (k : ℕ) (packet : FlowPacket) (rest : List Note)
     (said : Meeting) : Type 0 where
   pub reply : Tuple
   pub found_at : ℕ
@@ -51,3 +53,4 @@ pub record MeetsWinner (setup : Setup) (log : List Event) (k : ℕ) (packet : Fl
   pub named : found.subject.id ≡ said.id
   pub merge : is_merged packet.tuple reply found.subject ≡ said.merged
   pub new : IsNewWinner k said.translated packet.tuple found.subject
+  pub room : At log said.at (λ s. length s.records < sizes.entries)

@@ -4,17 +4,19 @@
 ghost use Rattle.std.specs.Prelude.{◌≡◌, ℕ, ◌+◌, ◌<◌, ◌≤◌, ◌^◌, ◌&&◌, if◌then◌else◌, true, None, Some, [], length};
 ghost use Rattle.std.specs.List.{AllByRecursion};
 ghost use Rattle.history_book.specs.declared.verdict.Class.TheVariants.{Passed};
-ghost use Rattle.history_book.specs.Desk.{SamePlaces, Saw};
+ghost use Rattle.history_book.specs.Desk.{SamePlaces};
+ghost use Rattle.history_book.specs.WentOn.{Saw};
 ghost use Rattle.history_book.specs.Label.{label_of};
 ghost use Rattle.history_book.specs.Sight.{IsKnown};
 ghost use Rattle.nat_setup.specs.Rule.{IsLawfulRule};
 ghost use Rattle.packet_path.specs.Internal.Attempt.{Answers, AttemptSays, EndsEntry, IsFoundFor, IsReplyOf};
 ghost use Rattle.packet_path.specs.Internal.Attempt.{IsClassified, IsMet};
 ghost use Rattle.history_book.specs.Places.{HoldsNothing, HoldsOne};
+ghost use Rattle.packet_path.specs.Packet.{flow_packet};
 
 use crate::begin::begin_flow;
 use crate::laws::same_protocol_is_equality;
-use crate::packet::FlowPacket;
+use crate::packet::FlowView;
 use crate::payload::follow_payload;
 use crate::setup::Setup;
 use history_book::desk::Desk;
@@ -27,6 +29,7 @@ use history_book::laws::{
 use history_book::outcome::{FindOutcome, KillOutcome, TouchOutcome};
 use history_book::places::{give_up, one_hold_has_its_id};
 use history_book::record::Record;
+use history_book::sight_laws::{going_on_adds_up, seeing_adds_up};
 use history_book::verdict::{Class, Ftp};
 use std::sync::Wait;
 use tuple_core::Direction;
@@ -67,23 +70,25 @@ fn passed(before: &Record, direction: Direction, number: u64, ftp: Ftp) -> Class
 }
 
 /// Destroys the entry that a packet met and resets.
-fn reset_entry<R: Wait, D: Desk>(rt: &R, desk: &mut D, packet: &FlowPacket, met: &Met) -> Attempt
-    requires classified { IsClassified packet.now }
-    requires met { IsMet packet.now met.now (D.sight desk.old) }
+fn reset_entry<R: Wait, D: Desk>(rt: &R, desk: &mut D, packet: &FlowView, met: &Met) -> Attempt
+    requires classified { IsClassified (flow_packet packet.now) }
+    requires met { IsMet (flow_packet packet.now) met.now (D.sight desk.old) }
     requires spare { 1 ≤ (D.sight desk.old).spare }
     requires knows { IsKnown (D.sight desk.old) }
     ensures says { (setup : Setup) (killed from : ℕ) → killed ≤ 4 → from ≤ length (D.sight desk.old).front →
-        AttemptSays setup (D.sight desk.old) (D.sight desk.new) packet.now killed from result }
+        AttemptSays setup (D.sight desk.old) (D.sight desk.new) (flow_packet packet.now) killed from result }
     ensures places { SamePlaces (D.sight desk.old) (D.sight desk.new) }
     ensures knows { IsKnown (D.sight desk.new) }
 {
     events_stay();
     found_are_found_again();
+    going_on_adds_up();
     found_keep_their_protocol();
     live_records_have_the_protocol();
     one_hold_has_its_id();
     records_are_of_one_protocol();
     same_protocol_is_equality();
+    seeing_adds_up();
     states_stay();
     let why = Why::Reset {
         segment: packet.segment,
@@ -93,7 +98,8 @@ fn reset_entry<R: Wait, D: Desk>(rt: &R, desk: &mut D, packet: &FlowPacket, met:
         KillOutcome::Killed { number, subject } => {
             Attempt::Done(passed(&subject, met.direction, number, Ftp::Nothing))
         }
-        KillOutcome::Gone { .. } | KillOutcome::Not { .. } => Attempt::Again,
+        KillOutcome::Gone { .. } => Attempt::Again,
+        KillOutcome::Not { .. } => Attempt::Again,
     }
 }
 
@@ -102,30 +108,32 @@ fn reset_entry<R: Wait, D: Desk>(rt: &R, desk: &mut D, packet: &FlowPacket, met:
 fn end_entry<R: Wait, D: Desk>(
     rt: &R,
     desk: &mut D,
-    packet: &FlowPacket,
+    packet: &FlowView,
     met: &Met,
     kills: u8,
     at: u64,
     why: Why,
 ) -> Attempt
-    requires classified { IsClassified packet.now }
-    requires met { IsMet packet.now met.now (D.sight desk.old) }
+    requires classified { IsClassified (flow_packet packet.now) }
+    requires met { IsMet (flow_packet packet.now) met.now (D.sight desk.old) }
     requires few { kills ≤ 4 }
-    requires ends { EndsEntry packet.now met.now at why (D.sight desk.old) }
+    requires ends { EndsEntry (flow_packet packet.now) met.now at why (D.sight desk.old) }
     requires spare { 6 ≤ (D.sight desk.old).spare + kills }
     requires knows { IsKnown (D.sight desk.old) }
     ensures says { (setup : Setup) (from : ℕ) → from ≤ at → from ≤ length (D.sight desk.old).front →
-        AttemptSays setup (D.sight desk.old) (D.sight desk.new) packet.now kills from result }
+        AttemptSays setup (D.sight desk.old) (D.sight desk.new) (flow_packet packet.now) kills from result }
     ensures places { SamePlaces (D.sight desk.old) (D.sight desk.new) }
     ensures knows { IsKnown (D.sight desk.new) }
 {
     events_stay();
     found_are_found_again();
+    going_on_adds_up();
     found_keep_their_protocol();
     live_records_have_the_protocol();
     one_hold_has_its_id();
     records_are_of_one_protocol();
     same_protocol_is_equality();
+    seeing_adds_up();
     states_stay();
     let is_last = kills == 4;
     if is_last {
@@ -142,30 +150,32 @@ fn end_entry<R: Wait, D: Desk>(
 fn meet_entry<R: Wait, D: Desk>(
     rt: &R,
     desk: &mut D,
-    packet: &FlowPacket,
+    packet: &FlowView,
     met: &Met,
     kills: u8,
 ) -> Attempt
-    requires classified { IsClassified packet.now }
-    requires met { IsMet packet.now met.now (D.sight desk.old) }
+    requires classified { IsClassified (flow_packet packet.now) }
+    requires met { IsMet (flow_packet packet.now) met.now (D.sight desk.old) }
     requires few { kills ≤ 4 }
     requires spare { 6 ≤ (D.sight desk.old).spare + kills }
     requires knows { IsKnown (D.sight desk.old) }
     ensures says { (setup : Setup) → AttemptSays setup (D.sight desk.old) (D.sight desk.new)
-        packet.now kills (length (D.sight desk.old).front) result }
+        (flow_packet packet.now) kills (length (D.sight desk.old).front) result }
     ensures places { SamePlaces (D.sight desk.old) (D.sight desk.new) }
     ensures knows { IsKnown (D.sight desk.new) }
 {
     entries_keep_their_helper();
     events_stay();
     found_are_found_again();
+    going_on_adds_up();
     found_keep_their_protocol();
     live_records_have_the_protocol();
     one_hold_has_its_id();
     records_are_of_one_protocol();
     same_protocol_is_equality();
+    seeing_adds_up();
     states_stay();
-    let FlowPacket {
+    let FlowView {
         segment,
         moment,
         ..
@@ -205,21 +215,23 @@ fn meet_entry<R: Wait, D: Desk>(
 pub fn try_packet<R: Wait, D: Desk>(
     rt: &R,
     desk: &mut D,
-    packet: &FlowPacket,
+    packet: &FlowView,
     setup: &Setup,
     kills: u8,
 ) -> Attempt
     requires lawful { AllByRecursion IsLawfulRule setup.now.rules.items }
-    requires classified { IsClassified packet.now }
+    requires classified { IsClassified (flow_packet packet.now) }
     requires empty { HoldsNothing (D.sight desk.old) }
     requires few { kills ≤ 4 }
     requires spare { 6 ≤ (D.sight desk.old).spare + kills }
     ensures says { AttemptSays setup.now (D.sight desk.old) (D.sight desk.new)
-        packet.now kills (length (D.sight desk.old).front) result }
+        (flow_packet packet.now) kills (length (D.sight desk.old).front) result }
     ensures empty { HoldsNothing (D.sight desk.new) }
     ensures knows { IsKnown (D.sight desk.new) }
 {
     events_stay();
+    going_on_adds_up();
+    seeing_adds_up();
     states_stay();
     match desk.find(rt, &packet.tuple) {
         FindOutcome::Absent { at } => Attempt::Done(begin_flow(rt, desk, packet, setup, at)),

@@ -11,20 +11,23 @@ ghost use Rattle.history_book.specs.State.{live_under};
 ghost use Rattle.nat_setup.specs.Rule.{IsLawfulRule};
 ghost use Rattle.packet_path.specs.Internal.Attempt.{Answers, claimed_master, IsClassified};
 ghost use Rattle.history_book.specs.Places.{HoldsNothing, HoldsOne};
+ghost use Rattle.packet_path.specs.Packet.{flow_packet};
 ghost use Rattle.packet_path.specs.Internal.Attempt.{IsFoundFor, IsReplyOf, unclaimed_at};
 ghost use Rattle.packet_path.specs.Made.{is_helped};
 ghost use Rattle.proto_rules.specs.Start.{start_of};
 
 use crate::laws::same_protocol_is_equality;
-use crate::packet::FlowPacket;
+use crate::packet::FlowView;
 use crate::setup::Setup;
 use history_book::desk::Desk;
 use history_book::laws::{
-    absent_tuples_are_nobodys, events_may_happen, events_stay, late_entries_are_new, states_stay,
+    absent_tuples_are_nobodys, events_may_happen, events_stay, free_is_absent,
+    late_entries_are_new, states_stay, unused_places_are_room,
 };
 use history_book::outcome::{ClaimOutcome, ConfirmOutcome, TakeOutcome};
 use history_book::places::give_up;
 use history_book::record::Flow;
+use history_book::sight_laws::{going_on_adds_up, seeing_adds_up};
 use history_book::verdict::{Class, Translated};
 use nat_setup::translate::{TranslateOutcome, translate};
 use proto_rules::laws::entries_begin_fresh;
@@ -71,21 +74,21 @@ fn claimed_master(claim: ClaimOutcome) -> Option<u64>
 fn confirm_flow<R: Wait, D: Desk>(
     rt: &R,
     desk: &mut D,
-    packet: &FlowPacket,
+    packet: &FlowView,
     setup: &Setup,
     part: Part,
     found: &NewReply,
     place: u32,
     absent_at: u64,
 ) -> Class
-    requires classified { IsClassified packet.now }
+    requires classified { IsClassified (flow_packet packet.now) }
     requires starts { start_of packet.now.segment packet.now.moment ≡ Some part }
     requires valid { IsReplyOf packet.now.tuple found.now.reply }
     requires holds { HoldsOne (record { place = place; id = None }) (D.sight desk.old) }
     requires spare { 2 ≤ (D.sight desk.old).spare }
     ensures answers { (killed : ℕ) → killed ≤ 4 →
-        IsFoundFor setup.now packet.now (D.sight desk.old).front absent_at found.now →
-        Answers setup.now (D.sight desk.old) (D.sight desk.new) packet.now killed absent_at result }
+        IsFoundFor setup.now (flow_packet packet.now) (D.sight desk.old).front absent_at found.now →
+        Answers setup.now (D.sight desk.old) (D.sight desk.new) (flow_packet packet.now) killed absent_at result }
     ensures empty { HoldsNothing (D.sight desk.new) }
     ensures knows { IsKnown (D.sight desk.new) }
 {
@@ -93,9 +96,13 @@ fn confirm_flow<R: Wait, D: Desk>(
     entries_begin_fresh();
     events_may_happen();
     events_stay();
+    free_is_absent();
+    going_on_adds_up();
     late_entries_are_new();
     same_protocol_is_equality();
+    seeing_adds_up();
     states_stay();
+    unused_places_are_room();
     let claim = desk.claim(rt, &packet.tuple, packet.moment);
     let flow = Flow {
         original: packet.tuple,
@@ -130,7 +137,7 @@ fn made(found: &NewReply, id: u64, unclaimed: Option<u64>) -> Class
 }
 
 /// The class of a packet that would begin a flow, and met an entry that has one of the flow's tuples.
-fn met_winner(packet: &FlowPacket, translated: Translated, id: u64, both: bool, at: u64) -> Class
+fn met_winner(packet: &FlowView, translated: Translated, id: u64, both: bool, at: u64) -> Class
     ensures { result ≡ (if same_proto packet.now.tuple.proto proto.Udp && both
         then Merged id at translated else Clash id at translated) }
 {
@@ -145,24 +152,26 @@ fn met_winner(packet: &FlowPacket, translated: Translated, id: u64, both: bool, 
 fn place_flow<R: Wait, D: Desk>(
     rt: &R,
     desk: &mut D,
-    packet: &FlowPacket,
+    packet: &FlowView,
     setup: &Setup,
     part: Part,
     found: &NewReply,
     absent_at: u64,
 ) -> Class
-    requires classified { IsClassified packet.now }
+    requires classified { IsClassified (flow_packet packet.now) }
     requires starts { start_of packet.now.segment packet.now.moment ≡ Some part }
     requires valid { IsReplyOf packet.now.tuple found.now.reply }
     requires empty { HoldsNothing (D.sight desk.old) }
     requires spare { 2 ≤ (D.sight desk.old).spare }
     ensures answers { (killed : ℕ) → killed ≤ 4 →
-        IsFoundFor setup.now packet.now (D.sight desk.old).front absent_at found.now →
-        Answers setup.now (D.sight desk.old) (D.sight desk.new) packet.now killed absent_at result }
+        IsFoundFor setup.now (flow_packet packet.now) (D.sight desk.old).front absent_at found.now →
+        Answers setup.now (D.sight desk.old) (D.sight desk.new) (flow_packet packet.now) killed absent_at result }
     ensures empty { HoldsNothing (D.sight desk.new) }
     ensures knows { IsKnown (D.sight desk.new) }
 {
     events_stay();
+    going_on_adds_up();
+    seeing_adds_up();
     states_stay();
     match desk.take(rt) {
         TakeOutcome::Full { at } => Class::Full { at },
@@ -177,23 +186,25 @@ fn place_flow<R: Wait, D: Desk>(
 pub fn begin_flow<R: Wait, D: Desk>(
     rt: &R,
     desk: &mut D,
-    packet: &FlowPacket,
+    packet: &FlowView,
     setup: &Setup,
     absent_at: u64,
 ) -> Class
     requires lawful { AllByRecursion IsLawfulRule setup.now.rules.items }
-    requires classified { IsClassified packet.now }
+    requires classified { IsClassified (flow_packet packet.now) }
     requires absent { At (D.sight desk.old).front absent_at
         (λ s. live_under packet.now.tuple s ≡ None) }
     requires empty { HoldsNothing (D.sight desk.old) }
     requires spare { 2 ≤ (D.sight desk.old).spare }
     requires knows { IsKnown (D.sight desk.old) }
     ensures answers { (killed : ℕ) → killed ≤ 4 → Answers setup.now
-        (D.sight desk.old) (D.sight desk.new) packet.now killed absent_at result }
+        (D.sight desk.old) (D.sight desk.new) (flow_packet packet.now) killed absent_at result }
     ensures empty { HoldsNothing (D.sight desk.new) }
     ensures knows { IsKnown (D.sight desk.new) }
 {
     events_stay();
+    going_on_adds_up();
+    seeing_adds_up();
     states_stay();
     let Some(part) = start(packet.segment, packet.moment) else {
         return Class::NoEntry { at: absent_at };

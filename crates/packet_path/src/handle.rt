@@ -3,7 +3,7 @@
 ghost use Rattle.std.specs.Prelude.{◌≡◌, ℕ, ◌+◌, ◌<◌, ◌≤◌, ◌^◌, true, [], length, IfOk, OnErr};
 ghost use Rattle.std.specs.List.{AllByRecursion};
 ghost use Rattle.tuple_core.specs.Tuple.{is_valid};
-ghost use Rattle.history_book.specs.Desk.{Saw};
+ghost use Rattle.history_book.specs.WentOn.{Saw};
 ghost use Rattle.history_book.specs.Sight.{IsKnown};
 ghost use Rattle.nat_setup.specs.Rule.{IsLawfulRule};
 ghost use Rattle.packet_headers.specs.ClassifySound.{has_valid_tuple, HasItsProtocol, HasPayloadIn};
@@ -12,16 +12,18 @@ ghost use Rattle.packet_headers.specs.declared.packet.Packet.TheVariants.{Error}
 ghost use Rattle.packet_path.specs.Handled.{Handled};
 ghost use Rattle.packet_path.specs.Internal.Attempt.{IsClassified};
 ghost use Rattle.history_book.specs.Places.{HoldsNothing};
-ghost use Rattle.packet_path.specs.Packet.{bytes_in, cause_of, given_by, given_of, Given, IsFlow};
-ghost use Rattle.packet_path.specs.Verdict.{FitsFrame, points_of};
+ghost use Rattle.packet_path.specs.Packet.{bytes_in, cause_of, flow_packet, given_by, given_of, Given, IsFlow};
+ghost use Rattle.history_book.specs.Mark.{points_of};
+ghost use Rattle.packet_path.specs.Verdict.{FitsFrame};
 
 use crate::attempt::{Attempt, try_packet};
-use crate::packet::FlowPacket;
+use crate::packet::FlowView;
 use crate::setup::Setup;
 use history_book::desk::Desk;
 use history_book::laws::{events_stay, states_stay};
 use history_book::outcome::FindOutcome;
 use history_book::places::give_up;
+use history_book::sight_laws::{going_on_adds_up, seeing_adds_up};
 use history_book::verdict::{Class, UntrackedWhy, Verdict};
 use packet_headers::classify::classify;
 use packet_headers::frame::{Frame, Span};
@@ -30,22 +32,18 @@ use std::sync::Wait;
 use tuple_core::{NoMemory, Tuple, invert};
 
 /// Handles a packet of a flow: attempts are made until one says what became of it.
-fn handle_flow<R: Wait, D: Desk>(
-    rt: &R,
-    desk: &mut D,
-    packet: &FlowPacket,
-    setup: &Setup,
-) -> Verdict
+fn handle_flow<R: Wait, D: Desk>(rt: &R, desk: &mut D, packet: &FlowView, setup: &Setup) -> Verdict
     requires lawful { AllByRecursion IsLawfulRule setup.now.rules.items }
-    requires classified { IsClassified packet.now }
+    requires classified { IsClassified (flow_packet packet.now) }
     requires empty { HoldsNothing (D.sight desk.old) }
     requires spare { 6 ≤ (D.sight desk.old).spare }
     requires knows { IsKnown (D.sight desk.old) }
-    ensures handled { (given : Given) → IsFlow given packet.now →
+    ensures handled { (given : Given) → IsFlow given (flow_packet packet.now) →
         Handled setup.now given (D.sight desk.old) (D.sight desk.new) result }
     ensures knows { IsKnown (D.sight desk.new) }
 {
     events_stay();
+    going_on_adds_up();
     states_stay();
     let first = desk.made();
     let mut kills = 0;
@@ -79,6 +77,7 @@ fn error_class<R: Wait, D: Desk>(
     ensures empty { HoldsNothing (D.sight desk.new) }
     ensures knows { IsKnown (D.sight desk.new) }
 {
+    seeing_adds_up();
     states_stay();
     let looked_up = invert(inner);
     match desk.find(rt, &looked_up) {
@@ -141,6 +140,7 @@ fn handle_packet<R: Wait, D: Desk>(
         (D.sight desk.old) (D.sight desk.new) result }
     ensures knows { IsKnown (D.sight desk.new) }
 {
+    seeing_adds_up();
     let first = desk.made();
     let class = match packet {
         Packet::Flow {
@@ -148,7 +148,7 @@ fn handle_packet<R: Wait, D: Desk>(
             segment,
             payload,
         } => {
-            let packet = FlowPacket {
+            let packet = FlowView {
                 tuple: *tuple,
                 segment: *segment,
                 moment,

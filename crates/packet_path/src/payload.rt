@@ -8,14 +8,16 @@ ghost use Rattle.history_book.specs.Held.{held_id, is_held_for_entry};
 ghost use Rattle.history_book.specs.Sight.{IsKnown};
 ghost use Rattle.packet_path.specs.FtpPart.{is_established, is_read};
 ghost use Rattle.packet_path.specs.Internal.Attempt.{Follows, WantedSays};
+ghost use Rattle.packet_path.specs.Packet.{flow_packet};
 
-use crate::packet::FlowPacket;
+use crate::packet::FlowView;
 use expect_table::expectation::Want;
 use ftp_helper::{named_end, want_of};
 use history_book::desk::Desk;
 use history_book::find::label;
 use history_book::outcome::ExpectOutcome;
 use history_book::record::Record;
+use history_book::sight_laws::seeing_adds_up;
 use history_book::verdict::{Ftp, Label};
 use std::sync::Wait;
 use tuple_core::{Direction, Proto};
@@ -42,15 +44,15 @@ fn is_established(label: Label) -> bool
 }
 
 /// Whether the payload of a packet is read, which found its entry so and in this direction.
-fn is_read(packet: &FlowPacket, before: &Record, direction: Direction) -> bool
-    ensures { result ≡ is_read packet.now (record { subject = before.now; direction = direction }) }
+fn is_read(packet: &FlowView, before: &Record, direction: Direction) -> bool
+    ensures { result ≡ is_read (flow_packet packet.now) (record { subject = before.now; direction = direction }) }
 {
     packet.tuple.proto == Proto::Tcp && before.helper && is_established(label(before, direction))
 }
 
 /// What the payload of a packet asks for, which found its entry so and in this direction.
-fn want_named(packet: &FlowPacket, before: &Record, direction: Direction) -> Wanted
-    ensures { WantedSays packet.now (record { subject = before.now; direction = direction }) result }
+fn want_named(packet: &FlowView, before: &Record, direction: Direction) -> Wanted
+    ensures { WantedSays (flow_packet packet.now) (record { subject = before.now; direction = direction }) result }
 {
     if !is_read(packet, before, direction) {
         return Wanted::Nothing;
@@ -69,7 +71,7 @@ fn want_named(packet: &FlowPacket, before: &Record, direction: Direction) -> Wan
 pub fn follow_payload<R: Wait, D: Desk>(
     rt: &R,
     desk: &mut D,
-    packet: &FlowPacket,
+    packet: &FlowView,
     place: u32,
     before: &Record,
     direction: Direction,
@@ -82,11 +84,12 @@ pub fn follow_payload<R: Wait, D: Desk>(
     requires spare { 1 ≤ (D.sight desk.old).spare }
     requires knows { IsKnown (D.sight desk.old) }
     ensures follows { (touched : ℕ) → touched < length (D.sight desk.old).front →
-        Follows packet.now (record { subject = before.now; direction = direction }) touched
+        Follows (flow_packet packet.now) (record { subject = before.now; direction = direction }) touched
         (D.sight desk.old) (D.sight desk.new) result }
     ensures places { SamePlaces (D.sight desk.old) (D.sight desk.new) }
     ensures knows { IsKnown (D.sight desk.new) }
 {
+    seeing_adds_up();
     match want_named(packet, before, direction) {
         Wanted::Nothing => Ftp::Nothing,
         Wanted::Foreign => Ftp::Address,

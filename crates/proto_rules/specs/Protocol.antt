@@ -15,9 +15,9 @@ proto_of kind.Icmp = proto.Icmp
 
 -- the segment is of the entry's protocol
 abbrev pub is_of_protocol : Segment → PartKind → Bool
-is_of_protocol (segment.Tcp flags) (kind.Tcp state) = true
-is_of_protocol (segment.Tcp flags) kind.Udp = false
-is_of_protocol (segment.Tcp flags) kind.Icmp = false
+is_of_protocol (segment.Tcp k) (kind.Tcp state) = true
+is_of_protocol (segment.Tcp k) kind.Udp = false
+is_of_protocol (segment.Tcp k) kind.Icmp = false
 is_of_protocol segment.Udp (kind.Tcp state) = false
 is_of_protocol segment.Udp kind.Udp = true
 is_of_protocol segment.Udp kind.Icmp = false

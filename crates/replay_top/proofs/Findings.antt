@@ -1,108 +1,58 @@
 -- What the inputs are decides how a run ends.
-use Rattle.std.proofs.Common.{◌≡◌, ℕ, ◌<◌, zero, suc, Option, Some, None, Ok, Err, List, [], ◌∷◌, length, refl, sym, ap, subst, ◌∙◌, inl, inr, arith}
-use Rattle.std.specs.Prelude.{IfSome}
+use Rattle.std.proofs.Common.{false, ◌≡◌, ℕ, zero, suc, Ok, Err, List, [], ◌∷◌, refl, ap, subst, ◌∙◌, inl, inr, arith}
 use Rattle.command_words.specs.Words.{asked_of, Request}
 use Rattle.command_words.specs.declared.WordsError.{WordsError}
 use Rattle.command_words.specs.declared.WordsError.TheVariants as unasked
-use Rattle.command_words.specs.declared.WordsLimit.{WordsLimit}
+use Rattle.std.specs.Prelude.{All}
+use Rattle.std.proofs.lemmas.List.Elements.{All-head}
 use Rattle.ct_io.specs.Counts.{Rose}
-use Rattle.ct_io.specs.Source.{Source}
+use Rattle.ct_io.specs.Source.{SameFaults, Source}
 use Rattle.ct_io.specs.Tape.{Tape}
 use Rattle.history_book.specs.declared.report.Report.{Report}
-use Rattle.replay_top.specs.declared.flaw.Flaw.{Flaw}
-use Rattle.replay_top.specs.declared.flaw.Flaw.TheVariants as flaw
-use Rattle.replay_top.specs.declared.flaw.Refusal.{Refusal}
-use Rattle.replay_top.specs.declared.flaw.Refusal.TheVariants.{Flawed, Misused, NoMemory, NotOpened, NotRead, PastLimit}
-use Rattle.replay_top.specs.Causes.{StatusFits, FailedToOpen, FilesFailed, HasCause, OthersStand, OthersStandBeside, refusal_status}
-use Rattle.replay_top.specs.Content.{Content, totals_with, IsRead, no_totals, Totals}
+use Rattle.run_inputs.specs.declared.flaw.Flaw.{Flaw}
+use Rattle.run_inputs.specs.declared.flaw.Flaw.TheVariants as flaw
+use Rattle.run_inputs.specs.declared.flaw.Refusal.{Refusal}
+use Rattle.run_inputs.specs.declared.flaw.Refusal.TheVariants.{Flawed, Misused, NoMemory, NotOpened, NotRead, PastLimit}
+use Rattle.replay_top.specs.Causes.{StatusFits, FilesFailed, HasCause, OthersStand}
+use Rattle.run_inputs.specs.Causes.{CannotOpen, CannotRead, refusal_status}
+use Rattle.run_inputs.specs.Content.{Content, totals_with, no_totals, Totals}
 use Rattle.replay_top.specs.ErrorLine.{line_of}
-use Rattle.replay_top.specs.Flaw.{flaw_status, HasFlaw}
-use Rattle.replay_top.specs.Inputs.{AreGiven, AreRead, AreReadFrom, AreTold, clean, Finding, Finds, FirstFlaw, FirstFlawFrom, flawed, misused, past, ReachesFrom}
+use Rattle.run_inputs.specs.Flaw.{flaw_status}
+use Rattle.run_inputs.specs.Inputs.{AreGiven, AreRead, AreTold, clean, Finding, Finds, FirstFlaw, FirstFlawFrom, flawed, misused, past, Reaches, ReachesFrom}
 use Rattle.replay_top.specs.Internal.Ending.{line_about, name_among, refusal_for}
-use Rattle.replay_top.specs.Internal.Reading.{HasCauseFrom}
-use Rattle.replay_top.specs.Laws.{ContentsAreUnique, FlawsAreUnique, ReadFilesHaveNoFlaw}
+use Rattle.run_inputs.specs.Reading.{HasCauseFrom, IsReached, part_of, SameFaultsBut}
+use Rattle.run_inputs.specs.Laws.{GivenIsTold, WordsSayOne}
 use Rattle.replay_top.specs.Replay.{IsReplay, IsReplayOf}
-use Rattle.replay_top.specs.Files.{file_at, files_asked, files_named, files_of, InputFile, AskFor}
-
--- ---- bytes that are told
-
--- lists of bytes are the same as far as both go
-abbrev pub Agree : List (List ℕ) → List (List ℕ) → Type 0
-Agree [] others = Unit {0}
-Agree (b ∷ bytes) [] = Unit {0}
-Agree (b ∷ bytes) (o ∷ others) = (b ≡ o) × Agree bytes others
-
-agree_sym : (bytes others : List (List ℕ)) → Agree bytes others → Agree others bytes
-agree_sym [] [] same = tt
-agree_sym [] (o ∷ others) same = tt
-agree_sym (b ∷ bytes) [] same = tt
-agree_sym (b ∷ bytes) (o ∷ others) same = (sym same.0, agree_sym bytes others same.1)
-
--- what is given of contents is what is told of them
-given_told : (told : Option (List ℕ)) (b o : List ℕ) → IfSome told (λ contents. b ≡ contents) → told ≡ Some o → b ≡ o
-given_told None b o given is = absurd (subst (λ (t : Option (List ℕ)). IfSome t (λ contents. ⊥)) is tt)
-given_told (Some contents) b o given is =
-    given ∙ subst (λ (t : Option (List ℕ)). IfSome t (λ found. contents ≡ found)) is refl
-
-pub agree : (files : Source) (inputs : List InputFile) (bytes others : List (List ℕ)) → AreGiven files inputs bytes
-    → AreTold files inputs others → Agree bytes others
-agree files inputs [] others given told = tt
-agree files inputs (b ∷ bytes) [] given told = tt
-agree files [] (b ∷ bytes) (o ∷ others) given told = absurd given
-agree files (input ∷ inputs) (b ∷ bytes) (o ∷ others) given told =
-    (given_told (files.contents input.name) b o given.0 told.0, agree files inputs bytes others given.1 told.1)
-
--- ---- of files with such bytes, one thing holds
-
-module _ (clean_files : ReadFilesHaveNoFlaw) (one : ContentsAreUnique) where
-  -- files that are all read have no first flaw
-  pub read_clean : (before : Totals) (inputs : List InputFile) (bytes others : List (List ℕ)) (contents : List Content) (k : ℕ) (f : Flaw)
-      → Agree bytes others → AreReadFrom before inputs bytes contents → FirstFlawFrom before inputs others k f → ⊥
-  read_clean before [] bytes others contents k f same read found = found
-  read_clean before (input ∷ inputs) [] others contents k f same read found = read
-  read_clean before (input ∷ inputs) (b ∷ bytes) others [] k f same read found = read
-  read_clean before (input ∷ inputs) (b ∷ bytes) [] (c ∷ contents) k f same read found = found
-  read_clean before (input ∷ inputs) (b ∷ bytes) (o ∷ others) (c ∷ contents) zero f same read found =
-      clean_files input.kind before o c f (subst (λ x. IsRead input.kind before x c) same.0 read.0) found
-  read_clean before (input ∷ inputs) (b ∷ bytes) (o ∷ others) (c ∷ contents) (suc k) f same read found =
-      let here : IsRead input.kind before o c = subst (λ x. IsRead input.kind before x c) same.0 read.0 in
-      let content : c ≡ found.0 = one input.kind before o c found.0 here found.1 in
-      let total : totals_with before b c ≡ totals_with before o found.0 = rw (same.0, content) refl in
-      read_clean (totals_with before o found.0) inputs bytes others contents k f same.1
-      (subst (λ (t : Totals). AreReadFrom t inputs bytes contents) total read.1) found.2
-
-  -- there is one first flaw
-  pub one_first : FlawsAreUnique → (before : Totals) (inputs : List InputFile) (bytes others : List (List ℕ)) (k l : ℕ) (f g : Flaw)
-      → Agree bytes others → FirstFlawFrom before inputs bytes k f → FirstFlawFrom before inputs others l g → f ≡ g
-  one_first unique before [] bytes others k l f g same found also = absurd found
-  one_first unique before (input ∷ inputs) [] others k l f g same found also = absurd found
-  one_first unique before (input ∷ inputs) (b ∷ bytes) [] k l f g same found also = absurd also
-  one_first unique before (input ∷ inputs) (b ∷ bytes) (o ∷ others) zero zero f g same found also =
-      unique input.kind before o f g (subst (λ x. HasFlaw input.kind before x f) same.0 found) also
-  one_first unique before (input ∷ inputs) (b ∷ bytes) (o ∷ others) zero (suc l) f g same found also =
-      absurd (clean_files input.kind before o also.0 f also.1 (subst (λ x. HasFlaw input.kind before x f) same.0 found))
-  one_first unique before (input ∷ inputs) (b ∷ bytes) (o ∷ others) (suc k) zero f g same found also =
-      absurd (clean_files input.kind before o found.0 g (subst (λ x. IsRead input.kind before x found.0) same.0 found.1) also)
-  one_first unique before (input ∷ inputs) (b ∷ bytes) (o ∷ others) (suc k) (suc l) f g same found also =
-      let here : IsRead input.kind before o found.0 = subst (λ x. IsRead input.kind before x found.0) same.0 found.1 in
-      let content : found.0 ≡ also.0 = one input.kind before o found.0 also.0 here also.1 in
-      let total : totals_with before b found.0 ≡ totals_with before o also.0 = rw (same.0, content) refl in
-      one_first unique (totals_with before o also.0) inputs bytes others k l f g same.1
-      (subst (λ (t : Totals). FirstFlawFrom t inputs bytes k f) total found.2) also.2
+use Rattle.run_inputs.specs.Files.{files_asked, files_named, files_of, InputFile, AskFor}
 
 -- ---- causes
 
--- what is reached is one of the files
-reached_within : (before : Totals) (inputs : List InputFile) (bytes : List (List ℕ)) (k : ℕ) → ReachesFrom before inputs bytes k → k < length inputs
-reached_within before [] bytes k reached = absurd reached
-reached_within before (input ∷ inputs) bytes zero reached = omega arith
-reached_within before (input ∷ inputs) [] (suc k) reached = absurd reached
-reached_within before (input ∷ inputs) (b ∷ bytes) (suc k) reached =
-    omega (arith, reached_within (totals_with before b reached.0) inputs bytes k reached.2)
+-- what follows of a file that is reached, as of each of the files, follows
+reached_one : (P : Totals → InputFile → Type 0) (Q : InputFile → Type 0) (R : Type 0) → ((before : Totals) (input : InputFile) → P before input → Q input → R)
+    → (before : Totals) (inputs : List InputFile) (bytes : List (List ℕ)) (k : ℕ) → ReachesFrom P before inputs bytes k → All Q inputs → R
+reached_one P Q R follows before [] bytes k reached all = absurd reached
+reached_one P Q R follows before (input ∷ inputs) bytes zero reached all = follows before input reached (All-head Q input inputs all)
+reached_one P Q R follows before (input ∷ inputs) [] (suc k) reached all = absurd reached
+reached_one P Q R follows before (input ∷ inputs) (b ∷ rest) (suc k) reached all =
+    reached_one P Q R follows (totals_with before b reached.0) inputs rest k reached.2 (λ i d below. all (suc i) d (omega (arith, below)))
 
 module _ (words : List (List ℕ)) (asked : Request) (says : asked_of words ≡ Ok asked) where
+  reached_asked : (files : Source) (file : ℕ) (P : Totals → InputFile → Type 0) → IsReached (part_of no_totals 0 (files_of asked)) files file P
+      → AskFor words (λ asked. Reaches files (files_of asked) file P)
+  reached_asked files file P cause =
+      let same : cause.index ≡ file = omega (arith, cause.number) in
+      record {
+        asked = asked;
+        says = says;
+        holds = record {
+          bytes = cause.bytes;
+          given = cause.given;
+          reached = subst (λ k. ReachesFrom P no_totals (files_of asked) cause.bytes k) same cause.reached;
+        };
+      }
+
   -- the cause of a refusal of what is asked for is the run's
-  pub has_cause : (files files' : Source) (why : Refusal) → HasCauseFrom no_totals 0 (files_of asked) files files' why → HasCause words files files' why
+  pub has_cause : (files files' : Source) (why : Refusal) → HasCauseFrom (part_of no_totals 0 (files_of asked)) files files' why → HasCause words files files' why
   has_cause files files' Misused cause = absurd cause
   has_cause files files' (PastLimit limit) cause = absurd cause
   has_cause files files' (Flawed file f) cause =
@@ -116,43 +66,12 @@ module _ (words : List (List ℕ)) (asked : Request) (says : asked_of words ≡ 
           first = subst (λ k. FirstFlawFrom no_totals (files_of asked) cause.bytes k f) same cause.found;
         };
       }
-  has_cause files files' (NotOpened file) cause =
-      let same : cause.index ≡ file = omega (arith, cause.number) in
-      record {
-        asked = asked;
-        says = says;
-        holds = record {
-          reached = record {
-            bytes = cause.bytes;
-            given = cause.given;
-            reached = subst (λ k. ReachesFrom no_totals (files_of asked) cause.bytes k) same cause.reached;
-          };
-          rose = subst (λ k. FailedToOpen files files' (file_at (files_of asked) k)) same cause.holds;
-        };
-      }
-  has_cause files files' (NotRead file) cause =
-      let same : cause.index ≡ file = omega (arith, cause.number) in
-      record {
-        asked = asked;
-        says = says;
-        holds = record {
-          reached = record {
-            bytes = cause.bytes;
-            given = cause.given;
-            reached = subst (λ k. ReachesFrom no_totals (files_of asked) cause.bytes k) same cause.reached;
-          };
-          rose = cause.holds;
-        };
-      }
+  has_cause files files' (NotOpened file) cause = reached_asked files file (CannotOpen files files') cause
+  has_cause files files' (NotRead file) cause = reached_asked files file (CannotRead files files') cause
   has_cause files files' NoMemory cause = tt
 
   same_files : files_named words ≡ files_of asked
   same_files = ap files_asked says
-
-  -- what stands beside the files that are asked for stands beside those that the words name
-  pub others_named : (files files' : Source) → OthersStandBeside (files_of asked) files files' → OthersStand words files files'
-  others_named files files' stand =
-      subst (λ (inputs : List InputFile). OthersStandBeside inputs files files') (sym same_files) stand
 
   -- the line
   pub line_named : (why : Refusal) → line_of words why ≡ line_about (name_among (files_of asked) why) why
@@ -203,96 +122,103 @@ pub failed_files : (words : List (List ℕ)) (files files' : Source) (why : Refu
 failed_files words files files' Misused cause three = absurd (omega (arith, three))
 failed_files words files files' (PastLimit limit) cause three = absurd (omega (arith, three))
 failed_files words files files' (Flawed file f) cause three = absurd (not_three f three)
-failed_files words files files' (NotOpened file) cause three = inl (record {
-  asked = cause.asked;
-  says = cause.says;
-  holds = (
-    file,
-    reached_within no_totals (files_of cause.asked) cause.holds.reached.bytes file cause.holds.reached.reached,
-    cause.holds.rose,
-  );
-})
-failed_files words files files' (NotRead file) cause three = inr cause.holds.rose
+failed_files words files files' (NotOpened file) cause three = (file, inl cause)
+failed_files words files files' (NotRead file) cause three = (file, inr cause)
 failed_files words files files' NoMemory cause three = absurd (omega (arith, three))
+
+-- ---- counts of other names
+
+-- where no call failed they stand
+pub others_same : (words : List (List ℕ)) (files files' : Source) → SameFaults files files' → OthersStand words files files'
+others_same words files files' same other apart reads = same.open_faults other
+
+-- the files of what is asked for are those that the words name
+asked_files : (words : List (List ℕ)) (P : InputFile → Type 0) (asked : Request) → asked_of words ≡ Ok asked → All P (files_named words) → All P (files_of asked)
+asked_files words P asked says all = subst (λ (inputs : List InputFile). All P inputs) (ap files_asked says) all
+
+-- where one failed, only names that share in its count do not
+pub others_refused : (words : List (List ℕ)) (files files' : Source) (why : Refusal) → HasCause words files files' why
+    → SameFaultsBut why files files' → OthersStand words files files'
+others_refused words files files' Misused cause same = others_same words files files' (same (λ three. omega (arith, three)))
+others_refused words files files' (PastLimit limit) cause same = others_same words files files' (same (λ three. omega (arith, three)))
+others_refused words files files' (Flawed file f) cause same = others_same words files files' (same (not_three f))
+others_refused words files files' (NotOpened file) cause same = λ other apart reads.
+    reached_one (CannotOpen files files') (λ (input : InputFile). files.shares input.name other ≡ false) (files'.open_faults other ≡ files.open_faults other)
+    (λ before input failed shared. failed.alone.opens other shared) no_totals (files_of cause.asked) cause.holds.bytes file cause.holds.reached
+    (asked_files words (λ (input : InputFile). files.shares input.name other ≡ false) cause.asked cause.says apart)
+others_refused words files files' (NotRead file) cause same = λ other apart reads.
+    reached_one (CannotRead files files') (λ (input : InputFile). files.shares input.name other ≡ false) (files'.open_faults other ≡ files.open_faults other)
+    (λ before input failed shared. failed.alone other reads) no_totals (files_of cause.asked) cause.holds.bytes file cause.holds.reached
+    (asked_files words (λ (input : InputFile). files.shares input.name other ≡ false) cause.asked cause.says apart)
+others_refused words files files' NoMemory cause same = others_same words files files' (same (λ three. omega (arith, three)))
 
 -- ---- findings
 
--- the words ask for one thing
-same_request : (words : List (List ℕ)) (asked other : Request) → asked_of words ≡ Ok asked → asked_of words ≡ Ok other → asked ≡ other
-same_request words asked other h k = cc
+module _ (as_told : GivenIsTold) (say : WordsSayOne) (words : List (List ℕ)) (files files' : Source) (out out' : Tape) where
+  -- what the words ask for is what they were said to ask for
+  at_asked : (asked : Request) (P : Request → Type 0) → asked_of words ≡ Ok asked → AskFor words P → P asked
+  at_asked asked P says of = subst P (say.request words of.asked asked of.says says) of.holds
 
-pub two_errors : (words : List (List ℕ)) (limit : WordsLimit) → asked_of words ≡ Err unasked.Usage → asked_of words ≡ Err (unasked.Limit limit) → ⊥
-two_errors words limit misuse past_one = cc
-
-pub at_asked : (words : List (List ℕ)) (asked : Request) (P : Request → Type 0) → asked_of words ≡ Ok asked → AskFor words P → P asked
-at_asked words asked P says of = subst P (same_request words of.asked asked of.says says) of.holds
-
-pub not_asked : (words : List (List ℕ)) (asked : Request) (error : WordsError) → asked_of words ≡ Err error → asked_of words ≡ Ok asked → ⊥
-not_asked words asked error none some = cc
-
-module _ (clean_files : ReadFilesHaveNoFlaw) (one : ContentsAreUnique) (unique : FlawsAreUnique) (words : List (List ℕ))
-    (files files' : Source) (out out' : Tape) where
   -- where a report was made, no file has a flaw
   replayed_clean : (report : Report) (file : ℕ) (f : Flaw) → IsReplay words files report
       → AskFor words (λ asked. FirstFlaw AreTold files (files_of asked) file f) → ⊥
   replayed_clean report file f of first =
-      let replay : IsReplayOf files first.asked report = at_asked words first.asked (λ (asked : Request). IsReplayOf files asked report) first.says of in
-      read_clean clean_files one no_totals (files_of first.asked) replay.bytes first.holds.bytes replay.contents file f
-      (agree files (files_of first.asked) replay.bytes first.holds.bytes replay.given first.holds.given) replay.read first.holds.first
+      let replay : IsReplayOf files first.asked report = at_asked first.asked (λ (asked : Request). IsReplayOf files asked report) first.says of in
+      as_told.read files (files_of first.asked) replay.bytes first.holds.bytes replay.contents file f replay.given first.holds.given
+      replay.read first.holds.first
 
   -- where all files are read, none was found to have a flaw
   clean_unflawed : (file : ℕ) (f : Flaw) → AskFor words (λ asked. FirstFlaw AreGiven files (files_of asked) file f)
       → AskFor words (λ asked. (contents : List Content) × AreRead files (files_of asked) contents) → ⊥
   clean_unflawed file f first all =
       let found : FirstFlaw AreGiven files (files_of all.asked) file f =
-      at_asked words all.asked (λ (asked : Request). FirstFlaw AreGiven files (files_of asked) file f) all.says first in
+      at_asked all.asked (λ (asked : Request). FirstFlaw AreGiven files (files_of asked) file f) all.says first in
       let read = all.holds.1 in
-      read_clean clean_files one no_totals (files_of all.asked) read.bytes found.bytes all.holds.0 file f
-      (agree_sym found.bytes read.bytes (agree files (files_of all.asked) found.bytes read.bytes found.given read.told)) read.read found.first
+      as_told.flawed files (files_of all.asked) found.bytes read.bytes all.holds.0 file f found.given read.told found.first read.read
 
   -- the first flaw that was found is the one that is there
   same_flaw : (k file : ℕ) (f g : Flaw) → AskFor words (λ asked. FirstFlaw AreGiven files (files_of asked) k f)
       → AskFor words (λ asked. FirstFlaw AreTold files (files_of asked) file g) → f ≡ g
   same_flaw k file f g first told =
       let found : FirstFlaw AreGiven files (files_of told.asked) k f =
-      at_asked words told.asked (λ (asked : Request). FirstFlaw AreGiven files (files_of asked) k f) told.says first in
-      one_first clean_files one unique no_totals (files_of told.asked) found.bytes told.holds.bytes k file f g
-      (agree files (files_of told.asked) found.bytes told.holds.bytes found.given told.holds.given) found.first told.holds.first
+      at_asked told.asked (λ (asked : Request). FirstFlaw AreGiven files (files_of asked) k f) told.says first in
+      as_told.one files (files_of told.asked) found.bytes told.holds.bytes k file f g found.given told.holds.given found.first
+      told.holds.first
 
   pub answers_done : (report : Report) (found : Finding) → IsReplay words files report → Finds words files found
       → StatusFits words files files' out out' 0 found
-  answers_done report misused of finds = absurd (not_asked words of.asked unasked.Usage finds of.says)
-  answers_done report (past limit) of finds = absurd (not_asked words of.asked (unasked.Limit limit) finds of.says)
+  answers_done report misused of finds = absurd (say.refused words of.asked unasked.Usage finds of.says)
+  answers_done report (past limit) of finds = absurd (say.refused words of.asked (unasked.Limit limit) finds of.says)
   answers_done report (flawed file f) of finds = absurd (replayed_clean report file f of finds)
   answers_done report clean of finds = inl (inl refl)
 
   pub answers_not_written : (report : Report) (found : Finding) → IsReplay words files report → Rose out.faults out'.faults
       → Finds words files found → StatusFits words files files' out out' 4 found
-  answers_not_written report misused of rose finds = absurd (not_asked words of.asked unasked.Usage finds of.says)
-  answers_not_written report (past limit) of rose finds = absurd (not_asked words of.asked (unasked.Limit limit) finds of.says)
+  answers_not_written report misused of rose finds = absurd (say.refused words of.asked unasked.Usage finds of.says)
+  answers_not_written report (past limit) of rose finds = absurd (say.refused words of.asked (unasked.Limit limit) finds of.says)
   answers_not_written report (flawed file f) of rose finds = absurd (replayed_clean report file f of finds)
   answers_not_written report clean of rose finds = inr (inr (refl, rose))
 
   pub answers_refused : (why : Refusal) (found : Finding) → HasCause words files files' why → Finds words files found
       → StatusFits words files files' out out' (refusal_status why) found
   answers_refused Misused misused cause finds = inl refl
-  answers_refused Misused (past limit) cause finds = absurd (two_errors words limit cause finds)
-  answers_refused Misused (flawed file g) cause finds = absurd (not_asked words finds.asked unasked.Usage cause finds.says)
-  answers_refused Misused clean cause finds = absurd (not_asked words finds.asked unasked.Usage cause finds.says)
-  answers_refused (PastLimit l) misused cause finds = absurd (two_errors words l finds cause)
+  answers_refused Misused (past limit) cause finds = absurd (say.misused words limit cause finds)
+  answers_refused Misused (flawed file g) cause finds = absurd (say.refused words finds.asked unasked.Usage cause finds.says)
+  answers_refused Misused clean cause finds = absurd (say.refused words finds.asked unasked.Usage cause finds.says)
+  answers_refused (PastLimit l) misused cause finds = absurd (say.misused words l finds cause)
   answers_refused (PastLimit l) (past limit) cause finds = inl refl
-  answers_refused (PastLimit l) (flawed file g) cause finds = absurd (not_asked words finds.asked (unasked.Limit l) cause finds.says)
-  answers_refused (PastLimit l) clean cause finds = absurd (not_asked words finds.asked (unasked.Limit l) cause finds.says)
-  answers_refused (Flawed k f) misused cause finds = absurd (not_asked words cause.asked unasked.Usage finds cause.says)
-  answers_refused (Flawed k f) (past limit) cause finds = absurd (not_asked words cause.asked (unasked.Limit limit) finds cause.says)
+  answers_refused (PastLimit l) (flawed file g) cause finds = absurd (say.refused words finds.asked (unasked.Limit l) cause finds.says)
+  answers_refused (PastLimit l) clean cause finds = absurd (say.refused words finds.asked (unasked.Limit l) cause finds.says)
+  answers_refused (Flawed k f) misused cause finds = absurd (say.refused words cause.asked unasked.Usage finds cause.says)
+  answers_refused (Flawed k f) (past limit) cause finds = absurd (say.refused words cause.asked (unasked.Limit limit) finds cause.says)
   answers_refused (Flawed k f) (flawed file g) cause finds = inl (inl (ap flaw_status (same_flaw k file f g cause finds)))
   answers_refused (Flawed k f) clean cause finds = absurd (clean_unflawed k f cause finds)
-  answers_refused (NotOpened k) misused cause finds = absurd (not_asked words cause.asked unasked.Usage finds cause.says)
-  answers_refused (NotOpened k) (past limit) cause finds = absurd (not_asked words cause.asked (unasked.Limit limit) finds cause.says)
+  answers_refused (NotOpened k) misused cause finds = absurd (say.refused words cause.asked unasked.Usage finds cause.says)
+  answers_refused (NotOpened k) (past limit) cause finds = absurd (say.refused words cause.asked (unasked.Limit limit) finds cause.says)
   answers_refused (NotOpened k) (flawed file g) cause finds = inr (refl, failed_files words files files' (NotOpened k) cause refl)
   answers_refused (NotOpened k) clean cause finds = inr (inl (refl, failed_files words files files' (NotOpened k) cause refl))
-  answers_refused (NotRead k) misused cause finds = absurd (not_asked words cause.asked unasked.Usage finds cause.says)
-  answers_refused (NotRead k) (past limit) cause finds = absurd (not_asked words cause.asked (unasked.Limit limit) finds cause.says)
+  answers_refused (NotRead k) misused cause finds = absurd (say.refused words cause.asked unasked.Usage finds cause.says)
+  answers_refused (NotRead k) (past limit) cause finds = absurd (say.refused words cause.asked (unasked.Limit limit) finds cause.says)
   answers_refused (NotRead k) (flawed file g) cause finds = inr (refl, failed_files words files files' (NotRead k) cause refl)
   answers_refused (NotRead k) clean cause finds = inr (inl (refl, failed_files words files files' (NotRead k) cause refl))
   answers_refused NoMemory misused cause finds = inr refl

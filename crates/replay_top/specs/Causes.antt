@@ -1,48 +1,26 @@
 -- Why a run is refused, and which status the inputs call for.
-use Rattle.std.specs.Prelude.{All, false, ◌≡◌, ℕ, ◌<◌, ◌⊎◌, Err, List, length}
+use Rattle.std.specs.Prelude.{All, false, ◌≡◌, ℕ, ◌⊎◌, Err, List}
 use Rattle.command_words.specs.Words.{asked_of}
 use Rattle.command_words.specs.declared.WordsError.TheVariants.{Limit, Usage}
 use Rattle.ct_io.specs.Counts.{Rose}
 use Rattle.ct_io.specs.Source.{Source}
 use Rattle.ct_io.specs.Tape.{Tape}
-use Rattle.replay_top.specs.declared.flaw.Refusal.{Refusal}
-use Rattle.replay_top.specs.declared.flaw.Refusal.TheVariants.{Flawed, Misused, NoMemory, NotOpened, NotRead, PastLimit}
+use Rattle.run_inputs.specs.Causes.{CannotOpen, CannotRead, refusal_status}
+use Rattle.run_inputs.specs.declared.flaw.Refusal.{Refusal}
+use Rattle.run_inputs.specs.declared.flaw.Refusal.TheVariants.{Flawed, Misused, NoMemory, NotOpened, NotRead, PastLimit}
 use Rattle.replay_top.specs.ErrorLine.{line_of, Tells}
-use Rattle.replay_top.specs.Flaw.{flaw_status}
-use Rattle.replay_top.specs.Inputs.{AreGiven, clean, Finding, FirstFlaw, flawed, misused, past, Reaches}
-use Rattle.replay_top.specs.Files.{file_at, files_named, files_of, InputFile, AskFor}
-
--- opening the file failed
-abbrev pub FailedToOpen : Source → Source → InputFile → Type 0
-FailedToOpen files files' input = Rose (files.open_faults input.name) (files'.open_faults input.name)
-
--- one of the files was reached, and its opening failed
-pub record FailsToOpen (files files' : Source) (inputs : List InputFile) (file : ℕ) : Type 0 where
-  pub reached : Reaches files inputs file
-  pub rose : FailedToOpen files files' (file_at inputs file)
-
--- one of the files was reached, and the one count of failed reads rose
-pub record FailsToRead (files files' : Source) (inputs : List InputFile) (file : ℕ) : Type 0 where
-  pub reached : Reaches files inputs file
-  pub rose : Rose files.read_faults files'.read_faults
+use Rattle.run_inputs.specs.Flaw.{flaw_status}
+use Rattle.run_inputs.specs.Inputs.{AreGiven, clean, Finding, FirstFlaw, flawed, misused, past, Reaches}
+use Rattle.run_inputs.specs.Files.{files_named, files_of, InputFile, AskFor}
 
 -- the cause of a refusal, of a run that began with these files and left them so
 abbrev pub HasCause : List (List ℕ) → Source → Source → Refusal → Type 0
 HasCause words files files' Misused = asked_of words ≡ Err Usage
 HasCause words files files' (PastLimit limit) = asked_of words ≡ Err (Limit limit)
 HasCause words files files' (Flawed file flaw) = AskFor words (λ asked. FirstFlaw AreGiven files (files_of asked) file flaw)
-HasCause words files files' (NotOpened file) = AskFor words (λ asked. FailsToOpen files files' (files_of asked) file)
-HasCause words files files' (NotRead file) = AskFor words (λ asked. FailsToRead files files' (files_of asked) file)
+HasCause words files files' (NotOpened file) = AskFor words (λ asked. Reaches files (files_of asked) file (CannotOpen files files'))
+HasCause words files files' (NotRead file) = AskFor words (λ asked. Reaches files (files_of asked) file (CannotRead files files'))
 HasCause words files files' NoMemory = Unit {0}
-
--- the status of a refusal
-abbrev pub refusal_status : Refusal → ℕ
-refusal_status Misused = 1
-refusal_status (PastLimit limit) = 5
-refusal_status (Flawed file flaw) = flaw_status flaw
-refusal_status (NotOpened file) = 3
-refusal_status (NotRead file) = 3
-refusal_status NoMemory = 6
 
 -- the run was refused for a reason that has its cause; this is the reason's status, and its line was told
 pub record IsRefused (words : List (List ℕ)) (files files' : Source) (err err' : Tape) (status : ℕ) : Type 0 where
@@ -51,11 +29,9 @@ pub record IsRefused (words : List (List ℕ)) (files files' : Source) (err err'
   pub own : status ≡ refusal_status why
   pub line : Tells (line_of words why) err err'
 
--- opening a file that the words name failed, or a read did
+-- one of the files could not be opened or read, with the cause of such a refusal
 abbrev pub FilesFailed : List (List ℕ) → Source → Source → Type 0
-FilesFailed words files files' =
-    AskFor words (λ asked. (file : ℕ) × (file < length (files_of asked)) × FailedToOpen files files' (file_at (files_of asked) file))
-    ⊎ Rose files.read_faults files'.read_faults
+FilesFailed words files files' = (file : ℕ) × (HasCause words files files' (NotOpened file) ⊎ HasCause words files files' (NotRead file))
 
 -- this status, or that of want of memory
 abbrev pub IsStatusOrMemory : ℕ → ℕ → Type 0
@@ -71,12 +47,8 @@ StatusFits words files files' out out' status (flawed file flaw) =
 StatusFits words files files' out out' status clean =
     IsStatusOrMemory status 0 ⊎ (status ≡ 3) × FilesFailed words files files' ⊎ (status ≡ 4) × Rose out.faults out'.faults
 
--- the count of opening a name stands, unless one of these files shares it, or reads are counted in it too
-abbrev pub OthersStandBeside : List InputFile → Source → Source → Type 0
-OthersStandBeside inputs files files' =
-    (other : List ℕ) → All (λ (input : InputFile). files.shares input.name other ≡ false) inputs
-    → files.counts_reads other ≡ false → files'.open_faults other ≡ files.open_faults other
-
--- the count of opening a name that the words do not give stands, unless it is shared in such a way
+-- the count of opening a name stands, unless one that the words give shares it, or reads are counted in it too
 abbrev pub OthersStand : List (List ℕ) → Source → Source → Type 0
-OthersStand words files files' = OthersStandBeside (files_named words) files files'
+OthersStand words files files' =
+    (other : List ℕ) → All (λ (input : InputFile). files.shares input.name other ≡ false) (files_named words)
+    → files.counts_reads other ≡ false → files'.open_faults other ≡ files.open_faults other

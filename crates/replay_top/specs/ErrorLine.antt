@@ -12,13 +12,13 @@ use Rattle.nat_setup.specs.declared.read.RuleKind.{RuleKind}
 use Rattle.nat_setup.specs.declared.read.RuleKind.TheVariants as rule_kind
 use Rattle.packet_headers.specs.declared.capture.CaptureFault.{CaptureFault}
 use Rattle.packet_headers.specs.declared.capture.CaptureFault.TheVariants as fault
-use Rattle.replay_top.specs.declared.flaw.FileKind.{FileKind}
-use Rattle.replay_top.specs.declared.flaw.FileKind.TheVariants as kind
-use Rattle.replay_top.specs.declared.flaw.Flaw.{Flaw}
-use Rattle.replay_top.specs.declared.flaw.Flaw.TheVariants as flaw
-use Rattle.replay_top.specs.declared.flaw.Refusal.{Refusal}
-use Rattle.replay_top.specs.declared.flaw.Refusal.TheVariants as refusal
-use Rattle.replay_top.specs.Files.{name_of}
+use Rattle.run_inputs.specs.declared.flaw.FileKind.{FileKind}
+use Rattle.run_inputs.specs.declared.flaw.FileKind.TheVariants as kind
+use Rattle.run_inputs.specs.declared.flaw.Flaw.{Flaw}
+use Rattle.run_inputs.specs.declared.flaw.Flaw.TheVariants as flaw
+use Rattle.run_inputs.specs.declared.flaw.Refusal.{Refusal}
+use Rattle.run_inputs.specs.declared.flaw.Refusal.TheVariants as refusal
+use Rattle.run_inputs.specs.Files.{name_of}
 use Rattle.report_text.specs.Wrote.{followed_by, WroteFront}
 
 -- the program's name, what the line is about, and the problem
@@ -36,6 +36,10 @@ fault_text (fault.CutRecord index offset) =
 fault_text (fault.TooLong index) = codes ": record " ++ decimal index ++ codes " too long\n"
 fault_text (fault.Fraction index) = codes ": record " ++ decimal index ++ codes " fraction\n"
 
+-- a fault in the line of this number, in words
+abbrev pub line_fault_text : ℕ → List ℕ → List ℕ
+line_fault_text line problem = codes ": line " ++ decimal line ++ problem
+
 -- what is wrong with a line of a file of rules
 abbrev pub rule_kind_text : RuleKind → List ℕ
 rule_kind_text rule_kind.Word = codes ": word\n"
@@ -46,7 +50,7 @@ rule_kind_text rule_kind.TooMany = codes ": too many\n"
 
 -- a fault of a file of rules, in words
 abbrev pub rule_fault_text : RuleFault → List ℕ
-rule_fault_text fault = codes ": line " ++ decimal fault.line ++ rule_kind_text fault.kind
+rule_fault_text fault = line_fault_text fault.line (rule_kind_text fault.kind)
 
 -- what is wrong with a line of a script
 abbrev pub script_kind_text : ScriptKind → List ℕ
@@ -58,7 +62,7 @@ script_kind_text script_kind.TooMany = codes ": too many\n"
 
 -- a fault of a script, in words
 abbrev pub script_fault_text : ScriptFault → List ℕ
-script_fault_text fault = codes ": line " ++ decimal fault.line ++ script_kind_text fault.kind
+script_fault_text fault = line_fault_text fault.line (script_kind_text fault.kind)
 
 -- a limit of the words, in words
 abbrev pub words_limit_text : WordsLimit → List ℕ

@@ -1,8 +1,3 @@
 -- What private functions keep for the clauses of the public ones. A reader of those need not open it.
-pub mod Answered
-pub mod Cut
 pub mod Ending
-pub mod Frames
-pub mod Reading
-pub mod Replayed
 pub mod Replaying

@@ -1,11 +1,5 @@
 pub mod Causes
-pub mod Content
 pub mod ErrorLine
-pub mod Files
-pub mod Flaw
-pub mod Inputs
 pub mod Internal
-pub mod Laws
 pub mod Process
 pub mod Replay
-pub mod Report

@@ -9,10 +9,10 @@ use Rattle.packet_path.specs.Packet.{Given, given_of}
 use Rattle.packet_path.specs.declared.setup.Setup.{Setup}
 use Rattle.history_book.specs.declared.report.Report.{Report}
 use Rattle.history_book.specs.declared.sizes.Sizes.{Sizes}
-use Rattle.replay_top.specs.Content.{Content, frames, no_totals, rules, script}
-use Rattle.replay_top.specs.Inputs.{AreGiven, AreReadFrom}
-use Rattle.replay_top.specs.Report.{IsWellFormed, Work}
-use Rattle.replay_top.specs.Files.{files_of, AskFor}
+use Rattle.run_inputs.specs.Content.{Content, frames, no_totals, rules, script}
+use Rattle.run_inputs.specs.Inputs.{AreGiven, AreReadFrom}
+use Rattle.replay_runs.specs.Report.{IsWellFormed, Work}
+use Rattle.run_inputs.specs.Files.{files_of, AskFor}
 use Rattle.report_text.specs.Report.{report_text}
 use Rattle.report_text.specs.Wrote.{followed_by, WroteFront}
 

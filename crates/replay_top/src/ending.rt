@@ -1,7 +1,11 @@
 //! How a run ends.
 
-use crate::flaw::Refusal;
+ghost use Rattle.std.specs.Prelude.{◌≡◌};
+ghost use Rattle.replay_top.specs.Internal.Ending.{refusal_for};
+
+use command_words::WordsError;
 use history_book::report::Report;
+use run_inputs::Refusal;
 
 /// How a run ends.
 #[derive(Drop)]
@@ -19,4 +23,15 @@ pub enum Ending {
 pub struct Run {
     pub status: u8,
     pub report: Option<Report>,
+}
+
+/// The refusal of words that ask for nothing.
+pub fn refusal_for(error: WordsError) -> Refusal
+    ensures { result ≡ refusal_for error }
+{
+    match error {
+        WordsError::Usage => Refusal::Misused,
+        WordsError::Limit(limit) => Refusal::PastLimit(limit),
+        WordsError::NoMemory => Refusal::NoMemory,
+    }
 }

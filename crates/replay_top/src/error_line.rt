@@ -1,21 +1,21 @@
 //! The one line on the error output.
 
-ghost use Rattle.std.specs.Prelude.{◌≡◌, ◌++◌, codes, decimal};
+ghost use Rattle.std.specs.Prelude.{◌≡◌, ◌≤◌, ◌++◌, codes, decimal, length};
 ghost use Rattle.command_words.specs.Asked.{asked_as, texts};
 ghost use Rattle.report_text.specs.Page.{Adds, HasRoom};
 ghost use Rattle.report_text.specs.Wrote.{Wrote};
-ghost use Rattle.replay_top.specs.ErrorLine.{error_line, fault_text, flaw_line, limit_text, rule_fault_text, rule_kind_text, script_fault_text, script_kind_text, Tells, words_limit_text, write_failed};
+ghost use Rattle.replay_top.specs.ErrorLine.{error_line, fault_text, flaw_line, limit_text, line_fault_text, rule_kind_text, script_kind_text, Tells, words_limit_text, write_failed};
 ghost use Rattle.replay_top.specs.Internal.Ending.{line_about, name_among};
-ghost use Rattle.replay_top.specs.Files.{file_at, files_of, files_of_kind};
+ghost use Rattle.run_inputs.specs.Files.{file_at, files_of, files_of_kind};
 
-use crate::flaw::{FileKind, Flaw, Refusal};
 use command_words::{Asked, WordsLimit};
-use conntrack_cmd::read::{ScriptFault, ScriptKind};
+use conntrack_cmd::read::ScriptKind;
 use ct_io::Sink;
-use nat_setup::read::{RuleFault, RuleKind};
+use nat_setup::read::RuleKind;
 use packet_headers::capture::CaptureFault;
 use report_text::page::{LONGEST_LINE, Page};
 use report_text::write::{WriteFault, write_each};
+use run_inputs::{FileKind, Flaw, Refusal};
 
 /// Writes the line about this subject, which may be empty, with this problem.
 fn write_line<K: Sink>(about: &str, problem: &[u8], err: &mut K) -> Result<(), WriteFault>
@@ -87,19 +87,6 @@ fn rule_kind_text(kind: RuleKind) -> &'static [u8]
     }
 }
 
-/// Writes the line of a fault of the file of rules of this name.
-fn write_rule_fault<K: Sink>(name: &str, fault: RuleFault, err: &mut K) -> Result<(), WriteFault>
-    ensures { Wrote (error_line name.now (rule_fault_text fault))
-        (K.tape err.old) (K.tape err.new) result }
-{
-    let mut buffer = [0; LONGEST_LINE];
-    let mut page = Page::new(&mut buffer);
-    page.text(b": line ");
-    page.number(fault.line);
-    page.text(rule_kind_text(fault.kind));
-    write_line(name, page.held(), err)
-}
-
 /// What is wrong with a line of a script, in words.
 fn script_kind_text(kind: ScriptKind) -> &'static [u8]
     ensures { result.now ≡ script_kind_text kind }
@@ -113,20 +100,25 @@ fn script_kind_text(kind: ScriptKind) -> &'static [u8]
     }
 }
 
-/// Writes the line of a fault of the script of this name.
-fn write_script_fault<K: Sink>(
+/// The most bytes of what is wrong with a line, in words.
+const LONGEST_PROBLEM: usize = 64;
+
+/// Writes the line of a fault of the file of this name, in its line of this number.
+fn write_line_fault<K: Sink>(
     name: &str,
-    fault: ScriptFault,
+    line: u32,
+    problem: &[u8],
     err: &mut K,
 ) -> Result<(), WriteFault>
-    ensures { Wrote (error_line name.now (script_fault_text fault))
+    requires { length problem.now ≤ LONGEST_PROBLEM }
+    ensures { Wrote (error_line name.now (line_fault_text line problem.now))
         (K.tape err.old) (K.tape err.new) result }
 {
     let mut buffer = [0; LONGEST_LINE];
     let mut page = Page::new(&mut buffer);
     page.text(b": line ");
-    page.number(fault.line);
-    page.text(script_kind_text(fault.kind));
+    page.number(line);
+    page.text(problem);
     write_line(name, page.held(), err)
 }
 
@@ -159,8 +151,10 @@ fn write_flaw<K: Sink>(name: &str, flaw: Flaw, err: &mut K) -> Result<(), WriteF
     match flaw {
         Flaw::TooLong(kind) => write_line("", limit_text(kind), err),
         Flaw::AllTooLong => write_line("", b"limit: all capture bytes\n", err),
-        Flaw::Rules(fault) => write_rule_fault(name, fault, err),
-        Flaw::Script(fault) => write_script_fault(name, fault, err),
+        Flaw::Rules(fault) => write_line_fault(name, fault.line, rule_kind_text(fault.kind), err),
+        Flaw::Script(fault) => {
+            write_line_fault(name, fault.line, script_kind_text(fault.kind), err)
+        }
         Flaw::Capture(fault) => write_fault(name, fault, err),
         Flaw::TooManyPackets => write_line("", b"limit: all packets\n", err),
     }

@@ -8,8 +8,8 @@ ghost use Rattle.replay_top.specs.Process.{AreAllOf};
 
 use crate::ending::Run;
 use crate::error_line::tell_refusal;
-use crate::flaw::Refusal;
 use ct_io::Sink;
+use run_inputs::Refusal;
 use std::alloc::{AllocError, Global};
 use std::env::Args;
 use std::io;

@@ -5,27 +5,26 @@ ghost use Rattle.std.specs.String.{string_bytes};
 ghost use Rattle.command_words.specs.Asked.{asked_as};
 ghost use Rattle.command_words.specs.Words.{IsWithin};
 ghost use Rattle.ct_io.specs.Source.{SameFaults, Stays};
-ghost use Rattle.replay_top.specs.Causes;
-ghost use Rattle.replay_top.specs.Causes.{StatusFits, FilesFailed, IsRefused, OthersStand, OthersStandBeside};
+ghost use Rattle.run_inputs.specs.Causes;
+ghost use Rattle.replay_top.specs.Causes.{StatusFits, FilesFailed, IsRefused, OthersStand};
 ghost use Rattle.replay_top.specs.ErrorLine.{Tells, write_failed};
-ghost use Rattle.replay_top.specs.Inputs.{Finding, Finds};
+ghost use Rattle.run_inputs.specs.Inputs.{Finding, Finds};
 ghost use Rattle.replay_top.specs.Internal.Ending.{Ends, line_about, Replays};
-ghost use Rattle.replay_top.specs.Internal.Replaying.{IsReady, ReplaysInputs};
+ghost use Rattle.run_inputs.specs.Ready.{IsReady};
+ghost use Rattle.replay_top.specs.Internal.Replaying.{ReplaysInputs};
 ghost use Rattle.replay_top.specs.Replay.{IsCutShort, IsPrinted};
-ghost use Rattle.replay_top.specs.Files.{files_of};
 
-use crate::ending::{Ending, Run};
+use crate::ending::{Ending, Run, refusal_for};
 use crate::error_line::{name_among, tell_not_written, tell_refusal};
-use crate::flaw::{Refusal, refusal_for, refusal_status};
-use crate::input::{Inputs, read_all};
-use crate::laws::{contents_are_unique, flaws_are_unique, read_files_have_no_flaw};
-use crate::replay::replay;
 use crate::sizes::sizes_of;
 use command_words::{Asked, read_words};
 use ct_io::{Files, Gate, Sink};
 use history_book::report::Report;
 use packet_path::setup::{Ports, Setup};
+use replay_runs::replay::replay;
 use report_text::write::write_report;
+use run_inputs::laws::{given_is_told, words_say_one};
+use run_inputs::{Inputs, Refusal, read_all, refusal_status};
 use std::alloc::Global;
 use std::sync::Wait;
 use std::thread::Threads;
@@ -65,7 +64,7 @@ fn replay_inputs<R: Wait>(
 }
 
 /// Reads the files that are asked for, and replays them.
-#[tactic(auto, using(crate::proofs::All::replay_made))]
+#[tactic(auto, using(crate::proofs::Made::replay_made))]
 fn replay_asked<R: Wait, F: Files>(
     rt: &R,
     alloc: Global,
@@ -74,8 +73,6 @@ fn replay_asked<R: Wait, F: Files>(
 ) -> Result<Report, Refusal>
     requires { IsWithin (asked_as asked.now) }
     ensures replays { Replays (asked_as asked.now) (F.source files.old) (F.source files.new) result }
-    ensures others { OthersStandBeside (files_of (asked_as asked.now))
-        (F.source files.old) (F.source files.new) }
     ensures stays { Stays (F.source files.old) (F.source files.new) }
 {
     let inputs = match read_all(alloc, files, asked) {
@@ -99,8 +96,6 @@ fn run<R: Wait, F: Files, K: Sink>(
     requires { IsWithin (asked_as asked.now) }
     ensures ends { Ends (asked_as asked.now) (F.source files.old) (F.source files.new)
         (K.tape out.old) (K.tape out.new) result }
-    ensures others { OthersStandBeside (files_of (asked_as asked.now))
-        (F.source files.old) (F.source files.new) }
     ensures stays { Stays (F.source files.old) (F.source files.new) }
 {
     let report = match replay_asked(rt, alloc, files, asked) {
@@ -144,7 +139,7 @@ fn refused<K: Sink>(why: Refusal, name: &str, err: &mut K) -> Run
 /// of a capture and 1,073,741,824 of all captures, and 4,194,304 packets) and 6 (memory was wanted). The first of these
 /// decides, in the order of words, rules, script and captures. The report is there with 0 and 4. No thread is started
 /// and the gate is not called.
-#[tactic(auto, using(crate::proofs::Findings::has_cause, crate::proofs::Findings::others_named, crate::proofs::Findings::failed_files))]
+#[tactic(auto, using(crate::proofs::Findings::has_cause, crate::proofs::Findings::others_same, crate::proofs::Findings::failed_files))]
 pub fn top<R: Threads + Wait + Sync, F: Files, K: Sink, G: Gate + Sync>(
     rt: &R,
     alloc: Global,
@@ -191,9 +186,8 @@ pub fn top<R: Threads + Wait + Sync, F: Files, K: Sink, G: Gate + Sync>(
         (K.tape out.new).faults ≡ (K.tape out.old).faults }
     ensures stays { Stays (F.source files.old) (F.source files.new) }
 {
-    read_files_have_no_flaw();
-    contents_are_unique();
-    flaws_are_unique();
+    given_is_told();
+    words_say_one();
     let asked = match read_words(alloc, words) {
         Ok(asked) => asked,
         Err(error) => return refused(refusal_for(error), "", err),
@@ -213,6 +207,3 @@ pub fn top<R: Threads + Wait + Sync, F: Files, K: Sink, G: Gate + Sync>(
         Ending::Refused(why) => refused(why, name_among(&asked, why), err),
     }
 }
-
-#[cfg(test)]
-mod tests;

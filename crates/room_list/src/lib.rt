@@ -54,6 +54,14 @@ impl<T> RoomList<T> {
         Ok(())
     }
 
+    /// Gives up the room that no item needs, where there is memory for a smaller block.
+    pub fn fit(&mut self)
+        ensures items { self.new.items ≡ self.old.items }
+        ensures room { self.new.room ≤ self.old.room }
+    {
+        self.items.shrink_to_fit();
+    }
+
     /// Appends one item. Takes no memory.
     pub fn push(&mut self, item: T)
         requires { length self.old.items < self.old.room }

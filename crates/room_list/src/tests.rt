@@ -29,5 +29,7 @@ fn each_call_once(rt: HostRuntime) -> Result<(), Fail> {
     list.put_first(70);
     list.put_first(80);
     assert_eq!(rt; list.as_slice(), [80, 70, 60].as_slice());
+    list.fit();
+    assert_eq!(rt; list.as_slice(), [80, 70, 60].as_slice());
     Ok(())
 }

@@ -42,7 +42,7 @@ pub record WinsAt (original reply : Tuple) (s : State) (found : FoundAt) : Type 
   pub item : slice_get s.records found.index ≡ Some subject
   pub wins : winner original reply s ≡ Some (record { subject = subject; direction = found.direction })
 
--- what the fields say to callers
+-- what the fields say to callers: the desk is the one pass of its tracker, which stands on no table
 abbrev pub sight_of : Book → Sight
 sight_of b = record {
   front = events_of b.notes.items;
@@ -50,7 +50,11 @@ sight_of b = record {
   held = b.holds.items;
   owed = b.owed.items;
   spare = b.spare;
+  tracker = [];
   sizes = b.sizes;
+  shares = 1;
+  returned = 0;
+  gathered = [];
 }
 
 -- the state that the fields have: the live records and what is expected

@@ -1,12 +1,12 @@
 -- Ending what is expected no longer, one expectation after the other.
 use Rattle.std.specs.Prelude.{◌≡◌, ℕ, ◌<◌, ◌≤◌, Bool, true, false, Some, None, List, length, find, slice_get}
 use Rattle.std.specs.List.{AllByRecursion}
-use Rattle.expect_table.specs.Match.{has_id, is_due}
+use Rattle.expect_table.specs.Match.{has_id, is_awaited}
 use Rattle.expect_table.specs.declared.expectation.Expectation.{Expectation}
 use Rattle.history_book.specs.declared.event.Event.{Event}
 use Rattle.history_book.specs.declared.event.Event.TheVariants.{Unexpect}
 use Rattle.history_book.specs.declared.event.Note.{Note}
-use Rattle.history_book.specs.Desk.{MadeEvent, Saw}
+use Rattle.history_book.specs.WentOn.{MadeEvent, Saw}
 use Rattle.history_book.specs.History.{after}
 use Rattle.history_book.specs.Places.{HoldsNothing}
 use Rattle.history_book.specs.Sight.{IsKnown, Sight}
@@ -22,7 +22,7 @@ pub record IsOver (log : List Event) (from to id : ℕ) : Type 0 where
 
 -- where the expectation is due no longer at the moment, it is over at such a point
 abbrev pub IsOverWhereLate : List Event → ℕ → ℕ → ℕ → Expectation → Type 0
-IsOverWhereLate log moment from to e = is_due moment e ≡ false → IsOver log from to e.id
+IsOverWhereLate log moment from to e = is_awaited moment e ≡ false → IsOver log from to e.id
 
 -- one event ended the expectation; or the desk looked and made no event
 abbrev pub EndsOrSaw : ℕ → ℕ → Sight → Sight → Bool → Type 0

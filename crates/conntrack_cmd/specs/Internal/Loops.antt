@@ -1,17 +1,17 @@
 -- What the loops over all places keep.
-use Rattle.std.specs.Prelude.{◌≡◌, ℕ, ◌+◌, ◌<◌, ◌≤◌, ◌==◌, List, Some, [], ◌++◌, length}
+use Rattle.std.specs.Prelude.{◌≡◌, ℕ, ◌<◌, ◌≤◌, ◌==◌, List, Some, [], length}
 use Rattle.std.specs.List.{AllByRecursion, count_by}
 use Rattle.history_book.specs.declared.answer.Row.{Row}
 use Rattle.history_book.specs.declared.event.Event.{Event}
 use Rattle.history_book.specs.declared.event.Note.{Note}
 use Rattle.history_book.specs.declared.event.Why.{Why}
 use Rattle.history_book.specs.declared.filter.Filter.{Filter}
-use Rattle.history_book.specs.Desk.{Saw}
+use Rattle.history_book.specs.WentOn.{Saw, WentOn}
 use Rattle.history_book.specs.Filter.{passes}
 use Rattle.history_book.specs.Legality.{is_reason}
 use Rattle.history_book.specs.Notes.{Happened}
 use Rattle.history_book.specs.Places.{HoldsNothing}
-use Rattle.history_book.specs.Point.{At, StartsWith}
+use Rattle.history_book.specs.Point.{At}
 use Rattle.history_book.specs.Sight.{IsKnown, Sight}
 use Rattle.history_book.specs.State.{record_of}
 use Rattle.conntrack_cmd.specs.Answer.{AreDestroyed, IsRow}
@@ -41,12 +41,9 @@ pub record IsListing (filter : Filter) (old now : Sight) (count : ℕ) (rows : L
   pub empty : HoldsNothing now
   pub known : IsKnown now
 
--- the desk made these events of its own, and no others
+-- the desk went on by these events
 pub record MadeNotes (old now : Sight) (notes : List Note) : Type 0 where
-  pub front : StartsWith now.front old.front
-  pub sizes : now.sizes ≡ old.sizes
-  pub own : now.own ≡ old.own ++ notes
-  pub spare : old.spare ≡ now.spare + length notes
+  pub went : WentOn old now notes
   pub happened : AllByRecursion (λ n. Happened now.front (length old.front) n × (n.number < length now.front)) notes
 
 -- so many places were looked at; the entries of these rows were destroyed, and none is left for which the reason held

@@ -1,10 +1,9 @@
 -- What performing a command leaves of a desk, before the answer is given its number of events.
-use Rattle.std.specs.Prelude.{◌≡◌, ◌+◌, ◌≤◌, Option, Some, None, List, ◌++◌, length}
+use Rattle.std.specs.Prelude.{◌+◌, ◌≤◌, Option, Some, None, List, length}
 use Rattle.tuple_core.specs.declared.Tuple.{Tuple}
 use Rattle.history_book.specs.declared.event.Note.{Note}
-use Rattle.history_book.specs.Desk.{Saw}
+use Rattle.history_book.specs.WentOn.{Saw, WentOn}
 use Rattle.history_book.specs.Places.{HoldsNothing}
-use Rattle.history_book.specs.Point.{StartsWith}
 use Rattle.history_book.specs.Sight.{Sight}
 use Rattle.conntrack_cmd.specs.declared.command.Command.{Command}
 use Rattle.conntrack_cmd.specs.declared.command.Command.TheVariants as command
@@ -13,10 +12,8 @@ use Rattle.conntrack_cmd.specs.Answer.{FitsCommand}
 
 -- what is said fits the command and the further own events, and nothing is held or owed
 pub record Speaks (asked : Command) (old new : Sight) (spoken : Spoken) : Type 0 where
-  pub front : StartsWith new.front old.front
-  pub sizes : new.sizes ≡ old.sizes
   pub own : List Note
-  pub added : new.own ≡ old.own ++ own
+  pub went : WentOn old new own
   pub few : length own ≤ old.sizes.entries + old.sizes.expectations
   pub fits : FitsCommand new.front (length old.front) asked own spoken.said spoken.from spoken.to
   pub empty : HoldsNothing new

@@ -1,14 +1,13 @@
 -- Looking at one place after the other.
-use Rattle.std.specs.Prelude.{◌≡◌, ◌⊎◌, ℕ, ◌+◌, ◌<◌, ◌≤◌, Bool, true, false, Option, Some, None, List, [], ◌∷◌, ◌++◌, length}
+use Rattle.std.specs.Prelude.{◌≡◌, ◌⊎◌, ℕ, ◌<◌, ◌≤◌, Bool, true, false, Option, Some, None, List}
 use Rattle.history_book.specs.declared.answer.Row.{Row}
 use Rattle.history_book.specs.declared.event.Event.{Event}
 use Rattle.history_book.specs.declared.event.Event.TheVariants.{Destroy}
 use Rattle.history_book.specs.declared.event.Why.{Why}
 use Rattle.history_book.specs.declared.event.Why.TheVariants as why
 use Rattle.history_book.specs.declared.record.Record.{Record}
-use Rattle.history_book.specs.Desk.{Saw}
+use Rattle.history_book.specs.WentOn.{MadeEvent, Saw}
 use Rattle.history_book.specs.History.{after}
-use Rattle.history_book.specs.Point.{StartsWith}
 use Rattle.history_book.specs.Sight.{Sight, WasConfirmedIn}
 use Rattle.history_book.specs.State.{record_of}
 use Rattle.conntrack_cmd.specs.Answer.{IsDestroyed, has_row, is_live_and}
@@ -32,12 +31,7 @@ AreVisited log test count from to rows =
 
 -- the desk destroyed the entry of the row for the reason, and made no other event
 pub record DestroysRow (why : Why) (old new : Sight) (row : Row) : Type 0 where
-  pub front : StartsWith new.front old.front
-  pub own : new.own ≡ old.own ++ record { number = row.at; event = Destroy row.subject.id why } ∷ []
-  pub spare : old.spare ≡ new.spare + 1
-  pub sizes : new.sizes ≡ old.sizes
-  pub low : length old.front ≤ row.at
-  pub high : row.at < length new.front
+  pub made : MadeEvent old new row.at (Destroy row.subject.id why)
   pub destroyed : IsDestroyed new.front why (record { number = row.at; event = Destroy row.subject.id why }) row
 
 -- it destroyed the row's entry; or, without a row, it looked and made no event

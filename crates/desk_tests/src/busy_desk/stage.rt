@@ -12,7 +12,8 @@ use expect_table::expectation::Want;
 use history_book::desk::Desk;
 use history_book::event::Why;
 use history_book::laws::{entries_keep_their_helper, entries_keep_their_protocol};
-use history_book::outcome::{FindOutcome, PeekOutcome, ReleaseOutcome, TakeOutcome};
+use history_book::outcome::{FindOutcome, PeekOutcome, TakeOutcome};
+use history_book::places::give_back;
 use history_book::record::Flow;
 use history_book::sizes::Sizes;
 use proto_rules::{is_of_protocol, proto_of};
@@ -242,10 +243,7 @@ fn confirm<R: Wait>(rt: &R, desk: &mut PlainDesk, flow: &Flow)
         return;
     };
     let _ = desk.confirm(rt, place, flow);
-    match desk.release(rt, place) {
-        ReleaseOutcome::Kept => {}
-        ReleaseOutcome::Last => desk.recycle(rt, place),
-    }
+    give_back(rt, desk, place);
 }
 
 /// Touches the entry for which a place is held, if the packet is of its protocol.
@@ -283,10 +281,7 @@ fn expect<R: Wait>(rt: &R, desk: &mut PlainDesk, master: &Tuple, want: Want, mom
         return;
     };
     expect_for(rt, desk, place, master, want, moment);
-    match desk.release(rt, place) {
-        ReleaseOutcome::Kept => {}
-        ReleaseOutcome::Last => desk.recycle(rt, place),
-    }
+    give_back(rt, desk, place);
 }
 
 /// Expects something for the entry for which a place is held, if it has the tuple and the helper.

@@ -1,25 +1,15 @@
 //! What becomes of a packet where another pass comes between the calls of its own.
 
-ghost use Rattle.std.specs.Prelude.{◌≡◌, [], IfOk};
-ghost use Rattle.std.specs.List.{AllByRecursion};
-ghost use Rattle.nat_setup.specs.Rule.{IsLawfulRule};
-
-use super::BusyDesk;
-use super::stage::{Act, Call, Script, Turn};
-use history_book::desk::Desk;
+use super::stage::{Act, Call, Turn};
+use case::{Case, Fate, LATE, SECOND, Step, holds};
 use history_book::record::Flow;
-use history_book::verdict::{Class, Label, Translated, Verdict};
-use nat_setup::read::read_rules;
-use nat_setup::rule::Rules;
-use packet_headers::frame::{Frame, Link};
-use packet_path::handle::handle;
-use packet_path::setup::{Ports, Setup};
+use history_book::verdict::Label;
 use proto_rules::{Part, PartKind, TcpState};
-use std::alloc::Global;
-use std::process::Abort;
-use std::sync::Wait;
 use std::test::Fail;
-use tuple_core::{Direction, NoMemory, Proto, Segment, Tuple};
+use tuple_core::{Direction, Proto, Segment, Tuple};
+
+mod case;
+mod ftp;
 
 /// A query of UDP from 10.0.0.1:5000 to 10.0.0.2:53.
 const QUERY: [u8; 32] = [
@@ -38,12 +28,6 @@ const RST: [u8; 40] = [
     0x45, 0, 0, 0x28, 0, 0, 0, 0, 0x40, 6, 0, 0, 10, 0, 0, 1, 10, 0, 0, 2, 0x9c, 0x40, 0, 0x50, 0,
     0, 0, 0, 0, 0, 0, 0, 0x50, 4, 0, 0, 0, 0, 0, 0,
 ];
-
-/// A second, in microseconds.
-const SECOND: u64 = 1_000_000;
-
-/// A moment at which all is expired.
-const LATE: u64 = 1_000_000_000 * SECOND;
 
 /// The tuple of the query.
 const ASKS: Tuple = Tuple {
@@ -103,118 +87,49 @@ const OPENED: Flow = Flow {
     master: None,
 };
 
-/// A desk whose other pass takes these turns.
-fn desk(alloc: Global, turns: &[Turn]) -> Result<BusyDesk, NoMemory>
-    ensures held { IfOk result (λ b. b.held ≡ []) }
-    ensures owed { IfOk result (λ b. b.owed ≡ []) }
-{
-    let mut script = Script::new(alloc, 0)?;
-    script.append(turns)?;
-    BusyDesk::new(alloc, script, 100)
-}
-
-/// What becomes of a packet at this moment, without rules.
-fn handled<R: Wait + Abort + AllocGlobal>(
-    rt: &R,
-    desk: &mut BusyDesk,
-    packet: &[u8],
-    moment: u64,
-) -> Result<Verdict, NoMemory>
-    requires held { desk.old.held ≡ [] }
-    requires owed { desk.old.owed ≡ [] }
-    ensures held { desk.new.held ≡ [] }
-    ensures owed { desk.new.owed ≡ [] }
-{
-    let setup = Setup {
-        rules: Rules::new(rt.alloc(), 0)?,
-        ftp: Ports::new(rt.alloc(), 0)?,
-    };
-    handled_by(rt, desk, packet, moment, &setup)
-}
-
-/// What becomes of a packet at this moment, by a tracker that is set up so.
-fn handled_by<R: Wait + Abort>(
-    rt: &R,
-    desk: &mut BusyDesk,
-    packet: &[u8],
-    moment: u64,
-    setup: &Setup,
-) -> Result<Verdict, NoMemory>
-    requires lawful { AllByRecursion IsLawfulRule setup.now.rules.items }
-    requires held { desk.old.held ≡ [] }
-    requires owed { desk.old.owed ≡ [] }
-    ensures held { desk.new.held ≡ [] }
-    ensures owed { desk.new.owed ≡ [] }
-{
-    assert!(rt; desk.made() < 1000);
-    assert!(rt; moment <= LATE);
-    assert!(rt; packet.len() < 1000);
-    let length = packet.len() as u32;
-    let frame = Frame {
-        moment,
-        start: 0,
-        captured: length,
-        original: length,
-        link: Link::Raw,
-    };
-    handle(rt, desk, packet, &frame, setup)
-}
-
 #[test]
 fn an_entry_goes_before_it_is_touched(rt: HostRuntime) -> Result<(), Fail> {
-    let mut desk = desk(
-        rt.alloc(),
-        &[Turn {
+    static CASE: Case<'static> = Case {
+        rules: "",
+        helped: false,
+        turns: &[Turn {
             before: Call::Touch,
             act: Act::Expire(LATE),
         }],
-    )?;
-    let first = handled(&rt, &mut desk, &QUERY, SECOND)?;
-    let again = handled(&rt, &mut desk, &QUERY, 2 * SECOND)?;
-    let after = handled(&rt, &mut desk, &QUERY, 3 * SECOND)?;
-    assert!(rt;
-        matches!(
-            first,
-            Verdict {
-                class: Class::Made { id: 0, at: 1, .. },
-                first: 0,
-                made: 1
-            }
-        )
-    );
-    assert!(rt;
-        matches!(
-            again,
-            Verdict {
-                class: Class::Made { id: 2, at: 3, .. },
-                first: 1,
-                made: 1
-            }
-        )
-    );
-    assert!(rt;
-        matches!(
-            after,
-            Verdict {
-                class: Class::Passed {
+        steps: &[
+            Step {
+                packet: &QUERY,
+                moment: SECOND,
+                fate: Fate::Made { id: 0, at: 1 },
+                events: Some((0, 1)),
+            },
+            Step {
+                packet: &QUERY,
+                moment: 2 * SECOND,
+                fate: Fate::Made { id: 2, at: 3 },
+                events: Some((1, 1)),
+            },
+            Step {
+                packet: &QUERY,
+                moment: 3 * SECOND,
+                fate: Fate::Passed {
                     label: Label::New,
                     id: 2,
                     at: 4,
-                    ..
                 },
-                first: 2,
-                made: 1
-            }
-        )
-    );
-    Ok(())
+                events: Some((2, 1)),
+            },
+        ],
+    };
+    holds(&rt, &CASE)
 }
 
 #[test]
 fn an_expired_entry_is_touched_before_it_is_destroyed(rt: HostRuntime) -> Result<(), Fail> {
-    let mut desk = desk(
-        rt.alloc(),
-        &[Turn {
+    static CASE: Case<'static> = Case {
+        rules: "",
+        helped: false,
+        turns: &[Turn {
             before: Call::Kill,
             act: Act::Touch {
                 direction: Direction::Reply,
@@ -222,396 +137,346 @@ fn an_expired_entry_is_touched_before_it_is_destroyed(rt: HostRuntime) -> Result
                 moment: 20 * SECOND,
             },
         }],
-    )?;
-    let first = handled(&rt, &mut desk, &QUERY, SECOND)?;
-    let again = handled(&rt, &mut desk, &QUERY, 31 * SECOND)?;
-    let after = handled(&rt, &mut desk, &QUERY, 32 * SECOND)?;
-    assert!(rt;
-        matches!(
-            first,
-            Verdict {
-                class: Class::Made { id: 0, at: 1, .. },
-                first: 0,
-                made: 1
-            }
-        )
-    );
-    assert!(rt;
-        matches!(
-            again,
-            Verdict {
-                class: Class::Passed {
+        steps: &[
+            Step {
+                packet: &QUERY,
+                moment: SECOND,
+                fate: Fate::Made { id: 0, at: 1 },
+                events: Some((0, 1)),
+            },
+            Step {
+                packet: &QUERY,
+                moment: 31 * SECOND,
+                fate: Fate::Passed {
                     label: Label::Established,
                     id: 0,
                     at: 3,
-                    ..
                 },
-                first: 1,
-                made: 1
-            }
-        )
-    );
-    assert!(rt;
-        matches!(
-            after,
-            Verdict {
-                class: Class::Passed {
+                events: Some((1, 1)),
+            },
+            Step {
+                packet: &QUERY,
+                moment: 32 * SECOND,
+                fate: Fate::Passed {
                     label: Label::Established,
                     id: 0,
                     at: 4,
-                    ..
                 },
-                first: 2,
-                made: 1
-            }
-        )
-    );
-    Ok(())
+                events: Some((2, 1)),
+            },
+        ],
+    };
+    holds(&rt, &CASE)
 }
+
+/// A turn in which the other pass confirms the flow of the query.
+const CONFIRMS: Turn = Turn {
+    before: Call::Find,
+    act: Act::Confirm(ASKED),
+};
 
 #[test]
 fn a_fifth_expired_entry_is_left(rt: HostRuntime) -> Result<(), Fail> {
-    let turn = Turn {
-        before: Call::Find,
-        act: Act::Confirm(ASKED),
+    static CASE: Case<'static> = Case {
+        rules: "",
+        helped: false,
+        turns: &[CONFIRMS, CONFIRMS, CONFIRMS, CONFIRMS, CONFIRMS],
+        steps: &[
+            Step {
+                packet: &QUERY,
+                moment: 100 * SECOND,
+                fate: Fate::Contended { id: 8, at: 9 },
+                events: Some((0, 4)),
+            },
+            Step {
+                packet: &QUERY,
+                moment: 101 * SECOND,
+                fate: Fate::Made { id: 10, at: 11 },
+                events: Some((4, 2)),
+            },
+        ],
     };
-    let mut desk = desk(rt.alloc(), &[turn; 5])?;
-    let contended = handled(&rt, &mut desk, &QUERY, 100 * SECOND)?;
-    let after = handled(&rt, &mut desk, &QUERY, 101 * SECOND)?;
-    assert!(rt;
-        matches!(
-            contended,
-            Verdict {
-                class: Class::Contended { id: 8, at: 9 },
-                first: 0,
-                made: 4
-            }
-        )
-    );
-    assert!(rt;
-        matches!(
-            after,
-            Verdict {
-                class: Class::Made { id: 10, at: 11, .. },
-                first: 4,
-                made: 2
-            }
-        )
-    );
-    Ok(())
-}
-
-/// A desk whose other pass confirms this flow before the first packet's is.
-fn overtaken(alloc: Global, flow: Flow) -> Result<BusyDesk, NoMemory>
-    ensures held { IfOk result (λ b. b.held ≡ []) }
-    ensures owed { IfOk result (λ b. b.owed ≡ []) }
-{
-    desk(
-        alloc,
-        &[Turn {
-            before: Call::Take,
-            act: Act::Confirm(flow),
-        }],
-    )
+    holds(&rt, &CASE)
 }
 
 #[test]
 fn the_other_pass_confirms_the_flow_first(rt: HostRuntime) -> Result<(), Fail> {
-    let mut desk = overtaken(rt.alloc(), ASKED)?;
-    let merged = handled(&rt, &mut desk, &QUERY, SECOND)?;
-    let after = handled(&rt, &mut desk, &QUERY, 2 * SECOND)?;
-    assert!(rt;
-        matches!(
-            merged,
-            Verdict {
-                class: Class::Merged { id: 0, at: 1, .. },
-                first: 0,
-                made: 0
-            }
-        )
-    );
-    assert!(rt;
-        matches!(
-            after,
-            Verdict {
-                class: Class::Passed {
+    static CASE: Case<'static> = Case {
+        rules: "",
+        helped: false,
+        turns: &[Turn {
+            before: Call::Take,
+            act: Act::Confirm(ASKED),
+        }],
+        steps: &[
+            Step {
+                packet: &QUERY,
+                moment: SECOND,
+                fate: Fate::Merged { id: 0, at: 1 },
+                events: Some((0, 0)),
+            },
+            Step {
+                packet: &QUERY,
+                moment: 2 * SECOND,
+                fate: Fate::Passed {
                     label: Label::New,
                     id: 0,
                     at: 2,
-                    ..
                 },
-                first: 0,
-                made: 1
-            }
-        )
-    );
-    Ok(())
+                events: Some((0, 1)),
+            },
+        ],
+    };
+    holds(&rt, &CASE)
 }
 
 #[test]
 fn the_other_pass_confirms_the_connection_first(rt: HostRuntime) -> Result<(), Fail> {
-    let mut desk = overtaken(rt.alloc(), OPENED)?;
-    let clash = handled(&rt, &mut desk, &SYN, SECOND)?;
-    let after = handled(&rt, &mut desk, &SYN, 2 * SECOND)?;
-    assert!(rt;
-        matches!(
-            clash,
-            Verdict {
-                class: Class::Clash { id: 0, at: 1, .. },
-                first: 0,
-                made: 0
-            }
-        )
-    );
-    assert!(rt;
-        matches!(
-            after,
-            Verdict {
-                class: Class::Passed {
+    static CASE: Case<'static> = Case {
+        rules: "",
+        helped: false,
+        turns: &[Turn {
+            before: Call::Take,
+            act: Act::Confirm(OPENED),
+        }],
+        steps: &[
+            Step {
+                packet: &SYN,
+                moment: SECOND,
+                fate: Fate::Clash { id: 0, at: 1 },
+                events: Some((0, 0)),
+            },
+            Step {
+                packet: &SYN,
+                moment: 2 * SECOND,
+                fate: Fate::Passed {
                     label: Label::New,
                     id: 0,
                     at: 2,
-                    ..
                 },
-                first: 0,
-                made: 1
-            }
-        )
-    );
-    Ok(())
+                events: Some((0, 1)),
+            },
+        ],
+    };
+    holds(&rt, &CASE)
 }
+
+/// The flow of another client's query with the same reply tuple.
+const ELSEWHERE: Flow = Flow {
+    original: Tuple {
+        src: 0x0a00_0003,
+        ..ASKS
+    },
+    ..ASKED
+};
 
 #[test]
 fn the_other_pass_confirms_a_flow_with_the_reply_tuple_first(rt: HostRuntime) -> Result<(), Fail> {
-    let elsewhere = Flow {
-        original: Tuple {
-            src: 0x0a00_0003,
-            ..ASKS
-        },
-        ..ASKED
+    static CASE: Case<'static> = Case {
+        rules: "",
+        helped: false,
+        turns: &[Turn {
+            before: Call::Take,
+            act: Act::Confirm(ELSEWHERE),
+        }],
+        steps: &[
+            Step {
+                packet: &QUERY,
+                moment: SECOND,
+                fate: Fate::Clash { id: 0, at: 1 },
+                events: Some((0, 0)),
+            },
+            Step {
+                packet: &QUERY,
+                moment: 2 * SECOND,
+                fate: Fate::Clash { id: 0, at: 1 },
+                events: Some((0, 0)),
+            },
+        ],
     };
-    let mut desk = overtaken(rt.alloc(), elsewhere)?;
-    let clash = handled(&rt, &mut desk, &QUERY, SECOND)?;
-    let after = handled(&rt, &mut desk, &QUERY, 2 * SECOND)?;
-    assert!(rt;
-        matches!(
-            clash,
-            Verdict {
-                class: Class::Clash { id: 0, at: 1, .. },
-                first: 0,
-                made: 0
-            }
-        )
-    );
-    assert!(rt;
-        matches!(
-            after,
-            Verdict {
-                class: Class::Clash { id: 0, at: 1, .. },
-                first: 0,
-                made: 0
-            }
-        )
-    );
-    Ok(())
+    holds(&rt, &CASE)
 }
+
+/// The flow of the query the other way round.
+const REVERSED: Flow = Flow {
+    original: ANSWERS,
+    reply: ASKS,
+    ..ASKED
+};
 
 #[test]
 fn the_other_pass_confirms_the_flow_the_other_way_round_first(rt: HostRuntime) -> Result<(), Fail> {
-    let reversed = Flow {
-        original: ANSWERS,
-        reply: ASKS,
-        ..ASKED
-    };
-    let mut desk = overtaken(rt.alloc(), reversed)?;
-    let clash = handled(&rt, &mut desk, &QUERY, SECOND)?;
-    let after = handled(&rt, &mut desk, &QUERY, 2 * SECOND)?;
-    assert!(rt;
-        matches!(
-            clash,
-            Verdict {
-                class: Class::Clash { id: 0, at: 1, .. },
-                first: 0,
-                made: 0
-            }
-        )
-    );
-    assert!(rt;
-        matches!(
-            after,
-            Verdict {
-                class: Class::Passed {
+    static CASE: Case<'static> = Case {
+        rules: "",
+        helped: false,
+        turns: &[Turn {
+            before: Call::Take,
+            act: Act::Confirm(REVERSED),
+        }],
+        steps: &[
+            Step {
+                packet: &QUERY,
+                moment: SECOND,
+                fate: Fate::Clash { id: 0, at: 1 },
+                events: Some((0, 0)),
+            },
+            Step {
+                packet: &QUERY,
+                moment: 2 * SECOND,
+                fate: Fate::Passed {
                     label: Label::EstablishedReply,
                     id: 0,
                     at: 2,
-                    ..
                 },
-                first: 0,
-                made: 1
-            }
-        )
-    );
-    Ok(())
+                events: Some((0, 1)),
+            },
+        ],
+    };
+    holds(&rt, &CASE)
 }
 
 #[test]
 fn a_reset_connection_goes_before_it_is_destroyed(rt: HostRuntime) -> Result<(), Fail> {
-    let mut desk = desk(
-        rt.alloc(),
-        &[Turn {
+    static CASE: Case<'static> = Case {
+        rules: "",
+        helped: false,
+        turns: &[Turn {
             before: Call::Kill,
             act: Act::Expire(LATE),
         }],
-    )?;
-    let opened = handled(&rt, &mut desk, &SYN, SECOND)?;
-    let reset = handled(&rt, &mut desk, &RST, 2 * SECOND)?;
-    let after = handled(&rt, &mut desk, &SYN, 3 * SECOND)?;
-    assert!(rt;
-        matches!(
-            opened,
-            Verdict {
-                class: Class::Made { id: 0, at: 1, .. },
-                first: 0,
-                made: 1
-            }
-        )
-    );
-    assert!(rt;
-        matches!(
-            reset,
-            Verdict {
-                class: Class::NoEntry { at: 2 },
-                first: 1,
-                made: 0
-            }
-        )
-    );
-    assert!(rt;
-        matches!(
-            after,
-            Verdict {
-                class: Class::Made { id: 2, at: 3, .. },
-                first: 1,
-                made: 1
-            }
-        )
-    );
-    Ok(())
+        steps: &[
+            Step {
+                packet: &SYN,
+                moment: SECOND,
+                fate: Fate::Made { id: 0, at: 1 },
+                events: Some((0, 1)),
+            },
+            Step {
+                packet: &RST,
+                moment: 2 * SECOND,
+                fate: Fate::NoEntry { at: 2 },
+                events: Some((1, 0)),
+            },
+            Step {
+                packet: &SYN,
+                moment: 3 * SECOND,
+                fate: Fate::Made { id: 2, at: 3 },
+                events: Some((1, 1)),
+            },
+        ],
+    };
+    holds(&rt, &CASE)
 }
 
-/// The query's answer, sent to this port of 192.0.2.1.
-fn answers_to(port: u16) -> Tuple {
-    Tuple {
-        dst: 0xc000_0201,
-        b: port,
-        ..ANSWERS
-    }
-}
+/// The query's answer, sent to the port 7000 of 192.0.2.1.
+const ANSWERS_TO_7000: Tuple = Tuple {
+    dst: 0xc000_0201,
+    b: 7000,
+    ..ANSWERS
+};
 
-/// A tracker that is set up with these rules.
-fn set_up<R: Abort + AllocGlobal>(rt: &R, rules: &str) -> Result<Setup, Fail>
-    ensures { IfOk result (λ setup. AllByRecursion IsLawfulRule setup.rules.items) }
-{
-    assert!(rt; rules.len() < 1000);
-    match read_rules(rt.alloc(), rules.as_bytes()) {
-        Ok(rules) => Ok(Setup {
-            rules,
-            ftp: Ports::new(rt.alloc(), 0)?,
-        }),
-        Err(_) => Err(Fail::from("no rules")),
-    }
-}
+/// The same, sent to the port 5000.
+const ANSWERS_TO_5000: Tuple = Tuple {
+    dst: 0xc000_0201,
+    b: 5000,
+    ..ANSWERS
+};
+
+/// The flow of another client's query that has the reply tuple which a rule chooses.
+const OTHER_TO_7000: Flow = Flow {
+    reply: ANSWERS_TO_7000,
+    ..ELSEWHERE
+};
 
 #[test]
 fn the_chosen_reply_tuple_is_taken_first(rt: HostRuntime) -> Result<(), Fail> {
-    let other = Flow {
-        original: Tuple {
-            src: 0x0a00_0003,
-            ..ASKS
-        },
-        reply: answers_to(7000),
-        ..ASKED
+    static CASE: Case<'static> = Case {
+        rules: "snat -p udp to 192.0.2.1:7000",
+        helped: false,
+        turns: &[Turn {
+            before: Call::Take,
+            act: Act::Confirm(OTHER_TO_7000),
+        }],
+        steps: &[
+            Step {
+                packet: &QUERY,
+                moment: SECOND,
+                fate: Fate::ClashByRule {
+                    id: 0,
+                    at: 1,
+                    reply: ANSWERS_TO_7000,
+                },
+                events: None,
+            },
+            Step {
+                packet: &QUERY,
+                moment: 2 * SECOND,
+                fate: Fate::NoPort { from: 1, to: 1 },
+                events: None,
+            },
+        ],
     };
-    let setup = set_up(&rt, "snat -p udp to 192.0.2.1:7000")?;
-    let mut desk = overtaken(rt.alloc(), other)?;
-    let clash = handled_by(&rt, &mut desk, &QUERY, SECOND, &setup)?;
-    let after = handled_by(&rt, &mut desk, &QUERY, 2 * SECOND, &setup)?;
-    let Class::Clash {
-        id: 0,
-        at: 1,
-        translated,
-    } = clash.class
-    else {
-        panic!(rt; "no clash");
-    };
-    let Translated::Chosen {
-        reply,
-        kept_taken_at: None,
-    } = translated
-    else {
-        panic!(rt; "not translated");
-    };
-    assert!(rt; reply == answers_to(7000));
-    assert!(rt; matches!(after.class, Class::NoPort { from: 1, to: 1 }));
-    Ok(())
+    holds(&rt, &CASE)
 }
+
+/// The flow of the query with that reply tuple.
+const SAME_TO_7000: Flow = Flow {
+    reply: ANSWERS_TO_7000,
+    ..ASKED
+};
 
 #[test]
 fn the_translated_flow_is_confirmed_first(rt: HostRuntime) -> Result<(), Fail> {
-    let same = Flow {
-        reply: answers_to(7000),
-        ..ASKED
+    static CASE: Case<'static> = Case {
+        rules: "snat -p udp to 192.0.2.1:7000",
+        helped: false,
+        turns: &[Turn {
+            before: Call::Take,
+            act: Act::Confirm(SAME_TO_7000),
+        }],
+        steps: &[Step {
+            packet: &QUERY,
+            moment: SECOND,
+            fate: Fate::Merged { id: 0, at: 1 },
+            events: None,
+        }],
     };
-    let setup = set_up(&rt, "snat -p udp to 192.0.2.1:7000")?;
-    let mut desk = overtaken(rt.alloc(), same)?;
-    let merged = handled_by(&rt, &mut desk, &QUERY, SECOND, &setup)?;
-    assert!(rt; matches!(merged.class, Class::Merged { id: 0, at: 1, .. }));
-    Ok(())
+    holds(&rt, &CASE)
 }
+
+/// The flow of another client's query that has the port of the query's own.
+const OTHER_TO_5000: Flow = Flow {
+    reply: ANSWERS_TO_5000,
+    ..ELSEWHERE
+};
 
 #[test]
 fn the_flows_own_port_is_taken_after_its_tuple_was_looked_up(rt: HostRuntime) -> Result<(), Fail> {
-    let other = Flow {
-        original: Tuple {
-            src: 0x0a00_0003,
-            ..ASKS
-        },
-        reply: answers_to(5000),
-        ..ASKED
-    };
-    let setup = set_up(&rt, "snat to 192.0.2.1")?;
-    let mut desk = desk(
-        rt.alloc(),
-        &[
+    static CASE: Case<'static> = Case {
+        rules: "snat to 192.0.2.1",
+        helped: false,
+        turns: &[
             Turn {
                 before: Call::Find,
                 act: Act::Nothing,
             },
             Turn {
                 before: Call::Find,
-                act: Act::Confirm(other),
+                act: Act::Confirm(OTHER_TO_5000),
             },
         ],
-    )?;
-    let made = handled_by(&rt, &mut desk, &QUERY, SECOND, &setup)?;
-    let Class::Made {
-        id: 1,
-        at: 2,
-        translated,
-        unclaimed: Some(1),
-    } = made.class
-    else {
-        panic!(rt; "not made");
+        steps: &[Step {
+            packet: &QUERY,
+            moment: SECOND,
+            fate: Fate::MadeByRule {
+                id: 1,
+                at: 2,
+                unclaimed: Some(1),
+                own: 5000,
+                taken_at: 1,
+            },
+            events: None,
+        }],
     };
-    let Translated::Chosen {
-        reply,
-        kept_taken_at: Some(1),
-    } = translated
-    else {
-        panic!(rt; "not translated");
-    };
-    assert!(rt; 1024 <= reply.b && reply.b != 5000);
-    Ok(())
+    holds(&rt, &CASE)
 }
-
-mod ftp;

@@ -1,6 +1,7 @@
 use super::*;
 use room_list::Bytes;
 use std::test::Fail;
+use tuple_core::Proto;
 
 /// What a file says; the files of the tests are short.
 fn read(alloc: Global, bytes: &[u8]) -> Result<Rules, RuleError> {

@@ -5,9 +5,9 @@ use Rattle.tuple_core.specs.Tuple.{is_valid}
 use Rattle.tuple_core.specs.declared.Tuple.{Tuple}
 use Rattle.history_book.specs.declared.event.Event.{Event}
 use Rattle.history_book.specs.State.{Found, live_under}
-use Rattle.packet_path.specs.Begun.{rule_for, WasTranslated}
+use Rattle.nat_setup.specs.Rule.{rule_for}
+use Rattle.nat_setup.specs.Translation.{WasTranslated}
 use Rattle.packet_path.specs.declared.begin.NewReply.{NewReply}
-use Rattle.history_book.specs.declared.desk.Hold.{Hold}
 use Rattle.history_book.specs.declared.event.Note.{Note}
 use Rattle.history_book.specs.declared.event.Why.{Why}
 use Rattle.history_book.specs.declared.event.Why.TheVariants as why
@@ -16,22 +16,24 @@ use Rattle.proto_rules.specs.declared.Outcome.TheVariants as outcome
 use Rattle.history_book.specs.declared.outcome.ClaimOutcome.{ClaimOutcome}
 use Rattle.history_book.specs.declared.outcome.ClaimOutcome.TheVariants as claim
 use Rattle.history_book.specs.declared.verdict.Ftp.{Ftp}
-use Rattle.history_book.specs.Desk.{IsLiveUnder, Saw, StepGives}
-use Rattle.history_book.specs.Notes.{mark_past}
+use Rattle.history_book.specs.Desk.{IsLiveUnder, StepGives}
+use Rattle.history_book.specs.WentOn.{Saw, WentOn}
+use Rattle.history_book.specs.Mark.{mark_past}
 use Rattle.history_book.specs.Places.{HoldsNothing, HoldsOne}
-use Rattle.history_book.specs.Point.{At, StartsWith}
+use Rattle.history_book.specs.Point.{At}
 use Rattle.history_book.specs.Sight.{IsKnown, Sight}
 use Rattle.packet_headers.specs.ClassifySound.{protocol_of}
 use Rattle.packet_path.specs.declared.attempt.Attempt.{Attempt}
 use Rattle.packet_path.specs.declared.attempt.Attempt.TheVariants.{Done, Killed, Again}
 use Rattle.packet_path.specs.declared.attempt.Met.{Met}
-use Rattle.packet_path.specs.declared.packet.FlowPacket.{FlowPacket}
+use Rattle.packet_path.specs.Packet.{FlowPacket}
 use Rattle.packet_path.specs.Packet.{Given, IsFlow}
 use Rattle.packet_path.specs.declared.setup.Setup.{Setup}
 use Rattle.packet_path.specs.declared.payload.Wanted.{Wanted}
 use Rattle.packet_path.specs.declared.payload.Wanted.TheVariants.{Nothing, Foreign, End}
 use Rattle.packet_path.specs.FtpPart.{Asks, NamesNone, FtpFits}
-use Rattle.packet_path.specs.Verdict.{FitsFrame, Kills, KillsAll, ftp_points, points_of}
+use Rattle.history_book.specs.Mark.{ftp_points, points_of}
+use Rattle.packet_path.specs.Verdict.{FitsFrame, Kills, KillsAll}
 
 -- the tuple is valid and of the segment's protocol, and the moment is one that a capture can name
 pub record IsClassified (p : FlowPacket) : Type 0 where
@@ -52,7 +54,7 @@ pub record IsReplyOf (t reply : Tuple) : Type 0 where
 -- nothing was live under the packet's tuple at this point, and from there on the reply tuple was found for it
 pub record IsFoundFor (setup : Setup) (packet : FlowPacket) (log : List Event) (absent_at : ℕ) (found : NewReply) : Type 0 where
   pub absent : At log absent_at (λ s. live_under packet.tuple s ≡ None)
-  pub translation : WasTranslated log (rule_for setup packet.tuple) packet.tuple absent_at (length log) found.translated found.reply
+  pub translation : WasTranslated log (rule_for setup.rules.items packet.tuple) packet.tuple absent_at (length log) found.translated found.reply
 
 -- the point at which a packet was not expected, and the master of the expectation that it claimed
 abbrev pub unclaimed_at : ClaimOutcome → Option ℕ
@@ -71,12 +73,9 @@ WantedSays packet found (End want) = Asks packet found (Some want)
 
 -- what came of the payload of a packet that the entry accepted, which was found so, by this event
 pub record Follows (packet : FlowPacket) (found : Found) (touched : ℕ) (old new : Sight) (ftp : Ftp) : Type 0 where
-  pub front : StartsWith new.front old.front
-  pub sizes : new.sizes ≡ old.sizes
   pub further : List Note
-  pub own : new.own ≡ old.own ++ further
+  pub went : WentOn old new further
   pub few : length further ≤ 1
-  pub spare : old.spare ≡ new.spare + length further
   pub points : AllByRecursion (λ p. p ≤ length new.front) (ftp_points ftp)
   pub fits : FtpFits old.sizes new.front packet found touched further ftp
 
@@ -95,12 +94,9 @@ EndsEntry packet met at why.Flushed s = ⊥
 -- The packet's class, which fits whatever kills of this number came before, none of them later than this
 -- point.
 pub record Answers (setup : Setup) (old new : Sight) (packet : FlowPacket) (killed from : ℕ) (answer : Class) : Type 0 where
-  pub front : StartsWith new.front old.front
-  pub sizes : new.sizes ≡ old.sizes
   pub rest : List Note
-  pub own : new.own ≡ old.own ++ rest
+  pub went : WentOn old new rest
   pub few : length rest ≤ 2
-  pub spare : old.spare ≤ new.spare + length rest
   pub points : AllByRecursion (λ p. p ≤ length new.front) (points_of answer)
   pub fits : (given : Given) (mark : ℕ) (kills : List Note) → IsFlow given packet → length kills ≡ killed
       → KillsAll old.front mark packet kills → mark_past mark kills ≤ from
@@ -109,11 +105,8 @@ pub record Answers (setup : Setup) (old new : Sight) (packet : FlowPacket) (kill
 -- the packet killed the entry that it met, and fewer than four before
 pub record KilledOne (old new : Sight) (packet : FlowPacket) (killed from : ℕ) : Type 0 where
   pub few : killed < 4
-  pub front : StartsWith new.front old.front
-  pub sizes : new.sizes ≡ old.sizes
   pub note : Note
-  pub own : new.own ≡ old.own ++ note ∷ []
-  pub spare : old.spare ≡ new.spare + 1
+  pub went : WentOn old new (note ∷ [])
   pub high : note.number < length new.front
   pub kill : Kills new.front from packet note
 
@@ -125,10 +118,8 @@ AttemptSays setup old new packet killed from Again = Saw old new
 
 -- what was done with a packet so far: so many kills, and nothing is held
 pub record IsKilling (old now : Sight) (packet : FlowPacket) (killed : ℕ) : Type 0 where
-  pub front : StartsWith now.front old.front
-  pub sizes : now.sizes ≡ old.sizes
   pub kills : List Note
-  pub own : now.own ≡ old.own ++ kills
+  pub went : WentOn old now kills
   pub count : length kills ≡ killed
   pub few : killed ≤ 4
   pub all : KillsAll now.front (length old.front) packet kills

@@ -1,5 +1,5 @@
 -- What is so where a run ends in each way.
-use Rattle.std.specs.Prelude.{false, ◌≡◌, ℕ, List, [], Result, Ok, Err, codes}
+use Rattle.std.specs.Prelude.{◌≡◌, ℕ, List, [], Result, Ok, Err, codes}
 use Rattle.command_words.specs.Words.{Request}
 use Rattle.command_words.specs.declared.WordsError.{WordsError}
 use Rattle.command_words.specs.declared.WordsError.TheVariants as unasked
@@ -9,13 +9,13 @@ use Rattle.ct_io.specs.Counts.{Rose}
 use Rattle.history_book.specs.declared.report.Report.{Report}
 use Rattle.replay_top.specs.declared.ending.Ending.{Ending}
 use Rattle.replay_top.specs.declared.ending.Ending.TheVariants.{Done, NotWritten, Refused}
-use Rattle.replay_top.specs.declared.flaw.Refusal.{Refusal}
-use Rattle.replay_top.specs.declared.flaw.Refusal.TheVariants as refusal
+use Rattle.run_inputs.specs.declared.flaw.Refusal.{Refusal}
+use Rattle.run_inputs.specs.declared.flaw.Refusal.TheVariants as refusal
 use Rattle.replay_top.specs.ErrorLine.{error_line, flaw_line, words_limit_text}
-use Rattle.replay_top.specs.Internal.Reading.{HasCauseFrom, SameFaultsBut}
-use Rattle.replay_top.specs.Content.{no_totals}
+use Rattle.run_inputs.specs.Reading.{HasCauseFrom, part_of, SameFaultsBut}
+use Rattle.run_inputs.specs.Content.{no_totals}
 use Rattle.replay_top.specs.Replay.{IsReplayOf}
-use Rattle.replay_top.specs.Files.{file_at, files_of, InputFile}
+use Rattle.run_inputs.specs.Files.{file_at, files_of, InputFile}
 use Rattle.report_text.specs.Report.{report_text}
 use Rattle.report_text.specs.Wrote.{followed_by, WroteFront}
 
@@ -47,7 +47,7 @@ line_about name refusal.NoMemory = error_line [] (codes "out of memory\n")
 abbrev pub Replays : Request → Source → Source → Result Report Refusal → Type 0
 Replays asked files files' (Ok report) = IsReplayOf files asked report × SameFaults files files'
 Replays asked files files' (Err why) =
-    HasCauseFrom no_totals 0 (files_of asked) files files' why × SameFaultsBut why files files'
+    HasCauseFrom (part_of no_totals 0 (files_of asked)) files files' why × SameFaultsBut why files files'
 
 -- how a run that is asked for ends: what it did with the files, and what it wrote
 abbrev pub Ends : Request → Source → Source → Tape → Tape → Ending → Type 0
@@ -58,10 +58,4 @@ Ends asked files files' out out' (NotWritten report) =
     IsReplayOf files asked report × Rose out.faults out'.faults × WroteFront (report_text report) out.written out'.written
     × SameFaults files files'
 Ends asked files files' out out' (Refused why) =
-    HasCauseFrom no_totals 0 (files_of asked) files files' why × (out' ≡ out) × SameFaultsBut why files files'
-
--- the count of opening another name than this stands, unless the name shares it, or reads are counted in it
-abbrev pub OthersStandBesideName : List ℕ → Source → Source → Type 0
-OthersStandBesideName name files files' =
-    (other : List ℕ) → files.shares name other ≡ false → files.counts_reads other ≡ false
-    → files'.open_faults other ≡ files.open_faults other
+    HasCauseFrom (part_of no_totals 0 (files_of asked)) files files' why × (out' ≡ out) × SameFaultsBut why files files'

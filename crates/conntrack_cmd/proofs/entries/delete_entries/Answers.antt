@@ -9,7 +9,7 @@ returns-clause-says g c =
     let a = g.D.Desk.sight c.count-first.new.self in
     let b = g.D.Desk.sight c.destroy_all.new.desk in
     let new = g.D.Desk.sight c.count-last.new.self in
-    delete_speaks c.states_stay.ensures old a b new c.count-first.result.at c.count-last.result.at
+    delete_speaks c.going_on_adds_up.ensures.all c.states_stay.ensures old a b new c.count-first.result.at c.count-last.result.at
     (λ s. c.count-first.result.live ≡ length s.records) (λ s. c.count-last.result.live ≡ length s.records)
     c.count-first.ensures.says.0 c.count-last.ensures.says.0 c.events_stay.ensures c.entries_keep_their_place.ensures
     c.places_are_in_the_pool.ensures c.live_records_are_confirmed.ensures

@@ -1,4 +1,4 @@
-use Rattle.history_book.specs.Desk.{Saw}
+use Rattle.history_book.specs.WentOn.{Saw}
 use Rattle.history_book.specs.Places.{HoldsNothing}
 use Rattle.conntrack_cmd.proofs.looks.look_up.Given as goal
 

@@ -22,7 +22,7 @@ returns-in-Killed-clause-made g c =
     c.args.why mid then c.in-Held.at c.in-Killed.number c.in-Held.id c.in-Killed.subject c.in-Held.ensures.says.0
     (subst (λ i. Destroys i c.args.why mid then c.in-Killed.number c.in-Killed.subject)
     (is_held_id c.one_hold_has_its_id.ensures s mid c.args.place c.in-Held.id c.requires.empty c.in-Held.ensures.says.1) c.in-Killed.ensures.says)
-    c.give_up.ensures.saw
+    c.give_up.ensures.saw c.going_on_adds_up.ensures.all
 
 pub returns-in-Killed-clause-placed : goal.returns-in-Killed-clause-placed
 returns-in-Killed-clause-placed g c =
@@ -58,7 +58,7 @@ returns-in-Gone-clause-visited g c =
     c.in-Held.at c.in-Gone.at c.in-Held.id c.in-Held.ensures.says.0
     (looked_at_one c.one_hold_has_its_id.ensures s mid c.args.place c.in-Held.id c.requires.empty c.in-Held.ensures.says.1 then c.in-Gone.at
     (λ i s. record_of i s ≡ None) c.in-Gone.ensures.says.0)
-    c.give_up-in-Gone.ensures.saw.front
+    c.give_up-in-Gone.ensures.saw.went.front
 
 pub returns-in-Not-clause-visited : goal.returns-in-Not-clause-visited
 returns-in-Not-clause-visited g c =
@@ -70,4 +70,4 @@ returns-in-Not-clause-visited g c =
     c.in-Held.at c.in-Not.at c.in-Held.id c.in-Not.subject c.in-Held.ensures.says.0
     (looked_at_one c.one_hold_has_its_id.ensures s mid c.args.place c.in-Held.id c.requires.empty c.in-Held.ensures.says.1 then c.in-Not.at
     (λ i. IsRecord i c.in-Not.subject) c.in-Not.ensures.says.0)
-    c.give_up-in-Not.ensures.saw.front c.in-Not.ensures.says.1
+    c.give_up-in-Not.ensures.saw.went.front c.in-Not.ensures.says.1

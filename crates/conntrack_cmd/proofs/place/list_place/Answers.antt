@@ -21,7 +21,7 @@ returns-in-Gone-clause-visited g c =
     c.in-Held.at c.in-Gone.at c.in-Held.id c.in-Held.ensures.says.0
     (looked_at_one c.one_hold_has_its_id.ensures s mid c.args.place c.in-Held.id c.requires.empty c.in-Held.ensures.says.1 then c.in-Gone.at
     (λ i s. record_of i s ≡ None) c.in-Gone.ensures.says.0)
-    c.give_up.ensures.saw.front
+    c.give_up.ensures.saw.went.front
 
 pub returns-then-passes-clause-row : goal.returns-then-passes-clause-row
 returns-then-passes-clause-row g c =
@@ -33,7 +33,7 @@ returns-then-passes-clause-row g c =
     c.in-Held.at c.in-Seen.at c.in-Held.id c.in-Seen.subject c.in-Held.ensures.says.0
     (looked_at_one c.one_hold_has_its_id.ensures s mid c.args.place c.in-Held.id c.requires.empty c.in-Held.ensures.says.1 then c.in-Seen.at
     (λ i. IsRecord i c.in-Seen.subject) c.in-Seen.ensures.says.0)
-    c.give_up-in-Seen.ensures.saw.front (sym c.passes.ensures ∙ c.if-passes.true)
+    c.give_up-in-Seen.ensures.saw.went.front (sym c.passes.ensures ∙ c.if-passes.true)
 
 pub returns-then-passes-clause-placed : goal.returns-then-passes-clause-placed
 returns-then-passes-clause-placed g c =
@@ -45,7 +45,7 @@ returns-then-passes-clause-placed g c =
     c.in-Held.at c.in-Seen.at c.in-Held.id c.in-Seen.subject c.in-Held.ensures.says.0
     (looked_at_one c.one_hold_has_its_id.ensures s mid c.args.place c.in-Held.id c.requires.empty c.in-Held.ensures.says.1 then c.in-Seen.at
     (λ i. IsRecord i c.in-Seen.subject) c.in-Seen.ensures.says.0)
-    c.give_up-in-Seen.ensures.saw.front
+    c.give_up-in-Seen.ensures.saw.went.front
 
 pub returns-then-passes-clause-visited : goal.returns-then-passes-clause-visited
 returns-then-passes-clause-visited g c =
@@ -57,7 +57,7 @@ returns-then-passes-clause-visited g c =
     c.in-Held.at c.in-Seen.at c.in-Held.id c.in-Seen.subject c.in-Held.ensures.says.0
     (looked_at_one c.one_hold_has_its_id.ensures s mid c.args.place c.in-Held.id c.requires.empty c.in-Held.ensures.says.1 then c.in-Seen.at
     (λ i. IsRecord i c.in-Seen.subject) c.in-Seen.ensures.says.0)
-    c.give_up-in-Seen.ensures.saw.front
+    c.give_up-in-Seen.ensures.saw.went.front
 
 pub returns-else-passes-clause-visited : goal.returns-else-passes-clause-visited
 returns-else-passes-clause-visited g c =
@@ -69,4 +69,4 @@ returns-else-passes-clause-visited g c =
     c.in-Held.at c.in-Seen.at c.in-Held.id c.in-Seen.subject c.in-Held.ensures.says.0
     (looked_at_one c.one_hold_has_its_id.ensures s mid c.args.place c.in-Held.id c.requires.empty c.in-Held.ensures.says.1 then c.in-Seen.at
     (λ i. IsRecord i c.in-Seen.subject) c.in-Seen.ensures.says.0)
-    c.give_up-in-Seen.ensures.saw.front (sym c.passes.ensures ∙ c.if-passes.false)
+    c.give_up-in-Seen.ensures.saw.went.front (sym c.passes.ensures ∙ c.if-passes.false)

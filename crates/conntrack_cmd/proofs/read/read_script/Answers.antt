@@ -14,11 +14,11 @@ returns-in-Err-clause-reason c =
 
 pub lines-preserved : goal.lines-preserved
 lines-preserved c =
-    let said : line_of (nat_le 256 (length c.lines.commands.items)) (is_some c.lines.wait) (words_of_line c.next_line.result.0.now) ≡ Ok c.in-Ok.saying = search rules in
-    let longer : c.append.new.commands.items ≡ c.lines.commands.items ++ commands_of (c.in-Ok.saying ∷ []) = search rules in
-    let later : c.wait_after-wait.result ≡ wait_after c.lines.wait c.in-Ok.saying (length c.lines.commands.items) = search rules in
+    let said : line_of (nat_le 256 (length c.lines.commands.items)) (is_some c.lines.wait) (words_of_line c.next_line.result.0.now) ≡ Ok c.in-Ok.meaning = search rules in
+    let longer : c.append.new.commands.items ≡ c.lines.commands.items ++ commands_of (c.in-Ok.meaning ∷ []) = search rules in
+    let later : c.wait_after-wait.result ≡ wait_after c.lines.wait c.in-Ok.meaning (length c.lines.commands.items) = search rules in
     read_more c.args.bytes.now c.lines.rest.now c.next_line.result.0.now c.next_line.result.1.now c.lines.commands.items c.append.new.commands.items c.lines.wait c.wait_after-wait.result
-    c.lines.number c.in-Ok.saying c.lines.invariant c.next_line.ensures.lines c.next_line.ensures.less said longer later
+    c.lines.number c.in-Ok.meaning c.lines.invariant c.next_line.ensures.lines c.next_line.ensures.less said longer later
 
 pub returns-clause-script : goal.returns-clause-script
 returns-clause-script c =

@@ -1,4 +1,5 @@
-use Rattle.std.proofs.Common.{arith}
+use Rattle.std.proofs.Common.{arith, subst, ◌∙◌}
+use Rattle.conntrack_cmd.specs.Internal.Loops.{IsListing}
 use Rattle.conntrack_cmd.proofs.Sweeps.{listing_none, listing_pushed}
 use Rattle.conntrack_cmd.proofs.sweep.list_all.Goals as goal
 
@@ -7,7 +8,7 @@ places-preserved-in-Some g c = record {
   within = omega (arith, c.places-test.true);
   all = c.places.invariant.all;
   room = omega (arith, c.push.ensures.room, c.places.invariant.room);
-  listing = listing_pushed c.states_stay.ensures c.entries_keep_their_place.ensures (g.D.Desk.sight c.args.desk.now) (g.D.Desk.sight c.places.desk)
+  listing = listing_pushed c.states_stay.ensures c.entries_keep_their_place.ensures c.going_on_adds_up.ensures.all (g.D.Desk.sight c.args.desk.now) (g.D.Desk.sight c.places.desk)
       (g.D.Desk.sight c.list_place.new.desk) c.places.next c.args.filter.now c.places.rows.items c.push.new.self.items c.in-Some.row
       c.push.ensures.items c.places.invariant.listing c.in-Some.ensures.saw c.in-Some.ensures.row c.in-Some.ensures.placed
       c.in-Some.ensures.visited c.in-Some.ensures.empty c.in-Some.ensures.knows;
@@ -18,7 +19,12 @@ places-preserved g c = record {
   within = omega (arith, c.places-test.true);
   all = c.places.invariant.all;
   room = c.places.invariant.room;
-  listing = listing_none c.states_stay.ensures c.entries_keep_their_place.ensures (g.D.Desk.sight c.args.desk.now) (g.D.Desk.sight c.places.desk)
+  listing = listing_none c.states_stay.ensures c.entries_keep_their_place.ensures c.going_on_adds_up.ensures.all (g.D.Desk.sight c.args.desk.now) (g.D.Desk.sight c.places.desk)
       (g.D.Desk.sight c.list_place.new.desk) c.places.next c.args.filter.now c.places.rows.items c.places.invariant.listing
       c.in_default.ensures.saw c.in_default.ensures.visited c.in_default.ensures.empty c.in_default.ensures.knows;
 }
+
+pub returns-clause-listed : goal.returns-clause-listed
+returns-clause-listed g c =
+    subst (λ n. IsListing c.args.filter.now (g.D.Desk.sight c.args.desk.now) (g.D.Desk.sight c.places.desk) n c.places.rows.items)
+    (omega (arith, c.places.invariant.within, c.places-test.false) ∙ c.places.invariant.all) c.places.invariant.listing

@@ -1,22 +1,13 @@
 //! What becomes of a control connection of FTP and of its data connection where another pass comes between.
 
-ghost use Rattle.std.specs.Prelude.{◌≡◌, [], IfOk};
-ghost use Rattle.std.specs.List.{AllByRecursion};
-ghost use Rattle.nat_setup.specs.Rule.{IsLawfulRule};
-
-use super::super::BusyDesk;
 use super::super::stage::{Act, Call, Turn};
-use super::{LATE, SECOND, desk, handled_by};
+use super::case::{Case, Fate, LATE, SECOND, Step, holds};
 use expect_table::expectation::Want;
 use history_book::record::Flow;
-use history_book::verdict::{Class, Ftp, Label, Verdict};
-use nat_setup::rule::Rules;
-use packet_path::setup::{Ports, Setup};
+use history_book::verdict::{Ftp, Label};
 use proto_rules::{Part, PartKind, TcpState};
-use std::process::Abort;
-use std::sync::Wait;
 use std::test::Fail;
-use tuple_core::{NoMemory, Proto, Tuple};
+use tuple_core::{Proto, Tuple};
 
 /// A segment of TCP with SYN from 10.0.0.1:40000 to 10.0.0.2:21.
 const SYN: [u8; 40] = [
@@ -58,243 +49,291 @@ const DATA_TUPLE: Tuple = Tuple {
     b: 40_001,
 };
 
-/// The connections to this port of the client.
-fn to_client(port: u16) -> Want {
-    Want {
-        src: 0x0a00_0002,
-        dst: 0x0a00_0001,
-        port,
-    }
-}
+/// The tuples of control connections from the client's ports 40000, 40010 and 40020.
+const CONTROL: Tuple = Tuple {
+    proto: Proto::Tcp,
+    src: 0x0a00_0001,
+    dst: 0x0a00_0002,
+    a: 40_000,
+    b: 21,
+};
 
-/// The tuple of a control connection from this port of the client.
-fn control(port: u16) -> Tuple {
-    Tuple {
+const SECOND_CONTROL: Tuple = Tuple {
+    a: 40_010,
+    ..CONTROL
+};
+
+const THIRD_CONTROL: Tuple = Tuple {
+    a: 40_020,
+    ..CONTROL
+};
+
+/// What is wanted where the client's port 40001 is named.
+const WANT: Want = Want {
+    src: 0x0a00_0002,
+    dst: 0x0a00_0001,
+    port: 40_001,
+};
+
+/// What a segment with SYN sets of an entry, expired from 121 s on.
+const SYN_SENT: Part = Part {
+    kind: PartKind::Tcp(TcpState::SynSent),
+    replied: false,
+    assured: false,
+    deadline: 121 * SECOND,
+};
+
+/// The flow of the data connection, and those of the second and the third control connection.
+const DATA_FLOW: Flow = Flow {
+    original: DATA_TUPLE,
+    reply: Tuple {
         proto: Proto::Tcp,
         src: 0x0a00_0001,
         dst: 0x0a00_0002,
-        a: port,
-        b: 21,
-    }
-}
+        a: 40_001,
+        b: 20,
+    },
+    part: SYN_SENT,
+    helper: false,
+    master: None,
+};
 
-/// The flow of a segment with SYN, expired from 121 s on.
-fn opened(original: &Tuple, helper: bool) -> Flow {
-    Flow {
-        original: *original,
-        reply: Tuple {
-            proto: original.proto,
-            src: original.dst,
-            dst: original.src,
-            a: original.b,
-            b: original.a,
-        },
-        part: Part {
-            kind: PartKind::Tcp(TcpState::SynSent),
-            replied: false,
-            assured: false,
-            deadline: 121 * SECOND,
-        },
-        helper,
-        master: None,
-    }
-}
+const SECOND_FLOW: Flow = Flow {
+    original: SECOND_CONTROL,
+    reply: Tuple {
+        proto: Proto::Tcp,
+        src: 0x0a00_0002,
+        dst: 0x0a00_0001,
+        a: 21,
+        b: 40_010,
+    },
+    part: SYN_SENT,
+    helper: true,
+    master: None,
+};
 
-/// A turn in which the other pass opens a control connection from this port of the client.
-fn opens(before: Call, port: u16) -> Turn {
-    Turn {
-        before,
-        act: Act::Confirm(opened(&control(port), true)),
-    }
-}
+const THIRD_FLOW: Flow = Flow {
+    original: THIRD_CONTROL,
+    reply: Tuple {
+        proto: Proto::Tcp,
+        src: 0x0a00_0002,
+        dst: 0x0a00_0001,
+        a: 21,
+        b: 40_020,
+    },
+    ..SECOND_FLOW
+};
 
-/// A turn in which the other pass expects a connection to a port of the client, for the control connection from
-/// another port of it.
-fn expects(before: Call, master: u16, port: u16) -> Turn {
-    Turn {
-        before,
-        act: Act::Expect {
-            master: control(master),
-            want: to_client(port),
-            moment: SECOND,
-        },
-    }
-}
+/// The control connection is opened from 1 s on.
+const OPENED: Step<'static> = Step {
+    packet: &SYN,
+    moment: SECOND,
+    fate: Fate::Anything,
+    events: None,
+};
 
-/// A tracker without rules, with the helper for the port 21.
-fn helped<R: AllocGlobal>(rt: &R) -> Result<Setup, NoMemory>
-    ensures { IfOk result (λ setup. AllByRecursion IsLawfulRule setup.rules.items) }
-{
-    let mut ftp = Ports::new(rt.alloc(), 1)?;
-    ftp.push(21);
-    let rules = Rules::new(rt.alloc(), 0)?;
-    Ok(Setup { rules, ftp })
-}
+const ANSWERED: Step<'static> = Step {
+    packet: &SYN_ACK,
+    moment: 2 * SECOND,
+    ..OPENED
+};
 
-/// Opens the control connection from 1 s on, and what becomes of the segment that names a port, at 4 s.
-fn named<R: Wait + Abort>(rt: &R, desk: &mut BusyDesk, setup: &Setup) -> Result<Verdict, NoMemory>
-    requires lawful { AllByRecursion IsLawfulRule setup.now.rules.items }
-    requires held { desk.old.held ≡ [] }
-    requires owed { desk.old.owed ≡ [] }
-    ensures held { desk.new.held ≡ [] }
-    ensures owed { desk.new.owed ≡ [] }
-{
-    handled_by(rt, desk, &SYN, SECOND, setup)?;
-    handled_by(rt, desk, &SYN_ACK, 2 * SECOND, setup)?;
-    handled_by(rt, desk, &ACK, 3 * SECOND, setup)?;
-    handled_by(rt, desk, &PORT, 4 * SECOND, setup)
-}
+const READY: Step<'static> = Step {
+    packet: &ACK,
+    moment: 3 * SECOND,
+    ..OPENED
+};
+
+/// It names a port, at 4 s.
+const NAMED: Step<'static> = Step {
+    packet: &PORT,
+    moment: 4 * SECOND,
+    ..OPENED
+};
 
 #[test]
 fn the_control_connection_goes_before_it_expects_something(rt: HostRuntime) -> Result<(), Fail> {
-    let setup = helped(&rt)?;
-    let mut desk = desk(
-        rt.alloc(),
-        &[Turn {
+    static CASE: Case<'static> = Case {
+        rules: "",
+        helped: true,
+        turns: &[Turn {
             before: Call::Expect,
             act: Act::Expire(LATE),
         }],
-    )?;
-    let gone = named(&rt, &mut desk, &setup)?;
-    let after = handled_by(&rt, &mut desk, &DATA, 5 * SECOND, &setup)?;
-    assert!(rt;
-        matches!(
-            gone,
-            Verdict {
-                class: Class::Passed {
+        steps: &[
+            OPENED,
+            ANSWERED,
+            READY,
+            Step {
+                fate: Fate::PassedWith {
                     label: Label::Established,
                     id: 0,
                     at: 4,
-                    ftp: Ftp::Gone { at: 5 }
+                    ftp: Ftp::Gone { at: 5 },
                 },
-                first: 3,
-                made: 1
-            }
-        )
-    );
-    assert!(rt;
-        matches!(
-            after,
-            Verdict {
-                class: Class::Made {
+                events: Some((3, 1)),
+                ..NAMED
+            },
+            Step {
+                packet: &DATA,
+                moment: 5 * SECOND,
+                fate: Fate::MadeBeside {
                     id: 5,
                     at: 6,
                     unclaimed: Some(5),
-                    ..
                 },
-                first: 4,
-                made: 1
-            }
-        )
-    );
-    Ok(())
+                events: Some((4, 1)),
+            },
+        ],
+    };
+    holds(&rt, &CASE)
 }
 
 #[test]
 fn the_other_pass_expects_the_same_connection_first(rt: HostRuntime) -> Result<(), Fail> {
-    let setup = helped(&rt)?;
-    let mut desk = desk(
-        rt.alloc(),
-        &[
-            opens(Call::Find, 40_010),
-            expects(Call::Find, 40_010, 40_001),
+    static CASE: Case<'static> = Case {
+        rules: "",
+        helped: true,
+        turns: &[
+            Turn {
+                before: Call::Find,
+                act: Act::Confirm(SECOND_FLOW),
+            },
+            Turn {
+                before: Call::Find,
+                act: Act::Expect {
+                    master: SECOND_CONTROL,
+                    want: WANT,
+                    moment: SECOND,
+                },
+            },
         ],
-    )?;
-    let clash = named(&rt, &mut desk, &setup)?;
-    assert!(rt;
-        matches!(
-            clash,
-            Verdict {
-                class: Class::Passed {
+        steps: &[
+            OPENED,
+            ANSWERED,
+            READY,
+            Step {
+                fate: Fate::PassedWith {
                     label: Label::Established,
                     id: 1,
                     at: 6,
-                    ftp: Ftp::Clash { id: 2, at: 6 }
+                    ftp: Ftp::Clash { id: 2, at: 6 },
                 },
-                first: 3,
-                made: 1
-            }
-        )
-    );
-    Ok(())
+                events: Some((3, 1)),
+                ..NAMED
+            },
+        ],
+    };
+    holds(&rt, &CASE)
 }
 
 #[test]
 fn the_other_pass_expects_all_for_which_there_is_room(rt: HostRuntime) -> Result<(), Fail> {
-    let setup = helped(&rt)?;
-    let mut desk = desk(
-        rt.alloc(),
-        &[
-            opens(Call::Find, 40_010),
-            opens(Call::Take, 40_020),
-            expects(Call::Find, 40_010, 40_011),
-            expects(Call::Find, 40_020, 40_021),
+    static CASE: Case<'static> = Case {
+        rules: "",
+        helped: true,
+        turns: &[
+            Turn {
+                before: Call::Find,
+                act: Act::Confirm(SECOND_FLOW),
+            },
+            Turn {
+                before: Call::Take,
+                act: Act::Confirm(THIRD_FLOW),
+            },
+            Turn {
+                before: Call::Find,
+                act: Act::Expect {
+                    master: SECOND_CONTROL,
+                    want: Want {
+                        port: 40_011,
+                        ..WANT
+                    },
+                    moment: SECOND,
+                },
+            },
+            Turn {
+                before: Call::Find,
+                act: Act::Expect {
+                    master: THIRD_CONTROL,
+                    want: Want {
+                        port: 40_021,
+                        ..WANT
+                    },
+                    moment: SECOND,
+                },
+            },
         ],
-    )?;
-    let full = named(&rt, &mut desk, &setup)?;
-    assert!(rt;
-        matches!(
-            full,
-            Verdict {
-                class: Class::Passed {
+        steps: &[
+            OPENED,
+            ANSWERED,
+            READY,
+            Step {
+                fate: Fate::PassedWith {
                     label: Label::Established,
                     id: 2,
                     at: 8,
-                    ftp: Ftp::Full { at: 8 }
+                    ftp: Ftp::Full { at: 8 },
                 },
-                first: 3,
-                made: 1
-            }
-        )
-    );
-    Ok(())
+                events: Some((3, 1)),
+                ..NAMED
+            },
+        ],
+    };
+    holds(&rt, &CASE)
 }
 
 #[test]
 fn the_other_pass_expects_another_connection_first(rt: HostRuntime) -> Result<(), Fail> {
-    let setup = helped(&rt)?;
-    let mut desk = desk(rt.alloc(), &[expects(Call::Expect, 40_000, 40_002)])?;
-    let expected = named(&rt, &mut desk, &setup)?;
-    let related = handled_by(&rt, &mut desk, &DATA, 5 * SECOND, &setup)?;
-    assert!(rt;
-        matches!(
-            expected,
-            Verdict {
-                class: Class::Passed {
+    static CASE: Case<'static> = Case {
+        rules: "",
+        helped: true,
+        turns: &[Turn {
+            before: Call::Expect,
+            act: Act::Expect {
+                master: CONTROL,
+                want: Want {
+                    port: 40_002,
+                    ..WANT
+                },
+                moment: SECOND,
+            },
+        }],
+        steps: &[
+            OPENED,
+            ANSWERED,
+            READY,
+            Step {
+                fate: Fate::PassedWith {
                     label: Label::Established,
                     id: 0,
                     at: 4,
-                    ftp: Ftp::Expected { id: 5 }
+                    ftp: Ftp::Expected { id: 5 },
                 },
-                first: 3,
-                made: 2
-            }
-        )
-    );
-    assert!(rt;
-        matches!(
-            related,
-            Verdict {
-                class: Class::Made {
+                events: Some((3, 2)),
+                ..NAMED
+            },
+            Step {
+                packet: &DATA,
+                moment: 5 * SECOND,
+                fate: Fate::MadeBeside {
                     id: 7,
                     at: 8,
                     unclaimed: None,
-                    ..
                 },
-                first: 5,
-                made: 2
-            }
-        )
-    );
-    Ok(())
+                events: Some((5, 2)),
+            },
+        ],
+    };
+    holds(&rt, &CASE)
 }
 
 #[test]
 fn the_other_pass_claims_the_expectation_first(rt: HostRuntime) -> Result<(), Fail> {
-    let setup = helped(&rt)?;
-    let mut desk = desk(
-        rt.alloc(),
-        &[
+    static CASE: Case<'static> = Case {
+        rules: "",
+        helped: true,
+        turns: &[
             // The control connection's own, which is expected by nobody.
             Turn {
                 before: Call::Claim,
@@ -308,50 +347,43 @@ fn the_other_pass_claims_the_expectation_first(rt: HostRuntime) -> Result<(), Fa
                 },
             },
         ],
-    )?;
-    let expected = named(&rt, &mut desk, &setup)?;
-    let unclaimed = handled_by(&rt, &mut desk, &DATA, 5 * SECOND, &setup)?;
-    assert!(rt;
-        matches!(
-            expected,
-            Verdict {
-                class: Class::Passed {
+        steps: &[
+            OPENED,
+            ANSWERED,
+            READY,
+            Step {
+                fate: Fate::PassedWith {
                     label: Label::Established,
                     id: 0,
                     at: 4,
-                    ftp: Ftp::Expected { id: 4 }
+                    ftp: Ftp::Expected { id: 4 },
                 },
-                first: 3,
-                made: 2
-            }
-        )
-    );
-    assert!(rt;
-        matches!(
-            unclaimed,
-            Verdict {
-                class: Class::Made {
+                events: Some((3, 2)),
+                ..NAMED
+            },
+            Step {
+                packet: &DATA,
+                moment: 5 * SECOND,
+                fate: Fate::MadeBeside {
                     id: 6,
                     at: 7,
                     unclaimed: Some(6),
-                    ..
                 },
-                first: 5,
-                made: 1
-            }
-        )
-    );
-    Ok(())
+                events: Some((5, 1)),
+            },
+        ],
+    };
+    holds(&rt, &CASE)
 }
 
 #[test]
 fn a_claim_stands_where_the_other_pass_confirms_the_flow_first(
     rt: HostRuntime,
 ) -> Result<(), Fail> {
-    let setup = helped(&rt)?;
-    let mut desk = desk(
-        rt.alloc(),
-        &[
+    static CASE: Case<'static> = Case {
+        rules: "",
+        helped: true,
+        turns: &[
             // The control connection's own place.
             Turn {
                 before: Call::Take,
@@ -359,37 +391,32 @@ fn a_claim_stands_where_the_other_pass_confirms_the_flow_first(
             },
             Turn {
                 before: Call::Take,
-                act: Act::Confirm(opened(&DATA_TUPLE, false)),
+                act: Act::Confirm(DATA_FLOW),
             },
         ],
-    )?;
-    named(&rt, &mut desk, &setup)?;
-    let clash = handled_by(&rt, &mut desk, &DATA, 5 * SECOND, &setup)?;
-    let after = handled_by(&rt, &mut desk, &DATA, 6 * SECOND, &setup)?;
-    assert!(rt;
-        matches!(
-            clash,
-            Verdict {
-                class: Class::Clash { id: 5, at: 7, .. },
-                first: 5,
-                made: 1
-            }
-        )
-    );
-    assert!(rt;
-        matches!(
-            after,
-            Verdict {
-                class: Class::Passed {
+        steps: &[
+            OPENED,
+            ANSWERED,
+            READY,
+            NAMED,
+            Step {
+                packet: &DATA,
+                moment: 5 * SECOND,
+                fate: Fate::Clash { id: 5, at: 7 },
+                events: Some((5, 1)),
+            },
+            Step {
+                packet: &DATA,
+                moment: 6 * SECOND,
+                fate: Fate::PassedWith {
                     label: Label::New,
                     id: 5,
                     at: 8,
-                    ftp: Ftp::Nothing
+                    ftp: Ftp::Nothing,
                 },
-                first: 6,
-                made: 1
-            }
-        )
-    );
-    Ok(())
+                events: Some((6, 1)),
+            },
+        ],
+    };
+    holds(&rt, &CASE)
 }

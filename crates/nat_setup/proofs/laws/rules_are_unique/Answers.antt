@@ -1,5 +1,5 @@
+use Rattle.file_text.specs.ReadingLaws.{same_read}
 use Rattle.nat_setup.specs.RuleFile.{file_of}
-use Rattle.file_text.proofs.Reading.{same_read}
 use Rattle.nat_setup.proofs.laws.rules_are_unique.Goals as goal
 
 pub returns : goal.returns

@@ -11,4 +11,4 @@ options-preserved c =
     let other : bytes_eq c.in-Some.name.now (codes "to") ≡ false = search rules in
     let read : with_option c.options.rule c.in-Some.name.now c.in-Some-next_word.value.now ≡ Ok c.in_ok-rule-2.rule = search rules in
     let both = two_words (words_of c.options.rest.now) (words_of c.in-Some.behind.now) (words_of c.in-Some-next_word.behind.now) c.in-Some.name.now c.in-Some-next_word.value.now first second in
-    (one_option c.options.rule c.in_ok-rule-2.rule c.in-Some.name.now c.in-Some-next_word.value.now (words_of c.options.rest.now) (words_of c.in-Some-next_word.behind.now) both other read ∙ c.options.invariant.0, search rules)
+    one_option c.options.rule c.in_ok-rule-2.rule c.in-Some.name.now c.in-Some-next_word.value.now (words_of c.options.rest.now) (words_of c.in-Some-next_word.behind.now) both other read ∙ c.options.invariant

@@ -14,7 +14,17 @@ lines-preserved c =
     let said : line_of (nat_le 256 (length c.lines.rules.items)) (words_of_line c.next_line.result.0.now) ≡ Ok c.in-Ok.rule = search rules in
     let longer : c.append.new.rules.items ≡ c.lines.rules.items ++ option_to_list c.in-Ok.rule = search rules in
     read_more c.args.bytes.now c.lines.rest.now c.next_line.result.0.now c.next_line.result.1.now c.lines.rules.items c.append.new.rules.items c.lines.number c.in-Ok.rule
-    c.lines.invariant c.next_line.ensures.lines c.next_line.ensures.less said (search rules) (search rules) longer
+    c.lines.invariant c.next_line.ensures.lines c.next_line.ensures.less said longer
 
 pub returns-clause-rules : goal.returns-clause-rules
 returns-clause-rules c = all_read c.args.bytes.now c.lines.rest.now c.lines.rules.items c.lines.number c.lines.invariant (grind arith)
+
+pub returns-clause-lawful : goal.returns-clause-lawful
+returns-clause-lawful c =
+    (c.rules_are_lawful.ensures c.args.bytes.now c.lines.rules.items
+    (all_read c.args.bytes.now c.lines.rest.now c.lines.rules.items c.lines.number c.lines.invariant (grind arith))).0
+
+pub returns-clause-few : goal.returns-clause-few
+returns-clause-few c =
+    (c.rules_are_lawful.ensures c.args.bytes.now c.lines.rules.items
+    (all_read c.args.bytes.now c.lines.rest.now c.lines.rules.items c.lines.number c.lines.invariant (grind arith))).1

@@ -5,9 +5,9 @@ use Rattle.nat_setup.proofs.translate.search_choice.Goals as goal
 
 pub returns-in-AllTaken-clause-says : goal.returns-in-AllTaken-clause-says
 returns-in-AllTaken-clause-says g c =
-    both c.states_stay.ensures c.args.rule.now c.args.t.now (others_of c.args.choice.now c.args.tried c.args.from)
-    (g.D.Desk.sight c.args.desk.now) (g.D.Desk.sight c.search_between.new.desk)
-    (g.D.Desk.sight c.search_between-in-AllTaken.new.desk) c.first_tried-middle.result c.in-AllTaken.to c.search_between-in-AllTaken.result
+    both c.states_stay.ensures c.seeing_adds_up.ensures.twice c.args.rule.now c.args.t.now (others_of c.args.choice.now c.args.tried c.args.from)
+    (g.D.Desk.sight c.args.desk.now) (g.D.Desk.sight c.search_stretch.new.desk)
+    (g.D.Desk.sight c.search_stretch-in-AllTaken.new.desk) c.first_tried-middle.result c.in-AllTaken.to c.search_stretch-in-AllTaken.result
     c.first_tried-middle.ensures.low (omega (arith, c.first_tried-middle.ensures.high)) c.in-AllTaken.ensures.says
-    c.search_between-in-AllTaken.ensures.saw c.search_between-in-AllTaken.ensures.same
-    c.search_between-in-AllTaken.ensures.says
+    c.search_stretch-in-AllTaken.ensures.saw c.search_stretch-in-AllTaken.ensures.same
+    c.search_stretch-in-AllTaken.ensures.says

@@ -10,6 +10,7 @@ use Rattle.proto_rules.specs.declared.Outcome.TheVariants as outcome
 use Rattle.packet_path.specs.Internal.Attempt.{Answers}
 use Rattle.packet_path.proofs.Attempts.{attempt_after, starts_longer}
 use Rattle.packet_path.proofs.Meetings.{has_id_of, helped_entry, left_as_it_is, met_protocol, touched}
+use Rattle.packet_path.specs.Packet.{flow_packet}
 use Rattle.packet_path.proofs.attempt.meet_entry.Goals as goal
 
 pub touch-requires-clause-protocol : goal.touch-requires-clause-protocol
@@ -17,7 +18,7 @@ touch-requires-clause-protocol g c =
     let s = g.D.Desk.sight c.args.desk.now in
     ap (λ id. is_of_entry c.args.packet.now.segment id s.front) (c.one_hold_has_its_id.ensures c.args.met.now.place c.args.met.now.id s c.requires.met.holds)
     ∙ met_protocol c.found_keep_their_protocol.ensures c.live_records_have_the_protocol.ensures
-    c.records_are_of_one_protocol.ensures c.same_protocol_is_equality.ensures s c.args.packet.now c.args.met.now c.requires.knows
+    c.records_are_of_one_protocol.ensures c.same_protocol_is_equality.ensures s (flow_packet c.args.packet.now) c.args.met.now c.requires.knows
     c.requires.classified c.requires.met
 
 pub follow_payload-ftp-requires-clause-named : goal.follow_payload-ftp-requires-clause-named
@@ -41,8 +42,8 @@ returns-in-Touched-clause-says g c = λ setup.
     let s = g.D.Desk.sight c.args.desk.now in
     let mid = g.D.Desk.sight c.touch.new.self in
     let new = g.D.Desk.sight c.follow_payload-ftp.new.desk in
-    subst (λ (k : Class). Answers setup s new c.args.packet.now c.args.kills (length s.front) k) (sym c.passed.ensures)
-    (touched c.states_stay.ensures c.events_stay.ensures c.found_are_found_again.ensures setup s mid new c.args.packet.now c.args.met.now
+    subst (λ (k : Class). Answers setup s new (flow_packet c.args.packet.now) c.args.kills (length s.front) k) (sym c.passed.ensures)
+    (touched c.states_stay.ensures c.events_stay.ensures c.found_are_found_again.ensures c.going_on_adds_up.ensures.all setup s mid new (flow_packet c.args.packet.now) c.args.met.now
     c.args.kills c.in-Touched.number c.in-Touched.before c.follow_payload-ftp.result c.requires.few c.follow_payload-ftp.ensures.knows
     c.requires.met
     (subst (λ id. Touches id c.args.met.now.direction c.args.packet.now.segment c.args.packet.now.moment s mid c.in-Touched.number
@@ -55,7 +56,7 @@ returns-in-Ignored-clause-says g c = λ setup.
     let s = g.D.Desk.sight c.args.desk.now in
     let new = g.D.Desk.sight c.touch.new.self in
     left_as_it_is c.states_stay.ensures c.events_stay.ensures c.found_are_found_again.ensures setup outcome.Ignore
-    (class.Ignored c.args.met.now.id c.in-Ignored.at) s new c.args.packet.now c.args.met.now
+    (class.Ignored c.args.met.now.id c.in-Ignored.at) s new (flow_packet c.args.packet.now) c.args.met.now
     c.args.kills c.in-Ignored.at c.requires.few c.touch.ensures.knows c.requires.met
     (subst (λ id. Leaves id c.args.met.now.direction c.args.packet.now.segment c.args.packet.now.moment outcome.Ignore s new c.in-Ignored.at)
     (c.one_hold_has_its_id.ensures c.args.met.now.place c.args.met.now.id s c.requires.met.holds) c.in-Ignored.ensures.says)
@@ -66,7 +67,7 @@ returns-in-Invalid-clause-says g c = λ setup.
     let s = g.D.Desk.sight c.args.desk.now in
     let new = g.D.Desk.sight c.touch.new.self in
     left_as_it_is c.states_stay.ensures c.events_stay.ensures c.found_are_found_again.ensures setup outcome.Invalid
-    (class.BadState c.args.met.now.id c.in-Invalid.at) s new c.args.packet.now c.args.met.now
+    (class.BadState c.args.met.now.id c.in-Invalid.at) s new (flow_packet c.args.packet.now) c.args.met.now
     c.args.kills c.in-Invalid.at c.requires.few c.touch.ensures.knows c.requires.met
     (subst (λ id. Leaves id c.args.met.now.direction c.args.packet.now.segment c.args.packet.now.moment outcome.Invalid s new c.in-Invalid.at)
     (c.one_hold_has_its_id.ensures c.args.met.now.place c.args.met.now.id s c.requires.met.holds) c.in-Invalid.ensures.says)
@@ -77,24 +78,24 @@ returns-in-Reset-clause-says g c = λ setup.
     let s = g.D.Desk.sight c.args.desk.now in
     let mid = g.D.Desk.sight c.touch.new.self in
     let saw = c.in-Reset.ensures.says.0.saw in
-    attempt_after c.states_stay.ensures c.events_stay.ensures setup s mid (g.D.Desk.sight c.reset_entry.new.desk) c.args.packet.now
+    attempt_after c.states_stay.ensures c.events_stay.ensures c.going_on_adds_up.ensures.all c.seeing_adds_up.ensures.twice setup s mid (g.D.Desk.sight c.reset_entry.new.desk) (flow_packet c.args.packet.now)
     c.args.kills (length s.front) c.reset_entry.result saw
-    (c.reset_entry.ensures.says setup c.args.kills (length s.front) c.requires.few (starts_longer mid.front s.front saw.front))
+    (c.reset_entry.ensures.says setup c.args.kills (length s.front) c.requires.few (starts_longer mid.front s.front saw.went.front))
 
 pub returns-in-Expired-clause-says : goal.returns-in-Expired-clause-says
 returns-in-Expired-clause-says g c = λ setup.
     let s = g.D.Desk.sight c.args.desk.now in
     let mid = g.D.Desk.sight c.touch.new.self in
     let looked = c.in-Expired.ensures.says.0 in
-    attempt_after c.states_stay.ensures c.events_stay.ensures setup s mid (g.D.Desk.sight c.end_entry.new.desk) c.args.packet.now
+    attempt_after c.states_stay.ensures c.events_stay.ensures c.going_on_adds_up.ensures.all c.seeing_adds_up.ensures.twice setup s mid (g.D.Desk.sight c.end_entry.new.desk) (flow_packet c.args.packet.now)
     c.args.kills (length s.front) c.end_entry.result looked.saw
-    (c.end_entry.ensures.says setup (length s.front) looked.low (starts_longer mid.front s.front looked.saw.front))
+    (c.end_entry.ensures.says setup (length s.front) looked.low (starts_longer mid.front s.front looked.saw.went.front))
 
 pub returns-in-Reopen-clause-says : goal.returns-in-Reopen-clause-says
 returns-in-Reopen-clause-says g c = λ setup.
     let s = g.D.Desk.sight c.args.desk.now in
     let mid = g.D.Desk.sight c.touch.new.self in
     let looked = c.in-Reopen.ensures.says.0 in
-    attempt_after c.states_stay.ensures c.events_stay.ensures setup s mid (g.D.Desk.sight c.end_entry-in-Reopen.new.desk) c.args.packet.now
+    attempt_after c.states_stay.ensures c.events_stay.ensures c.going_on_adds_up.ensures.all c.seeing_adds_up.ensures.twice setup s mid (g.D.Desk.sight c.end_entry-in-Reopen.new.desk) (flow_packet c.args.packet.now)
     c.args.kills (length s.front) c.end_entry-in-Reopen.result looked.saw
-    (c.end_entry-in-Reopen.ensures.says setup (length s.front) looked.low (starts_longer mid.front s.front looked.saw.front))
+    (c.end_entry-in-Reopen.ensures.says setup (length s.front) looked.low (starts_longer mid.front s.front looked.saw.went.front))

@@ -1,5 +1,6 @@
 use Rattle.std.proofs.Common.{length}
 use Rattle.packet_path.proofs.Attempts.{answers_after, answers_from, attempt_after, attempt_before, attempt_from, starts_longer}
+use Rattle.packet_path.specs.Packet.{flow_packet}
 use Rattle.packet_path.proofs.attempt.try_packet.Goals as goal
 
 pub returns-in-Absent-clause-says : goal.returns-in-Absent-clause-says
@@ -8,9 +9,9 @@ returns-in-Absent-clause-says g c =
     let mid = g.D.Desk.sight c.find.new.self in
     let new = g.D.Desk.sight c.begin_flow.new.desk in
     let looked = c.in-Absent.ensures.says.0 in
-    answers_from c.states_stay.ensures c.events_stay.ensures c.args.setup.now s new c.args.packet.now c.args.kills (length s.front) c.in-Absent.at
+    answers_from c.states_stay.ensures c.events_stay.ensures c.going_on_adds_up.ensures.all c.seeing_adds_up.ensures.twice c.args.setup.now s new (flow_packet c.args.packet.now) c.args.kills (length s.front) c.in-Absent.at
     c.begin_flow.result looked.low
-    (answers_after c.states_stay.ensures c.events_stay.ensures c.args.setup.now s mid new c.args.packet.now c.args.kills c.in-Absent.at
+    (answers_after c.states_stay.ensures c.events_stay.ensures c.going_on_adds_up.ensures.all c.seeing_adds_up.ensures.twice c.args.setup.now s mid new (flow_packet c.args.packet.now) c.args.kills c.in-Absent.at
     c.begin_flow.result looked.saw (c.begin_flow.ensures.answers c.args.kills c.requires.few))
 
 pub returns-in-Found-clause-says : goal.returns-in-Found-clause-says
@@ -20,10 +21,10 @@ returns-in-Found-clause-says g c =
     let met = g.D.Desk.sight c.meet_entry-attempt.new.desk in
     let new = g.D.Desk.sight c.give_up.new.desk in
     let saw = c.in-Found.ensures.says.0.saw in
-    attempt_before c.states_stay.ensures c.events_stay.ensures c.args.setup.now s met new c.args.packet.now c.args.kills (length s.front)
+    attempt_before c.states_stay.ensures c.events_stay.ensures c.going_on_adds_up.ensures.all c.seeing_adds_up.ensures.twice c.args.setup.now s met new (flow_packet c.args.packet.now) c.args.kills (length s.front)
     c.meet_entry-attempt.result
-    (attempt_after c.states_stay.ensures c.events_stay.ensures c.args.setup.now s mid met c.args.packet.now c.args.kills (length s.front)
+    (attempt_after c.states_stay.ensures c.events_stay.ensures c.going_on_adds_up.ensures.all c.seeing_adds_up.ensures.twice c.args.setup.now s mid met (flow_packet c.args.packet.now) c.args.kills (length s.front)
     c.meet_entry-attempt.result saw
-    (attempt_from c.states_stay.ensures c.events_stay.ensures c.args.setup.now mid met c.args.packet.now c.args.kills (length s.front)
-    (length mid.front) c.meet_entry-attempt.result (starts_longer mid.front s.front saw.front) (c.meet_entry-attempt.ensures.says c.args.setup.now)))
+    (attempt_from c.states_stay.ensures c.events_stay.ensures c.going_on_adds_up.ensures.all c.seeing_adds_up.ensures.twice c.args.setup.now mid met (flow_packet c.args.packet.now) c.args.kills (length s.front)
+    (length mid.front) c.meet_entry-attempt.result (starts_longer mid.front s.front saw.went.front) (c.meet_entry-attempt.ensures.says c.args.setup.now)))
     c.give_up.ensures.saw

@@ -1,38 +1,43 @@
-use Rattle.std.proofs.Common.{refl, rules}
-use Rattle.packet_path.specs.Begun.{rule_for}
+use Rattle.std.proofs.Common.{length, rules, subst, sym}
+use Rattle.tuple_core.specs.declared.Tuple.{Tuple}
+use Rattle.history_book.specs.declared.verdict.Translated.TheVariants.{Chosen, Plain}
+use Rattle.nat_setup.specs.Rule.{rule_for}
+use Rattle.nat_setup.specs.Translation.{WasTranslated}
 use Rattle.packet_path.proofs.Attempts.{answers_after}
-use Rattle.packet_path.proofs.Beginnings.{chosen_found, no_entry, no_port, plain_found}
+use Rattle.packet_path.proofs.Beginnings.{no_entry, no_port, reply_found}
+use Rattle.packet_path.specs.Packet.{flow_packet}
 use Rattle.packet_path.proofs.begin.begin_flow.Goals as goal
 
 pub returns-in_default-clause-answers : goal.returns-in_default-clause-answers
 returns-in_default-clause-answers g c = λ killed few.
-    no_entry c.states_stay.ensures c.events_stay.ensures c.args.setup.now (g.D.Desk.sight c.args.desk.now) c.args.packet.now killed
+    no_entry c.states_stay.ensures c.events_stay.ensures c.seeing_adds_up.ensures.resting c.args.setup.now (g.D.Desk.sight c.args.desk.now) (flow_packet c.args.packet.now) killed
     c.args.absent_at few c.requires.absent (search rules)
 
 pub returns-in-Plain-clause-answers : goal.returns-in-Plain-clause-answers
 returns-in-Plain-clause-answers g c = λ killed few.
     let s = g.D.Desk.sight c.args.desk.now in
     let mid = g.D.Desk.sight c.translate.new.desk in
-    answers_after c.states_stay.ensures c.events_stay.ensures c.args.setup.now s mid (g.D.Desk.sight c.place_flow.new.desk)
-    c.args.packet.now killed c.args.absent_at c.place_flow.result c.translate.ensures.saw
+    answers_after c.states_stay.ensures c.events_stay.ensures c.going_on_adds_up.ensures.all c.seeing_adds_up.ensures.twice c.args.setup.now s mid (g.D.Desk.sight c.place_flow.new.desk)
+    (flow_packet c.args.packet.now) killed c.args.absent_at c.place_flow.result c.translate.ensures.saw
     (c.place_flow.ensures.answers killed few
-    (plain_found c.states_stay.ensures c.events_stay.ensures c.args.setup.now (rule_for c.args.setup.now c.args.packet.now.tuple)
-    c.args.packet.now s mid c.args.absent_at c.invert.result refl c.invert.ensures.exact c.requires.absent c.translate.ensures.saw
-    c.in-Plain.ensures.says))
+    (reply_found c.states_stay.ensures c.events_stay.ensures c.args.setup.now (flow_packet c.args.packet.now) s mid c.args.absent_at c.invert.result Plain
+    c.requires.absent c.translate.ensures.saw
+    (subst
+    (λ (u : Tuple). WasTranslated mid.front (rule_for c.args.setup.now.rules.items c.args.packet.now.tuple) c.args.packet.now.tuple (length s.front) (length mid.front) Plain u)
+    (sym c.invert.ensures.exact) c.in-Plain.ensures.says)))
 
 pub returns-in-Chosen-clause-answers : goal.returns-in-Chosen-clause-answers
 returns-in-Chosen-clause-answers g c = λ killed few.
     let s = g.D.Desk.sight c.args.desk.now in
     let mid = g.D.Desk.sight c.translate.new.desk in
-    answers_after c.states_stay.ensures c.events_stay.ensures c.args.setup.now s mid (g.D.Desk.sight c.place_flow-in-Chosen.new.desk)
-    c.args.packet.now killed c.args.absent_at c.place_flow-in-Chosen.result c.translate.ensures.saw
+    answers_after c.states_stay.ensures c.events_stay.ensures c.going_on_adds_up.ensures.all c.seeing_adds_up.ensures.twice c.args.setup.now s mid (g.D.Desk.sight c.place_flow-in-Chosen.new.desk)
+    (flow_packet c.args.packet.now) killed c.args.absent_at c.place_flow-in-Chosen.result c.translate.ensures.saw
     (c.place_flow-in-Chosen.ensures.answers killed few
-    (chosen_found c.states_stay.ensures c.events_stay.ensures c.args.setup.now (rule_for c.args.setup.now c.args.packet.now.tuple)
-    c.args.packet.now s mid c.args.absent_at c.in-Chosen.reply c.in-Chosen.kept_taken_at refl c.requires.absent
-    c.translate.ensures.saw c.in-Chosen.ensures.says))
+    (reply_found c.states_stay.ensures c.events_stay.ensures c.args.setup.now (flow_packet c.args.packet.now) s mid c.args.absent_at c.in-Chosen.reply
+    (Chosen c.in-Chosen.reply c.in-Chosen.kept_taken_at) c.requires.absent c.translate.ensures.saw c.in-Chosen.ensures.says))
 
 pub returns-in-NoPort-clause-answers : goal.returns-in-NoPort-clause-answers
 returns-in-NoPort-clause-answers g c = λ killed few.
-    no_port c.states_stay.ensures c.events_stay.ensures c.args.setup.now (rule_for c.args.setup.now c.args.packet.now.tuple)
-    (g.D.Desk.sight c.args.desk.now) (g.D.Desk.sight c.translate.new.desk) c.args.packet.now killed c.args.absent_at c.in-NoPort.from
-    c.in-NoPort.to few c.requires.absent (search rules) refl c.translate.ensures.saw c.in-NoPort.ensures.says
+    no_port c.states_stay.ensures c.events_stay.ensures c.args.setup.now (g.D.Desk.sight c.args.desk.now)
+    (g.D.Desk.sight c.translate.new.desk) (flow_packet c.args.packet.now) killed c.args.absent_at c.in-NoPort.from c.in-NoPort.to few c.requires.absent
+    (search rules) c.translate.ensures.saw c.in-NoPort.ensures.says

@@ -1,15 +1,18 @@
-use Rattle.std.proofs.Common.{◌+◌, refl, subst, sym}
-use Rattle.std.specs.Prelude.{◌&&◌, Bool, IsSome, Option, ℕ}
+use Rattle.std.proofs.Common.{◌+◌, ◌∙◌, ap, false, refl, subst, sym}
+use Rattle.std.proofs.lemmas.Bool.{eq-eqb}
+use Rattle.std.specs.Prelude.{◌&&◌, ◌||◌, Bool, IsSome, Option, ℕ}
 use Rattle.tuple_core.specs.declared.Proto.TheVariants as proto
 use Rattle.proto_rules.specs.declared.Part.{Part}
 use Rattle.history_book.specs.declared.verdict.Class.{Class}
 use Rattle.history_book.specs.declared.verdict.Class.TheVariants as class
 use Rattle.history_book.specs.Desk.{Confirms}
+use Rattle.history_book.specs.Held.{is_held}
 use Rattle.history_book.specs.Legality.{same_proto}
 use Rattle.packet_path.specs.Internal.Attempt.{Answers}
 use Rattle.packet_path.proofs.Attempts.{answers_before}
-use Rattle.packet_path.proofs.Beginnings.{flow_of, made_answer, winner_answer}
-use Rattle.packet_path.proofs.Claims.{looked_for}
+use Rattle.packet_path.proofs.Beginnings.{flow_of, had_place, made_answer, winner_answer, winner_looked}
+use Rattle.packet_path.proofs.Claims.{looked_for, looking_keeps}
+use Rattle.packet_path.specs.Packet.{flow_packet}
 use Rattle.packet_path.proofs.begin.confirm_flow.Goals as goal
 
 pub returns-in-Confirmed-clause-answers : goal.returns-in-Confirmed-clause-answers
@@ -18,20 +21,20 @@ returns-in-Confirmed-clause-answers g c = λ killed few is.
     let mid = g.D.Desk.sight c.claim-claim.new.self in
     let after = g.D.Desk.sight c.confirm.new.self in
     let new = g.D.Desk.sight c.give_up.new.desk in
-    subst (λ (k : Class). Answers c.args.setup.now s new c.args.packet.now killed c.args.absent_at k) (sym c.made.ensures)
+    subst (λ (k : Class). Answers c.args.setup.now s new (flow_packet c.args.packet.now) killed c.args.absent_at k) (sym c.made.ensures)
     (subst
-    (λ (o : Option ℕ). Answers c.args.setup.now s new c.args.packet.now killed c.args.absent_at
+    (λ (o : Option ℕ). Answers c.args.setup.now s new (flow_packet c.args.packet.now) killed c.args.absent_at
     (class.Made c.in-Confirmed.id (c.in-Confirmed.id + 1) c.args.found.now.translated o))
     (sym c.unclaimed_at.ensures)
-    (answers_before c.states_stay.ensures c.events_stay.ensures c.args.setup.now s after new c.args.packet.now killed c.args.absent_at _
-    (made_answer c.states_stay.ensures c.events_stay.ensures c.args.setup.now s mid after c.args.packet.now c.args.part c.args.found.now
+    (answers_before c.states_stay.ensures c.events_stay.ensures c.going_on_adds_up.ensures.all c.seeing_adds_up.ensures.twice c.args.setup.now s after new (flow_packet c.args.packet.now) killed c.args.absent_at _
+    (made_answer c.states_stay.ensures c.events_stay.ensures c.going_on_adds_up.ensures.all c.args.setup.now s mid after (flow_packet c.args.packet.now) c.args.part c.args.found.now
     killed c.args.absent_at c.args.place c.in-Confirmed.id c.claim-claim.result few c.requires.starts is
-    (looked_for c.events_may_happen.ensures c.args.packet.now s mid c.claim-claim.result c.claim-claim.ensures.knows c.claim-claim.ensures.says)
+    (looked_for c.events_may_happen.ensures (flow_packet c.args.packet.now) s mid c.claim-claim.result c.claim-claim.ensures.knows c.claim-claim.ensures.says)
     (subst
-    (λ (h : Bool). Confirms c.args.place (flow_of c.args.packet.now c.args.part c.args.found.now.reply h (Rattle.packet_path.specs.Internal.Attempt.claimed_master c.claim-claim.result)) mid after c.in-Confirmed.id)
+    (λ (h : Bool). Confirms c.args.place (flow_of (flow_packet c.args.packet.now) c.args.part c.args.found.now.reply h (Rattle.packet_path.specs.Internal.Attempt.claimed_master c.claim-claim.result)) mid after c.in-Confirmed.id)
     c.is_helped.ensures
     (subst
-    (λ (m : Option ℕ). Confirms c.args.place (flow_of c.args.packet.now c.args.part c.args.found.now.reply c.is_helped.result m) mid after c.in-Confirmed.id)
+    (λ (m : Option ℕ). Confirms c.args.place (flow_of (flow_packet c.args.packet.now) c.args.part c.args.found.now.reply c.is_helped.result m) mid after c.in-Confirmed.id)
     c.claimed_master.ensures c.in-Confirmed.ensures.says)))
     c.give_up.ensures.saw))
 
@@ -41,12 +44,25 @@ returns-in-Clash-clause-answers g c = λ killed few is.
     let mid = g.D.Desk.sight c.claim-claim.new.self in
     let after = g.D.Desk.sight c.confirm.new.self in
     let new = g.D.Desk.sight c.give_up-in-Clash.new.desk in
-    subst (λ (k : Class). Answers c.args.setup.now s new c.args.packet.now killed c.args.absent_at k) (sym c.met_winner.ensures)
-    (answers_before c.states_stay.ensures c.events_stay.ensures c.args.setup.now s after new c.args.packet.now killed c.args.absent_at _
-    (winner_answer c.states_stay.ensures c.events_stay.ensures c.absent_tuples_are_nobodys.ensures c.late_entries_are_new.ensures
-    c.args.setup.now s mid after c.args.packet.now _ c.args.found.now c.claim-claim.result killed c.args.absent_at c.in-Clash.id c.in-Clash.at
+    subst (λ (k : Class). Answers c.args.setup.now s new (flow_packet c.args.packet.now) killed c.args.absent_at k) (sym c.met_winner.ensures)
+    (answers_before c.states_stay.ensures c.events_stay.ensures c.going_on_adds_up.ensures.all c.seeing_adds_up.ensures.twice c.args.setup.now s after new (flow_packet c.args.packet.now) killed c.args.absent_at _
+    (winner_answer c.states_stay.ensures c.events_stay.ensures c.going_on_adds_up.ensures.all c.absent_tuples_are_nobodys.ensures c.free_is_absent.ensures c.late_entries_are_new.ensures
+    c.args.setup.now s mid after (flow_packet c.args.packet.now) _ c.args.found.now c.claim-claim.result killed c.args.absent_at c.in-Clash.id c.in-Clash.at
     c.in-Clash.direction c.in-Clash.both few c.confirm.ensures.knows (subst (λ (o : Option Part). IsSome o) (sym c.requires.starts) refl) is
-    (looked_for c.events_may_happen.ensures c.args.packet.now s mid c.claim-claim.result c.claim-claim.ensures.knows c.claim-claim.ensures.says)
-    refl refl c.in-Clash.ensures.says.0
+    (looked_for c.events_may_happen.ensures (flow_packet c.args.packet.now) s mid c.claim-claim.result c.claim-claim.ensures.knows c.claim-claim.ensures.says)
+    refl refl
+    (winner_looked mid after _ c.args.place c.in-Clash.id c.in-Clash.at c.in-Clash.direction c.in-Clash.both c.in-Clash.ensures.says.0)
+    (had_place c.unused_places_are_room.ensures s mid after _ c.args.place c.in-Clash.id c.in-Clash.at c.in-Clash.direction c.in-Clash.both
+    c.confirm.ensures.knows c.requires.holds (looking_keeps (flow_packet c.args.packet.now) s mid c.claim-claim.result c.claim-claim.ensures.says)
+    c.in-Clash.ensures.says.1 c.in-Clash.ensures.says.0)
     (same_proto c.args.packet.now.tuple.proto proto.Udp && c.in-Clash.both) refl)
     c.give_up-in-Clash.ensures.saw)
+
+pub give_up-requires-in-Clash-clause-held : goal.give_up-requires-in-Clash-clause-held
+give_up-requires-in-Clash-clause-held g c =
+    let s = g.D.Desk.sight c.args.desk.now in
+    let mid = g.D.Desk.sight c.claim-claim.new.self in
+    ap (is_held c.args.place)
+    (c.in-Clash.ensures.says.1.held
+    ∙ (looking_keeps (flow_packet c.args.packet.now) s mid c.claim-claim.result c.claim-claim.ensures.says).held ∙ c.requires.holds.held)
+    ∙ ap (λ b. b || false) (eq-eqb c.args.place c.args.place refl)

@@ -1,7 +1,7 @@
 use Rattle.std.proofs.Common.{◌≡◌, ℕ, ◌<◌, ◌≤◌, zero, suc, List, [], ◌∷◌, length, get_or, refl, sym, ap, ◌∙◌, Bor, arith}
 use Rattle.command_words.specs.Asked.{texts}
-use Rattle.replay_top.specs.declared.flaw.FileKind.TheVariants as kind
-use Rattle.replay_top.specs.Files.{file_at, files_of_kind}
+use Rattle.run_inputs.specs.declared.flaw.FileKind.TheVariants as kind
+use Rattle.run_inputs.specs.Files.{file_at, files_of_kind}
 use Rattle.replay_top.proofs.error_line.name_at.Goals as goal
 
 -- the name of this index

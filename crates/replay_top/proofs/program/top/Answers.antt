@@ -5,7 +5,7 @@ use Rattle.replay_top.specs.Causes.{HasCause}
 use Rattle.replay_top.specs.ErrorLine.{line_of, Tells}
 use Rattle.replay_top.specs.Internal.Ending.{line_about}
 use Rattle.replay_top.specs.Replay.{IsReplay}
-use Rattle.replay_top.proofs.Findings.{answers_done, answers_not_written, answers_refused, failed_files, has_cause, line_named}
+use Rattle.replay_top.proofs.Findings.{answers_done, answers_not_written, answers_refused, failed_files, has_cause, line_named, others_refused}
 use Rattle.replay_top.proofs.program.top.Goals as goal
 
 pub returns-in-Done-clause-exact : goal.returns-in-Done-clause-exact
@@ -13,7 +13,7 @@ returns-in-Done-clause-exact g c = λ found finds.
     let words = map (string_bytes {Z = Global}) c.args.words.now in
     let replay : IsReplay words (g.F.Files.source c.args.files.now) c.in-Done.report =
     record { asked = asked_as c.in-Ok.asked; says = c.in-Ok.ensures.exact; holds = c.in-Done.ensures.ends.0 } in
-    answers_done c.read_files_have_no_flaw.ensures c.contents_are_unique.ensures c.flaws_are_unique.ensures words
+    answers_done c.given_is_told.ensures.all c.words_say_one.ensures.all words
     (g.F.Files.source c.args.files.now) (g.F.Files.source c.run.new.files) (g.K.Sink.tape c.args.out.now) (g.K.Sink.tape c.run.new.out)
     c.in-Done.report found replay finds
 
@@ -22,7 +22,7 @@ returns-in-NotWritten-clause-exact g c = λ found finds.
     let words = map (string_bytes {Z = Global}) c.args.words.now in
     let replay : IsReplay words (g.F.Files.source c.args.files.now) c.in-NotWritten.report =
     record { asked = asked_as c.in-Ok.asked; says = c.in-Ok.ensures.exact; holds = c.in-NotWritten.ensures.ends.0 } in
-    answers_not_written c.read_files_have_no_flaw.ensures c.contents_are_unique.ensures c.flaws_are_unique.ensures words
+    answers_not_written c.given_is_told.ensures.all c.words_say_one.ensures.all words
     (g.F.Files.source c.args.files.now) (g.F.Files.source c.run.new.files) (g.K.Sink.tape c.args.out.now) (g.K.Sink.tape c.run.new.out)
     c.in-NotWritten.report found replay c.in-NotWritten.ensures.ends.1 finds
 
@@ -55,6 +55,13 @@ returns-clause-exact g c = λ found finds.
     has_cause words (asked_as c.in-Ok.asked) c.in-Ok.ensures.exact (g.F.Files.source c.args.files.now) (g.F.Files.source c.run.new.files)
     c.in-Refused.why c.in-Refused.ensures.ends.0 in
     rw c.refused-in-Refused.ensures.status
-    (answers_refused c.read_files_have_no_flaw.ensures c.contents_are_unique.ensures c.flaws_are_unique.ensures words
+    (answers_refused c.given_is_told.ensures.all c.words_say_one.ensures.all words
     (g.F.Files.source c.args.files.now) (g.F.Files.source c.run.new.files) (g.K.Sink.tape c.args.out.now) (g.K.Sink.tape c.run.new.out)
     c.in-Refused.why found cause finds)
+
+pub returns-clause-others : goal.returns-clause-others
+returns-clause-others g c =
+    let words = map (string_bytes {Z = Global}) c.args.words.now in
+    others_refused words (g.F.Files.source c.args.files.now) (g.F.Files.source c.run.new.files) c.in-Refused.why
+    (has_cause words (asked_as c.in-Ok.asked) c.in-Ok.ensures.exact (g.F.Files.source c.args.files.now) (g.F.Files.source c.run.new.files)
+    c.in-Refused.why c.in-Refused.ensures.ends.0) c.in-Refused.ensures.ends.2

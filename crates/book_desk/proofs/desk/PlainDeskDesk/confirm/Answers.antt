@@ -1,12 +1,12 @@
 use Rattle.std.proofs.Common.{◌≡◌, ℕ, ap, length, refl, subst, sym, None, ◌∙◌}
 use Rattle.history_book.specs.declared.event.Event.TheVariants.{Confirm}
-use Rattle.history_book.specs.Desk.{Confirms, IsWinner}
+use Rattle.history_book.specs.Desk.{Confirms, IsClash}
 use Rattle.history_book.specs.Entry.{record_for}
 use Rattle.history_book.specs.Held.{is_taken}
 use Rattle.history_book.specs.Sight.{Sight}
 use Rattle.history_book.specs.State.{live_under, state_of}
 use Rattle.book_desk.specs.Internal.Book.{WinsAt, sight_of}
-use Rattle.book_desk.proofs.Events.{enter_room, entered, winner_is}
+use Rattle.book_desk.proofs.Events.{enter_room, entered, taken_unused, winner_is}
 use Rattle.book_desk.proofs.Histories.{looked, made}
 use Rattle.book_desk.proofs.Known.{known}
 use Rattle.book_desk.proofs.desk.PlainDeskDesk.confirm.Goals as goal
@@ -18,9 +18,13 @@ returns-in-Some-clause-says g c =
     let wins : WinsAt flow.original flow.reply (state_of b.records.items) c.in-Some.found =
     subst (λ rs. WinsAt flow.original flow.reply (state_of rs) c.in-Some.found) c.as_slice-records.ensures c.in-Some.ensures.wins in
     rw (← c.self.view_is) (
-      looked b b c.point-at.result (IsWinner flow c.at-subject.result.now.id c.in-Some.found.direction c.is_same_flow.result) c.self.invariant
-          c.point-at.ensures refl refl refl
-          (winner_is b flow c.in-Some.found c.at-subject.result.now c.is_same_flow.result wins c.at-subject.ensures c.is_same_flow.ensures),
+      looked b b c.point-at.result (IsClash c.args.place flow c.at-subject.result.now.id c.in-Some.found.direction c.is_same_flow.result)
+          c.self.invariant c.point-at.ensures refl refl refl
+          (record {
+            winner = winner_is b flow c.in-Some.found c.at-subject.result.now c.is_same_flow.result wins c.at-subject.ensures c.is_same_flow.ensures;
+            unused = taken_unused b c.args.place c.self.invariant
+                (ap (λ (s : Sight). is_taken c.args.place s.held) c.self.view_is ∙ c.requires.taken);
+          }),
       record { held = refl; owed = refl },
     )
 

@@ -2,7 +2,8 @@ use Rattle.std.proofs.Common.{ℕ, ap, subst, sym, ◌∙◌}
 use Rattle.expect_table.specs.declared.expectation.Expectation.{Expectation}
 use Rattle.expect_table.specs.declared.table.AddOutcome.TheVariants.{Clash, Full}
 use Rattle.history_book.specs.declared.event.Event.TheVariants.{Expect}
-use Rattle.history_book.specs.Desk.{MadeEvent, SamePlaces}
+use Rattle.history_book.specs.Desk.{SamePlaces}
+use Rattle.history_book.specs.WentOn.{MadeEvent}
 use Rattle.history_book.specs.DeskExpectations.{expectation_at}
 use Rattle.history_book.specs.Entry.{is_helped_entry}
 use Rattle.history_book.specs.Held.{held_id}

@@ -2,7 +2,8 @@ use Rattle.std.proofs.Common.{ap, refl, ◌∙◌}
 use Rattle.history_book.specs.Held.{is_owed}
 use Rattle.history_book.specs.Sight.{Sight}
 use Rattle.book_desk.proofs.Known.{known}
-use Rattle.book_desk.proofs.Steps.{book_pay, pay_room, recycled, saw}
+use Rattle.book_desk.proofs.Histories.{saw}
+use Rattle.book_desk.proofs.Steps.{book_pay, pay_room, recycled}
 use Rattle.book_desk.proofs.desk.PlainDeskDesk.recycle.Goals as goal
 
 pub push-requires : goal.push-requires

@@ -21,7 +21,7 @@ pub returns-in-Claimed-clause-says : goal.returns-in-Claimed-clause-says
 returns-in-Claimed-clause-says g c =
     rw (← c.self.view_is)
     (made_went c.self.inside.stage.desk c.other_claims.new.self.desk c.claim-outcome.new.self c.self.inside.notes.items c.push.new.self.items c.self.inside.spare (c.self.inside.spare - 1) c.self.inside.stage.others c.other_claims.new.self.others c.in-Claimed.number
-    (Claim c.in-Claimed.expectation c.in-Claimed.master c.args.t.now c.args.moment) c.other_claims.ensures c.self.invariant.lone c.in-Claimed.ensures.says.0 c.in-Claimed.ensures.says.1
+    (Claim c.in-Claimed.expectation c.in-Claimed.master c.args.t.now c.args.moment) c.other_claims.ensures c.in-Claimed.ensures.says.0 c.in-Claimed.ensures.says.1
     c.push.ensures.items (one_less c.args.self.now c.self.inside.spare (ap (λ (s : Sight). s.spare) c.self.view_is) c.requires))
 
 pub returns-in-Unclaimed-clause-knows : goal.returns-in-Unclaimed-clause-knows

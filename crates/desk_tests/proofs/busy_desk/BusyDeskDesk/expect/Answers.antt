@@ -48,7 +48,7 @@ returns-in-Expected-clause-says g c =
     rw (← c.self.view_is)
     (expected_went c.args.place c.args.want c.args.moment c.self.inside.stage.desk c.other_meets.new.self.desk c.peek.new.self c.expect-outcome.new.self c.self.inside.notes.items c.push.new.self.items
     c.self.inside.spare (c.self.inside.spare - 1) c.self.inside.stage.others c.other_meets.new.self.others c.in-Seen.subject c.in-Seen.at c.in-Expected.id c.in-Expected.replaced
-    c.other_meets.ensures c.self.invariant.lone c.peek.ensures.knows c.in-Seen.ensures.says c.in-Expected.ensures.says
+    c.other_meets.ensures c.peek.ensures.knows c.in-Seen.ensures.says c.in-Expected.ensures.says
     (expect_noted c.push.new.self.items c.self.inside.notes.items c.in-Expected.id c.expectation_at.result
     (expectation_at c.in-Expected.id c.in-Seen.subject.id c.args.want c.args.moment) c.in-Expected.replaced c.args.moment
     c.push.ensures.items c.expectation_at.ensures) (one_less c.args.self.now c.self.inside.spare (ap (λ (s : Sight). s.spare) c.self.view_is) c.requires.spare))

@@ -17,7 +17,7 @@ returns-in-Killed-clause-knows g c =
 pub returns-in-Killed-clause-says : goal.returns-in-Killed-clause-says
 returns-in-Killed-clause-says g c =
     rw (← c.self.view_is)
-    (killed_went c.args.place c.self.inside.stage.desk c.other_meets.new.self.desk c.kill-outcome.new.self c.self.inside.notes.items c.push.new.self.items c.self.inside.spare (c.self.inside.spare - 1) c.self.inside.stage.others c.other_meets.new.self.others c.args.why c.in-Killed.number c.in-Killed.subject c.other_meets.ensures c.self.invariant.lone c.in-Killed.ensures.says c.push.ensures.items (one_less c.args.self.now c.self.inside.spare (ap (λ (s : Sight). s.spare) c.self.view_is) c.requires.spare))
+    (killed_went c.args.place c.self.inside.stage.desk c.other_meets.new.self.desk c.kill-outcome.new.self c.self.inside.notes.items c.push.new.self.items c.self.inside.spare (c.self.inside.spare - 1) c.self.inside.stage.others c.other_meets.new.self.others c.args.why c.in-Killed.number c.in-Killed.subject c.other_meets.ensures c.in-Killed.ensures.says c.push.ensures.items (one_less c.args.self.now c.self.inside.spare (ap (λ (s : Sight). s.spare) c.self.view_is) c.requires.spare))
 
 pub invariant_of-self-in-Gone : goal.invariant_of-self-in-Gone
 invariant_of-self-in-Gone g c =

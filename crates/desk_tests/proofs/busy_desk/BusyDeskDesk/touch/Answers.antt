@@ -17,7 +17,7 @@ returns-in-Touched-clause-knows g c =
 pub returns-in-Touched-clause-says : goal.returns-in-Touched-clause-says
 returns-in-Touched-clause-says g c =
     rw (← c.self.view_is)
-    (touched_went c.args.place c.self.inside.stage.desk c.other_meets.new.self.desk c.touch-outcome.new.self c.self.inside.notes.items c.push.new.self.items c.self.inside.spare (c.self.inside.spare - 1) c.self.inside.stage.others c.other_meets.new.self.others c.args.direction c.args.segment c.args.moment c.in-Touched.number c.in-Touched.before c.part_after-after.result c.other_meets.ensures c.self.invariant.lone c.in-Touched.ensures.says c.part_after-after.ensures c.push.ensures.items (one_less c.args.self.now c.self.inside.spare (ap (λ (s : Sight). s.spare) c.self.view_is) c.requires.spare))
+    (touched_went c.args.place c.self.inside.stage.desk c.other_meets.new.self.desk c.touch-outcome.new.self c.self.inside.notes.items c.push.new.self.items c.self.inside.spare (c.self.inside.spare - 1) c.self.inside.stage.others c.other_meets.new.self.others c.args.direction c.args.segment c.args.moment c.in-Touched.number c.in-Touched.before c.part_after-after.result c.other_meets.ensures c.in-Touched.ensures.says c.part_after-after.ensures c.push.ensures.items (one_less c.args.self.now c.self.inside.spare (ap (λ (s : Sight). s.spare) c.self.view_is) c.requires.spare))
 
 pub invariant_of-self-in-Ignored : goal.invariant_of-self-in-Ignored
 invariant_of-self-in-Ignored g c =

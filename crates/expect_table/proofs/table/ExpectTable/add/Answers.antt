@@ -3,7 +3,7 @@ use Rattle.std.specs.List.{All}
 use Rattle.std.proofs.lemmas.List.{length-append}
 use Rattle.room_list.specs.Roomed.{Roomed}
 use Rattle.expect_table.specs.declared.expectation.Expectation.{Expectation}
-use Rattle.expect_table.specs.Expectations.{add_outcome, AreInOrder, with_one, without_master}
+use Rattle.expect_table.specs.Expectations.{add_outcome, AreOrderedOneAMaster, with_one, without_master}
 use Rattle.expect_table.proofs.Adding.{order_added, room_left}
 use Rattle.expect_table.proofs.table.ExpectTable.add.Goals as goal
 
@@ -39,5 +39,5 @@ invariant_of-self c =
     subst (λ (t : Roomed Expectation). All (λ o. o.id < c.args.e.id) t.items) (sym c.self.view_is) c.requires in (
       omega (arith, ap length pushed, length-append (without_master c.args.e.master es) (c.args.e ∷ []), room, left),
       omega (arith, c.push.ensures.room, c.self-in-Added.invariant.1),
-      subst AreInOrder (sym pushed) (order_added es c.args.e c.self.invariant.2 newer),
+      subst AreOrderedOneAMaster (sym pushed) (order_added es c.args.e c.self.invariant.2 newer),
     )

@@ -2,7 +2,7 @@ use Rattle.std.proofs.Common.{ap, sym, subst, length, ◌∙◌, arith, position
 use Rattle.std.proofs.lemmas.List.Edits.{length-remove}
 use Rattle.room_list.specs.Roomed.{Roomed}
 use Rattle.expect_table.specs.declared.expectation.Expectation.{Expectation}
-use Rattle.expect_table.specs.Expectations.{AreInOrder, id_of, without_master}
+use Rattle.expect_table.specs.Expectations.{AreOrderedOneAMaster, id_of, without_master}
 use Rattle.expect_table.specs.Match.{is_of}
 use Rattle.expect_table.proofs.Adding.{alone_master, order_removed}
 use Rattle.expect_table.proofs.Removal.{first_at, found_within, none_at, none_found, none_out, one_out}
@@ -27,7 +27,7 @@ invariant_of-self c =
     let within = found_within (is_of c.args.master) c.self.inside.items.items c.in-Some.index at in (
       omega (arith, c.self.invariant.0, ap length c.remove-removed.ensures.items, length-remove c.self.inside.items.items c.in-Some.index within),
       omega (arith, c.self.invariant.1, c.remove-removed.ensures.room),
-      subst AreInOrder (sym c.remove-removed.ensures.items) (order_removed c.self.inside.items.items c.in-Some.index within c.self.invariant.2),
+      subst AreOrderedOneAMaster (sym c.remove-removed.ensures.items) (order_removed c.self.inside.items.items c.in-Some.index within c.self.invariant.2),
     )
 
 pub returns-clause-id : goal.returns-clause-id

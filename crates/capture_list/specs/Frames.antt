@@ -1,0 +1,8 @@
+-- The frames of several captures.
+use Rattle.std.specs.Prelude.{ℕ, ◌+◌, List, [], ◌∷◌, length}
+use Rattle.capture_list.specs.declared.Capture.{Capture}
+
+-- how many frames the captures have
+abbrev pub frames_in : List Capture → ℕ
+frames_in [] = 0
+frames_in (c ∷ cs) = length c.frames.items + frames_in cs

@@ -1,0 +1,190 @@
+//! Runs of the whole program as data, and one call that makes a run and compares.
+
+use crate::content::{Content, bytes_of};
+use ct_io::{MemFiles, MemSink, NoGate};
+use replay_top::top;
+use std::alloc::{AllocError, Global};
+use std::process::Abort;
+use std::sync::Wait;
+use std::test::Fail;
+use std::thread::Threads;
+
+/// The calls of files, of writes to the output and of writes to the error output that are to fail.
+#[derive(Clone, Copy)]
+pub struct Faults {
+    pub files: u64,
+    pub out: u64,
+    pub err: u64,
+}
+
+/// No call fails: none has this number.
+pub const NONE: Faults = Faults {
+    files: u64::MAX,
+    out: u64::MAX,
+    err: u64::MAX,
+};
+
+/// A number in a text.
+#[derive(Clone, Copy)]
+pub enum Number {
+    Is(u32),
+    IsNot(u32),
+    Within(u32, u32),
+}
+
+/// What a text is to be.
+#[derive(Clone, Copy)]
+pub enum Text<'c> {
+    Is(&'c str),
+    /// So many first bytes of this.
+    First(usize, &'c str),
+    /// Some first bytes of this, and not all.
+    CutShort(&'c str),
+    /// It begins with one and ends with the other.
+    Around(&'c str, &'c str),
+    /// It begins so, and has these numbers, each in this line and this word of it.
+    Numbers(&'c str, &'c [(u32, u32, Number)]),
+    Any,
+}
+
+/// A run: its words, its files with their names, how many bytes the output takes, and which calls fail; and what it is
+/// to leave. There is to be a report with the statuses 0 and 4.
+#[derive(Clone, Copy)]
+pub struct Case<'c> {
+    pub words: &'c [&'c str],
+    pub files: &'c [(&'c str, Content<'c>)],
+    pub room: usize,
+    pub faults: Faults,
+    pub status: u8,
+    pub out: Text<'c>,
+    pub err: Text<'c>,
+}
+
+/// The number in this word of this line.
+fn number_at(text: &[u8], line: u32, word: u32) -> u32 {
+    let mut lines = 0u32;
+    let mut words = 0u32;
+    let mut number = 0u32;
+    for byte in text {
+        if *byte == b'\n' {
+            lines = lines.wrapping_add(1);
+            words = 0;
+        } else if *byte == b' ' {
+            words = words.wrapping_add(1);
+        } else if lines == line && words == word && byte.is_ascii_digit() {
+            let digit = u32::from(byte.wrapping_sub(b'0'));
+            number = number.wrapping_mul(10).wrapping_add(digit);
+        }
+    }
+    number
+}
+
+/// Whether a number is as expected.
+fn is_number(number: u32, expected: &Number) -> bool {
+    match expected {
+        Number::Is(value) => number == *value,
+        Number::IsNot(value) => number != *value,
+        Number::Within(least, most) => *least <= number && number <= *most,
+    }
+}
+
+/// Whether a text has these numbers.
+fn has_numbers(text: &[u8], numbers: &[(u32, u32, Number)]) -> bool {
+    for (line, word, number) in numbers {
+        if !is_number(number_at(text, *line, *word), number) {
+            return false;
+        }
+    }
+    true
+}
+
+/// Whether a text is as expected.
+fn fits(text: &[u8], expected: &Text<'_>) -> bool {
+    match expected {
+        Text::Is(all) => text == all.as_bytes(),
+        Text::First(length, all) => text.len() == *length && all.as_bytes().starts_with(text),
+        Text::CutShort(all) => text.len() < all.len() && all.as_bytes().starts_with(text),
+        Text::Around(begin, end) => {
+            text.starts_with(begin.as_bytes()) && text.ends_with(end.as_bytes())
+        }
+        Text::Numbers(begin, numbers) => {
+            text.starts_with(begin.as_bytes()) && has_numbers(text, numbers)
+        }
+        Text::Any => true,
+    }
+}
+
+/// The words as the program takes them.
+fn words_of(alloc: Global, words: &[&str]) -> Result<Vec<String>, AllocError> {
+    let mut all = Vec::new(alloc);
+    for word in words {
+        all.push(String::from_str(alloc, word)?)?;
+    }
+    Ok(all)
+}
+
+/// The files as the program takes them.
+fn files_of(
+    alloc: Global,
+    given: &[(&str, Content<'_>)],
+    faults: &Faults,
+) -> Result<MemFiles, Fail> {
+    let mut files = MemFiles::new(alloc, &[faults.files])?;
+    for (name, content) in given {
+        let bytes = bytes_of(alloc, content)?;
+        files.add(name, bytes.as_slice())?;
+    }
+    Ok(files)
+}
+
+/// What a run left.
+#[derive(Drop)]
+struct Left {
+    status: u8,
+    reported: bool,
+    out: MemSink,
+    err: MemSink,
+}
+
+/// Runs the program.
+fn run<R: Threads + Wait + Sync + AllocGlobal>(rt: &R, case: &Case<'_>) -> Result<Left, Fail> {
+    let alloc = rt.alloc();
+    let words = words_of(alloc, case.words)?;
+    let mut files = files_of(alloc, case.files, &case.faults)?;
+    let mut out = MemSink::new(alloc, case.room, &[case.faults.out])?;
+    let mut err = MemSink::new(alloc, 100, &[case.faults.err])?;
+    let words = words.as_slice();
+    let run = top(rt, alloc, words, &mut files, &mut out, &mut err, &NoGate);
+    Ok(Left {
+        status: run.status,
+        reported: run.report.is_some(),
+        out,
+        err,
+    })
+}
+
+/// Asserts that a run leaves what it is to leave.
+pub fn holds<R: Threads + Wait + Sync + AllocGlobal + Abort>(
+    rt: &R,
+    case: &Case<'_>,
+    number: usize,
+) -> Result<(), Fail> {
+    let left = run(rt, case)?;
+    assert_eq!(rt; left.status, case.status, "status of run {number}");
+    let reported = case.status == 0 || case.status == 4;
+    assert_eq!(rt; left.reported, reported, "report of run {number}");
+    assert!(rt; fits(left.out.bytes(), &case.out), "out of run {number}");
+    assert!(rt; fits(left.err.bytes(), &case.err), "err of run {number}");
+    Ok(())
+}
+
+/// Asserts that each run leaves what it is to leave.
+pub fn all_hold<R: Threads + Wait + Sync + AllocGlobal + Abort>(
+    rt: &R,
+    cases: &[Case<'_>],
+) -> Result<(), Fail> {
+    for (number, case) in cases.iter().enumerate() {
+        holds(rt, case, number)?;
+    }
+    Ok(())
+}

@@ -1,0 +1,11 @@
+//! Tests of the whole program: runs of `top` over files and sinks in memory. There is nothing else here.
+#![tactic(auto)]
+
+#[cfg(test)]
+mod case;
+#[cfg(test)]
+mod content;
+#[cfg(test)]
+mod packet;
+#[cfg(test)]
+mod runs;

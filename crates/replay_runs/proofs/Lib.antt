@@ -1,0 +1,12 @@
+pub mod Bounds
+pub mod CapturesReplayed
+pub mod Cuts
+pub mod FitsNamed
+pub mod Latest
+pub mod Marks
+pub mod Names
+pub mod Replays
+pub mod Reports
+pub mod Runs
+pub mod Scripts
+pub mod Threads

@@ -1,0 +1,270 @@
+-- Several threads over one history: each has its own events of it.
+use Rattle.std.proofs.Common.{◌≡◌, ℕ, zero, suc, ◌+◌, ◌<◌, ◌≤◌, Bool, true, false, cond, ◌==◌, List, [], ◌∷◌, ◌++◌, length, take, drop, refl, sym, ap, subst, ◌∙◌, arith}
+use Rattle.std.specs.Prelude.{◌≢◌, filter, nat_lt}
+use Rattle.std.specs.List.{AllByRecursion}
+use Rattle.std.proofs.lemmas.Bool.{eq-eqb, ltb-true, ne_eqb}
+use Rattle.std.proofs.lemmas.List.{append-nil, drop-append-le, take-append-le}
+use Rattle.std.proofs.lemmas.List.Elements.{filter-append}
+use Rattle.room_list.specs.Roomed.{Roomed}
+use Rattle.history_book.specs.declared.answer.Answer.{Answer}
+use Rattle.history_book.specs.declared.event.Event.{Event}
+use Rattle.history_book.specs.declared.event.Note.{Note}
+use Rattle.history_book.specs.declared.event.Numbered.{Numbered}
+use Rattle.history_book.specs.declared.verdict.Verdict.{Verdict}
+use Rattle.history_book.specs.Merge.{CoverEach, CoverFrom, EventSpan, spans_of, spans_of_answers, spans_of_verdicts}
+use Rattle.history_book.specs.Numbered.{events_of, notes_of}
+use Rattle.packet_path.specs.Packet.{Given}
+use Rattle.replay_runs.specs.Internal.Cut.{cut_by, items_of}
+use Rattle.replay_runs.specs.Internal.Replayed.{made_in, ThreadNotesFit}
+use Rattle.replay_runs.specs.Report.{AreNamedFrom, AreNamedInEach, at_start, captures_end, made_by, ThreadsFit, TrackerSetup, VerdictsFit}
+use Rattle.replay_runs.proofs.CapturesReplayed.{made_within}
+use Rattle.replay_runs.proofs.Marks.{mark_past-le, NumbersBelow}
+use Rattle.replay_runs.proofs.FitsNamed.{shares_named, verdicts_cover}
+use Rattle.replay_runs.proofs.Names.{all_named, each_append, name_of, named, named_in, named_in_notes}
+
+-- each list has the events of a thread's verdicts, with numbers below m, and the last has the script's
+pub data ListsFit (tracker : TrackerSetup) (log : List Event) (m : ℕ) (script : List Note)
+    : List (List Given) → List (Roomed Verdict) → List (Roomed Note) → Type 0 where
+  last : (l : Roomed Note) → l.items ≡ script → ListsFit tracker log m script [] [] (l ∷ [])
+  more : (gs : List Given) (gss : List (List Given)) (vs : Roomed Verdict) (vss : List (Roomed Verdict))
+      (l : Roomed Note) (lists : List (Roomed Note))
+      → VerdictsFit tracker log l.items at_start gs vs.items → NumbersBelow m l.items → ListsFit tracker log m script gss vss lists
+      → ListsFit tracker log m script (gs ∷ gss) (vs ∷ vss) (l ∷ lists)
+
+-- what holds of each item of a list holds of its first ones
+each_taken : {X : Type 0} (P : X → Type 0) (k : ℕ) (xs : List X) → AllByRecursion P xs → AllByRecursion P (take k xs)
+each_taken P zero xs h = tt
+each_taken P (suc k) [] h = tt
+each_taken P (suc k) (x ∷ xs) (h, hs) = (h, each_taken P k xs hs)
+
+-- and of the others
+each_dropped : {X : Type 0} (P : X → Type 0) (k : ℕ) (xs : List X) → AllByRecursion P xs → AllByRecursion P (drop k xs)
+each_dropped P zero xs h = h
+each_dropped P (suc k) [] h = tt
+each_dropped P (suc k) (x ∷ xs) (h, hs) = each_dropped P k xs hs
+
+-- so does what follows from it
+each_weaker : {X : Type 0} (P Q : X → Type 0) → ((x : X) → P x → Q x) → (xs : List X) → AllByRecursion P xs → AllByRecursion Q xs
+each_weaker P Q f [] h = tt
+each_weaker P Q f (x ∷ xs) (h, hs) = (f x h, each_weaker P Q f xs hs)
+
+-- what always holds
+each_always : {X : Type 0} (P : X → Type 0) → ((x : X) → P x) → (xs : List X) → AllByRecursion P xs
+each_always P f [] = tt
+each_always P f (x ∷ xs) = (f x, each_always P f xs)
+
+module _ (tracker : TrackerSetup) (log : List Event) (m : ℕ) (script : List Note) where
+  -- a desk's events that are cut by its verdicts are such lists
+  pub lists_fit : (own : List Note) (gss : List (List Given)) (vss : List (Roomed Verdict)) (lists : List (Roomed Note))
+      → ThreadNotesFit tracker log own gss vss → NumbersBelow m own → items_of lists ≡ cut_by vss (own ++ script)
+      → ListsFit tracker log m script gss vss lists
+  lists_fit own [] [] [] fit below is = absurd (cc is)
+  lists_fit own [] [] (l ∷ []) fit below is =
+      let same : l.items ≡ own ++ script = cc is in last l (same ∙ ap (λ xs. xs ++ script) fit)
+  lists_fit own [] [] (l ∷ k ∷ lists) fit below is = absurd (cc is)
+  lists_fit own [] (w ∷ vss) lists fit below is = absurd fit
+  lists_fit own (gs ∷ gss) [] lists fit below is = absurd fit
+  lists_fit own (gs ∷ gss) (w ∷ vss) [] fit below is = absurd (cc is)
+  lists_fit own (gs ∷ gss) (w ∷ vss) (l ∷ lists) (f, fs) below is =
+      let count : ℕ = made_in w.items in
+      let within : count ≤ length own = made_within tracker log own gs w.items f in
+      let here : l.items ≡ take count (own ++ script) = cc is in
+      let rest : items_of lists ≡ cut_by vss (drop count (own ++ script)) = cc is in
+      let first : take count own ≡ l.items = sym (take-append-le count own script within) ∙ sym here in
+      more gs gss w vss l lists
+      (subst (λ xs. VerdictsFit tracker log xs at_start gs w.items) first f)
+      (subst (λ xs. NumbersBelow m xs) first (each_taken (λ (x : Note). x.number < m) count own below))
+      (lists_fit (drop count own) gss vss lists fs (each_dropped (λ (x : Note). x.number < m) count own below)
+      (rest ∙ ap (cut_by vss) (drop-append-le count own script within)))
+
+  -- each list is covered by the spans of its thread
+  pub lists_covered : {gss : List (List Given)} {vss : List (Roomed Verdict)} {lists : List (Roomed Note)}
+      → ListsFit tracker log m script gss vss lists → (answers : List Answer) → CoverFrom 0 (length script) (spans_of_answers answers)
+      → CoverEach lists (spans_of vss answers)
+  lists_covered (last l same) answers covers =
+      (subst (λ xs. CoverFrom 0 (length xs) (spans_of_answers answers)) (sym same) covers, tt)
+  lists_covered (more gs gss vs vss l lists fit below later) answers covers = (
+    verdicts_cover tracker log l.items at_start (length l.items) gs vs.items fit (omega arith),
+    lists_covered later answers covers,
+  )
+
+  -- there is a list for each thread, and one for the script
+  pub lists_count : {gss : List (List Given)} {vss : List (Roomed Verdict)} {lists : List (Roomed Note)}
+      → ListsFit tracker log m script gss vss lists → length lists ≡ length vss + 1
+  lists_count (last l same) = refl
+  lists_count (more gs gss vs vss l lists fit below later) = omega (arith, lists_count later)
+
+-- what passes a test is kept
+kept : {X : Type 0} (b : Bool) (Q : X → Type 0) (x : X) (xs : List X) → (b ≡ true → Q x) → AllByRecursion Q xs
+    → AllByRecursion Q (cond b (x ∷ xs) xs)
+kept true Q x xs h hs = (h refl, hs)
+kept false Q x xs h hs = hs
+
+filter_each : {X : Type 0} (p : X → Bool) (Q : X → Type 0) (xs : List X) → AllByRecursion (λ x. p x ≡ true → Q x) xs
+    → AllByRecursion Q (filter p xs)
+filter_each p Q [] h = tt
+filter_each p Q (x ∷ xs) (h, hs) = kept (p x) Q x (filter p xs) h (filter_each p Q xs hs)
+
+-- a thread's events are those that it made
+made_by_self : (thread : ℕ) (events : List Numbered) → AllByRecursion (λ (n : Numbered). n.thread ≡ thread) events
+    → made_by thread events ≡ events
+made_by_self thread [] h = refl
+made_by_self thread (x ∷ xs) (h, hs) =
+    ap (λ b. cond b (x ∷ made_by thread xs) (made_by thread xs)) (eq-eqb x.thread thread h)
+    ∙ ap (λ ys. x ∷ ys) (made_by_self thread xs hs)
+
+-- and no other made one of them
+made_by_others : (thread : ℕ) (events : List Numbered) → AllByRecursion (λ (n : Numbered). n.thread ≢ thread) events
+    → made_by thread events ≡ []
+made_by_others thread [] h = refl
+made_by_others thread (x ∷ xs) (h, hs) =
+    ap (λ b. cond b (x ∷ made_by thread xs) (made_by thread xs)) (ne_eqb x.thread thread h)
+    ∙ made_by_others thread xs hs
+
+made_by-append : (thread : ℕ) (xs ys : List Numbered) → made_by thread (xs ++ ys) ≡ made_by thread xs ++ made_by thread ys
+made_by-append thread xs ys = filter-append (λ (n : Numbered). n.thread == thread) xs ys
+
+-- what holds of the names of a thread's events, whatever the packet
+each_named : (P : Numbered → Type 0) (thread index : ℕ) (notes : List Note)
+    → AllByRecursion (λ (n : Note). (k : ℕ) → P (name_of thread k n)) notes → AllByRecursion P (named thread index notes)
+each_named P thread index [] h = tt
+each_named P thread index (n ∷ ns) (h, hs) = (h index, each_named P thread index ns hs)
+
+each_named_in : (P : Numbered → Type 0) (thread index : ℕ) (notes : List Note) (ss : List EventSpan)
+    → AllByRecursion (λ (n : Note). (k : ℕ) → P (name_of thread k n)) notes → AllByRecursion P (named_in thread index notes ss)
+each_named_in P thread index notes [] h = tt
+each_named_in P thread index notes (s ∷ ss) h =
+    each_append P (named thread index (take s.made notes)) (named_in thread (index + 1) (drop s.made notes) ss)
+    (each_named P thread index (take s.made notes) (each_taken (λ (n : Note). (k : ℕ) → P (name_of thread k n)) s.made notes h))
+    (each_named_in P thread (index + 1) (drop s.made notes) ss (each_dropped (λ (n : Note). (k : ℕ) → P (name_of thread k n)) s.made notes h))
+
+-- what holds of each name of the thread holds of its events
+each_of_thread : (P : Numbered → Type 0) (thread : ℕ) → ((n : Note) (k : ℕ) → P (name_of thread k n)) → (notes : List Note) (ss : List EventSpan)
+    → AllByRecursion P (named_in thread 0 notes ss)
+each_of_thread P thread f notes ss =
+    each_named_in P thread 0 notes ss (each_always (λ (n : Note). (k : ℕ) → P (name_of thread k n)) f notes)
+
+-- no thread from this one on is an earlier one
+others_later : (t thread : ℕ) (lists : List (Roomed Note)) (sss : List (List EventSpan)) → t < thread
+    → AllByRecursion (λ (n : Numbered). n.thread ≢ t) (all_named thread lists sss)
+others_later t thread [] sss before = tt
+others_later t thread (l ∷ lists) [] before = tt
+others_later t thread (l ∷ lists) (ss ∷ sss) before =
+    each_append (λ (n : Numbered). n.thread ≢ t) (named_in thread 0 l.items ss) (all_named (thread + 1) lists sss)
+    (each_of_thread (λ (n : Numbered). n.thread ≢ t) thread (λ n k e. omega (arith, before, e)) l.items ss)
+    (others_later t (thread + 1) lists sss (omega (arith, before)))
+
+-- the first thread's events
+made_by_first : (thread : ℕ) (notes : List Note) (ss : List EventSpan) (rest : List Numbered)
+    → AllByRecursion (λ (n : Numbered). n.thread ≢ thread) rest
+    → made_by thread (named_in thread 0 notes ss ++ rest) ≡ named_in thread 0 notes ss
+made_by_first thread notes ss rest others =
+    made_by-append thread (named_in thread 0 notes ss) rest
+    ∙ ap (λ xs. xs ++ made_by thread rest)
+    (made_by_self thread (named_in thread 0 notes ss)
+    (each_of_thread (λ (n : Numbered). n.thread ≡ thread) thread (λ n k. refl) notes ss))
+    ∙ ap (λ xs. named_in thread 0 notes ss ++ xs) (made_by_others thread rest others)
+    ∙ append-nil (named_in thread 0 notes ss)
+
+-- and those of a later one
+made_by_later : (t thread : ℕ) (notes : List Note) (ss : List EventSpan) (rest : List Numbered) → thread ≢ t
+    → made_by t (named_in thread 0 notes ss ++ rest) ≡ made_by t rest
+made_by_later t thread notes ss rest other =
+    made_by-append t (named_in thread 0 notes ss) rest
+    ∙ ap (λ xs. xs ++ made_by t rest)
+    (made_by_others t (named_in thread 0 notes ss)
+    (each_of_thread (λ (n : Numbered). n.thread ≢ t) thread (λ n k. other) notes ss))
+
+module _ (tracker : TrackerSetup) (log : List Event) (m : ℕ) (script : List Note) where
+  -- the script's events
+  pub script_made : {gss : List (List Given)} {vss : List (Roomed Verdict)} {lists : List (Roomed Note)}
+      → ListsFit tracker log m script gss vss lists → (answers : List Answer) (thread end : ℕ) → end ≡ thread + length gss
+      → made_by end (all_named thread lists (spans_of vss answers)) ≡ named_in end 0 script (spans_of_answers answers)
+  script_made (last l same) answers thread end at =
+      let here : thread ≡ end = omega (arith, at) in
+      subst (λ (k : ℕ). made_by end (all_named k (l ∷ []) (spans_of [] answers)) ≡ named_in end 0 script (spans_of_answers answers)) (sym here)
+      (made_by_first end l.items (spans_of_answers answers) [] tt ∙ ap (λ xs. named_in end 0 xs (spans_of_answers answers)) same)
+  script_made (more gs gss vs vss l lists fit below later) answers thread end at =
+      made_by_later end thread l.items (spans_of_verdicts vs.items) (all_named (thread + 1) lists (spans_of vss answers))
+      (omega (arith, at))
+      ∙ script_made later answers (thread + 1) end (omega (arith, at))
+
+  -- no thread has a number above the script's
+  pub threads_within : {gss : List (List Given)} {vss : List (Roomed Verdict)} {lists : List (Roomed Note)}
+      → ListsFit tracker log m script gss vss lists → (answers : List Answer) (thread end : ℕ) → end ≡ thread + length gss
+      → AllByRecursion (λ (n : Numbered). n.thread ≤ end) (all_named thread lists (spans_of vss answers))
+  threads_within (last l same) answers thread end at =
+      each_append (λ (n : Numbered). n.thread ≤ end) (named_in thread 0 l.items (spans_of_answers answers)) []
+      (each_of_thread (λ (n : Numbered). n.thread ≤ end) thread (λ n k. omega (arith, at)) l.items (spans_of_answers answers)) tt
+  threads_within (more gs gss vs vss l lists fit below later) answers thread end at =
+      each_append (λ (n : Numbered). n.thread ≤ end) (named_in thread 0 l.items (spans_of_verdicts vs.items))
+      (all_named (thread + 1) lists (spans_of vss answers))
+      (each_of_thread (λ (n : Numbered). n.thread ≤ end) thread (λ n k. omega (arith, at)) l.items (spans_of_verdicts vs.items))
+      (threads_within later answers (thread + 1) end (omega (arith, at)))
+
+  -- the threads before the script's made their events before m
+  events_before : {gss : List (List Given)} {vss : List (Roomed Verdict)} {lists : List (Roomed Note)}
+      → ListsFit tracker log m script gss vss lists → (answers : List Answer) (thread end : ℕ) → end ≡ thread + length gss
+      → AllByRecursion (λ (n : Numbered). nat_lt n.thread end ≡ true → n.number < m) (all_named thread lists (spans_of vss answers))
+  events_before (last l same) answers thread end at =
+      each_append (λ (n : Numbered). nat_lt n.thread end ≡ true → n.number < m) (named_in thread 0 l.items (spans_of_answers answers)) []
+      (each_of_thread (λ (n : Numbered). nat_lt n.thread end ≡ true → n.number < m) thread
+      (λ n k e. absurd (omega (arith, at, ltb-true thread end e))) l.items (spans_of_answers answers)) tt
+  events_before (more gs gss vs vss l lists fit below later) answers thread end at =
+      each_append (λ (n : Numbered). nat_lt n.thread end ≡ true → n.number < m) (named_in thread 0 l.items (spans_of_verdicts vs.items))
+      (all_named (thread + 1) lists (spans_of vss answers))
+      (each_named_in (λ (n : Numbered). nat_lt n.thread end ≡ true → n.number < m) thread 0 l.items (spans_of_verdicts vs.items)
+      (each_weaker (λ (n : Note). n.number < m) (λ (n : Note). (k : ℕ) → nat_lt thread end ≡ true → n.number < m) (λ n h k e. h) l.items below))
+      (events_before later answers (thread + 1) end (omega (arith, at)))
+
+  -- so the captures end no later than that
+  pub end_within : {gss : List (List Given)} {vss : List (Roomed Verdict)} {lists : List (Roomed Note)}
+      → ListsFit tracker log m script gss vss lists → (answers : List Answer) (end : ℕ) → end ≡ length gss
+      → captures_end end (all_named 0 lists (spans_of vss answers)) ≤ m
+  end_within {vss = vss} {lists = lists} fit answers end at =
+      let all : List Numbered = all_named 0 lists (spans_of vss answers) in
+      let events : List Numbered = filter (λ (n : Numbered). nat_lt n.thread end) all in
+      mark_past-le m 0 (notes_of events) (omega arith)
+      (below_notes events
+      (filter_each (λ (n : Numbered). nat_lt n.thread end) (λ (n : Numbered). n.number < m) all
+      (events_before fit answers 0 end (omega (arith, at)))))
+    where
+      below_notes : (xs : List Numbered) → AllByRecursion (λ (n : Numbered). n.number < m) xs → NumbersBelow m (notes_of xs)
+      below_notes [] h = tt
+      below_notes (x ∷ xs) (h, hs) = (h, below_notes xs hs)
+
+-- the events of each thread name the packets and the commands that made them
+pub each_named_from : (history : List Numbered) (thread : ℕ) (lists : List (Roomed Note)) (sss : List (List EventSpan)) → CoverEach lists sss
+    → ((t : ℕ) → thread ≤ t → made_by t history ≡ made_by t (all_named thread lists sss)) → AreNamedInEach thread history sss
+each_named_from history thread [] [] covers made = tt
+each_named_from history thread [] (ss ∷ sss) covers made = absurd covers
+each_named_from history thread (l ∷ lists) [] covers made = absurd covers
+each_named_from history thread (l ∷ lists) (ss ∷ sss) (here, covers) made =
+    let rest : List Numbered = all_named (thread + 1) lists sss in
+    let own : made_by thread history ≡ named_in thread 0 l.items ss =
+    made thread (omega arith) ∙ made_by_first thread l.items ss rest (others_later thread (thread + 1) lists sss (omega arith)) in (
+      subst (λ xs. AreNamedFrom 0 xs ss) (sym own) (shares_named thread 0 0 (length l.items) l.items ss here (omega arith)),
+      each_named_from history (thread + 1) lists sss covers
+          (λ t from. made t (omega (arith, from)) ∙ made_by_later t thread l.items ss rest (omega (arith, from))),
+    )
+
+module _ (tracker : TrackerSetup) (m : ℕ) (script : List Note) (history : List Numbered) where
+  -- the verdicts of each thread fit what it made of the history
+  pub threads_fit : {gss : List (List Given)} {vss : List (Roomed Verdict)} {lists : List (Roomed Note)}
+      → ListsFit tracker (events_of history) m script gss vss lists → (answers : List Answer) (thread : ℕ)
+      → ((t : ℕ) → thread ≤ t → made_by t history ≡ made_by t (all_named thread lists (spans_of vss answers)))
+      → ThreadsFit tracker history thread gss vss
+  threads_fit (last l same) answers thread made = tt
+  threads_fit (more gs gss vs vss l lists fit below later) answers thread made =
+      let ss : List EventSpan = spans_of_verdicts vs.items in
+      let rest : List Numbered = all_named (thread + 1) lists (spans_of vss answers) in
+      let own : made_by thread history ≡ named_in thread 0 l.items ss =
+      made thread (omega arith)
+      ∙ made_by_first thread l.items ss rest (others_later thread (thread + 1) lists (spans_of vss answers) (omega arith)) in
+      let covers : CoverFrom 0 (length l.items) ss =
+      verdicts_cover tracker (events_of history) l.items at_start (length l.items) gs vs.items fit (omega arith) in (
+        subst (λ xs. VerdictsFit tracker (events_of history) xs at_start gs vs.items)
+            (sym (ap notes_of own ∙ named_in_notes thread 0 0 (length l.items) l.items ss covers (omega arith))) fit,
+        threads_fit later answers (thread + 1)
+            (λ t from. made t (omega (arith, from)) ∙ made_by_later t thread l.items ss rest (omega (arith, from))),
+      )

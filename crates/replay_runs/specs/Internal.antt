@@ -1,0 +1,5 @@
+-- What private functions keep for the clauses of the public ones. A reader of those need not open it.
+pub mod Answered
+pub mod Cut
+pub mod Replayed
+pub mod Stopped

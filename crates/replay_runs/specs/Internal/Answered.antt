@@ -1,0 +1,37 @@
+-- What a desk and its answers are, once the commands of a script were performed.
+use Rattle.std.specs.Prelude.{◌≡◌, ℕ, ◌+◌, ◌*◌, ◌<◌, ◌≤◌, List, [], ◌∷◌, length, drop}
+use Rattle.conntrack_cmd.specs.declared.command.Command.{Command}
+use Rattle.history_book.specs.declared.answer.Answer.{Answer}
+use Rattle.history_book.specs.declared.event.Note.{Note}
+use Rattle.history_book.specs.Sight.{IsKnown, Sight}
+use Rattle.history_book.specs.WentOn.{WentOn}
+use Rattle.replay_runs.specs.Report.{AnswersFit, past_command, Progress, ScriptRun}
+
+-- how far the script has come behind these answers, whose commands made these events
+abbrev pub past_answers : ScriptRun → Progress → List Note → List Answer → Progress
+past_answers run now mine [] = now
+past_answers run now mine (a ∷ rest) = past_answers run (past_command run now mine a) (drop a.made mine) rest
+
+-- the run of a script as far as a desk sees it, with `wait` before the command of this index, and the end of the captures
+abbrev pub run_seen : Sight → (moment wait end : ℕ) → ScriptRun
+run_seen s moment wait end = record { log = s.front; moment = moment; wait = wait; end_of_captures = end }
+
+-- where `wait` stands before one of so many commands from this index on, the captures end within a front of this length
+abbrev pub EndsInTime : (wait end index count seen : ℕ) → Type 0
+EndsInTime wait end index count seen = index ≤ wait → wait < index + count → end ≤ seen
+
+-- The desk went on by the events of the answers. The script had made so many events before. From whatever command on and with
+-- whatever mark it goes on, as long as that lies in what the desk had seen, and the end of the captures where `wait` is
+-- reached: the answers fit the commands on the new front, and the script's mark behind them lies in that. No place is held
+-- or owed.
+pub record Answered (commands : List Command) (moment first : ℕ) (old new : Sight) (answers : List Answer) : Type 0 where
+  pub own : List Note
+  pub went : WentOn old new own
+  pub few : length own ≤ 66560 * length commands
+  pub fit : (wait end index mark : ℕ) → EndsInTime wait end index (length commands) (length old.front) → mark ≤ length old.front
+      → AnswersFit (run_seen new moment wait end) own (record { first = first; index = index; mark = mark }) commands answers
+  pub mark : (wait end index mark : ℕ) → EndsInTime wait end index (length commands) (length old.front) → mark ≤ length old.front
+      → (past_answers (run_seen new moment wait end) (record { first = first; index = index; mark = mark }) own answers).mark ≤ length new.front
+  pub held : new.held ≡ []
+  pub owed : new.owed ≡ []
+  pub known : IsKnown new

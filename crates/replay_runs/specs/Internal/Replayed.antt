@@ -1,0 +1,65 @@
+-- What a desk and its verdicts are, once the frames of captures were handled.
+use Rattle.std.specs.Prelude.{◌≡◌, ℕ, ◌+◌, ◌*◌, ◌≤◌, List, [], ◌∷◌, length, map, take, drop}
+use Rattle.room_list.specs.Roomed.{Roomed}
+use Rattle.history_book.specs.declared.event.Event.{Event}
+use Rattle.history_book.specs.declared.event.Note.{Note}
+use Rattle.history_book.specs.declared.verdict.Verdict.{Verdict}
+use Rattle.history_book.specs.Sight.{IsKnown, Sight}
+use Rattle.history_book.specs.WentOn.{WentOn}
+use Rattle.packet_path.specs.Packet.{Given, given_of}
+use Rattle.packet_path.specs.declared.setup.Setup.{Setup}
+use Rattle.capture_list.specs.declared.Capture.{Capture}
+use Rattle.replay_runs.specs.Report.{at_start, past_packet, Progress, TrackerSetup, VerdictsFit}
+
+-- what was given of the frames of a capture
+abbrev pub given_frames : Capture → List Given
+given_frames c = map (given_of c.bytes.items) c.frames.items
+
+-- how many packets were given
+abbrev pub count_given : List (List Given) → ℕ
+count_given [] = 0
+count_given (gs ∷ gss) = length gs + count_given gss
+
+-- the tracker of a desk, set up so
+abbrev pub tracker_with : Setup → Sight → TrackerSetup
+tracker_with setup s = record { setup = setup; sizes = s.sizes }
+
+-- how far a thread has come behind these verdicts, whose packets made these events
+abbrev pub past_verdicts : Progress → List Note → List Verdict → Progress
+past_verdicts now mine [] = now
+past_verdicts now mine (v ∷ vs) = past_verdicts (past_packet now mine v) (drop v.made mine) vs
+
+-- The desk went on by the events of the verdicts, at most eight for each packet, and the verdicts fit the packets on the
+-- new front, as those of a thread of their own. No place is held or owed.
+pub record Replayed (setup : Setup) (given : List Given) (old new : Sight) (verdicts : List Verdict) : Type 0 where
+  pub own : List Note
+  pub went : WentOn old new own
+  pub few : length own ≤ 8 * length given
+  pub fit : VerdictsFit (tracker_with setup old) new.front own at_start given verdicts
+  pub held : new.held ≡ []
+  pub owed : new.owed ≡ []
+  pub known : IsKnown new
+
+-- how many events the packets made
+abbrev pub made_in : List Verdict → ℕ
+made_in [] = 0
+made_in (v ∷ vs) = v.made + made_in vs
+
+-- each capture is a thread, which made the next of these events; together they made all of them
+abbrev pub ThreadNotesFit : TrackerSetup → List Event → List Note → List (List Given) → List (Roomed Verdict) → Type 0
+ThreadNotesFit tracker log notes [] [] = notes ≡ []
+ThreadNotesFit tracker log notes [] (vs ∷ vss) = ⊥
+ThreadNotesFit tracker log notes (gs ∷ gss) [] = ⊥
+ThreadNotesFit tracker log notes (gs ∷ gss) (vs ∷ vss) =
+    VerdictsFit tracker log (take (made_in vs.items) notes) at_start gs vs.items
+    × ThreadNotesFit tracker log (drop (made_in vs.items) notes) gss vss
+
+-- the same of several captures, each by a thread
+pub record AllReplayed (setup : Setup) (given : List (List Given)) (old new : Sight) (threads : List (Roomed Verdict)) : Type 0 where
+  pub own : List Note
+  pub went : WentOn old new own
+  pub few : length own ≤ 8 * count_given given
+  pub fit : ThreadNotesFit (tracker_with setup old) new.front own given threads
+  pub held : new.held ≡ []
+  pub owed : new.owed ≡ []
+  pub known : IsKnown new

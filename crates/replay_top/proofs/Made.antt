@@ -1,0 +1,120 @@
+-- What a report of all files that are asked for is.
+use Rattle.std.proofs.Common.{◌≡◌, ℕ, Option, Some, None, List, [], ◌∷◌, ◌++◌, map, refl, sym, subst, ap, ◌∙◌}
+use Rattle.std.specs.Prelude.{Err, IfOk, Ok, option_to_list, Result}
+use Rattle.command_words.specs.Words.{Request}
+use Rattle.conntrack_cmd.specs.declared.read.Script.{Script}
+use Rattle.ct_io.specs.Source.{Source}
+use Rattle.history_book.specs.declared.report.Report.{Report}
+use Rattle.history_book.specs.declared.sizes.Sizes.{Sizes}
+use Rattle.nat_setup.specs.declared.rule.Rule.{Rule}
+use Rattle.packet_path.specs.Packet.{Given, given_of}
+use Rattle.capture_list.specs.declared.Capture.{Capture}
+use Rattle.run_inputs.specs.declared.flaw.FileKind.TheVariants as kind
+use Rattle.run_inputs.specs.declared.input.Inputs.{Inputs}
+use Rattle.run_inputs.specs.Content.{Content, no_totals, rules, script}
+use Rattle.run_inputs.specs.Inputs.{AreGiven, AreReadFrom}
+use Rattle.run_inputs.specs.Reading.{bytes_in, contents_in, GaveContents, GaveInputs, GaveRules, GaveScript}
+use Rattle.replay_top.specs.Internal.Replaying.{ReplaysInputs}
+use Rattle.replay_runs.specs.Replaying.{work_of}
+use Rattle.replay_top.specs.Replay.{given_in, IsReplayOf, rules_in, sizes_of, work_with}
+use Rattle.replay_runs.specs.Report.{IsWellFormed, Work}
+use Rattle.run_inputs.specs.Files.{files_of_kind, InputFile}
+use Rattle.room_list.specs.Roomed.{Roomed}
+
+-- a report of inputs that were set up as it is asked for is what is asked for
+pub inputs_replayed : (asked : Request) (inputs : Inputs) (ftp : Roomed ℕ) (sizes : Sizes) {E : Type 0} (result : Result Report E)
+    → ftp.items ≡ asked.ftp → sizes ≡ sizes_of asked
+    → IfOk result (IsWellFormed (record { setup = record { rules = inputs.rules; ftp = ftp }; sizes = sizes })
+    (work_of inputs.captures.items inputs.script))
+    → IfOk result (ReplaysInputs asked inputs)
+inputs_replayed asked inputs ftp sizes (Ok report) copied sized well_formed = record {
+  setup = record { rules = inputs.rules; ftp = ftp };
+  rules = refl;
+  ftp = copied;
+  well_formed = subst (λ (z : Sizes). IsWellFormed (record { setup = record { rules = inputs.rules; ftp = ftp }; sizes = z })
+      (work_of inputs.captures.items inputs.script) report) sized well_formed;
+}
+inputs_replayed asked inputs ftp sizes (Err error) copied sized well_formed = tt
+
+-- without a file of rules there are none, and without a script there is no command
+no_rules : (captures : List Capture) → rules_in (contents_in captures) ≡ []
+no_rules [] = refl
+no_rules (c ∷ captures) = no_rules captures
+
+no_commands : (given : List (List Given)) (captures : List Capture)
+    → work_with given (contents_in captures) ≡ record { captures = given; commands = []; wait = 0 }
+no_commands given [] = refl
+no_commands given (c ∷ captures) = no_commands given captures
+
+abbrev given_of_capture : Capture → List Given
+given_of_capture c = map (given_of c.bytes.items) c.frames.items
+
+-- what is given of captures
+given_captures : (captures : List Capture) → given_in (bytes_in captures) (contents_in captures) ≡ map given_of_capture captures
+given_captures [] = refl
+given_captures (c ∷ captures) = ap (λ (given : List (List Given)). given_of_capture c ∷ given) (given_captures captures)
+
+-- what files say, of which the rules and the work are these
+record Made (files : Source) (inputs : List InputFile) (ruled : List Rule) (done : Work) : Type 0 where
+  bytes : List (List ℕ)
+  contents : List Content
+  given : AreGiven files inputs bytes
+  read : AreReadFrom no_totals inputs bytes contents
+  rules : ruled ≡ rules_in contents
+  work : done ≡ work_with (given_in bytes contents) contents
+
+made : (files : Source) (r s : Option (List ℕ)) (names : List (List ℕ)) (ruled : List Rule) (said : Script) (captures : List Capture)
+    → GaveRules files r ruled → GaveScript files s said
+    → GaveContents files no_totals (files_of_kind kind.Capture names) (bytes_in captures) (contents_in captures)
+    → Made files (files_of_kind kind.Rules (option_to_list r) ++ files_of_kind kind.Script (option_to_list s) ++ files_of_kind kind.Capture names)
+    ruled (work_of captures said)
+made files None None names ruled said captures gr gs gc = record {
+  bytes = bytes_in captures;
+  contents = contents_in captures;
+  given = gc.given;
+  read = gc.read;
+  rules = gr ∙ sym (no_rules captures);
+  work = rw (gs.0, gs.1) (sym (no_commands (given_in (bytes_in captures) (contents_in captures)) captures
+      ∙ ap (λ (given : List (List Given)). record { captures = given; commands = []; wait = 0 }) (given_captures captures)));
+}
+made files None (Some s) names ruled said captures gr gs gc = record {
+  bytes = gs.bytes ∷ bytes_in captures;
+  contents = script said.commands.items said.wait ∷ contents_in captures;
+  given = (gs.given, gc.given);
+  read = (gs.read, gc.read);
+  rules = gr ∙ sym (no_rules captures);
+  work = sym (ap (λ (given : List (List Given)). record { captures = given; commands = said.commands.items; wait = said.wait }) (given_captures captures));
+}
+made files (Some r) None names ruled said captures gr gs gc = record {
+  bytes = gr.bytes ∷ bytes_in captures;
+  contents = rules ruled ∷ contents_in captures;
+  given = (gr.given, gc.given);
+  read = (gr.read, gc.read);
+  rules = refl;
+  work = rw (gs.0, gs.1) (sym (no_commands (given_in (bytes_in captures) (contents_in captures)) captures
+      ∙ ap (λ (given : List (List Given)). record { captures = given; commands = []; wait = 0 }) (given_captures captures)));
+}
+made files (Some r) (Some s) names ruled said captures gr gs gc = record {
+  bytes = gr.bytes ∷ gs.bytes ∷ bytes_in captures;
+  contents = rules ruled ∷ script said.commands.items said.wait ∷ contents_in captures;
+  given = (gr.given, (gs.given, gc.given));
+  read = (gr.read, (gs.read, gc.read));
+  rules = refl;
+  work = sym (ap (λ (given : List (List Given)). record { captures = given; commands = said.commands.items; wait = said.wait }) (given_captures captures));
+}
+
+-- a report of what was read is one of what is asked for
+pub replay_made : (files : Source) (asked : Request) (inputs : Inputs) (report : Report) → GaveInputs files asked inputs
+    → ReplaysInputs asked inputs report → IsReplayOf files asked report
+replay_made files asked inputs report gave of =
+    let all = made files asked.rules asked.script asked.captures inputs.rules.items inputs.script inputs.captures.items gave.rules gave.script gave.captures in
+    record {
+      bytes = all.bytes;
+      given = all.given;
+      contents = all.contents;
+      read = all.read;
+      setup = of.setup;
+      rules = ap (λ (r : Roomed Rule). r.items) of.rules ∙ all.rules;
+      ftp = of.ftp;
+      well_formed = subst (λ (w : Work). IsWellFormed (record { setup = of.setup; sizes = sizes_of asked }) w report) all.work of.well_formed;
+    }

@@ -1,7 +1,0 @@
-use Rattle.replay_top.specs.Internal.Reading.{totals_as}
-use Rattle.replay_top.proofs.Captures.{SoFar}
-use Rattle.replay_top.proofs.input.read_captures.Given as goal
-
-abbrev pub invariant-captures : goal.invariant-captures
-invariant-captures g l =
-    SoFar (g.F.Files.source l.fn.files) (g.F.Files.source l.files) l.names l.index l.captures (totals_as l.totals)

@@ -1,5 +1,0 @@
-use Rattle.replay_top.proofs.Flaws.{one_flaw}
-use Rattle.replay_top.proofs.laws.flaws_are_unique.Goals as goal
-
-pub returns : goal.returns
-returns c = one_flaw c.faults_are_unique.ensures c.faults_are_unique-2.ensures c.faults_are_unique-3.ensures c.captures_have_no_fault.ensures

@@ -1,6 +1,0 @@
-use Rattle.replay_top.proofs.Scripts.{IsAnswered}
-use Rattle.replay_top.proofs.script_run.run_script.Given as goal
-
-abbrev pub invariant-commands : goal.invariant-commands
-invariant-commands g l =
-    IsAnswered l.commands l.moment l.command-index (g.D.Desk.sight l.fn.desk) (g.D.Desk.sight l.desk) l.answers

@@ -1,0 +1,11 @@
+//! The inputs of a run: the files that its words name, read one after another.
+#![tactic(auto)]
+
+mod flaw;
+mod input;
+pub mod laws;
+mod read;
+mod totals;
+
+pub use flaw::{FileKind, Flaw, Refusal, refusal_status};
+pub use input::{Inputs, read_all};
