@@ -34,6 +34,15 @@ impl<T> Model for RoomList<T> {
 pub type Bytes = RoomList<u8>;
 
 impl<T> RoomList<T> {
+    /// An empty list, which takes no memory.
+    pub fn empty(alloc: Global) -> Self
+        ensures { result.items ≡ [] }
+    {
+        RoomList {
+            items: Vec::new(alloc),
+        }
+    }
+
     /// An empty list with room for at least `room` items.
     pub fn new(alloc: Global, room: usize) -> Result<Self, NoMemory>
         ensures empty { IfOk result (λ l. l.items ≡ []) }
