@@ -1,9 +1,8 @@
--- The book of a desk that did nothing yet.
-use Rattle.std.proofs.Common.{◌≡◌, ℕ, ◌≤◌, List, [], refl, arith}
+-- The book of a tracker that did nothing yet.
+use Rattle.std.proofs.Common.{◌≡◌, ℕ, ◌*◌, ◌≤◌, List, [], refl, arith}
 use Rattle.room_list.specs.Roomed.{Roomed}
 use Rattle.expect_table.specs.declared.expectation.Expectation.{Expectation}
 use Rattle.history_book.specs.declared.desk.Hold.{Hold}
-use Rattle.history_book.specs.declared.event.Note.{Note}
 use Rattle.history_book.specs.declared.record.Record.{Record}
 use Rattle.history_book.specs.declared.sizes.Sizes.{Sizes}
 use Rattle.history_book.specs.History.{after, is_legal}
@@ -12,23 +11,22 @@ use Rattle.history_book.specs.Sizes.{AreWithinLimits}
 use Rattle.book_desk.specs.Internal.Book.{AreBelow, ArePlaces, IsBook, IsHistory}
 
 -- all lists are empty, but that of the free places, which has all
-pub record AreFresh (sizes : Sizes) (records : Roomed Record) (free : Roomed ℕ) (notes : Roomed Note) (holds : Roomed Hold) (owed : Roomed ℕ) (expects : Roomed Expectation) : Type 0 where
+pub record AreFresh (sizes : Sizes) (records : Roomed Record) (free : Roomed ℕ) (holds : Roomed Hold) (owed : Roomed ℕ) (expects : Roomed Expectation) : Type 0 where
   pub no_record : records.items ≡ []
-  pub no_note : notes.items ≡ []
   pub no_hold : holds.items ≡ []
   pub none_owed : owed.items ≡ []
   pub none_expected : expects.items ≡ []
   pub all_free : AreBelow sizes.entries 0 free.items
   pub records_room : sizes.entries ≤ records.room
   pub free_room : sizes.entries ≤ free.room
-  pub holds_room : 4 ≤ holds.room
-  pub owed_room : 4 ≤ owed.room
+  pub holds_room : 4 * sizes.passes ≤ holds.room
+  pub owed_room : 4 * sizes.passes ≤ owed.room
   pub expects_room : expects.room ≡ sizes.expectations
 
 -- no events are a history
 no_history : (sizes : Sizes) → IsHistory sizes [] empty_state
 unfolding is_legal after
-no_history sizes = record { numbered = refl; legal = refl; state = refl }
+no_history sizes = record { legal = refl; state = refl }
 
 -- where all places are free, each is once
 fresh_places : (n : ℕ) (free : List ℕ) → AreBelow n 0 free → ArePlaces n [] [] free []
@@ -39,13 +37,14 @@ fresh_places n free h = record {
 }
 
 -- a book with nothing in it is right
-pub fresh_book : (sizes : Sizes) (records : Roomed Record) (free : Roomed ℕ) (notes : Roomed Note) (holds : Roomed Hold) (owed : Roomed ℕ)
-    (expects : Roomed Expectation) → AreWithinLimits sizes → AreFresh sizes records free notes holds owed expects
-    → IsBook (record { sizes = sizes; records = records; free = free; notes = notes; spare = 0; holds = holds; owed = owed; expects = expects })
-fresh_book sizes records free notes holds owed expects limits h =
-    rw (h.no_record, h.no_note, h.no_hold, h.none_owed, h.none_expected)
+pub fresh_book : (sizes : Sizes) (records : Roomed Record) (free : Roomed ℕ) (holds : Roomed Hold) (owed : Roomed ℕ)
+    (expects : Roomed Expectation) → AreWithinLimits sizes → AreFresh sizes records free holds owed expects
+    → IsBook [] (record { sizes = sizes; events = 0; records = records; free = free; holds = holds; owed = owed; expects = expects })
+fresh_book sizes records free holds owed expects limits h =
+    rw (h.no_record, h.no_hold, h.none_owed, h.none_expected)
     (record {
       limits = limits;
+      events = refl;
       history = no_history sizes;
       places = fresh_places sizes.entries free.items h.all_free;
       references = record { confirmed = tt; current = tt; agreed = tt };
@@ -56,7 +55,5 @@ fresh_book sizes records free notes holds owed expects limits h =
         holds = h.holds_room;
         owed = h.owed_room;
         expects = h.expects_room;
-        notes = omega arith;
-        spared = omega arith;
       };
     })

@@ -33,12 +33,11 @@ use Rattle.history_book.specs.Record.{has_id, has_original, has_place, has_reply
 use Rattle.history_book.specs.Sight.{IsForEntryOf, IsForOne, WasConfirmedIn}
 use Rattle.history_book.specs.Sizes.{AreWithinLimits}
 use Rattle.history_book.specs.State.{State, is_unused, live_under, next, record_of, state_of}
-use Rattle.history_book.specs.WentOn.{MadeEvent}
 use Rattle.history_book.specs.StateLaws.{DestroysTakeOne, FreeIsAbsent, IdsNameRecords, TouchesChangeOne}
 use Rattle.book_desk.specs.declared.book.Book.{Book}
-use Rattle.book_desk.specs.Internal.Book.{Adds, Agree, ArePlaces, AreReferences, IsBook, IsForRecord, IsHistory, WinsAt, events_of, noted, sight_of, state_in, tally}
+use Rattle.book_desk.specs.Internal.Book.{Adds, Agree, ArePlaces, AreReferences, IsBook, IsForRecord, IsHistory, WinsAt, sight_in, state_in, tally}
 use Rattle.book_desk.proofs.Counting.{none_counted}
-use Rattle.book_desk.proofs.Histories.{at_before, events-push, history_next, length-events, made}
+use Rattle.book_desk.proofs.Histories.{at_before, history_next, made}
 use Rattle.book_desk.proofs.Lists.{each_at, each_map, none_of, tally_some}
 use Rattle.book_desk.proofs.Pool.{fewer_records, place_below, places_confirm, places_kill, places_touch}
 use Rattle.book_desk.proofs.Positions.{find_passes}
@@ -52,36 +51,32 @@ same_state b rs es records expects = λ i. record { records = records i; expects
 
 module _ (follow : StatesFollow) (goes_on : LegalHistoriesGoOn) where
   -- a book is right after an event that may happen, if its places and references are
-  pub book_next : (old new : Book) (e : Event) → IsBook old → Adds old new e
-      → may_happen old.sizes (state_in old) (length old.notes.items) e ≡ true
+  pub book_next : (log : List Event) (old new : Book) (e : Event) → IsBook log old → Adds old new
+      → may_happen old.sizes (state_in old) (length log) e ≡ true
       → state_in new ≡ next (state_in old) e
       → ArePlaces old.sizes.entries new.records.items new.holds.items old.free.items old.owed.items
-      → AreReferences (events_of old.notes.items ++ e ∷ []) new.records.items new.holds.items
-      → length new.holds.items ≡ length old.holds.items → IsBook new
-  book_next old new e h adds may state places refs same =
+      → AreReferences (log ++ e ∷ []) new.records.items new.holds.items
+      → length new.holds.items ≡ length old.holds.items → IsBook (log ++ e ∷ []) new
+  book_next log old new e h adds may state places refs same =
       let entries : new.sizes.entries ≡ old.sizes.entries = ap (λ (z : Sizes). z.entries) adds.sizes in
-      let longer : length new.notes.items ≡ length old.notes.items + 1 =
-      ap length adds.notes ∙ length-append old.notes.items (noted old.notes.items e ∷ []) in
+      let passes : new.sizes.passes ≡ old.sizes.passes = ap (λ (z : Sizes). z.passes) adds.sizes in
       record {
         limits = subst AreWithinLimits (sym adds.sizes) h.limits;
-        history = subst (λ (z : Sizes). IsHistory z new.notes.items (state_in new)) (sym adds.sizes)
-            (history_next follow goes_on old.sizes old.notes.items new.notes.items (state_in old) (state_in new) e h.history
-            adds.notes may state);
+        events = adds.events ∙ ap (λ (n : ℕ). n + 1) h.events ∙ sym (length-append log (e ∷ []));
+        history = subst (λ (z : Sizes). IsHistory z (log ++ e ∷ []) (state_in new)) (sym adds.sizes)
+            (history_next follow goes_on old.sizes log (state_in old) (state_in new) e h.history may state);
         places = subst (λ (z : Sizes). ArePlaces z.entries new.records.items new.holds.items new.free.items new.owed.items) (sym adds.sizes)
             (subst (λ (f : Roomed ℕ). ArePlaces old.sizes.entries new.records.items new.holds.items f.items new.owed.items) (sym adds.free)
             (subst (λ (o : Roomed ℕ). ArePlaces old.sizes.entries new.records.items new.holds.items old.free.items o.items) (sym adds.owed)
             places));
-        references = subst (λ l. AreReferences l new.records.items new.holds.items)
-            (sym (ap events_of adds.notes ∙ events-push old.notes.items (noted old.notes.items e))) refs;
-        few = omega (arith, h.few, same, ap (λ (o : Roomed ℕ). length o.items) adds.owed);
+        references = refs;
+        few = omega (arith, h.few, same, passes, ap (λ (o : Roomed ℕ). length o.items) adds.owed);
         rooms = record {
           records = omega (arith, h.rooms.records, adds.records_room, entries);
           free = omega (arith, h.rooms.free, ap (λ (f : Roomed ℕ). f.room) adds.free, entries);
-          holds = omega (arith, h.rooms.holds, adds.holds_room);
-          owed = omega (arith, h.rooms.owed, ap (λ (o : Roomed ℕ). o.room) adds.owed);
+          holds = omega (arith, h.rooms.holds, adds.holds_room, passes);
+          owed = omega (arith, h.rooms.owed, ap (λ (o : Roomed ℕ). o.room) adds.owed, passes);
           expects = adds.expects_room ∙ h.rooms.expects ∙ sym (ap (λ (z : Sizes). z.expectations) adds.sizes);
-          notes = omega (arith, h.rooms.notes, adds.notes_room, adds.spare, longer);
-          spared = omega (arith, h.rooms.spared, adds.spare, longer);
         };
       }
 
@@ -116,45 +111,45 @@ taken_held p (h ∷ hs) taken =
     (or_cases (is_at p h && is_none h.id) (is_taken p hs) taken)
 
 -- no record counts in a place that was taken
-nobodys : (b : Book) (p : ℕ) → IsBook b → is_taken p b.holds.items ≡ true → tally (has_place p) b.records.items ≡ 0
-nobodys b p h taken =
+nobodys : (log : List Event) (b : Book) (p : ℕ) → IsBook log b → is_taken p b.holds.items ≡ true → tally (has_place p) b.records.items ≡ 0
+nobodys log b p h taken =
     none_counted (λ (s : Record). s.place) p b.records.items (taken_nobodys p b.records.items b.holds.items taken h.references.current)
 
 -- a place that was taken is no live record's
-pub taken_unused : (b : Book) (p : ℕ) → IsBook b → is_taken p b.holds.items ≡ true → is_unused p (state_in b) ≡ true
-taken_unused b p h taken = ap not (none_of (has_place p) b.records.items (nobodys b p h taken))
+pub taken_unused : (log : List Event) (b : Book) (p : ℕ) → IsBook log b → is_taken p b.holds.items ≡ true → is_unused p (state_in b) ≡ true
+taken_unused log b p h taken = ap not (none_of (has_place p) b.records.items (nobodys log b p h taken))
 
 -- a place that was taken is one of the pool
-taken_below : (b : Book) (p : ℕ) → IsBook b → is_taken p b.holds.items ≡ true → p < b.sizes.entries
-taken_below b p h taken =
+taken_below : (log : List Event) (b : Book) (p : ℕ) → IsBook log b → is_taken p b.holds.items ≡ true → p < b.sizes.entries
+taken_below log b p h taken =
     place_below b.sizes.entries b.records.items b.holds.items b.free.items b.owed.items p h.places
     (omega (arith, tally_some (is_at p) b.holds.items (taken_held p b.holds.items taken)))
 
 -- there is room for a record in a place that was taken
-pub enter_room : (b : Book) (p : ℕ) → IsBook b → is_taken p b.holds.items ≡ true → length b.records.items < b.records.room
-enter_room b p h taken =
+pub enter_room : (log : List Event) (b : Book) (p : ℕ) → IsBook log b → is_taken p b.holds.items ≡ true → length b.records.items < b.records.room
+enter_room log b p h taken =
     omega (
       arith,
       h.rooms.records,
-      fewer_records b.sizes.entries b.records.items b.holds.items b.free.items b.owed.items h.places p (taken_below b p h taken) (nobodys b p h taken),
+      fewer_records b.sizes.entries b.records.items b.holds.items b.free.items b.owed.items h.places p (taken_below log b p h taken) (nobodys log b p h taken),
     )
 
 -- a book is right after a Confirm
-pub entered : StatesFollow → LegalHistoriesGoOn → FreeIsAbsent → (old new : Book) (r : Record) → IsBook old → Adds old new (Confirm r)
-    → is_taken r.place old.holds.items ≡ true → r.id ≡ length old.notes.items → is_of_one_protocol r ≡ true
+pub entered : StatesFollow → LegalHistoriesGoOn → FreeIsAbsent → (log : List Event) (old new : Book) (r : Record) → IsBook log old → Adds old new
+    → is_taken r.place old.holds.items ≡ true → r.id ≡ old.events → is_of_one_protocol r ≡ true
     → live_under r.original (state_in old) ≡ None → live_under r.reply (state_in old) ≡ None
     → new.records.items ≡ old.records.items ++ r ∷ [] → new.holds.items ≡ held_for r.place r.id old.holds.items → new.expects ≡ old.expects
-    → IsBook new
-entered follow goes_on free_absent old new r h adds taken id protocol original reply records holds expects =
+    → IsBook (log ++ Confirm r ∷ []) new
+entered follow goes_on free_absent log old new r h adds taken id protocol original reply records holds expects =
     let s : State = state_in old in
-    let none : tally (has_place r.place) old.records.items ≡ 0 = nobodys old r.place h taken in
+    let none : tally (has_place r.place) old.records.items ≡ 0 = nobodys log old r.place h taken in
     let held : is_held r.place old.holds.items ≡ true = taken_held r.place old.holds.items taken in
-    let front : r.id ≡ length (events_of old.notes.items) = id ∙ sym (length-events old.notes.items) in
-    book_next follow goes_on old new (Confirm r) h adds
+    let front : r.id ≡ length log = id ∙ h.events in
+    book_next follow goes_on log old new (Confirm r) h adds
     (and_from _ _ (and_from _ _ (and_from _ _ (and_from _ _
-    (eq-eqb r.id (length old.notes.items) id)
+    (eq-eqb r.id (length log) front)
     protocol)
-    (and_from _ _ (lt-ltb r.place old.sizes.entries (taken_below old r.place h taken))
+    (and_from _ _ (lt-ltb r.place old.sizes.entries (taken_below log old r.place h taken))
     (ap not (none_of (has_place r.place) old.records.items none))))
     ((free_absent r.original s).0 original))
     ((free_absent r.reply s).0 reply))
@@ -162,89 +157,86 @@ entered follow goes_on free_absent old new r h adds taken id protocol original r
     (subst (λ rs. ArePlaces old.sizes.entries rs new.holds.items old.free.items old.owed.items) (sym records)
     (subst (λ hs. ArePlaces old.sizes.entries (old.records.items ++ r ∷ []) hs old.free.items old.owed.items) (sym holds)
     (places_confirm old.sizes.entries old.records.items old.holds.items old.free.items old.owed.items h.places r held none)))
-    (subst (λ rs. AreReferences (events_of old.notes.items ++ Confirm r ∷ []) rs new.holds.items) (sym records)
-    (subst (λ hs. AreReferences (events_of old.notes.items ++ Confirm r ∷ []) (old.records.items ++ r ∷ []) hs) (sym holds)
-    (refs_confirm (events_of old.notes.items) old.records.items old.holds.items r h.references front
+    (subst (λ rs. AreReferences (log ++ Confirm r ∷ []) rs new.holds.items) (sym records)
+    (subst (λ hs. AreReferences (log ++ Confirm r ∷ []) (old.records.items ++ r ∷ []) hs) (sym holds)
+    (refs_confirm log old.records.items old.holds.items r h.references front
     (taken_nobodys r.place old.records.items old.holds.items taken h.references.current))))
     (ap length holds ∙ length-map old.holds.items (for_entry r.place r.id))
 
 module _ (follow : StatesFollow) (goes_on : LegalHistoriesGoOn) (apart : RecordsAreApart) (ids : IdsNameRecords) where
-  pub refreshed : TouchesChangeOne → SamePartIsEquality → (old new : Book) (i : ℕ) (r : Record) (direction : Direction) (segment : Segment)
-      (moment : ℕ) (after : Part) → IsBook old → Adds old new (Touch r.id direction segment moment after)
+  pub refreshed : TouchesChangeOne → SamePartIsEquality → (log : List Event) (old new : Book) (i : ℕ) (r : Record) (direction : Direction) (segment : Segment)
+      (moment : ℕ) (after : Part) → IsBook log old → Adds old new
       → slice_get old.records.items i ≡ Some r → is_of_protocol segment r.part.kind ≡ true
       → step_of r.part direction segment moment ≡ Accept after
       → new.records.items ≡ slice_set old.records.items i (record r { part = after }) → new.holds ≡ old.holds → new.expects ≡ old.expects
-      → IsBook new
-  refreshed changes same_part old new i r direction segment moment after h adds item protocol step written holds expects =
+      → IsBook (log ++ Touch r.id direction segment moment after ∷ []) new
+  refreshed changes same_part log old new i r direction segment moment after h adds item protocol step written holds expects =
       let s : State = state_in old in
       let one : Record = record r { part = after } in
       let e : Event = Touch r.id direction segment moment after in
-      let refs : AreReferences (events_of old.notes.items ++ e ∷ []) (slice_set old.records.items i one) old.holds.items =
-      refs_grow (events_of old.notes.items) (e ∷ []) (slice_set old.records.items i one) old.holds.items
-      (refs_set (events_of old.notes.items) old.records.items old.holds.items i r one h.references
+      let refs : AreReferences (log ++ e ∷ []) (slice_set old.records.items i one) old.holds.items =
+      refs_grow log (e ∷ []) (slice_set old.records.items i one) old.holds.items
+      (refs_set log old.records.items old.holds.items i r one h.references
       (each_map (λ k. AllByRecursion (IsForRecord k) old.records.items) (λ k. IsForRecord k r) old.holds.items
       (λ k all. each_at (IsForRecord k) old.records.items i r all item) h.references.current) refl refl) in
-      book_next follow goes_on old new e h adds
-      (ap (λ o. may_touch o direction segment moment after) (ids s i r (apart_of apart old h) item)
+      book_next follow goes_on log old new e h adds
+      (ap (λ o. may_touch o direction segment moment after) (ids s i r (apart_of apart log old h) item)
       ∙ and_from _ _ protocol (ap (λ o. accepts o after) step ∙ (same_part after after).1 refl))
-      (same_state new (next s e).records old.expects.items (written ∙ sym (changes s i r direction segment moment after (apart_of apart old h) item))
+      (same_state new (next s e).records old.expects.items (written ∙ sym (changes s i r direction segment moment after (apart_of apart log old h) item))
       (ap (λ (o : Roomed Expectation). o.items) expects))
       (subst (λ rs. ArePlaces old.sizes.entries rs new.holds.items old.free.items old.owed.items) (sym written)
       (subst (λ (hs : Roomed Hold). ArePlaces old.sizes.entries (slice_set old.records.items i one) hs.items old.free.items old.owed.items) (sym holds)
       (places_touch old.sizes.entries old.records.items old.holds.items old.free.items old.owed.items h.places i r one item refl)))
-      (subst (λ rs. AreReferences (events_of old.notes.items ++ e ∷ []) rs new.holds.items) (sym written)
-      (subst (λ (hs : Roomed Hold). AreReferences (events_of old.notes.items ++ e ∷ []) (slice_set old.records.items i one) hs.items) (sym holds) refs))
+      (subst (λ rs. AreReferences (log ++ e ∷ []) rs new.holds.items) (sym written)
+      (subst (λ (hs : Roomed Hold). AreReferences (log ++ e ∷ []) (slice_set old.records.items i one) hs.items) (sym holds) refs))
       (ap (λ (hs : Roomed Hold). length hs.items) holds)
 
-  pub destroyed : DestroysTakeOne → (old new : Book) (i : ℕ) (r : Record) (why : Why) → IsBook old → Adds old new (Destroy r.id why)
+  pub destroyed : DestroysTakeOne → (log : List Event) (old new : Book) (i : ℕ) (r : Record) (why : Why) → IsBook log old → Adds old new
       → slice_get old.records.items i ≡ Some r → is_held r.place old.holds.items ≡ true → is_reason why r ≡ true
       → new.records.items ≡ remove old.records.items i → new.holds ≡ old.holds
-      → new.expects.items ≡ without_master r.id old.expects.items → IsBook new
-  destroyed takes old new i r why h adds item held reason removed holds expects =
+      → new.expects.items ≡ without_master r.id old.expects.items → IsBook (log ++ Destroy r.id why ∷ []) new
+  destroyed takes log old new i r why h adds item held reason removed holds expects =
       let s : State = state_in old in
       let e : Event = Destroy r.id why in
-      let refs : AreReferences (events_of old.notes.items ++ e ∷ []) (remove old.records.items i) old.holds.items =
-      refs_grow (events_of old.notes.items) (e ∷ []) (remove old.records.items i) old.holds.items
-      (refs_remove (events_of old.notes.items) old.records.items old.holds.items i h.references) in
-      book_next follow goes_on old new e h adds
-      (ap (λ o. may_destroy o why) (ids s i r (apart_of apart old h) item) ∙ reason)
-      (same_state new (next s e).records (without_master r.id old.expects.items) (removed ∙ sym (takes s i r why (apart_of apart old h) item)) expects)
+      let refs : AreReferences (log ++ e ∷ []) (remove old.records.items i) old.holds.items =
+      refs_grow log (e ∷ []) (remove old.records.items i) old.holds.items
+      (refs_remove log old.records.items old.holds.items i h.references) in
+      book_next follow goes_on log old new e h adds
+      (ap (λ o. may_destroy o why) (ids s i r (apart_of apart log old h) item) ∙ reason)
+      (same_state new (next s e).records (without_master r.id old.expects.items) (removed ∙ sym (takes s i r why (apart_of apart log old h) item)) expects)
       (subst (λ rs. ArePlaces old.sizes.entries rs new.holds.items old.free.items old.owed.items) (sym removed)
       (subst (λ (hs : Roomed Hold). ArePlaces old.sizes.entries (remove old.records.items i) hs.items old.free.items old.owed.items) (sym holds)
       (places_kill old.sizes.entries old.records.items old.holds.items old.free.items old.owed.items h.places i r item held)))
-      (subst (λ rs. AreReferences (events_of old.notes.items ++ e ∷ []) rs new.holds.items) (sym removed)
-      (subst (λ (hs : Roomed Hold). AreReferences (events_of old.notes.items ++ e ∷ []) (remove old.records.items i) hs.items) (sym holds) refs))
+      (subst (λ rs. AreReferences (log ++ e ∷ []) rs new.holds.items) (sym removed)
+      (subst (λ (hs : Roomed Hold). AreReferences (log ++ e ∷ []) (remove old.records.items i) hs.items) (sym holds) refs))
       (ap (λ (hs : Roomed Hold). length hs.items) holds)
 
 module _ (stay : StatesStay) (apart : RecordsAreApart) (ids : IdsNameRecords) where
-  pub touches : (old new : Book) (i : ℕ) (r : Record) (direction : Direction) (segment : Segment) (moment : ℕ) (after : Part)
-      → IsBook old → Adds old new (Touch r.id direction segment moment after) → slice_get old.records.items i ≡ Some r
+  pub touches : (log : List Event) (spare : ℕ) (old new : Book) (i : ℕ) (r : Record) (direction : Direction) (segment : Segment) (moment : ℕ) (after : Part)
+      → IsBook log old → Adds old new → slice_get old.records.items i ≡ Some r
       → step_of r.part direction segment moment ≡ Accept after → new.holds ≡ old.holds
-      → Touches r.id direction segment moment (sight_of old) (sight_of new) (length old.notes.items) r
-  touches old new i r direction segment moment after h adds item step holds =
+      → Touches r.id direction segment moment (sight_in log (spare + 1) old)
+      (sight_in (log ++ Touch r.id direction segment moment after ∷ []) spare new) old.events r
+  touches log spare old new i r direction segment moment after h adds item step holds =
       let e : Event = Touch r.id direction segment moment after in
-      let event : MadeEvent (sight_of old) (sight_of new) (length old.notes.items) e =
-      made old new (length old.notes.items) e refl adds.notes adds.spare adds.sizes in
       record {
         after = after;
-        made = event;
-        found = at_before stay old new (length old.notes.items) e (IsRecord r.id r) h refl event
-            (ids (state_in old) i r (apart_of apart old h) item);
+        made = made log spare old new old.events e h refl adds.sizes;
+        found = at_before stay log old old.events e (IsRecord r.id r) h refl
+            (ids (state_in old) i r (apart_of apart log old h) item);
         step = step;
         same = record { held = ap (λ (hs : Roomed Hold). hs.items) holds; owed = ap (λ (o : Roomed ℕ). o.items) adds.owed };
       }
 
-  pub destroys : (old new : Book) (i : ℕ) (r : Record) (why : Why) → IsBook old → Adds old new (Destroy r.id why)
+  pub destroys : (log : List Event) (spare : ℕ) (old new : Book) (i : ℕ) (r : Record) (why : Why) → IsBook log old → Adds old new
       → slice_get old.records.items i ≡ Some r → is_reason why r ≡ true → new.holds ≡ old.holds
-      → Destroys r.id why (sight_of old) (sight_of new) (length old.notes.items) r
-  destroys old new i r why h adds item reason holds =
+      → Destroys r.id why (sight_in log (spare + 1) old) (sight_in (log ++ Destroy r.id why ∷ []) spare new) old.events r
+  destroys log spare old new i r why h adds item reason holds =
       let e : Event = Destroy r.id why in
-      let event : MadeEvent (sight_of old) (sight_of new) (length old.notes.items) e =
-      made old new (length old.notes.items) e refl adds.notes adds.spare adds.sizes in
       record {
-        made = event;
-        found = at_before stay old new (length old.notes.items) e (IsRecord r.id r) h refl event
-            (ids (state_in old) i r (apart_of apart old h) item);
+        made = made log spare old new old.events e h refl adds.sizes;
+        found = at_before stay log old old.events e (IsRecord r.id r) h refl
+            (ids (state_in old) i r (apart_of apart log old h) item);
         reason = reason;
         same = record { held = ap (λ (hs : Roomed Hold). hs.items) holds; owed = ap (λ (o : Roomed ℕ). o.items) adds.owed };
       }
@@ -307,17 +299,16 @@ each_found P q (g ∷ gs) h (all, alls) found =
     (λ e same. each_found P q gs h alls same) found
 
 -- the place that is held for an entry is that of its record
-pub held_place : LiveRecordsAreConfirmed → (b : Book) (p i : ℕ) (r : Record) → IsBook b → is_held_for_entry p b.holds.items ≡ true
+pub held_place : LiveRecordsAreConfirmed → (log : List Event) (b : Book) (p i : ℕ) (r : Record) → IsBook log b → is_held_for_entry p b.holds.items ≡ true
     → slice_get b.records.items i ≡ Some r → r.id ≡ held_id p b.holds.items → is_held r.place b.holds.items ≡ true
-held_place law b p i r h held item id =
-    let log : List Event = events_of b.notes.items in
+held_place law log b p i r h held item id =
     let first : IsFirstFor p b.holds.items = first_for p b.holds.items h.references.agreed held in
     let there : first.hold.place ≡ p = eqb-true first.hold.place p (find_passes (is_at p) b.holds.items first.hold first.first) in
     let its : first.hold.id ≡ Some r.id = some_is first.hold.id first.for_it ∙ ap Some (sym (id ∙ ap id_of first.first)) in
     let entry : WasConfirmedIn log first.hold.place r.id =
     subst (IsForEntryOf log first.hold.place) its
     (each_found (λ (k : Hold). IsForEntryOf log k.place k.id) (is_at p) b.holds.items first.hold h.references.confirmed first.first) in
-    let live : IsConfirmed log r = confirmed_record law b i r h item in
+    let live : IsConfirmed log r = confirmed_record law log b i r h item in
     let same : Some (Confirm live.subject) ≡ Some (Confirm entry.subject) = sym live.event ∙ entry.event in
     let one : live.subject ≡ entry.subject = cc in
     let place : r.place ≡ p = live.same.place ∙ ap (λ (s : Record). s.place) one ∙ entry.placed ∙ there in
@@ -332,11 +323,10 @@ found_record b id i r found item =
     (its, eqb-true r.id id (find_passes (has_id id) b.records.items r its))
 
 -- a packet of the protocol of the Confirm is of that of the record
-pub keeps_protocol : EntriesKeepTheirProtocol → (b : Book) (id : ℕ) (r : Record) (segment : Segment) → IsBook b
-    → record_of id (state_in b) ≡ Some r → is_of_entry segment id (events_of b.notes.items) ≡ true
+pub keeps_protocol : EntriesKeepTheirProtocol → (log : List Event) (b : Book) (id : ℕ) (r : Record) (segment : Segment) → IsBook log b
+    → record_of id (state_in b) ≡ Some r → is_of_entry segment id log ≡ true
     → is_of_protocol segment r.part.kind ≡ true
-keeps_protocol law b id r segment h its protocol =
-    let log : List Event = events_of b.notes.items in
+keeps_protocol law log b id r segment h its protocol =
     sym (law b.sizes log (length log) id r segment h.history.legal (ap (record_of id) (sym h.history.state) ∙ its)) ∙ protocol
 
 -- the record that a new flow meets

@@ -24,9 +24,9 @@ use Rattle.history_book.specs.Laws.{EntriesKeepTheirHelper, ExpectationsAreInOrd
 use Rattle.history_book.specs.Legality.{expected_for, has_helper, is_added, may_claim, may_happen, may_unexpect, same_id}
 use Rattle.history_book.specs.State.{State, next, record_of, state_of}
 use Rattle.book_desk.specs.declared.book.Book.{Book}
-use Rattle.book_desk.specs.Internal.Book.{Adds, ArePlaces, AreReferences, IsBook, events_of, sight_of, state_in}
+use Rattle.book_desk.specs.Internal.Book.{Adds, ArePlaces, AreReferences, IsBook, sight_in, state_in}
 use Rattle.book_desk.proofs.Events.{book_next, same_state}
-use Rattle.book_desk.proofs.Histories.{length-events, looked, made}
+use Rattle.book_desk.proofs.Histories.{looked, made}
 use Rattle.book_desk.proofs.References.{refs_grow}
 
 -- an option has the same id as itself
@@ -42,14 +42,13 @@ record Changes (old new : Book) (es : List Expectation) : Type 0 where
 
 module _ (follow : StatesFollow) (goes_on : LegalHistoriesGoOn) where
   -- a book is right after an event that changes what is expected, if it may happen
-  expecting_next : (old new : Book) (e : Event) (es : List Expectation) → IsBook old → Adds old new e
-      → may_happen old.sizes (state_in old) (length old.notes.items) e ≡ true
-      → record { records = old.records.items; expects = es } ≡ next (state_in old) e → Changes old new es → IsBook new
-  expecting_next old new e es h adds may state changes =
-      let log : List Event = events_of old.notes.items in
+  expecting_next : (log : List Event) (old new : Book) (e : Event) (es : List Expectation) → IsBook log old → Adds old new
+      → may_happen old.sizes (state_in old) (length log) e ≡ true
+      → record { records = old.records.items; expects = es } ≡ next (state_in old) e → Changes old new es → IsBook (log ++ e ∷ []) new
+  expecting_next log old new e es h adds may state changes =
       let rs : new.records.items ≡ old.records.items = ap (λ (o : Roomed Record). o.items) changes.records in
       let hs : new.holds.items ≡ old.holds.items = ap (λ (o : Roomed Hold). o.items) changes.holds in
-      book_next follow goes_on old new e h adds may
+      book_next follow goes_on log old new e h adds may
       (same_state new old.records.items es rs changes.expects ∙ state)
       (subst (λ (x : List Record). ArePlaces old.sizes.entries x new.holds.items old.free.items old.owed.items) (sym rs)
       (subst (λ (x : List Hold). ArePlaces old.sizes.entries old.records.items x old.free.items old.owed.items) (sym hs) h.places))
@@ -59,14 +58,15 @@ module _ (follow : StatesFollow) (goes_on : LegalHistoriesGoOn) where
       (ap length hs)
 
   -- a book is right after an Expect
-  pub promised : (old new : Book) (e : Expectation) (replaced : Option ℕ) (moment : ℕ) → IsBook old → Adds old new (Expect e replaced moment)
-      → e.id ≡ length old.notes.items → e.deadline ≡ moment + expected_for → has_helper (record_of e.master (state_in old)) ≡ true
+  pub promised : (log : List Event) (old new : Book) (e : Expectation) (replaced : Option ℕ) (moment : ℕ) → IsBook log old → Adds old new
+      → e.id ≡ old.events → e.deadline ≡ moment + expected_for → has_helper (record_of e.master (state_in old)) ≡ true
       → add_outcome old.expects.room old.expects.items e moment ≡ Added replaced
-      → new.records ≡ old.records → new.holds ≡ old.holds → new.expects.items ≡ with_one old.expects.items e → IsBook new
-  promised old new e replaced moment h adds id deadline helped outcome records holds expects =
-      expecting_next old new (Expect e replaced moment) (with_one old.expects.items e) h adds
+      → new.records ≡ old.records → new.holds ≡ old.holds → new.expects.items ≡ with_one old.expects.items e
+      → IsBook (log ++ Expect e replaced moment ∷ []) new
+  promised log old new e replaced moment h adds id deadline helped outcome records holds expects =
+      expecting_next log old new (Expect e replaced moment) (with_one old.expects.items e) h adds
       (and_from _ _ (and_from _ _ (and_from _ _
-      (eq-eqb e.id (length old.notes.items) id)
+      (eq-eqb e.id (length log) (id ∙ h.events))
       (eq-eqb e.deadline (moment + expected_for) deadline))
       helped)
       (ap (λ (room : ℕ). is_added (add_outcome room old.expects.items e moment) replaced) (sym h.rooms.expects)
@@ -74,40 +74,44 @@ module _ (follow : StatesFollow) (goes_on : LegalHistoriesGoOn) where
       refl (record { records = records; holds = holds; expects = expects })
 
   -- a book is right after a Claim
-  pub fulfilled : (old new : Book) (met : Expectation) (t : Tuple) (moment : ℕ) → IsBook old → Adds old new (Claim met.id met.master t moment)
+  pub fulfilled : (log : List Event) (old new : Book) (met : Expectation) (t : Tuple) (moment : ℕ) → IsBook log old → Adds old new
       → matching t moment old.expects.items ≡ Some met
-      → new.records ≡ old.records → new.holds ≡ old.holds → new.expects.items ≡ without_id met.id old.expects.items → IsBook new
-  fulfilled old new met t moment h adds found records holds expects =
-      expecting_next old new (Claim met.id met.master t moment) (without_id met.id old.expects.items) h adds
+      → new.records ≡ old.records → new.holds ≡ old.holds → new.expects.items ≡ without_id met.id old.expects.items
+      → IsBook (log ++ Claim met.id met.master t moment ∷ []) new
+  fulfilled log old new met t moment h adds found records holds expects =
+      expecting_next log old new (Claim met.id met.master t moment) (without_id met.id old.expects.items) h adds
       (ap (λ o. may_claim o met.id met.master) found
       ∙ and_from _ _ (eq-eqb met.id met.id refl) (eq-eqb met.master met.master refl))
       refl (record { records = records; holds = holds; expects = expects })
 
   -- a book is right after an Unexpect
-  pub dropped : (old new : Book) (id : ℕ) (e : Expectation) (moment : ℕ) → IsBook old → Adds old new (Unexpect id moment)
+  pub dropped : (log : List Event) (old new : Book) (id : ℕ) (e : Expectation) (moment : ℕ) → IsBook log old → Adds old new
       → find (has_id id) old.expects.items ≡ Some e → e.deadline ≤ moment
-      → new.records ≡ old.records → new.holds ≡ old.holds → new.expects.items ≡ without_id id old.expects.items → IsBook new
-  dropped old new id e moment h adds found late records holds expects =
-      expecting_next old new (Unexpect id moment) (without_id id old.expects.items) h adds
+      → new.records ≡ old.records → new.holds ≡ old.holds → new.expects.items ≡ without_id id old.expects.items
+      → IsBook (log ++ Unexpect id moment ∷ []) new
+  dropped log old new id e moment h adds found late records holds expects =
+      expecting_next log old new (Unexpect id moment) (without_id id old.expects.items) h adds
       (ap (λ o. may_unexpect o moment) found ∙ ap not (le-ltb moment e.deadline late))
       refl (record { records = records; holds = holds; expects = expects })
 
 -- what is told of an event that changes no reference
-pub made_alone : (old new : Book) (at : ℕ) (e : Event) → at ≡ length old.notes.items → Adds old new e → new.holds ≡ old.holds
-    → MadeEvent (sight_of old) (sight_of new) at e × SamePlaces (sight_of old) (sight_of new)
-made_alone old new at e here adds holds = (
-  made old new at e here adds.notes adds.spare adds.sizes,
+pub made_alone : (log : List Event) (spare : ℕ) (old new : Book) (at : ℕ) (e : Event) → IsBook log old → at ≡ old.events → Adds old new
+    → new.holds ≡ old.holds
+    → MadeEvent (sight_in log (spare + 1) old) (sight_in (log ++ e ∷ []) spare new) at e
+    × SamePlaces (sight_in log (spare + 1) old) (sight_in (log ++ e ∷ []) spare new)
+made_alone log spare old new at e h here adds holds = (
+  made log spare old new at e h here adds.sizes,
   record { held = ap (λ (o : Roomed Hold). o.items) holds; owed = ap (λ (o : Roomed ℕ). o.items) adds.owed },
 )
 
 -- what is expected has ids below the next event's number
-pub newest : ExpectationsAreInOrder → (b : Book) (id : ℕ) → IsBook b → id ≡ length b.notes.items → All (λ o. o.id < id) b.expects.items
-newest law b id h here =
-    let log : List Event = events_of b.notes.items in
+pub newest : ExpectationsAreInOrder → (log : List Event) (b : Book) (id : ℕ) → IsBook log b → id ≡ b.events
+    → All (λ o. o.id < id) b.expects.items
+newest law log b id h here =
     let older : All (λ (o : Expectation). o.id < length log) b.expects.items =
     subst (λ (s : State). All (λ (o : Expectation). o.id < length log) s.expects) (sym h.history.state)
     (law b.sizes log (length log) h.history.legal).1 in
-    subst (λ (n : ℕ). All (λ (o : Expectation). o.id < n) b.expects.items) (length-events b.notes.items ∙ sym here) older
+    subst (λ (n : ℕ). All (λ (o : Expectation). o.id < n) b.expects.items) (sym h.events ∙ sym here) older
 
 -- the entry for which the place is held is live and has the helper
 pub record CanExpect (b : Book) (p id : ℕ) : Type 0 where
@@ -115,11 +119,10 @@ pub record CanExpect (b : Book) (p id : ℕ) : Type 0 where
   pub helped : has_helper (record_of id (state_in b)) ≡ true
 
 -- a live entry has the helper that its Confirm gave it
-pub can_expect : EntriesKeepTheirHelper → (b : Book) (holds : List Hold) (records : List Record) (p id i : ℕ) → IsBook b
+pub can_expect : EntriesKeepTheirHelper → (log : List Event) (b : Book) (holds : List Hold) (records : List Record) (p id i : ℕ) → IsBook log b
     → holds ≡ b.holds.items → records ≡ b.records.items → id ≡ held_id p holds → IsRecordAt id (state_of records) i
-    → is_helped_entry (held_id p b.holds.items) (events_of b.notes.items) ≡ true → CanExpect b p id
-can_expect law b holds records p id i h same_holds same_records given found helper =
-    let log : List Event = events_of b.notes.items in
+    → is_helped_entry (held_id p b.holds.items) log ≡ true → CanExpect b p id
+can_expect law log b holds records p id i h same_holds same_records given found helper =
     let here : IsRecordAt id (state_of b.records.items) i = subst (λ rs. IsRecordAt id (state_of rs) i) same_records found in
     let its : record_of id (state_in b) ≡ Some here.subject = here.same in
     let kept : is_helped_entry id log ≡ here.subject.helper =
@@ -131,18 +134,18 @@ can_expect law b holds records p id i h same_holds same_records given found help
     }
 
 -- what is told where it was not added
-pub not_added : (b : Book) (p at id : ℕ) (want : Want) (moment : ℕ) (e : Expectation) (outcome : AddOutcome) → IsBook b
-    → at ≡ length b.notes.items → CanExpect b p id → e ≡ expectation_at at id want moment
+pub not_added : (log : List Event) (spare : ℕ) (b : Book) (p at id : ℕ) (want : Want) (moment : ℕ) (e : Expectation) (outcome : AddOutcome) → IsBook log b
+    → at ≡ b.events → CanExpect b p id → e ≡ expectation_at at id want moment
     → add_outcome b.expects.room b.expects.items e moment ≡ outcome
-    → Looked (sight_of b) (sight_of b) at (AddGives b.sizes.expectations at (held_id p b.holds.items) want moment outcome)
-    × SamePlaces (sight_of b) (sight_of b)
-not_added b p at id want moment e outcome h here can is gives =
+    → Looked (sight_in log spare b) (sight_in log spare b) at (AddGives b.sizes.expectations at (held_id p b.holds.items) want moment outcome)
+    × SamePlaces (sight_in log spare b) (sight_in log spare b)
+not_added log spare b p at id want moment e outcome h here can is gives =
     let fact : AddGives b.sizes.expectations at id want moment outcome (state_in b) = record {
       live = can.helped;
       gives = ap (λ (room : ℕ). add_outcome room b.expects.items (expectation_at at id want moment) moment) (sym h.rooms.expects)
           ∙ ap (λ (x : Expectation). add_outcome b.expects.room b.expects.items x moment) (sym is) ∙ gives;
     } in (
-      looked b b at (AddGives b.sizes.expectations at (held_id p b.holds.items) want moment outcome) h here refl refl refl
+      looked log spare b b at (AddGives b.sizes.expectations at (held_id p b.holds.items) want moment outcome) h here refl
           (subst (λ (m : ℕ). AddGives b.sizes.expectations at m want moment outcome (state_in b)) can.given fact),
       record { held = refl; owed = refl },
     )

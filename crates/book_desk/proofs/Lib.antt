@@ -6,8 +6,9 @@ pub mod Pool
 pub mod Histories
 pub mod References
 pub mod Books
-pub mod Known
 pub mod Steps
 pub mod Events
 pub mod Expectations
+pub mod Plain
+pub mod Passes
 pub mod Helped

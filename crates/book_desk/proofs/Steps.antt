@@ -1,5 +1,5 @@
 -- What each change of the places leaves of a right book.
-use Rattle.std.proofs.Common.{◌≡◌, ◌≢◌, ℕ, ◌+◌, ◌-◌, ◌<◌, ◌≤◌, zero, suc, Bool, true, false, not, List, [], ◌∷◌, ◌++◌, length, refl, sym, ap, subst, ◌∙◌, ⊎_elim, arith, Some, None}
+use Rattle.std.proofs.Common.{◌≡◌, ◌≢◌, ℕ, ◌+◌, ◌*◌, ◌-◌, ◌<◌, ◌≤◌, zero, suc, Bool, true, false, not, List, [], ◌∷◌, ◌++◌, length, refl, sym, ap, subst, ◌∙◌, ⊎_elim, arith, Some, None}
 use Rattle.std.specs.List.{AllByRecursion, AllPairs, list_any, position, remove, slice_get}
 use Rattle.std.specs.Prelude.{◌==◌, ◌||◌}
 use Rattle.std.proofs.lemmas.Bool.{eq-eqb, eqb-true, or_cases, or_from, or_parts, true_from_ne_false}
@@ -7,19 +7,17 @@ use Rattle.std.proofs.lemmas.List.Elements.{recursion_from_All}
 use Rattle.room_list.specs.Roomed.{Roomed}
 use Rattle.history_book.specs.declared.desk.Hold.{Hold}
 use Rattle.history_book.specs.declared.event.Event.{Event}
-use Rattle.history_book.specs.declared.event.Note.{Note}
 use Rattle.history_book.specs.declared.record.Record.{Record}
 use Rattle.history_book.specs.Desk.{FindsFull, IsLiveIn, Takes, is_in_use}
 use Rattle.history_book.specs.Held.{is_at, is_held, is_owed, paid, without}
 use Rattle.history_book.specs.History.{after}
 use Rattle.history_book.specs.Laws.{AreApart, IsConfirmed, LiveRecordsAreConfirmed, RecordsAreApart}
-use Rattle.history_book.specs.Sizes.{fewest_of_full}
 use Rattle.history_book.specs.StateLaws.{IdsNameRecords}
 use Rattle.history_book.specs.Record.{has_place}
 use Rattle.history_book.specs.Sight.{IsForOne, WasConfirmedIn}
 use Rattle.history_book.specs.State.{State}
 use Rattle.book_desk.specs.declared.book.Book.{Book}
-use Rattle.book_desk.specs.Internal.Book.{ArePlaces, AreReferences, IsBook, IsForRecord, bit, events_of, sight_of, state_in, tally, times, uses}
+use Rattle.book_desk.specs.Internal.Book.{ArePlaces, AreReferences, IsBook, IsForRecord, bit, sight_in, state_in, tally, times, uses}
 use Rattle.book_desk.proofs.Lists.{each_at, each_map, none_of, same_bit, tally-remove, tally_none, tally_some}
 use Rattle.book_desk.proofs.Pool.{few_free, full_pool, length-paid, length-without, place_below, places_hold, places_keep, places_owe, places_pay, places_take, same_paid, same_removed}
 use Rattle.book_desk.proofs.Counting.{none_has}
@@ -63,41 +61,41 @@ all_for_one rs held i r at current =
     }) current
 
 -- a live record was confirmed in its place
-pub confirmed_record : LiveRecordsAreConfirmed → (b : Book) (i : ℕ) (r : Record) → IsBook b → slice_get b.records.items i ≡ Some r
-    → IsConfirmed (events_of b.notes.items) r
-confirmed_record law b i r h at =
-    let log : List Event = events_of b.notes.items in
+pub confirmed_record : LiveRecordsAreConfirmed → (log : List Event) (b : Book) (i : ℕ) (r : Record) → IsBook log b → slice_get b.records.items i ≡ Some r
+    → IsConfirmed log r
+confirmed_record law log b i r h at =
     let live : AllByRecursion (IsConfirmed log) (after log (length log)).records =
     recursion_from_All (IsConfirmed log) (after log (length log)).records (law b.sizes log (length log) h.history.legal).0 in
     let rs : b.records.items ≡ (after log (length log)).records = ap (λ (s : State). s.records) h.history.state in
     each_at (IsConfirmed log) (after log (length log)).records i r live (sym (ap (λ l. slice_get l i) rs) ∙ at)
 
 -- and in its place
-confirmed_there : LiveRecordsAreConfirmed → (b : Book) (i : ℕ) (r : Record) → IsBook b → slice_get b.records.items i ≡ Some r
-    → WasConfirmedIn (events_of b.notes.items) r.place r.id
-confirmed_there law b i r h at =
-    let one : IsConfirmed (events_of b.notes.items) r = confirmed_record law b i r h at in
+confirmed_there : LiveRecordsAreConfirmed → (log : List Event) (b : Book) (i : ℕ) (r : Record) → IsBook log b → slice_get b.records.items i ≡ Some r
+    → WasConfirmedIn log r.place r.id
+confirmed_there law log b i r h at =
+    let one : IsConfirmed log r = confirmed_record law log b i r h at in
     record { subject = one.subject; event = one.event; placed = sym one.same.place }
 
 -- the place of a live record is held once more
-pub book_hold : LiveRecordsAreConfirmed → (b : Book) (holds : Roomed Hold) (i : ℕ) (r : Record) → IsBook b
-    → length b.holds.items + length b.owed.items ≤ 3 → slice_get b.records.items i ≡ Some r
+pub book_hold : LiveRecordsAreConfirmed → (log : List Event) (b : Book) (holds : Roomed Hold) (i : ℕ) (r : Record) → IsBook log b
+    → length b.holds.items + length b.owed.items < 4 * b.sizes.passes → slice_get b.records.items i ≡ Some r
     → holds.items ≡ record { place = r.place; id = Some r.id } ∷ b.holds.items → holds.room ≡ b.holds.room
-    → IsBook (record b { holds = holds })
-book_hold law b holds i r h few at items room =
+    → IsBook log (record b { holds = holds })
+book_hold law log b holds i r h few at items room =
     let k : Hold = record { place = r.place; id = Some r.id } in
     let rs : List Record = b.records.items in
     record {
       limits = h.limits;
+      events = h.events;
       history = h.history;
       places = subst (λ hs. ArePlaces b.sizes.entries rs hs b.free.items b.owed.items) (sym items)
           (places_hold b.sizes.entries rs b.holds.items b.free.items b.owed.items h.places k
           (tally_at (has_place r.place) rs i r at (same_place_passes r)));
-      references = subst (λ hs. AreReferences (events_of b.notes.items) rs hs) (sym items)
-          (refs_more (events_of b.notes.items) rs b.holds.items k h.references (confirmed_there law b i r h at)
+      references = subst (λ hs. AreReferences log rs hs) (sym items)
+          (refs_more log rs b.holds.items k h.references (confirmed_there law log b i r h at)
           (only_one rs i r (h.places.single r.place) at) (all_for_one rs b.holds.items i r at h.references.current));
       few = omega (arith, few, ap length items);
-      rooms = record { records = h.rooms.records; free = h.rooms.free; holds = omega (arith, room, h.rooms.holds); owed = h.rooms.owed; expects = h.rooms.expects; notes = h.rooms.notes; spared = h.rooms.spared };
+      rooms = record { records = h.rooms.records; free = h.rooms.free; holds = omega (arith, room, h.rooms.holds); owed = h.rooms.owed; expects = h.rooms.expects };
     }
 
 -- the place of a free one is nobody's
@@ -108,8 +106,8 @@ pub record IsNobodys (b : Book) (p : ℕ) : Type 0 where
   pub owed : times p b.owed.items ≡ 0
 
 -- a free place is nobody's
-pub free_nobodys : (b : Book) (i p : ℕ) → IsBook b → slice_get b.free.items i ≡ Some p → IsNobodys b p
-free_nobodys b i p h at =
+pub free_nobodys : (log : List Event) (b : Book) (i p : ℕ) → IsBook log b → slice_get b.free.items i ≡ Some p → IsNobodys b p
+free_nobodys log b i p h at =
     let there = same_removed b.free.items i p at in
     let low : p < b.sizes.entries =
     place_below b.sizes.entries b.records.items b.holds.items b.free.items b.owed.items p h.places (omega (arith, there)) in
@@ -121,91 +119,95 @@ free_nobodys b i p h at =
     }
 
 -- a free place is taken
-pub book_take : (b : Book) (holds : Roomed Hold) (free : Roomed ℕ) (i p : ℕ) → IsBook b
-    → length b.holds.items + length b.owed.items ≤ 3 → slice_get b.free.items i ≡ Some p
+pub book_take : (log : List Event) (b : Book) (holds : Roomed Hold) (free : Roomed ℕ) (i p : ℕ) → IsBook log b
+    → length b.holds.items + length b.owed.items < 4 * b.sizes.passes → slice_get b.free.items i ≡ Some p
     → holds.items ≡ record { place = p; id = None } ∷ b.holds.items → holds.room ≡ b.holds.room
     → free.items ≡ remove b.free.items i → free.room ≡ b.free.room
-    → IsBook (record b { holds = holds; free = free })
-book_take b holds free i p h few at items room rest free_room =
+    → IsBook log (record b { holds = holds; free = free })
+book_take log b holds free i p h few at items room rest free_room =
     let k : Hold = record { place = p; id = None } in
     let rs : List Record = b.records.items in
-    let nobody : IsNobodys b p = free_nobodys b i p h at in
+    let nobody : IsNobodys b p = free_nobodys log b i p h at in
     record {
       limits = h.limits;
+      events = h.events;
       history = h.history;
       places = subst (λ hs. ArePlaces b.sizes.entries rs hs free.items b.owed.items) (sym items)
           (subst (λ fs. ArePlaces b.sizes.entries rs (k ∷ b.holds.items) fs b.owed.items) (sym rest)
           (places_take b.sizes.entries rs b.holds.items b.free.items b.owed.items h.places i k at));
-      references = subst (λ hs. AreReferences (events_of b.notes.items) rs hs) (sym items)
-          (refs_more (events_of b.notes.items) rs b.holds.items k h.references tt
+      references = subst (λ hs. AreReferences log rs hs) (sym items)
+          (refs_more log rs b.holds.items k h.references tt
           (each_map (λ (s : Record). s.place ≢ p) (IsForRecord k) rs (λ s apart e. absurd (apart (sym e)))
           (none_has (λ (s : Record). s.place) p rs nobody.records))
           (each_map (λ (g : Hold). g.place ≢ p) (IsForOne k) b.holds.items
           (λ g apart. record { same = λ e. absurd (apart (sym e)); entry = λ e. absurd (apart (sym e)) })
           (none_has (λ (g : Hold). g.place) p b.holds.items nobody.holds)));
       few = omega (arith, few, ap length items);
-      rooms = record { records = h.rooms.records; free = omega (arith, free_room, h.rooms.free); holds = omega (arith, room, h.rooms.holds); owed = h.rooms.owed; expects = h.rooms.expects; notes = h.rooms.notes; spared = h.rooms.spared };
+      rooms = record { records = h.rooms.records; free = omega (arith, free_room, h.rooms.free); holds = omega (arith, room, h.rooms.holds); owed = h.rooms.owed; expects = h.rooms.expects };
     }
 
 -- a reference is given up, and others are left
-pub book_keep : (b : Book) (holds : Roomed Hold) (a : ℕ) → IsBook b → is_held a b.holds.items ≡ true
+pub book_keep : (log : List Event) (b : Book) (holds : Roomed Hold) (a : ℕ) → IsBook log b → is_held a b.holds.items ≡ true
     → holds.items ≡ without a b.holds.items → holds.room ≡ b.holds.room
-    → 1 ≤ uses a b.records.items holds.items → IsBook (record b { holds = holds })
-book_keep b holds a h there items room used =
+    → 1 ≤ uses a b.records.items holds.items → IsBook log (record b { holds = holds })
+book_keep log b holds a h there items room used =
     let rs : List Record = b.records.items in
     record {
       limits = h.limits;
+      events = h.events;
       history = h.history;
       places = subst (λ hs. ArePlaces b.sizes.entries rs hs b.free.items b.owed.items) (sym items)
           (places_keep b.sizes.entries rs b.holds.items b.free.items b.owed.items h.places a there
           (subst (λ hs. 1 ≤ uses a rs hs) items used));
-      references = subst (λ hs. AreReferences (events_of b.notes.items) rs hs) (sym items)
-          (refs_without (events_of b.notes.items) rs b.holds.items a h.references);
+      references = subst (λ hs. AreReferences log rs hs) (sym items)
+          (refs_without log rs b.holds.items a h.references);
       few = omega (arith, h.few, ap length items, length-without a b.holds.items there);
-      rooms = record { records = h.rooms.records; free = h.rooms.free; holds = omega (arith, room, h.rooms.holds); owed = h.rooms.owed; expects = h.rooms.expects; notes = h.rooms.notes; spared = h.rooms.spared };
+      rooms = record { records = h.rooms.records; free = h.rooms.free; holds = omega (arith, room, h.rooms.holds); owed = h.rooms.owed; expects = h.rooms.expects };
     }
 
 -- the last reference is given up
-pub book_owe : (b : Book) (holds : Roomed Hold) (owed : Roomed ℕ) (a : ℕ) → IsBook b → is_held a b.holds.items ≡ true
+pub book_owe : (log : List Event) (b : Book) (holds : Roomed Hold) (owed : Roomed ℕ) (a : ℕ) → IsBook log b → is_held a b.holds.items ≡ true
     → holds.items ≡ without a b.holds.items → holds.room ≡ b.holds.room
     → owed.items ≡ a ∷ b.owed.items → owed.room ≡ b.owed.room
-    → uses a b.records.items holds.items ≡ 0 → IsBook (record b { holds = holds; owed = owed })
-book_owe b holds owed a h there items room more owed_room unused =
+    → uses a b.records.items holds.items ≡ 0 → IsBook log (record b { holds = holds; owed = owed })
+book_owe log b holds owed a h there items room more owed_room unused =
     let rs : List Record = b.records.items in
     record {
       limits = h.limits;
+      events = h.events;
       history = h.history;
       places = subst (λ hs. ArePlaces b.sizes.entries rs hs b.free.items owed.items) (sym items)
           (subst (λ os. ArePlaces b.sizes.entries rs (without a b.holds.items) b.free.items os) (sym more)
           (places_owe b.sizes.entries rs b.holds.items b.free.items b.owed.items h.places a there
           (subst (λ hs. uses a rs hs ≡ 0) items unused)));
-      references = subst (λ hs. AreReferences (events_of b.notes.items) rs hs) (sym items)
-          (refs_without (events_of b.notes.items) rs b.holds.items a h.references);
+      references = subst (λ hs. AreReferences log rs hs) (sym items)
+          (refs_without log rs b.holds.items a h.references);
       few = omega (arith, h.few, ap length items, length-without a b.holds.items there, ap length more);
-      rooms = record { records = h.rooms.records; free = h.rooms.free; holds = omega (arith, room, h.rooms.holds); owed = omega (arith, owed_room, h.rooms.owed); expects = h.rooms.expects; notes = h.rooms.notes; spared = h.rooms.spared };
+      rooms = record { records = h.rooms.records; free = h.rooms.free; holds = omega (arith, room, h.rooms.holds); owed = omega (arith, owed_room, h.rooms.owed); expects = h.rooms.expects };
     }
 
 -- an owed place is free again
-pub book_pay : (b : Book) (free owed : Roomed ℕ) (a : ℕ) → IsBook b → is_owed a b.owed.items ≡ true
+pub book_pay : (log : List Event) (b : Book) (free owed : Roomed ℕ) (a : ℕ) → IsBook log b → is_owed a b.owed.items ≡ true
     → owed.items ≡ paid a b.owed.items → owed.room ≡ b.owed.room
     → free.items ≡ b.free.items ++ a ∷ [] → free.room ≡ b.free.room
-    → IsBook (record b { free = free; owed = owed })
-book_pay b free owed a h there items room more free_room =
+    → IsBook log (record b { free = free; owed = owed })
+book_pay log b free owed a h there items room more free_room =
     let rs : List Record = b.records.items in
     record {
       limits = h.limits;
+      events = h.events;
       history = h.history;
       places = subst (λ os. ArePlaces b.sizes.entries rs b.holds.items free.items os) (sym items)
           (subst (λ fs. ArePlaces b.sizes.entries rs b.holds.items fs (paid a b.owed.items)) (sym more)
           (places_pay b.sizes.entries rs b.holds.items b.free.items b.owed.items h.places a there));
       references = h.references;
       few = omega (arith, h.few, ap length items, length-paid a b.owed.items there);
-      rooms = record { records = h.rooms.records; free = omega (arith, free_room, h.rooms.free); holds = h.rooms.holds; owed = omega (arith, room, h.rooms.owed); expects = h.rooms.expects; notes = h.rooms.notes; spared = h.rooms.spared };
+      rooms = record { records = h.rooms.records; free = omega (arith, free_room, h.rooms.free); holds = h.rooms.holds; owed = omega (arith, room, h.rooms.owed); expects = h.rooms.expects };
     }
 
 -- there is room for an owed place among the free ones
-pub pay_room : (b : Book) (a : ℕ) → IsBook b → is_owed a b.owed.items ≡ true → length b.free.items < b.free.room
-pay_room b a h there =
+pub pay_room : (log : List Event) (b : Book) (a : ℕ) → IsBook log b → is_owed a b.owed.items ≡ true → length b.free.items < b.free.room
+pay_room log b a h there =
     omega (
       arith,
       h.rooms.free,
@@ -219,17 +221,17 @@ not_not true = refl
 not_not false = refl
 
 -- whether a place is in use, by the fields
-used_is : (b : Book) (p : ℕ) → IsBook b
-    → is_in_use p (sight_of b) ≡ (list_any (has_place p) b.records.items || is_held p b.holds.items || is_owed p b.owed.items)
-used_is b p h =
+used_is : (log : List Event) (spare : ℕ) (b : Book) (p : ℕ) → IsBook log b
+    → is_in_use p (sight_in log spare b) ≡ (list_any (has_place p) b.records.items || is_held p b.holds.items || is_owed p b.owed.items)
+used_is log spare b p h =
     ap (λ (s : State). not (not (list_any (has_place p) s.records)) || is_held p b.holds.items || is_owed p b.owed.items) (sym h.history.state)
     ∙ ap (λ x. x || is_held p b.holds.items || is_owed p b.owed.items) (not_not (list_any (has_place p) b.records.items))
 
 -- a place that counts is in use
-pub used : (b : Book) (p : ℕ) → IsBook b → 1 ≤ uses p b.records.items b.holds.items + times p b.owed.items
-    → is_in_use p (sight_of b) ≡ true
-used b p h some =
-    used_is b p h ∙ true_from_ne_false _ (λ e.
+pub used : (log : List Event) (spare : ℕ) (b : Book) (p : ℕ) → IsBook log b
+    → 1 ≤ uses p b.records.items b.holds.items + times p b.owed.items → is_in_use p (sight_in log spare b) ≡ true
+used log spare b p h some =
+    used_is log spare b p h ∙ true_from_ne_false _ (λ e.
     let parts = or_parts (list_any (has_place p) b.records.items || is_held p b.holds.items) (is_owed p b.owed.items) e in
     let both = or_parts (list_any (has_place p) b.records.items) (is_held p b.holds.items) parts.0 in
     omega (
@@ -241,20 +243,20 @@ used b p h some =
     ))
 
 -- a place that does not count is in no use
-pub unused : (b : Book) (p : ℕ) → IsBook b → uses p b.records.items b.holds.items + times p b.owed.items ≡ 0
-    → is_in_use p (sight_of b) ≡ false
-unused b p h none =
-    used_is b p h ∙ or_from _ _ (or_from _ _ (none_of (has_place p) b.records.items (omega (arith, none)))
+pub unused : (log : List Event) (spare : ℕ) (b : Book) (p : ℕ) → IsBook log b
+    → uses p b.records.items b.holds.items + times p b.owed.items ≡ 0 → is_in_use p (sight_in log spare b) ≡ false
+unused log spare b p h none =
+    used_is log spare b p h ∙ or_from _ _ (or_from _ _ (none_of (has_place p) b.records.items (omega (arith, none)))
     (none_of (is_at p) b.holds.items (omega (arith, none)))) (none_of (λ q. q == p) b.owed.items (omega (arith, none)))
 
 -- a place that is given back is in no use
-pub recycled : (b new : Book) (a : ℕ) → IsBook b → IsBook new → is_owed a b.owed.items ≡ true
-    → new.records ≡ b.records → new.holds ≡ b.holds → new.owed.items ≡ paid a b.owed.items → is_in_use a (sight_of new) ≡ false
-recycled b new a h right there records holds owed =
+pub recycled : (log : List Event) (spare : ℕ) (b new : Book) (a : ℕ) → IsBook log b → IsBook log new → is_owed a b.owed.items ≡ true
+    → new.records ≡ b.records → new.holds ≡ b.holds → new.owed.items ≡ paid a b.owed.items → is_in_use a (sight_in log spare new) ≡ false
+recycled log spare b new a h right there records holds owed =
     let less = same_paid a b.owed.items there in
     let low : a < b.sizes.entries =
     place_below b.sizes.entries b.records.items b.holds.items b.free.items b.owed.items a h.places (omega (arith, less)) in
-    unused new a right (omega (
+    unused log spare new a right (omega (
       arith,
       less,
       h.places.once a low,
@@ -264,34 +266,34 @@ recycled b new a h right there records holds owed =
     ))
 
 -- what the full pool says
-pub full : (b : Book) (at : ℕ) → IsBook b → at ≡ length b.notes.items → b.free.items ≡ [] → FindsFull (sight_of b) (sight_of b) at
-full b at h here none = record {
-  looked = looked b b at (λ s. fewest_of_full b.sizes - (length b.holds.items + length b.owed.items) ≤ length s.records) h here refl refl refl
+pub full : (log : List Event) (spare : ℕ) (b : Book) (at : ℕ) → IsBook log b → at ≡ b.events → b.free.items ≡ []
+    → FindsFull (sight_in log spare b) (sight_in log spare b) at
+full log spare b at h here none = record {
+  looked = looked log spare b b at
+      (λ s. b.sizes.entries - 4 * (1 - 1) - (length b.holds.items + length b.owed.items) ≤ length s.records) h here refl
       (omega (arith, full_pool b.sizes.entries b.records.items b.holds.items b.free.items b.owed.items h.places none));
   same = record { held = refl; owed = refl };
-  alone = λ one p low. used b p h (omega (arith, h.places.once p low, ap (times p) none));
+  alone = λ one p low. used log spare b p h (omega (arith, h.places.once p low, ap (times p) none));
 }
 
--- what is so of the records is so of the state after the history
-state_has : (F : List Record → Type 0) (b new : Book) → IsBook b → new.notes ≡ b.notes → F b.records.items
-    → F (after (events_of new.notes.items) (length (events_of new.notes.items))).records
-state_has F b new h notes fact =
-    subst (λ (ns : Roomed Note). F (after (events_of ns.items) (length (events_of ns.items))).records) (sym notes)
-    (subst (λ (s : State). F s.records) h.history.state fact)
+-- what is so of the records is so of the state after the events
+state_has : (F : List Record → Type 0) (log : List Event) (b : Book) → IsBook log b → F b.records.items
+    → F (after log (length log)).records
+state_has F log b h fact = subst (λ (s : State). F s.records) h.history.state fact
 
 -- what a taken place says
-pub takes : (b new : Book) (i p : ℕ) → IsBook b → slice_get b.free.items i ≡ Some p → new.notes ≡ b.notes → new.spare ≡ b.spare
+pub takes : (log : List Event) (spare : ℕ) (b new : Book) (i p : ℕ) → IsBook log b → slice_get b.free.items i ≡ Some p
     → new.sizes ≡ b.sizes → new.holds.items ≡ record { place = p; id = None } ∷ b.holds.items → new.owed ≡ b.owed
-    → Takes (sight_of b) (sight_of new) p
-takes b new i p h at notes spare sizes holds owed =
-    let nobody : IsNobodys b p = free_nobodys b i p h at in
+    → Takes (sight_in log spare b) (sight_in log spare new) p
+takes log spare b new i p h at sizes holds owed =
+    let nobody : IsNobodys b p = free_nobodys log b i p h at in
     record {
-      saw = saw b new notes spare sizes;
+      saw = saw log spare b new sizes;
       below = nobody.below;
       unheld = none_of (is_at p) b.holds.items nobody.holds;
       unowed = none_of (λ q. q == p) b.owed.items nobody.owed;
       holds = record { held = holds; owed = ap (λ os. os.items) owed };
-      alone = λ one. ap not (state_has (λ rs. list_any (has_place p) rs ≡ false) b new h notes (none_of (has_place p) b.records.items nobody.records));
+      alone = λ one. ap not (state_has (λ rs. list_any (has_place p) rs ≡ false) log b h (none_of (has_place p) b.records.items nobody.records));
     }
 
 -- a reference that is given up leaves the place in use
@@ -307,16 +309,15 @@ not_used p rs held h =
     omega (arith, tally_none (is_at p) held parts.0, tally_none (has_place p) rs parts.1)
 
 -- the records of a right book are apart
-pub apart_of : RecordsAreApart → (b : Book) → IsBook b → AllPairs AreApart b.records.items
-apart_of apart b h =
-    let log : List Event = events_of b.notes.items in
+pub apart_of : RecordsAreApart → (log : List Event) (b : Book) → IsBook log b → AllPairs AreApart b.records.items
+apart_of apart log b h =
     subst (λ (s : State). AllPairs AreApart s.records) (sym h.history.state) (apart b.sizes log (length log) h.history.legal)
 
 -- the entry in a place is live in it
-pub live_in : RecordsAreApart → IdsNameRecords → (b : Book) (p i : ℕ) (r : Record) → IsBook b → position (has_place p) b.records.items ≡ Some i
+pub live_in : RecordsAreApart → IdsNameRecords → (log : List Event) (b : Book) (p i : ℕ) (r : Record) → IsBook log b → position (has_place p) b.records.items ≡ Some i
     → slice_get b.records.items i ≡ Some r → IsLiveIn p r.id (state_in b)
-live_in apart ids b p i r h found at = record {
+live_in apart ids log b p i r h found at = record {
   subject = r;
-  is = ids (state_in b) i r (apart_of apart b h) at;
+  is = ids (state_in b) i r (apart_of apart log b h) at;
   placed = eqb-true r.place p (passes_at (has_place p) b.records.items i r found at);
 }

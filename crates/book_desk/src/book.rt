@@ -1,27 +1,29 @@
-//! The fields of the desk.
+//! The fields of a tracker: what all desks of it share.
 
-ghost use Rattle.std.specs.Prelude.{◌≡◌, ◌+◌, ◌<◌, ◌≤◌, [], ◌∷◌, ◌++◌, Some, length, slice_get};
-ghost use Rattle.book_desk.specs.Internal.Book.{AreBelow, noted};
+ghost use Rattle.std.specs.Prelude.{◌≡◌, ◌+◌, ◌<◌, ◌≤◌, ◌^◌, [], ◌∷◌, IfOk, Some, length, slice_get};
+ghost use Rattle.history_book.specs.Sizes.{AreWithinLimits};
+ghost use Rattle.book_desk.specs.Internal.Book.{AreBelow, IsBook, IsSomeBook};
 
 use expect_table::table::ExpectTable;
 use history_book::desk::Hold;
-use history_book::event::{Event, Note};
 use history_book::record::Record;
-use history_book::report::Notes;
 use history_book::sizes::Sizes;
 use room_list::RoomList;
+use std::alloc::Global;
+use tuple_core::NoMemory;
 
-/// A list of live records and a table of what is expected, and the events that led to them.
+/// A list of live records and a table of what is expected, the places of the pool, and how many events led
+/// to them. The events themselves stay with those who made them.
 #[derive(Drop)]
 pub struct Book {
     pub sizes: Sizes,
+    /// How many events there were so far.
+    pub events: u64,
     /// The live records, in the order of their Confirms.
     pub records: RoomList<Record>,
     /// The places that nothing uses.
     pub free: RoomList<u32>,
-    pub notes: Notes,
-    /// For how many further events there is room.
-    pub spare: u64,
+    /// The references of all desks.
     pub holds: RoomList<Hold>,
     /// The places of which the last reference was given up.
     pub owed: RoomList<u32>,
@@ -42,25 +44,45 @@ pub fn fill(free: &mut RoomList<u32>, entries: u32)
 }
 
 impl Book {
-    /// The point that the history has reached.
-    pub fn point(&self) -> u64
-        ensures { result ≡ length self.now.notes.items }
+    /// The fields of a tracker of these sizes with no entry, before its first event.
+    pub fn new(alloc: Global, sizes: Sizes) -> Result<Book, NoMemory>
+        requires { AreWithinLimits sizes }
+        ensures right { IfOk result (IsBook []) }
+        ensures sizes { IfOk result (λ b. b.sizes ≡ sizes) }
+        ensures empty { IfOk result (λ b. (b.records.items ≡ []) × (b.holds.items ≡ []) × (b.owed.items ≡ [])) }
     {
-        self.notes.len() as u64
+        let entries = sizes.entries as usize;
+        let kept = 4 * sizes.passes as usize;
+        let mut free = RoomList::new(alloc, entries)?;
+        fill(&mut free, sizes.entries);
+        Ok(Book {
+            sizes,
+            events: 0,
+            records: RoomList::new(alloc, entries)?,
+            free,
+            holds: RoomList::new(alloc, kept)?,
+            owed: RoomList::new(alloc, kept)?,
+            expects: ExpectTable::new(alloc, sizes.expectations)?,
+        })
     }
 
-    /// Notes an event.
-    pub fn note(&mut self, event: Event)
-        requires spare { 1 ≤ self.old.spare }
-        requires room { length self.old.notes.items < self.old.notes.room }
-        ensures noted { self.new.notes.items ≡ self.old.notes.items ++ noted self.old.notes.items event ∷ [] }
-        ensures room { self.new.notes.room ≡ self.old.notes.room }
-        ensures spare { self.old.spare ≡ self.new.spare + 1 }
-        ensures rest { self.new ≡ record self.old { notes = self.new.notes; spare = self.new.spare } }
+    /// How many entries are live.
+    pub fn live(&self) -> u32
+        requires { IsSomeBook (λ log. Unit {0}) self.now }
+        ensures { result ≡ length self.now.records.items }
     {
-        let number = self.point();
-        self.notes.push(Note { number, event });
-        self.spare -= 1;
+        self.records.len() as u32
+    }
+
+    /// Counts an event, and gives the number that it has.
+    pub fn count_event(&mut self) -> u64
+        requires { self.old.events < 2 ^ 40 }
+        ensures number { result ≡ self.old.events }
+        ensures rest { self.new ≡ record self.old { events = self.old.events + 1 } }
+    {
+        let number = self.events;
+        self.events += 1;
+        number
     }
 
     /// Holds the place of the record at `index` for it.

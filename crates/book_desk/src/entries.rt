@@ -1,8 +1,8 @@
 //! Entries: the one that a new flow meets, and what confirming, touching and destroying one does to the fields.
 
-ghost use Rattle.std.specs.Prelude.{◌≡◌, ◌<◌, ◌≤◌, ◌&&◌, [], ◌∷◌, ◌++◌, IfNone, IfSome, None, Some, length, remove, slice_get, slice_set};
+ghost use Rattle.std.specs.Prelude.{◌≡◌, ◌<◌, ◌^◌, ◌&&◌, [], ◌∷◌, ◌++◌, IfNone, IfSome, None, Some, length, remove, slice_get, slice_set};
 ghost use Rattle.expect_table.specs.Expectations.{without_master};
-ghost use Rattle.history_book.specs.declared.event.Event.TheVariants.{Confirm, Destroy, Touch};
+ghost use Rattle.history_book.specs.declared.event.Event.TheVariants.{Confirm};
 ghost use Rattle.history_book.specs.Entry.{record_for};
 ghost use Rattle.history_book.specs.Held.{held_for};
 ghost use Rattle.history_book.specs.Record.{has_original, has_reply};
@@ -12,11 +12,11 @@ ghost use Rattle.book_desk.specs.Internal.Winner.{best_of, first_of};
 
 use crate::book::Book;
 use crate::holds::name_holds;
-use history_book::event::{Event, Why};
+use history_book::event::Event;
 use history_book::find::FoundAt;
 use history_book::record::{Flow, Record};
 use proto_rules::Part;
-use tuple_core::{Direction, Segment, Tuple};
+use tuple_core::{Direction, Tuple};
 
 /// Which of the records seen so far a new flow may meet, by their indices. None of those seen has the
 /// flow's original tuple as its original one: such a record is met at once.
@@ -121,18 +121,17 @@ pub fn is_same_flow(r: &Record, flow: &Flow) -> bool
 
 impl Book {
     /// Confirms a new entry of a flow, and makes the references to its place ones for it.
-    pub fn enter(&mut self, place: u32, flow: &Flow)
-        requires spare { 1 ≤ self.old.spare }
-        requires notes_room { length self.old.notes.items < self.old.notes.room }
+    pub fn enter(&mut self, place: u32, flow: &Flow) -> Event
+        requires few { self.old.events < 2 ^ 40 }
         requires records_room { length self.old.records.items < self.old.records.room }
-        ensures adds { Adds self.old self.new
-            (Confirm (record_for flow.now (length self.old.notes.items) place)) }
+        ensures event { result ≡ Confirm (record_for flow.now self.old.events place) }
+        ensures adds { Adds self.old self.new }
         ensures records { self.new.records.items
-            ≡ self.old.records.items ++ record_for flow.now (length self.old.notes.items) place ∷ [] }
-        ensures holds { self.new.holds.items ≡ held_for place (length self.old.notes.items) self.old.holds.items }
+            ≡ self.old.records.items ++ record_for flow.now self.old.events place ∷ [] }
+        ensures holds { self.new.holds.items ≡ held_for place self.old.events self.old.holds.items }
         ensures expects { self.new.expects ≡ self.old.expects }
     {
-        let id = self.point();
+        let id = self.count_event();
         let subject = Record {
             id,
             place,
@@ -142,37 +141,22 @@ impl Book {
             helper: flow.helper,
             master: flow.master,
         };
-        self.note(Event::Confirm { subject });
         self.records.push(subject);
         name_holds(&mut self.holds, place, id);
+        Event::Confirm { subject }
     }
 
     /// Gives the record at `index`, which is `before`, the part with which a packet leaves it.
-    pub fn refresh(
-        &mut self,
-        index: usize,
-        before: &Record,
-        direction: Direction,
-        segment: Segment,
-        moment: u64,
-        after: Part,
-    )
-        requires spare { 1 ≤ self.old.spare }
-        requires room { length self.old.notes.items < self.old.notes.room }
+    pub fn refresh(&mut self, index: usize, before: &Record, after: Part)
+        requires few { self.old.events < 2 ^ 40 }
         requires item { slice_get self.old.records.items index ≡ Some before.now }
-        ensures adds { Adds self.old self.new (Touch before.now.id direction segment moment after) }
+        ensures adds { Adds self.old self.new }
         ensures records { self.new.records.items
             ≡ slice_set self.old.records.items index (record before.now { part = after }) }
         ensures holds { self.new.holds ≡ self.old.holds }
         ensures expects { self.new.expects ≡ self.old.expects }
     {
-        self.note(Event::Touch {
-            id: before.id,
-            direction,
-            segment,
-            moment,
-            after,
-        });
+        let _ = self.count_event();
         self.records.set(
             index,
             Record {
@@ -183,19 +167,15 @@ impl Book {
     }
 
     /// Destroys the record at `index`, which is `subject`, and ends what was expected for it.
-    pub fn destroy(&mut self, index: usize, subject: &Record, why: Why)
-        requires spare { 1 ≤ self.old.spare }
-        requires room { length self.old.notes.items < self.old.notes.room }
+    pub fn destroy(&mut self, index: usize, subject: &Record)
+        requires few { self.old.events < 2 ^ 40 }
         requires item { slice_get self.old.records.items index ≡ Some subject.now }
-        ensures adds { Adds self.old self.new (Destroy subject.now.id why) }
+        ensures adds { Adds self.old self.new }
         ensures records { self.new.records.items ≡ remove self.old.records.items index }
         ensures holds { self.new.holds ≡ self.old.holds }
         ensures expects { self.new.expects.items ≡ without_master subject.now.id self.old.expects.items }
     {
-        self.note(Event::Destroy {
-            id: subject.id,
-            why,
-        });
+        let _ = self.count_event();
         let _ = self.records.remove(index);
         let _ = self.expects.remove_master(subject.id);
     }

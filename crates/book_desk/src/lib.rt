@@ -1,10 +1,15 @@
-//! The tracker of one thread: a desk that keeps its records in a list.
+//! Trackers that keep their records in a list: one for one thread, and one whose passes take turns.
 #![tactic(auto)]
 
 mod book;
+mod calls;
 pub mod desk;
 mod entries;
 mod expecting;
 mod holds;
+pub mod laws;
+mod noting;
 #[cfg(test)]
 mod tests;
+mod turn;
+pub mod turn_desk;

@@ -1,9 +1,8 @@
--- What the desk's fields say, and when they are right.
-use Rattle.std.specs.Prelude.{◌≡◌, ℕ, ◌+◌, ◌<◌, ◌≤◌, ◌^◌, min, Bool, true, ◌==◌, if◌then◌else◌, Some, List, [], ◌∷◌, ◌++◌, length, map, slice_get}
+-- What the fields of a book say, when they are right, and what its calls say of them.
+use Rattle.std.specs.Prelude.{◌≡◌, ℕ, ◌+◌, ◌*◌, ◌<◌, ◌≤◌, min, Bool, true, ◌==◌, if◌then◌else◌, Option, Some, None, List, [], ◌∷◌, ◌++◌, length, slice_get}
 use Rattle.std.specs.List.{AllByRecursion}
 use Rattle.history_book.specs.declared.desk.Hold.{Hold}
 use Rattle.history_book.specs.declared.event.Event.{Event}
-use Rattle.history_book.specs.declared.event.Note.{Note}
 use Rattle.history_book.specs.declared.find.FoundAt.{FoundAt}
 use Rattle.history_book.specs.declared.record.Record.{Record}
 use Rattle.history_book.specs.declared.sizes.Sizes.{Sizes}
@@ -16,19 +15,9 @@ use Rattle.history_book.specs.State.{State, winner}
 use Rattle.tuple_core.specs.declared.Tuple.{Tuple}
 use Rattle.book_desk.specs.declared.book.Book.{Book}
 
--- the events of notes
-abbrev pub events_of : List Note → List Event
-events_of notes = map (λ (n : Note). n.event) notes
-
--- an event with the number that comes next
-abbrev pub noted : List Note → Event → Note
-noted notes e = record { number = length notes; event = e }
-
 -- what the fields are after an event, but for the records, the references and the expectations
-pub record Adds (old new : Book) (e : Event) : Type 0 where
-  pub notes : new.notes.items ≡ old.notes.items ++ noted old.notes.items e ∷ []
-  pub notes_room : new.notes.room ≡ old.notes.room
-  pub spare : old.spare ≡ new.spare + 1
+pub record Adds (old new : Book) : Type 0 where
+  pub events : new.events ≡ old.events + 1
   pub sizes : new.sizes ≡ old.sizes
   pub free : new.free ≡ old.free
   pub owed : new.owed ≡ old.owed
@@ -42,16 +31,17 @@ pub record WinsAt (original reply : Tuple) (s : State) (found : FoundAt) : Type 
   pub item : slice_get s.records found.index ≡ Some subject
   pub wins : winner original reply s ≡ Some (record { subject = subject; direction = found.direction })
 
--- what the fields say to callers: the desk is the one pass of its tracker, which stands on no table
-abbrev pub sight_of : Book → Sight
-sight_of b = record {
-  front = events_of b.notes.items;
-  own = b.notes.items;
+-- What one pass would know that kept all references and owed all places, and made all events: these, which led to the
+-- fields. It has room for so many further ones.
+abbrev pub sight_in : List Event → ℕ → Book → Sight
+sight_in log spare b = record {
+  front = log;
+  own = notes_from 0 log;
   held = b.holds.items;
   owed = b.owed.items;
-  spare = b.spare;
+  spare = spare;
   tracker = [];
-  sizes = b.sizes;
+  sizes = record b.sizes { passes = 1 };
   shares = 1;
   returned = 0;
   gathered = [];
@@ -100,30 +90,52 @@ pub record AreReferences (front : List Event) (rs : List Record) (held : List Ho
   pub current : AllByRecursion (λ h. AllByRecursion (IsForRecord h) rs) held
   pub agreed : Agree held
 
--- the notes are a legal history that leaves this state
-pub record IsHistory (sizes : Sizes) (notes : List Note) (s : State) : Type 0 where
-  pub numbered : notes ≡ notes_from 0 (events_of notes)
-  pub legal : is_legal sizes (events_of notes) ≡ true
-  pub state : s ≡ after (events_of notes) (length (events_of notes))
+-- the events are a legal history that leaves this state
+pub record IsHistory (sizes : Sizes) (log : List Event) (s : State) : Type 0 where
+  pub legal : is_legal sizes log ≡ true
+  pub state : s ≡ after log (length log)
 
 -- there is room for all that may come
 pub record HasRooms (b : Book) : Type 0 where
   pub records : b.sizes.entries ≤ b.records.room
   pub free : b.sizes.entries ≤ b.free.room
-  pub holds : 4 ≤ b.holds.room
-  pub owed : 4 ≤ b.owed.room
+  pub holds : 4 * b.sizes.passes ≤ b.holds.room
+  pub owed : 4 * b.sizes.passes ≤ b.owed.room
   pub expects : b.expects.room ≡ b.sizes.expectations
-  pub notes : length b.notes.items + b.spare ≤ b.notes.room
-  pub spared : length b.notes.items + b.spare ≤ 2 ^ 30
 
--- the fields are right
-pub record IsBook (b : Book) : Type 0 where
+-- the fields are right, and these events led to them
+pub record IsBook (log : List Event) (b : Book) : Type 0 where
   pub limits : AreWithinLimits b.sizes
-  pub history : IsHistory b.sizes b.notes.items (state_in b)
+  pub events : b.events ≡ length log
+  pub history : IsHistory b.sizes log (state_in b)
   pub places : ArePlaces b.sizes.entries b.records.items b.holds.items b.free.items b.owed.items
-  pub references : AreReferences (events_of b.notes.items) b.records.items b.holds.items
-  pub few : length b.holds.items + length b.owed.items ≤ 4
+  pub references : AreReferences log b.records.items b.holds.items
+  pub few : length b.holds.items + length b.owed.items ≤ 4 * b.sizes.passes
   pub rooms : HasRooms b
+
+-- some events led to them, of which this holds
+abbrev pub IsSomeBook : (List Event → Type 0) → Book → Type 0
+IsSomeBook F b = (log : List Event) × IsBook log b × F log
+
+-- the events once a call made this one, or none
+abbrev pub with_made : List Event → Option Event → List Event
+with_made log None = log
+with_made log (Some e) = log ++ e ∷ []
+
+-- the room for events before a call that left so much and made this one, or none
+abbrev pub spare_before : ℕ → Option Event → ℕ
+spare_before spare None = spare
+spare_before spare (Some e) = spare + 1
+
+-- whatever events led to the fields, a call that made this event, or none, leaves them right
+abbrev pub StaysBook : Book → Book → Option Event → Type 0
+StaysBook old new made = (log : List Event) → IsBook log old → IsBook (with_made log made) new
+
+-- and one pass that kept everything would be told this
+abbrev pub Tells : Book → Book → Option Event → (Sight → Sight → Type 0) → Type 0
+Tells old new made Says =
+    (log : List Event) (spare : ℕ) → IsBook log old
+    → Says (sight_in log (spare_before spare made) old) (sight_in (with_made log made) spare new)
 
 -- no place but those below n is among the places, and each of those once
 pub record AreBelow (n from : ℕ) (places : List ℕ) : Type 0 where

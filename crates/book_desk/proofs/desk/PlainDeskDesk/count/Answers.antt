@@ -1,13 +1,14 @@
-use Rattle.std.proofs.Common.{arith}
-use Rattle.book_desk.proofs.Pool.{few_records}
+use Rattle.std.proofs.Common.{None, refl}
+use Rattle.history_book.specs.Desk.{CountSays}
+use Rattle.book_desk.proofs.Plain.{IsNoted, known, plain_says}
 use Rattle.book_desk.proofs.desk.PlainDeskDesk.count.Goals as goal
 
-pub overflow_cast-result : goal.overflow_cast-result
-overflow_cast-result g c =
-    let b = c.self.inside.book in
-    omega (
-      arith,
-      c.len.ensures.exact,
-      c.self.invariant.limits.entries,
-      few_records b.sizes.entries b.records.items b.holds.items b.free.items b.owed.items c.self.invariant.places,
-    )
+pub returns-clause-says : goal.returns-clause-says
+returns-clause-says g c =
+    let d = c.self.inside in
+    let same : IsNoted d.book d.notes d.notes d.spare d.spare None = record { items = refl; room = refl; less = refl } in
+    rw (← c.self.view_is) (plain_says (λ old new. CountSays old new c.count.result) d.book d.book d.notes d.notes d.spare d.spare None
+    c.self.invariant c.self.invariant same c.count.ensures.says)
+
+pub returns-clause-knows : goal.returns-clause-knows
+returns-clause-knows g c = rw (← c.self.view_is) (known _ _ _ c.self.invariant)

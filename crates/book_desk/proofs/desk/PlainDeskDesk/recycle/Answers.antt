@@ -1,32 +1,20 @@
-use Rattle.std.proofs.Common.{ap, refl, ◌∙◌}
-use Rattle.history_book.specs.Held.{is_owed}
-use Rattle.history_book.specs.Sight.{Sight}
-use Rattle.book_desk.proofs.Known.{known}
-use Rattle.book_desk.proofs.Histories.{saw}
-use Rattle.book_desk.proofs.Steps.{book_pay, pay_room, recycled}
+use Rattle.std.proofs.Common.{None, refl}
+use Rattle.history_book.specs.Desk.{RecycleSays}
+use Rattle.book_desk.proofs.Plain.{IsNoted, known, plain_says, still_plain}
 use Rattle.book_desk.proofs.desk.PlainDeskDesk.recycle.Goals as goal
-
-pub push-requires : goal.push-requires
-push-requires g c =
-    pay_room c.self.inside.book c.args.place c.self.invariant (ap (λ (s : Sight). is_owed c.args.place s.owed) c.self.view_is ∙ c.requires)
 
 pub invariant_of-self : goal.invariant_of-self
 invariant_of-self g c =
-    book_pay c.self.inside.book c.push.new.self c.pay.new.owed c.args.place c.self.invariant
-    (ap (λ (s : Sight). is_owed c.args.place s.owed) c.self.view_is ∙ c.requires) c.pay.ensures.items c.pay.ensures.room
-    c.push.ensures.items c.push.ensures.room
+    let d = c.self.inside in
+    still_plain d.book c.recycle.new.self d.notes d.notes d.spare d.spare None c.self.invariant c.recycle.ensures.stays c.recycle.ensures.sizes
+    (record { items = refl; room = refl; less = refl })
 
 pub returns-clause-says : goal.returns-clause-says
 returns-clause-says g c =
-    let b = c.self.inside.book in
-    let new = record b { free = c.push.new.self; owed = c.pay.new.owed } in
-    rw (← c.self.view_is) (record {
-      saw = saw b new refl refl refl;
-      held = refl;
-      owed = c.pay.ensures.items;
-      alone = λ one. recycled b new c.args.place c.self.invariant (invariant_of-self g c)
-          (ap (λ (s : Sight). is_owed c.args.place s.owed) c.self.view_is ∙ c.requires) refl refl c.pay.ensures.items;
-    })
+    let d = c.self.inside in
+    let same : IsNoted d.book d.notes d.notes d.spare d.spare None = record { items = refl; room = refl; less = refl } in
+    rw (← c.self.view_is) (plain_says (λ old new. RecycleSays c.args.place old new) d.book c.recycle.new.self d.notes d.notes d.spare d.spare None
+    c.self.invariant (invariant_of-self g c) same c.recycle.ensures.says)
 
 pub returns-clause-knows : goal.returns-clause-knows
-returns-clause-knows g c = known _ (invariant_of-self g c)
+returns-clause-knows g c = known _ _ _ (invariant_of-self g c)

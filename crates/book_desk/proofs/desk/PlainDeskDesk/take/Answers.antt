@@ -1,26 +1,20 @@
-use Rattle.std.proofs.Common.{◌+◌, ◌≤◌, length, refl, subst, sym, ◌∙◌}
-use Rattle.std.proofs.lemmas.List.{nil_from_length}
-use Rattle.history_book.specs.Sight.{Sight}
-use Rattle.book_desk.proofs.Known.{known}
-use Rattle.book_desk.proofs.Steps.{book_take, full, takes}
+use Rattle.std.proofs.Common.{None, refl}
+use Rattle.history_book.specs.Desk.{TakeSays}
+use Rattle.book_desk.proofs.Plain.{IsNoted, known, plain_says, still_plain}
 use Rattle.book_desk.proofs.desk.PlainDeskDesk.take.Goals as goal
-
-pub returns-then-count-eq0-clause-says : goal.returns-then-count-eq0-clause-says
-returns-then-count-eq0-clause-says g c =
-    rw (← c.self.view_is) (full c.self.inside.book c.point-at.result c.self.invariant c.point-at.ensures
-    (nil_from_length c.self.inside.book.free.items (sym c.len-count.ensures.exact ∙ c.if-count-eq0.true)))
 
 pub invariant_of-self : goal.invariant_of-self
 invariant_of-self g c =
-    book_take c.self.inside.book c.put_first.new.self c.remove-place.new.self _ c.remove-place.result c.self.invariant
-    (subst (λ (s : Sight). length s.held + length s.owed ≤ 3) (sym c.self.view_is) c.requires)
-    c.remove-place.ensures.item c.put_first.ensures.items c.put_first.ensures.room c.remove-place.ensures.items c.remove-place.ensures.room
+    let d = c.self.inside in
+    still_plain d.book c.take.new.self d.notes d.notes d.spare d.spare None c.self.invariant c.take.ensures.stays c.take.ensures.sizes
+    (record { items = refl; room = refl; less = refl })
 
 pub returns-clause-says : goal.returns-clause-says
 returns-clause-says g c =
-    rw (← c.self.view_is) (takes c.self.inside.book
-    (record c.self.inside.book { free = c.remove-place.new.self; holds = c.put_first.new.self }) _ c.remove-place.result c.self.invariant
-    c.remove-place.ensures.item refl refl refl c.put_first.ensures.items refl)
+    let d = c.self.inside in
+    let same : IsNoted d.book d.notes d.notes d.spare d.spare None = record { items = refl; room = refl; less = refl } in
+    rw (← c.self.view_is) (plain_says (λ old new. TakeSays old new c.take.result) d.book c.take.new.self d.notes d.notes d.spare d.spare None
+    c.self.invariant (invariant_of-self g c) same c.take.ensures.says)
 
 pub returns-clause-knows : goal.returns-clause-knows
-returns-clause-knows g c = known _ (invariant_of-self g c)
+returns-clause-knows g c = known _ _ _ (invariant_of-self g c)

@@ -1,0 +1,11 @@
+pub mod Sums
+pub mod Kept
+pub mod Ended
+pub mod Joined
+pub mod Among
+pub mod Called
+pub mod Answers
+pub mod Turned
+pub mod Turns
+pub mod Ends
+pub mod Laws
