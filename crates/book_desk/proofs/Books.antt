@@ -8,7 +8,9 @@ use Rattle.history_book.specs.declared.sizes.Sizes.{Sizes}
 use Rattle.history_book.specs.History.{after, is_legal}
 use Rattle.history_book.specs.State.{empty_state}
 use Rattle.history_book.specs.Sizes.{AreWithinLimits}
-use Rattle.book_desk.specs.Internal.Book.{AreBelow, ArePlaces, IsBook, IsHistory}
+use Rattle.book_desk.specs.Fields.{IsBook, IsHistory}
+use Rattle.book_desk.specs.Uses.{ArePlaces}
+use Rattle.book_desk.specs.Internal.Book.{AreBelow}
 
 -- all lists are empty, but that of the free places, which has all
 pub record AreFresh (sizes : Sizes) (records : Roomed Record) (free : Roomed ℕ) (holds : Roomed Hold) (owed : Roomed ℕ) (expects : Roomed Expectation) : Type 0 where

@@ -5,7 +5,7 @@ use Rattle.std.proofs.lemmas.List.Elements.{All-from_recursion}
 use Rattle.std.proofs.lemmas.List.Kept.{AllPairs-cons}
 use Rattle.std.specs.Prelude.{◌==◌}
 use Rattle.std.proofs.lemmas.Bool.{cases_eq, cases_lt}
-use Rattle.book_desk.specs.Internal.Book.{bit, tally}
+use Rattle.book_desk.specs.Uses.{bit, tally}
 use Rattle.book_desk.proofs.Lists.{each_map, other_bit, same_bit}
 
 -- the sum of g over the numbers below n

@@ -35,7 +35,9 @@ use Rattle.history_book.specs.Sizes.{AreWithinLimits}
 use Rattle.history_book.specs.State.{State, is_unused, live_under, next, record_of, state_of}
 use Rattle.history_book.specs.StateLaws.{DestroysTakeOne, FreeIsAbsent, IdsNameRecords, TouchesChangeOne}
 use Rattle.book_desk.specs.declared.book.Book.{Book}
-use Rattle.book_desk.specs.Internal.Book.{Adds, Agree, ArePlaces, AreReferences, IsBook, IsForRecord, IsHistory, WinsAt, sight_in, state_in, tally}
+use Rattle.book_desk.specs.Fields.{Agree, AreReferences, IsBook, IsForRecord, IsHistory, state_in}
+use Rattle.book_desk.specs.Uses.{ArePlaces, tally}
+use Rattle.book_desk.specs.Internal.Book.{Adds, WinsAt, sight_in}
 use Rattle.book_desk.proofs.Counting.{none_counted}
 use Rattle.book_desk.proofs.Histories.{at_before, history_next, made}
 use Rattle.book_desk.proofs.Lists.{each_at, each_map, none_of, tally_some}

@@ -24,7 +24,9 @@ use Rattle.history_book.specs.Laws.{EntriesKeepTheirHelper, ExpectationsAreInOrd
 use Rattle.history_book.specs.Legality.{expected_for, has_helper, is_added, may_claim, may_happen, may_unexpect, same_id}
 use Rattle.history_book.specs.State.{State, next, record_of, state_of}
 use Rattle.book_desk.specs.declared.book.Book.{Book}
-use Rattle.book_desk.specs.Internal.Book.{Adds, ArePlaces, AreReferences, IsBook, sight_in, state_in}
+use Rattle.book_desk.specs.Fields.{AreReferences, IsBook, state_in}
+use Rattle.book_desk.specs.Uses.{ArePlaces}
+use Rattle.book_desk.specs.Internal.Book.{Adds, sight_in}
 use Rattle.book_desk.proofs.Events.{book_next, same_state}
 use Rattle.book_desk.proofs.Histories.{looked, made}
 use Rattle.book_desk.proofs.References.{refs_grow}

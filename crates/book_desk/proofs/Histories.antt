@@ -11,7 +11,8 @@ use Rattle.history_book.specs.Sight.{notes_from}
 use Rattle.history_book.specs.State.{State, next}
 use Rattle.history_book.specs.WentOn.{IsSamePass, Looked, MadeEvent, Saw}
 use Rattle.book_desk.specs.declared.book.Book.{Book}
-use Rattle.book_desk.specs.Internal.Book.{IsBook, IsHistory, sight_in, state_in}
+use Rattle.book_desk.specs.Fields.{IsBook, IsHistory, state_in}
+use Rattle.book_desk.specs.Internal.Book.{sight_in}
 
 -- one note more, with the next number
 pub notes_from-push : (k : ℕ) (es : List Event) (e : Event)

@@ -3,7 +3,8 @@ use Rattle.std.proofs.Common.{◌≡◌, ◌≢◌, ℕ, ◌+◌, ◌-◌, ◌<�
 use Rattle.std.specs.List.{AllByRecursion, list_any, remove, slice_get}
 use Rattle.std.specs.Prelude.{slice_set, ◌==◌, ◌||◌}
 use Rattle.std.proofs.lemmas.Bool.{cases_Bool, cases_eq, cond_both, eq-eqb, ne_eqb}
-use Rattle.book_desk.specs.Internal.Book.{AreBelow, bit, tally}
+use Rattle.book_desk.specs.Uses.{bit, tally}
+use Rattle.book_desk.specs.Internal.Book.{AreBelow}
 
 -- the items of two lists count together
 pub tally-append : {X : Type 0} (p : X → Bool) (xs ys : List X) → tally p (xs ++ ys) ≡ tally p xs + tally p ys

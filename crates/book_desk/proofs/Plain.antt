@@ -19,8 +19,10 @@ use Rattle.history_book.specs.Sight.{AreEventsOf, IsForEntryOf, IsHoldOf, IsKnow
 use Rattle.history_book.specs.declared.sizes.Sizes.{Sizes}
 use Rattle.history_book.specs.State.{State}
 use Rattle.book_desk.specs.declared.book.Book.{Book}
-use Rattle.book_desk.specs.Internal.Book.{IsBook, StaysBook, Tells, sight_in, spare_before, with_made}
-use Rattle.book_desk.specs.Internal.Plain.{IsPlain, events_of, noted, plain_sight}
+use Rattle.book_desk.specs.Fields.{IsBook}
+use Rattle.book_desk.specs.Made.{with_made, noted}
+use Rattle.book_desk.specs.Internal.Book.{StaysBook, Tells, sight_in, spare_before}
+use Rattle.book_desk.specs.Internal.Plain.{IsPlain, events_of, plain_sight}
 use Rattle.book_desk.proofs.Counting.{all_below, apart_once, each_counted}
 use Rattle.book_desk.proofs.Histories.{get_last, get_append, notes_from-push}
 use Rattle.book_desk.proofs.Lists.{each_map, each_two, none_of}

@@ -7,7 +7,7 @@ use Rattle.history_book.specs.declared.desk.Hold.{Hold}
 use Rattle.history_book.specs.declared.record.Record.{Record}
 use Rattle.history_book.specs.Held.{for_entry, held_for, is_at, is_held, is_owed, paid, without}
 use Rattle.history_book.specs.Record.{has_place}
-use Rattle.book_desk.specs.Internal.Book.{ArePlaces, bit, tally, times, uses}
+use Rattle.book_desk.specs.Uses.{ArePlaces, bit, tally, times, uses}
 use Rattle.book_desk.proofs.Lists.{length-rest, other_bit, same_bit, tally-push, tally-remove, tally-rest, tally-set, tally_some}
 use Rattle.book_desk.proofs.Counting.{all_below, total_add, total_hit, total_le, total_ones, total_tally, total_tally_le}
 

@@ -11,7 +11,7 @@ use Rattle.history_book.specs.declared.event.Event.TheVariants.{Confirm}
 use Rattle.history_book.specs.declared.record.Record.{Record}
 use Rattle.history_book.specs.Held.{for_entry, held_for, is_at, without}
 use Rattle.history_book.specs.Sight.{IsForEntryOf, IsForOne}
-use Rattle.book_desk.specs.Internal.Book.{Agree, AreReferences, IsForRecord}
+use Rattle.book_desk.specs.Fields.{Agree, AreReferences, IsForRecord}
 use Rattle.book_desk.proofs.Histories.{get_append, get_last}
 use Rattle.book_desk.proofs.Lists.{each_map, each_push, each_remove, each_rest, each_set, each_two}
 

@@ -17,7 +17,9 @@ use Rattle.history_book.specs.Record.{has_place}
 use Rattle.history_book.specs.Sight.{IsForOne, WasConfirmedIn}
 use Rattle.history_book.specs.State.{State}
 use Rattle.book_desk.specs.declared.book.Book.{Book}
-use Rattle.book_desk.specs.Internal.Book.{ArePlaces, AreReferences, IsBook, IsForRecord, bit, sight_in, state_in, tally, times, uses}
+use Rattle.book_desk.specs.Fields.{AreReferences, IsBook, IsForRecord, state_in}
+use Rattle.book_desk.specs.Uses.{ArePlaces, bit, tally, times, uses}
+use Rattle.book_desk.specs.Internal.Book.{sight_in}
 use Rattle.book_desk.proofs.Lists.{each_at, each_map, none_of, same_bit, tally-remove, tally_none, tally_some}
 use Rattle.book_desk.proofs.Pool.{few_free, full_pool, length-paid, length-without, place_below, places_hold, places_keep, places_owe, places_pay, places_take, same_paid, same_removed}
 use Rattle.book_desk.proofs.Counting.{none_has}

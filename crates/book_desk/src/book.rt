@@ -2,7 +2,8 @@
 
 ghost use Rattle.std.specs.Prelude.{◌≡◌, ◌+◌, ◌<◌, ◌≤◌, ◌^◌, [], ◌∷◌, IfOk, Some, length, slice_get};
 ghost use Rattle.history_book.specs.Sizes.{AreWithinLimits};
-ghost use Rattle.book_desk.specs.Internal.Book.{AreBelow, IsBook, IsSomeBook};
+ghost use Rattle.book_desk.specs.Fields.{IsBook};
+ghost use Rattle.book_desk.specs.Internal.Book.{AreBelow, IsSomeBook};
 
 use expect_table::table::ExpectTable;
 use history_book::desk::Hold;

@@ -2,7 +2,7 @@
 
 ghost use Rattle.std.specs.Prelude.{◌≡◌, ◌+◌, ◌≤◌, length};
 ghost use Rattle.book_desk.specs.Internal.Book.{spare_before};
-ghost use Rattle.book_desk.specs.Internal.Plain.{noted};
+ghost use Rattle.book_desk.specs.Made.{noted};
 
 use history_book::event::{Event, Note};
 use history_book::report::Notes;

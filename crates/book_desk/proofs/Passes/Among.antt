@@ -6,7 +6,8 @@ use Rattle.std.proofs.lemmas.Bool.{and_from, and_parts, eq-eqb, eqb-true, falseâ
 use Rattle.history_book.specs.declared.desk.Hold.{Hold}
 use Rattle.history_book.specs.Held.{for_entry, held_for, held_id, id_of, is_at, is_held, is_owed, is_taken, paid, without}
 use Rattle.history_book.specs.Sight.{IsForOne}
-use Rattle.book_desk.specs.Internal.Book.{Agree, bit, tally}
+use Rattle.book_desk.specs.Fields.{Agree}
+use Rattle.book_desk.specs.Uses.{bit, tally}
 use Rattle.book_desk.specs.declared.turn.change.PlaceChange.{PlaceChange}
 use Rattle.book_desk.specs.declared.turn.change.PlaceChange.TheVariants.{Same, Holds, Names, Releases, Owes, Pays}
 use Rattle.book_desk.specs.Turn.Change.{held_after, owed_after}

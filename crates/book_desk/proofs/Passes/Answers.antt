@@ -51,8 +51,8 @@ use Rattle.book_desk.specs.declared.book.Book.{Book}
 use Rattle.book_desk.specs.declared.turn.change.PlaceChange.{PlaceChange}
 use Rattle.book_desk.specs.declared.turn.change.PlaceChange.TheVariants.{Same, Holds, Names, Releases, Owes, Pays}
 use Rattle.book_desk.specs.declared.turn.view.View.{View}
-use Rattle.book_desk.specs.Internal.Book.{sight_in, spare_before, with_made}
-use Rattle.book_desk.specs.Internal.Plain.{noted}
+use Rattle.book_desk.specs.Made.{with_made, noted}
+use Rattle.book_desk.specs.Internal.Book.{sight_in, spare_before}
 use Rattle.book_desk.specs.Internal.Seated.{pass_sight}
 use Rattle.book_desk.specs.Turn.Change.{confirmed_change, found_change, held_after, held_change, owed_after, released_change, taken_change}
 use Rattle.book_desk.specs.Turn.Steps.{HasTurn, ended, turned}

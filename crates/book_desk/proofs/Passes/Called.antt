@@ -15,8 +15,10 @@ use Rattle.history_book.specs.Sight.{AreEventsOf, IsForEntryOf, IsKnown}
 use Rattle.book_desk.specs.declared.book.Book.{Book}
 use Rattle.book_desk.specs.declared.turn.change.Ending.{Ending}
 use Rattle.book_desk.specs.declared.turn.view.View.{View}
-use Rattle.book_desk.specs.Internal.Book.{IsBook, spare_before, tally, with_made}
-use Rattle.book_desk.specs.Internal.Plain.{noted}
+use Rattle.book_desk.specs.Fields.{IsBook}
+use Rattle.book_desk.specs.Made.{with_made, noted}
+use Rattle.book_desk.specs.Uses.{tally}
+use Rattle.book_desk.specs.Internal.Book.{spare_before}
 use Rattle.book_desk.specs.Internal.Seated.{pass_sight}
 use Rattle.book_desk.specs.Turn.Change.{held_after, owed_after}
 use Rattle.book_desk.specs.Turn.Steps.{CanEnd, HasTurn, ended, turned}

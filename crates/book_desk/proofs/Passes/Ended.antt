@@ -17,8 +17,7 @@ use Rattle.history_book.specs.Sight.{AreEventsOf, notes_from}
 use Rattle.book_desk.specs.declared.book.Book.{Book}
 use Rattle.book_desk.specs.declared.turn.change.Ending.{Ending}
 use Rattle.book_desk.specs.declared.turn.view.View.{View}
-use Rattle.book_desk.specs.Internal.Book.{with_made}
-use Rattle.book_desk.specs.Internal.Plain.{noted}
+use Rattle.book_desk.specs.Made.{with_made, noted}
 use Rattle.book_desk.specs.Turn.Passes.{ArePasses, IsPass, has_share, made_weight, shares_of}
 use Rattle.book_desk.specs.Turn.Places.{AreOfPasses}
 use Rattle.book_desk.specs.Turn.Rule.{Holds, IsKept, packed, turn_of}

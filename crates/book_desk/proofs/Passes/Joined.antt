@@ -13,7 +13,7 @@ use Rattle.history_book.specs.declared.event.Note.{Note}
 use Rattle.history_book.specs.declared.sizes.Sizes.{Sizes}
 use Rattle.book_desk.specs.declared.book.Book.{Book}
 use Rattle.book_desk.specs.declared.turn.view.View.{View}
-use Rattle.book_desk.specs.Internal.Book.{IsBook}
+use Rattle.book_desk.specs.Fields.{IsBook}
 use Rattle.book_desk.specs.Turn.Passes.{IsPass, IsSpent, has_share, made_weight, shares_of}
 use Rattle.book_desk.specs.Turn.Rule.{Holds, IsKept, first_view, packed, turn_of}
 use Rattle.book_desk.specs.Turn.Steps.{IsLast, further, joined, shares_left, spent_view}

@@ -9,12 +9,12 @@ use Rattle.history_book.specs.declared.event.Event.{Event}
 use Rattle.history_book.specs.declared.sizes.Sizes.{Sizes}
 use Rattle.book_desk.specs.declared.book.Book.{Book}
 use Rattle.book_desk.specs.declared.turn.view.View.{View}
-use Rattle.book_desk.specs.Internal.Book.{bit, tally, times, uses}
+use Rattle.book_desk.specs.Uses.{bit, tally, times, uses}
 use Rattle.book_desk.specs.Turn.Laws.{debts_of, held_at, owed_at, users_of}
 use Rattle.book_desk.specs.Turn.Rule.{IsKept}
 use Rattle.book_desk.specs.Turn.Sums.{total}
 use Rattle.book_desk.proofs.Passes.Sums.{total_term}
-use Rattle.std.proofs.lemmas.Bool.{cases_eq, cases_lt}
+use Rattle.std.proofs.lemmas.Bool.{cases_lt}
 
 -- a count of items is the sum of ones
 pub tally_total : {X : Type 0} (p : X → Bool) (xs : List X) → tally p xs ≡ total (λ x. bit (p x)) xs

@@ -30,8 +30,9 @@ use Rattle.book_desk.specs.declared.turn.change.Ending.{Ending}
 use Rattle.book_desk.specs.declared.turn.change.PlaceChange.{PlaceChange}
 use Rattle.book_desk.specs.declared.turn.pass.Pass.{Pass}
 use Rattle.book_desk.specs.declared.turn.view.View.{View}
-use Rattle.book_desk.specs.Internal.Book.{IsBook, spare_before, with_made}
-use Rattle.book_desk.specs.Internal.Plain.{noted}
+use Rattle.book_desk.specs.Fields.{IsBook}
+use Rattle.book_desk.specs.Made.{with_made, noted}
+use Rattle.book_desk.specs.Internal.Book.{spare_before}
 use Rattle.book_desk.specs.Internal.Seated.{IsSeated, numbers_of, pass_sight, sight_at}
 use Rattle.book_desk.specs.Turn.Change.{confirmed_change, found_change, held_after, held_change, owed_after, released_change, taken_change}
 use Rattle.book_desk.specs.Turn.Rule.{IsTable}

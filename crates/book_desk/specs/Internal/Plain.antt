@@ -1,20 +1,15 @@
 -- What the fields of the desk of one thread say, and when they are right.
-use Rattle.std.specs.Prelude.{◌≡◌, ℕ, ◌+◌, ◌≤◌, ◌^◌, Option, Some, None, List, [], ◌∷◌, ◌++◌, length, map}
+use Rattle.std.specs.Prelude.{◌≡◌, ℕ, ◌+◌, ◌≤◌, ◌^◌, List, [], length, map}
 use Rattle.room_list.specs.Roomed.{Roomed}
 use Rattle.history_book.specs.declared.event.Event.{Event}
 use Rattle.history_book.specs.declared.event.Note.{Note}
 use Rattle.history_book.specs.Sight.{Sight, notes_from}
 use Rattle.book_desk.specs.declared.book.Book.{Book}
-use Rattle.book_desk.specs.Internal.Book.{IsBook}
+use Rattle.book_desk.specs.Fields.{IsBook}
 
 -- the events of notes
 abbrev pub events_of : List Note → List Event
 events_of notes = map (λ (n : Note). n.event) notes
-
--- the notes, and this event if there is one
-abbrev pub noted : List Note → ℕ → Option Event → List Note
-noted notes number None = notes
-noted notes number (Some e) = notes ++ record { number = number; event = e } ∷ []
 
 -- what the desk knows: it is the one pass of its tracker, which stands on no table
 abbrev pub plain_sight : Book → List Note → ℕ → Sight

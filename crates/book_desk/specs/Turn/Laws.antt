@@ -9,7 +9,7 @@ use Rattle.history_book.specs.declared.event.Event.{Event}
 use Rattle.history_book.specs.declared.sizes.Sizes.{Sizes}
 use Rattle.book_desk.specs.declared.book.Book.{Book}
 use Rattle.book_desk.specs.declared.turn.view.View.{View}
-use Rattle.book_desk.specs.Internal.Book.{bit, tally, times}
+use Rattle.book_desk.specs.Uses.{bit, tally, times}
 use Rattle.book_desk.specs.Turn.Rule.{IsKept}
 use Rattle.book_desk.specs.Turn.Sums.{total}
 

@@ -8,7 +8,7 @@ use Rattle.history_book.specs.declared.event.Event.{Event}
 use Rattle.history_book.specs.declared.sizes.Sizes.{Sizes}
 use Rattle.book_desk.specs.declared.book.Book.{Book}
 use Rattle.book_desk.specs.declared.turn.view.View.{View}
-use Rattle.book_desk.specs.Internal.Book.{IsBook}
+use Rattle.book_desk.specs.Fields.{IsBook}
 use Rattle.book_desk.specs.Turn.Passes.{ArePasses}
 use Rattle.book_desk.specs.Turn.Places.{AreOfPasses}
 use Rattle.book_desk.specs.Turn.Sums.{Each, total}

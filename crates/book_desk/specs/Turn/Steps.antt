@@ -10,8 +10,8 @@ use Rattle.history_book.specs.Sight.{AreEventsOf, notes_from}
 use Rattle.book_desk.specs.declared.book.Book.{Book}
 use Rattle.book_desk.specs.declared.turn.change.Ending.{Ending}
 use Rattle.book_desk.specs.declared.turn.view.View.{View}
-use Rattle.book_desk.specs.Internal.Book.{IsBook, with_made}
-use Rattle.book_desk.specs.Internal.Plain.{noted}
+use Rattle.book_desk.specs.Fields.{IsBook}
+use Rattle.book_desk.specs.Made.{with_made, noted}
 use Rattle.book_desk.specs.Turn.Change.{held_after, owed_after}
 use Rattle.book_desk.specs.Turn.Rule.{packed}
 use Rattle.book_desk.specs.Turn.Sums.{total}

@@ -4,7 +4,8 @@ use Rattle.history_book.specs.declared.event.Event.TheVariants.{Confirm}
 use Rattle.history_book.specs.Desk.{Confirms, IsClash}
 use Rattle.history_book.specs.Entry.{record_for}
 use Rattle.history_book.specs.State.{live_under, state_of}
-use Rattle.book_desk.specs.Internal.Book.{IsBook, WinsAt, sight_in}
+use Rattle.book_desk.specs.Fields.{IsBook}
+use Rattle.book_desk.specs.Internal.Book.{WinsAt, sight_in}
 use Rattle.book_desk.proofs.Events.{enter_room, entered, taken_unused, winner_is}
 use Rattle.book_desk.proofs.Histories.{looked, made}
 use Rattle.book_desk.proofs.book.Book.confirm.Goals as goal

@@ -8,7 +8,8 @@ use Rattle.history_book.specs.DeskExpectations.{expectation_at}
 use Rattle.history_book.specs.Legality.{has_helper}
 use Rattle.history_book.specs.State.{record_of}
 use Rattle.history_book.specs.WentOn.{MadeEvent}
-use Rattle.book_desk.specs.Internal.Book.{sight_in, state_in}
+use Rattle.book_desk.specs.Fields.{state_in}
+use Rattle.book_desk.specs.Internal.Book.{sight_in}
 use Rattle.book_desk.proofs.Expectations.{CanExpect, can_expect, made_alone, newest, not_added, promised}
 use Rattle.book_desk.proofs.book.Book.expect.Goals as goal
 

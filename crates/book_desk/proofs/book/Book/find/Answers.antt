@@ -1,5 +1,5 @@
 use Rattle.std.proofs.Common.{subst, sym}
-use Rattle.book_desk.specs.Internal.Book.{IsBook}
+use Rattle.book_desk.specs.Fields.{IsBook}
 use Rattle.book_desk.proofs.Steps.{book_hold}
 use Rattle.book_desk.proofs.book.Book.find.Goals as goal
 

@@ -6,7 +6,8 @@ use Rattle.history_book.specs.Desk.{HoldsOneMore, IsLiveIn}
 use Rattle.history_book.specs.Record.{has_place}
 use Rattle.history_book.specs.State.{is_unused}
 use Rattle.book_desk.specs.declared.book.Book.{Book}
-use Rattle.book_desk.specs.Internal.Book.{IsBook, sight_in, state_in}
+use Rattle.book_desk.specs.Fields.{IsBook, state_in}
+use Rattle.book_desk.specs.Internal.Book.{sight_in}
 use Rattle.book_desk.proofs.Histories.{looked}
 use Rattle.book_desk.proofs.Positions.{none_at, passes_at}
 use Rattle.book_desk.proofs.Steps.{book_hold, live_in}
