@@ -5,6 +5,7 @@ pub mod Joined
 pub mod Among
 pub mod Called
 pub mod Answers
+pub mod Right
 pub mod Turned
 pub mod Turns
 pub mod Ends

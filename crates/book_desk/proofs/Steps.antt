@@ -223,7 +223,7 @@ not_not true = refl
 not_not false = refl
 
 -- whether a place is in use, by the fields
-used_is : (log : List Event) (spare : ℕ) (b : Book) (p : ℕ) → IsBook log b
+pub used_is : (log : List Event) (spare : ℕ) (b : Book) (p : ℕ) → IsBook log b
     → is_in_use p (sight_in log spare b) ≡ (list_any (has_place p) b.records.items || is_held p b.holds.items || is_owed p b.owed.items)
 used_is log spare b p h =
     ap (λ (s : State). not (not (list_any (has_place p) s.records)) || is_held p b.holds.items || is_owed p b.owed.items) (sym h.history.state)

@@ -20,7 +20,7 @@ use Rattle.book_desk.specs.Made.{with_made, noted}
 use Rattle.book_desk.specs.Uses.{tally}
 use Rattle.book_desk.specs.Internal.Book.{spare_before}
 use Rattle.book_desk.specs.Internal.Seated.{pass_sight}
-use Rattle.book_desk.specs.Turn.Change.{held_after, owed_after}
+use Rattle.book_desk.specs.Turn.Change.{IsRightChange, held_after, owed_after}
 use Rattle.book_desk.specs.Turn.Steps.{CanEnd, HasTurn, ended, turned}
 use Rattle.book_desk.specs.Turn.Sums.{total}
 use Rattle.book_desk.proofs.Counting.{all_below, apart_once, each_counted}
@@ -56,6 +56,7 @@ pub record IsCall (tracker : List ℕ) (v : View) (log : List Event) (b b' : Boo
   pub held : b'.holds.items ≡ held_after e.places b.holds.items
   pub owed : b'.owed.items ≡ owed_after e.places b.owed.items
   pub can : CanChange e.places v.held v.owed
+  pub right : IsRightChange e.places b.free.items b'
 
 module _ (tracker : List ℕ) (v : View) (log : List Event) (b b' : Book) (e : Ending) (notes : List Note) (spare less : ℕ)
     (c : IsCall tracker v log b b' e notes spare) (room : spare ≡ spare_before less e.made) where
@@ -71,6 +72,7 @@ module _ (tracker : List ℕ) (v : View) (log : List Event) (b b' : Book) (e : E
       held_balance e.places v.held b.holds.items v.owed c.has.book.references.agreed c.has.held c.can weight,
     );
     owed = λ weight. omega (arith, ap (total weight) c.owed, owed_balance e.places v.held v.owed b.owed.items c.has.owed c.can weight);
+    right = c.right;
     few = few_after e.places v.held v.owed c.known.places c.can;
     own_few = omega (arith, longer v.own (length log) e.made spare less room, ap length c.own, c.known.spared);
   }

@@ -156,7 +156,8 @@ module _ (z : Sizes) (e : Ending) (v : View) (b b' : Book) (s : State (Option Bo
     );
   }
 
-  places_ended : AreOfPasses b' (set s.views id (ended e v))
+  -- the places of the book are those of the passes then
+  pub places_ended : AreOfPasses b' (set s.views id (ended e v))
   places_ended = record {
     held = λ weight. omega (
       arith,

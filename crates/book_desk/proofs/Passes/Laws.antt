@@ -1,5 +1,5 @@
 -- The places of all passes, as the rule of the turns has them.
-use Rattle.std.proofs.Common.{◌≡◌, ℕ, ◌+◌, ◌<◌, ◌≤◌, min, zero, suc, Bool, Option, List, [], ◌∷◌, refl, ap, sym, subst, ◌∙◌, ◌==◌, ⊎_elim, arith}
+use Rattle.std.proofs.Common.{◌≡◌, ◌≢◌, Some, None, ℕ, ◌+◌, ◌<◌, ◌≤◌, min, zero, suc, Bool, Option, List, [], ◌∷◌, refl, ap, sym, subst, ◌∙◌, ◌==◌, ⊎_elim, arith}
 use mathlib.Core.Option.{some}
 use lib.ListN.{get_elem?}
 use Rattle.atomic_table.specs.Table.{State}
@@ -8,11 +8,18 @@ use Rattle.history_book.specs.Record.{has_place}
 use Rattle.history_book.specs.declared.event.Event.{Event}
 use Rattle.history_book.specs.declared.sizes.Sizes.{Sizes}
 use Rattle.book_desk.specs.declared.book.Book.{Book}
+use Rattle.book_desk.specs.declared.turn.change.Ending.{Ending}
+use Rattle.book_desk.specs.declared.turn.change.PlaceChange.{PlaceChange}
+use Rattle.book_desk.specs.declared.turn.change.PlaceChange.TheVariants.{Holds, Releases, Owes, Pays}
 use Rattle.book_desk.specs.declared.turn.view.View.{View}
 use Rattle.book_desk.specs.Uses.{bit, tally, times, uses}
-use Rattle.book_desk.specs.Turn.Laws.{debts_of, held_at, owed_at, users_of}
+use Rattle.book_desk.specs.Turn.Change.{IsRightChange}
+use Rattle.book_desk.specs.Turn.Laws.{MayEnd, debts_of, held_at, owed_at, users_of, views_then}
+use Rattle.book_desk.specs.Turn.Places.{AreOfPasses}
 use Rattle.book_desk.specs.Turn.Rule.{IsKept}
+use Rattle.book_desk.specs.Turn.Steps.{free_in}
 use Rattle.book_desk.specs.Turn.Sums.{total}
+use Rattle.book_desk.proofs.Passes.Ended.{places_ended}
 use Rattle.book_desk.proofs.Passes.Sums.{total_term}
 use Rattle.std.proofs.lemmas.Bool.{cases_lt}
 
@@ -21,25 +28,25 @@ pub tally_total : {X : Type 0} (p : X → Bool) (xs : List X) → tally p xs ≡
 tally_total p [] = refl
 tally_total p (x ∷ xs) = ap (λ (n : ℕ). bit (p x) + n) (tally_total p xs)
 
+-- the users of a place in the book are the entry and the references of all passes
+users_same : (b : Book) (views : List View) (place : ℕ) → AreOfPasses b views → uses place b.records.items b.holds.items ≡ users_of place b views
+users_same b views place h = ap (λ (n : ℕ). tally (has_place place) b.records.items + n)
+    (tally_total (is_at place) b.holds.items ∙ h.held (λ k. bit (is_at place k)))
+
+-- the debts of the book are those of all passes
+debts_same : (b : Book) (views : List View) (place : ℕ) → AreOfPasses b views → times place b.owed.items ≡ debts_of place views
+debts_same b views place h = tally_total (λ p. p == place) b.owed.items ∙ h.owed (λ p. bit (p == place))
+
 module _ (z : Sizes) (log : List Event) (b : Book) (s : State (Option Book) View) (place : ℕ) (kept : IsKept z log b s) where
-  -- the users of a place in the book are the entry and the references of all passes
-  users_same : uses place b.records.items b.holds.items ≡ users_of place b s.views
-  users_same = ap (λ (n : ℕ). tally (has_place place) b.records.items + n)
-      (tally_total (is_at place) b.holds.items ∙ kept.places.held (λ h. bit (is_at place h)))
-
-  -- the debts of the book are those of all passes
-  debts_same : times place b.owed.items ≡ debts_of place s.views
-  debts_same = tally_total (λ p. p == place) b.owed.items ∙ kept.places.owed (λ p. bit (p == place))
-
   pub one_use : place < z.entries → times place b.free.items + debts_of place s.views + min (users_of place b s.views) 1 ≡ 1
-  one_use below = subst (λ (n : ℕ). times place b.free.items + n + min (users_of place b s.views) 1 ≡ 1) debts_same
-      (subst (λ (n : ℕ). times place b.free.items + times place b.owed.items + min n 1 ≡ 1) users_same
+  one_use below = subst (λ (n : ℕ). times place b.free.items + n + min (users_of place b s.views) 1 ≡ 1) (debts_same b s.views place kept.places)
+      (subst (λ (n : ℕ). times place b.free.items + times place b.owed.items + min n 1 ≡ 1) (users_same b s.views place kept.places)
       (kept.book.places.once place (subst (λ (y : Sizes). place < y.entries) (sym kept.sizes) below)))
 
   pub no_other : z.entries ≤ place → times place b.free.items + debts_of place s.views + users_of place b s.views ≡ 0
   no_other beyond =
       let none = kept.book.places.beyond place (subst (λ (y : Sizes). y.entries ≤ place) (sym kept.sizes) beyond) in
-      omega (arith, none, users_same, debts_same)
+      omega (arith, none, users_same b s.views place kept.places, debts_same b s.views place kept.places)
 
 -- one of three that add up to one, of which the last counts once at most
 not_first : (f d n h o : ℕ) → f + d + min n 1 ≡ 1 → h ≤ n → o ≤ d → 0 < h + o → f ≡ 0
@@ -65,3 +72,65 @@ not_free z log b s i place v kept at has =
     (held_at place v) (owed_at place v) (one_use z log b s place kept below) held owed has)
     (λ (beyond : z.entries ≤ place). omega (arith, no_other z log b s place kept beyond))
     (cases_lt place z.entries)
+
+-- where the first of three is one, the others are nothing
+only_first : (f d n : ℕ) → f + d + min n 1 ≡ 1 → f ≡ 1 → d + n ≡ 0
+only_first f d zero all one = omega (arith, all, one)
+only_first f d (suc n) all one = absurd (omega (arith, all, one))
+
+-- a pass with the turn ends it
+module _ (z : Sizes) (log : List Event) (b : Book) (s : State (Option Book) View) (i place : ℕ) (v : View) (e : Ending) (new : Book)
+    (m : MayEnd z log b s i v e new) where
+  -- it knows the book
+  known : v.book ≡ Some b
+  known = (m.kept.away i v m.at m.can.turn).0
+
+  right : (c : PlaceChange) → e.places ≡ c → IsRightChange c b.free.items new
+  right c is =
+      subst (λ (x : PlaceChange). IsRightChange x b.free.items new) is
+      (subst (λ (o : Option Book). IsRightChange e.places (free_in o) new) known m.can.right)
+
+  -- the places of the book that it leaves are those of the passes then
+  places_then : AreOfPasses new (views_then s.views i v e)
+  places_then =
+      places_ended z e v b new s i m.at m.can known
+      (subst (λ (l : List Event). IsKept z l b s) (sym (m.kept.away i v m.at m.can.turn).1) m.kept)
+
+  pub nobodys : e.places ≡ Holds (record { place = place; id = None }) → debts_of place s.views + users_of place b s.views ≡ 0
+  nobodys is =
+      let free : times place b.free.items ≡ 1 = right (Holds (record { place = place; id = None })) is in
+      ⊎_elim (λ (below : place < z.entries). only_first (times place b.free.items) (debts_of place s.views) (users_of place b s.views)
+      (one_use z log b s place m.kept below) free)
+      (λ (beyond : z.entries ≤ place). absurd (omega (arith, free, no_other z log b s place m.kept beyond)))
+      (cases_lt place z.entries)
+
+  pub not_given : (j : ℕ) (u : View) → get_elem? s.views j ≡ some u → 0 < held_at place u + owed_at place u
+      → e.places ≢ Holds (record { place = place; id = None })
+  not_given j u at has is =
+      let held : held_at place u ≤ total (λ w. held_at place w) s.views = total_term (λ w. held_at place w) s.views j u at in
+      let owed : owed_at place u ≤ debts_of place s.views = total_term (λ w. owed_at place w) s.views j u at in
+      omega (arith, has, held, owed, nobodys is)
+
+  pub use_left : e.places ≡ Releases place → 0 < users_of place new (views_then s.views i v e)
+  use_left is = subst (λ (n : ℕ). 0 < n) (users_same new (views_then s.views i v e) place places_then) (right (Releases place) is)
+
+  pub no_use_left : e.places ≡ Owes place → users_of place new (views_then s.views i v e) ≡ 0
+  no_use_left is = sym (users_same new (views_then s.views i v e) place places_then) ∙ right (Owes place) is
+
+  pub free_then : e.places ≡ Pays place
+      → (times place new.free.items ≡ 1) × (debts_of place (views_then s.views i v e) + users_of place new (views_then s.views i v e) ≡ 0)
+  free_then is =
+      let free : times place new.free.items ≡ 1 = right (Pays place) is in
+      let none : times place new.owed.items + uses place new.records.items new.holds.items ≡ 0 =
+      ⊎_elim (λ (below : place < new.sizes.entries). only_first (times place new.free.items) (times place new.owed.items)
+      (uses place new.records.items new.holds.items) (m.can.book.places.once place below) free)
+      (λ (beyond : new.sizes.entries ≤ place). absurd (omega (arith, free, m.can.book.places.beyond place beyond)))
+      (cases_lt place new.sizes.entries) in (
+        free,
+        omega (
+          arith,
+          none,
+          users_same new (views_then s.views i v e) place places_then,
+          debts_same new (views_then s.views i v e) place places_then,
+        ),
+      )

@@ -34,7 +34,7 @@ use Rattle.book_desk.specs.Fields.{IsBook}
 use Rattle.book_desk.specs.Made.{with_made, noted}
 use Rattle.book_desk.specs.Internal.Book.{spare_before}
 use Rattle.book_desk.specs.Internal.Seated.{IsSeated, numbers_of, pass_sight, sight_at}
-use Rattle.book_desk.specs.Turn.Change.{confirmed_change, found_change, held_after, held_change, owed_after, released_change, taken_change}
+use Rattle.book_desk.specs.Turn.Change.{IsRightChange, confirmed_change, found_change, held_after, held_change, owed_after, released_change, taken_change}
 use Rattle.book_desk.specs.Turn.Rule.{IsTable}
 use Rattle.book_desk.specs.Turn.Steps.{CanEnd, HasTurn, ended, turned}
 use Rattle.book_desk.proofs.Histories.{get_append}
@@ -54,6 +54,7 @@ pub record IsTurn (p : Pass) (me : Me (Option Book) View) (b b' : Book) (places 
   pub held : b'.holds.items ≡ held_after places b.holds.items
   pub owed : b'.owed.items ≡ owed_after places b.owed.items
   pub can : CanChange places p.seat.me.0.held p.seat.me.0.owed
+  pub right : IsRightChange places b.free.items b'
   pub room : p.spare ≡ spare_before less made
 
 module _ (p : Pass) (me : Me (Option Book) View) (b b' : Book) (places : PlaceChange) (made : Option Event) (less : ℕ)
@@ -72,6 +73,7 @@ module _ (p : Pass) (me : Me (Option Book) View) (b b' : Book) (places : PlaceCh
     held = t.held;
     owed = t.owed;
     can = t.can;
+    right = t.right;
   }
 
   -- the turn may end so

@@ -1,5 +1,6 @@
 -- Each call in its turn: what it did, and what it tells its desk.
 use Rattle.std.proofs.Common.{◌≡◌, ℕ, ◌+◌, ◌≤◌, true, List, length, refl, ap, arith, Option, None}
+use Rattle.std.specs.Prelude.{◌==◌}
 use Rattle.atomic_table.specs.Table.{Me}
 use Rattle.expect_table.specs.declared.expectation.Expectation.{Expectation}
 use Rattle.expect_table.specs.declared.expectation.Want.{Want}
@@ -22,7 +23,7 @@ use Rattle.history_book.specs.declared.outcome.UnexpectOutcome.{UnexpectOutcome}
 use Rattle.history_book.specs.declared.record.Flow.{Flow}
 use Rattle.history_book.specs.Desk.{ConfirmSays, FindSays, HoldSays, KillSays, PeekSays, RecycleSays, ReleaseSays, TakeSays, TouchSays}
 use Rattle.history_book.specs.DeskExpectations.{ClaimSays, ExpectSays, ListsExpected, UnexpectSays}
-use Rattle.history_book.specs.Held.{is_held, is_owed, is_taken}
+use Rattle.history_book.specs.Held.{is_at, is_held, is_owed, is_taken}
 use Rattle.history_book.specs.Sight.{Sight}
 use Rattle.book_desk.specs.declared.book.Book.{Book}
 use Rattle.book_desk.specs.declared.turn.change.PlaceChange.{PlaceChange}
@@ -31,19 +32,21 @@ use Rattle.book_desk.specs.declared.turn.pass.Pass.{Pass}
 use Rattle.book_desk.specs.declared.turn.view.View.{View}
 use Rattle.book_desk.specs.Internal.Book.{StaysBook, Tells, spare_before}
 use Rattle.book_desk.specs.Internal.Seated.{IsSeated, numbers_of, sight_at}
-use Rattle.book_desk.specs.Turn.Change.{confirmed_change, found_change, held_after, held_change, owed_after, released_change, taken_change}
+use Rattle.book_desk.specs.Turn.Change.{IsRightChange, confirmed_change, found_change, held_after, held_change, owed_after, released_change, taken_change}
 use Rattle.book_desk.specs.Turn.Steps.{TookBook}
 use Rattle.book_desk.specs.Turn.Sums.{total}
-use Rattle.book_desk.proofs.Passes.Among.{CanChange, held_balance}
+use Rattle.book_desk.proofs.Passes.Among.{CanChange, any_among, held_balance}
 use Rattle.book_desk.proofs.Passes.Answers.{claim_places, claim_says, confirm_places, confirm_says, expect_places, expect_says, find_places, find_says, hold_places, hold_says, kill_places, kill_says, lists_says, peek_says, recycle_says, release_places, release_says, take_places, take_says, touch_places, touch_says, unexpect_places, unexpect_says}
+use Rattle.book_desk.proofs.Passes.Right.{confirm_right, find_right, hold_right, recycle_right, release_right, take_right}
 use Rattle.book_desk.proofs.Passes.Turned.{IsAfter, IsTurn, can_confirm, can_find, can_hold, can_release, can_take, held_then, owed_then, told}
 
 -- a call that left the book right, with this change of its places
 is_turn : (p : Pass) (me : Me (Option Book) View) (b b' : Book) (places : PlaceChange) (made : Option Event) (less : ℕ)
     → IsSeated p → (took : TookBook p.seat.me.0 me b) → StaysBook b b' made → b'.sizes ≡ b.sizes
     → b'.holds.items ≡ held_after places b.holds.items → b'.owed.items ≡ owed_after places b.owed.items
-    → CanChange places p.seat.me.0.held p.seat.me.0.owed → p.spare ≡ spare_before less made → IsTurn p me b b' places made less
-is_turn p me b b' places made less seated took stays sizes held owed can room = record {
+    → CanChange places p.seat.me.0.held p.seat.me.0.owed → IsRightChange places b.free.items b' → p.spare ≡ spare_before less made
+    → IsTurn p me b b' places made less
+is_turn p me b b' places made less seated took stays sizes held owed can right room = record {
   seated = seated;
   log = took.0;
   has = took.1;
@@ -53,6 +56,7 @@ is_turn p me b b' places made less seated took stays sizes held owed can room = 
   held = held;
   owed = owed;
   can = can;
+  right = right;
   room = room;
 }
 
@@ -60,7 +64,8 @@ pub find_turn : (p : Pass) (me : Me (Option Book) View) (b b' : Book) (t' : Tupl
     → Tells b b' None (λ (old new : Sight). FindSays t' old new o) → length p.seat.me.0.held + length p.seat.me.0.owed ≤ 3 → IsTurn p me b b' (found_change o) None p.spare
 find_turn p me b b' t' o seated took stays sizes says ok =
     is_turn p me b b' (found_change o) None p.spare seated took stays sizes
-    ((find_places (numbers_of p.seat.table_id) p.seat.me.0 took.0 b b' p.notes.items p.spare took.1 t' o (says took.0 p.spare took.1.book)).0) ((find_places (numbers_of p.seat.table_id) p.seat.me.0 took.0 b b' p.notes.items p.spare took.1 t' o (says took.0 p.spare took.1.book)).1) (can_find o p.seat.me.0.held p.seat.me.0.owed ok) refl
+    ((find_places (numbers_of p.seat.table_id) p.seat.me.0 took.0 b b' p.notes.items p.spare took.1 t' o (says took.0 p.spare took.1.book)).0) ((find_places (numbers_of p.seat.table_id) p.seat.me.0 took.0 b b' p.notes.items p.spare took.1 t' o (says took.0 p.spare took.1.book)).1) (can_find o p.seat.me.0.held p.seat.me.0.owed ok)
+    (find_right took.0 p.spare b b' took.1.book (stays took.0 took.1.book) t' o (says took.0 p.spare took.1.book)) refl
 
 pub find_told : (p : Pass) (me : Me (Option Book) View) (b b' : Book) (q : PlaceChange) (t' : Tuple) (o : FindOutcome) (new : Pass)
     → (t : IsTurn p me b b' (found_change o) None p.spare) → IsAfter p me b (found_change o) q None p.spare new
@@ -74,7 +79,8 @@ pub hold_turn : (p : Pass) (me : Me (Option Book) View) (b b' : Book) (place : �
     → Tells b b' None (λ (old new : Sight). HoldSays place old new o) → length p.seat.me.0.held + length p.seat.me.0.owed ≤ 3 → IsTurn p me b b' (held_change place o) None p.spare
 hold_turn p me b b' place o seated took stays sizes says ok =
     is_turn p me b b' (held_change place o) None p.spare seated took stays sizes
-    ((hold_places (numbers_of p.seat.table_id) p.seat.me.0 took.0 b b' p.notes.items p.spare took.1 place o (says took.0 p.spare took.1.book)).0) ((hold_places (numbers_of p.seat.table_id) p.seat.me.0 took.0 b b' p.notes.items p.spare took.1 place o (says took.0 p.spare took.1.book)).1) (can_hold place o p.seat.me.0.held p.seat.me.0.owed ok) refl
+    ((hold_places (numbers_of p.seat.table_id) p.seat.me.0 took.0 b b' p.notes.items p.spare took.1 place o (says took.0 p.spare took.1.book)).0) ((hold_places (numbers_of p.seat.table_id) p.seat.me.0 took.0 b b' p.notes.items p.spare took.1 place o (says took.0 p.spare took.1.book)).1) (can_hold place o p.seat.me.0.held p.seat.me.0.owed ok)
+    (hold_right took.0 p.spare b b' took.1.book (stays took.0 took.1.book) place o (says took.0 p.spare took.1.book)) refl
 
 pub hold_told : (p : Pass) (me : Me (Option Book) View) (b b' : Book) (q : PlaceChange) (place : ℕ) (o : HoldOutcome) (new : Pass)
     → (t : IsTurn p me b b' (held_change place o) None p.spare) → IsAfter p me b (held_change place o) q None p.spare new
@@ -88,7 +94,8 @@ pub take_turn : (p : Pass) (me : Me (Option Book) View) (b b' : Book) (o : TakeO
     → Tells b b' None (λ (old new : Sight). TakeSays old new o) → length p.seat.me.0.held + length p.seat.me.0.owed ≤ 3 → IsTurn p me b b' (taken_change o) None p.spare
 take_turn p me b b' o seated took stays sizes says ok =
     is_turn p me b b' (taken_change o) None p.spare seated took stays sizes
-    ((take_places (numbers_of p.seat.table_id) p.seat.me.0 took.0 b b' p.notes.items p.spare took.1 o (says took.0 p.spare took.1.book)).0) ((take_places (numbers_of p.seat.table_id) p.seat.me.0 took.0 b b' p.notes.items p.spare took.1 o (says took.0 p.spare took.1.book)).1) (can_take o p.seat.me.0.held p.seat.me.0.owed ok) refl
+    ((take_places (numbers_of p.seat.table_id) p.seat.me.0 took.0 b b' p.notes.items p.spare took.1 o (says took.0 p.spare took.1.book)).0) ((take_places (numbers_of p.seat.table_id) p.seat.me.0 took.0 b b' p.notes.items p.spare took.1 o (says took.0 p.spare took.1.book)).1) (can_take o p.seat.me.0.held p.seat.me.0.owed ok)
+    (take_right took.0 p.spare b b' took.1.book (stays took.0 took.1.book) o (says took.0 p.spare took.1.book)) refl
 
 pub take_told : (p : Pass) (me : Me (Option Book) View) (b b' : Book) (q : PlaceChange) (o : TakeOutcome) (new : Pass)
     → (t : IsTurn p me b b' (taken_change o) None p.spare) → IsAfter p me b (taken_change o) q None p.spare new
@@ -102,7 +109,9 @@ pub release_turn : (p : Pass) (me : Me (Option Book) View) (b b' : Book) (place 
     → Tells b b' None (λ (old new : Sight). ReleaseSays place old new o) → is_held place p.seat.me.0.held ≡ true → IsTurn p me b b' (released_change place o) None p.spare
 release_turn p me b b' place o seated took stays sizes says ok =
     is_turn p me b b' (released_change place o) None p.spare seated took stays sizes
-    ((release_places (numbers_of p.seat.table_id) p.seat.me.0 took.0 b b' p.notes.items p.spare took.1 place o (says took.0 p.spare took.1.book)).0) ((release_places (numbers_of p.seat.table_id) p.seat.me.0 took.0 b b' p.notes.items p.spare took.1 place o (says took.0 p.spare took.1.book)).1) (can_release place o p.seat.me.0.held p.seat.me.0.owed ok) refl
+    ((release_places (numbers_of p.seat.table_id) p.seat.me.0 took.0 b b' p.notes.items p.spare took.1 place o (says took.0 p.spare took.1.book)).0) ((release_places (numbers_of p.seat.table_id) p.seat.me.0 took.0 b b' p.notes.items p.spare took.1 place o (says took.0 p.spare took.1.book)).1) (can_release place o p.seat.me.0.held p.seat.me.0.owed ok)
+    (release_right took.0 p.spare b b' took.1.book (stays took.0 took.1.book) place o (any_among (is_at place) p.seat.me.0.held b.holds.items took.1.held ok)
+    (says took.0 p.spare took.1.book)) refl
 
 pub release_told : (p : Pass) (me : Me (Option Book) View) (b b' : Book) (q : PlaceChange) (place : ℕ) (o : ReleaseOutcome) (new : Pass)
     → (t : IsTurn p me b b' (released_change place o) None p.spare) → IsAfter p me b (released_change place o) q None p.spare new
@@ -124,7 +133,9 @@ pub recycle_turn : (p : Pass) (me : Me (Option Book) View) (b b' : Book) (place 
     → Tells b b' None (λ (old new : Sight). RecycleSays place old new) → is_owed place p.seat.me.0.owed ≡ true → IsTurn p me b b' (Pays place) None p.spare
 recycle_turn p me b b' place seated took stays sizes says ok =
     is_turn p me b b' (Pays place) None p.spare seated took stays sizes
-    ((says took.0 p.spare took.1.book).held) ((says took.0 p.spare took.1.book).owed) ok refl
+    ((says took.0 p.spare took.1.book).held) ((says took.0 p.spare took.1.book).owed) ok
+    (recycle_right took.0 p.spare b b' took.1.book (stays took.0 took.1.book) place (any_among (λ q. q == place) p.seat.me.0.owed b.owed.items took.1.owed ok) sizes
+    (says took.0 p.spare took.1.book)) refl
 
 pub recycle_told : (p : Pass) (me : Me (Option Book) View) (b b' : Book) (q : PlaceChange) (place : ℕ) (new : Pass)
     → (t : IsTurn p me b b' (Pays place) None p.spare) → IsAfter p me b (Pays place) q None p.spare new
@@ -140,7 +151,7 @@ pub peek_turn : (p : Pass) (me : Me (Option Book) View) (b : Book) (place : ℕ)
     → Tells b b None (λ (old new : Sight). PeekSays place old new o) → IsTurn p me b b Same None p.spare
 peek_turn p me b place o seated took says =
     is_turn p me b b Same None p.spare seated took (λ log h. h) refl
-    refl refl tt refl
+    refl refl tt tt refl
 
 pub peek_told : (p : Pass) (me : Me (Option Book) View) (b : Book) (q : PlaceChange) (place : ℕ) (o : PeekOutcome) (new : Pass)
     → (t : IsTurn p me b b Same None p.spare) → IsAfter p me b Same q None p.spare new
@@ -154,7 +165,7 @@ pub lists_turn : (p : Pass) (me : Me (Option Book) View) (b : Book) (listed : Li
     → Tells b b None (λ (old new : Sight). ListsExpected listed old new at) → IsTurn p me b b Same None p.spare
 lists_turn p me b listed at seated took says =
     is_turn p me b b Same None p.spare seated took (λ log h. h) refl
-    refl refl tt refl
+    refl refl tt tt refl
 
 pub lists_told : (p : Pass) (me : Me (Option Book) View) (b : Book) (q : PlaceChange) (listed : List Expectation) (at : ℕ) (new : Pass)
     → (t : IsTurn p me b b Same None p.spare) → IsAfter p me b Same q None p.spare new
@@ -168,7 +179,7 @@ pub confirm_turn : (p : Pass) (me : Me (Option Book) View) (b b' : Book) (made :
     → Tells b b' made (λ (old new : Sight). ConfirmSays place flow old new o) → is_taken place p.seat.me.0.held ≡ true → p.spare ≡ spare_before less made → IsTurn p me b b' (confirmed_change place o) made less
 confirm_turn p me b b' made less place flow o seated took stays sizes says ok room =
     is_turn p me b b' (confirmed_change place o) made less seated took stays sizes
-    ((confirm_places (numbers_of p.seat.table_id) p.seat.me.0 took.0 b b' made p.notes.items less took.1 sizes place flow o (says took.0 less took.1.book)).0) ((confirm_places (numbers_of p.seat.table_id) p.seat.me.0 took.0 b b' made p.notes.items less took.1 sizes place flow o (says took.0 less took.1.book)).1) (can_confirm place o p.seat.me.0.held p.seat.me.0.owed ok) room
+    ((confirm_places (numbers_of p.seat.table_id) p.seat.me.0 took.0 b b' made p.notes.items less took.1 sizes place flow o (says took.0 less took.1.book)).0) ((confirm_places (numbers_of p.seat.table_id) p.seat.me.0 took.0 b b' made p.notes.items less took.1 sizes place flow o (says took.0 less took.1.book)).1) (can_confirm place o p.seat.me.0.held p.seat.me.0.owed ok) (confirm_right place o b.free.items b') room
 
 pub confirm_told : (p : Pass) (me : Me (Option Book) View) (b b' : Book) (q : PlaceChange) (made : Option Event) (less : ℕ) (place : ℕ) (flow : Flow) (o : ConfirmOutcome) (new : Pass)
     → (t : IsTurn p me b b' (confirmed_change place o) made less) → IsAfter p me b (confirmed_change place o) q made less new
@@ -182,7 +193,7 @@ pub touch_turn : (p : Pass) (me : Me (Option Book) View) (b b' : Book) (made : O
     → Tells b b' made (λ (old new : Sight). TouchSays place direction segment moment old new o) → p.spare ≡ spare_before less made → IsTurn p me b b' Same made less
 touch_turn p me b b' made less place direction segment moment o seated took stays sizes says room =
     is_turn p me b b' Same made less seated took stays sizes
-    ((touch_places (numbers_of p.seat.table_id) p.seat.me.0 took.0 b b' made p.notes.items less took.1 sizes place direction segment moment o (says took.0 less took.1.book)).held) ((touch_places (numbers_of p.seat.table_id) p.seat.me.0 took.0 b b' made p.notes.items less took.1 sizes place direction segment moment o (says took.0 less took.1.book)).owed) tt room
+    ((touch_places (numbers_of p.seat.table_id) p.seat.me.0 took.0 b b' made p.notes.items less took.1 sizes place direction segment moment o (says took.0 less took.1.book)).held) ((touch_places (numbers_of p.seat.table_id) p.seat.me.0 took.0 b b' made p.notes.items less took.1 sizes place direction segment moment o (says took.0 less took.1.book)).owed) tt tt room
 
 pub touch_told : (p : Pass) (me : Me (Option Book) View) (b b' : Book) (q : PlaceChange) (made : Option Event) (less : ℕ) (place : ℕ) (direction : Direction) (segment : Segment) (moment : ℕ) (o : TouchOutcome) (new : Pass)
     → (t : IsTurn p me b b' Same made less) → IsAfter p me b Same q made less new
@@ -196,7 +207,7 @@ pub kill_turn : (p : Pass) (me : Me (Option Book) View) (b b' : Book) (made : Op
     → Tells b b' made (λ (old new : Sight). KillSays place why old new o) → p.spare ≡ spare_before less made → IsTurn p me b b' Same made less
 kill_turn p me b b' made less place why o seated took stays sizes says room =
     is_turn p me b b' Same made less seated took stays sizes
-    ((kill_places (numbers_of p.seat.table_id) p.seat.me.0 took.0 b b' made p.notes.items less took.1 sizes place why o (says took.0 less took.1.book)).held) ((kill_places (numbers_of p.seat.table_id) p.seat.me.0 took.0 b b' made p.notes.items less took.1 sizes place why o (says took.0 less took.1.book)).owed) tt room
+    ((kill_places (numbers_of p.seat.table_id) p.seat.me.0 took.0 b b' made p.notes.items less took.1 sizes place why o (says took.0 less took.1.book)).held) ((kill_places (numbers_of p.seat.table_id) p.seat.me.0 took.0 b b' made p.notes.items less took.1 sizes place why o (says took.0 less took.1.book)).owed) tt tt room
 
 pub kill_told : (p : Pass) (me : Me (Option Book) View) (b b' : Book) (q : PlaceChange) (made : Option Event) (less : ℕ) (place : ℕ) (why : Why) (o : KillOutcome) (new : Pass)
     → (t : IsTurn p me b b' Same made less) → IsAfter p me b Same q made less new
@@ -210,7 +221,7 @@ pub expect_turn : (p : Pass) (me : Me (Option Book) View) (b b' : Book) (made : 
     → Tells b b' made (λ (old new : Sight). ExpectSays place want moment old new o) → p.spare ≡ spare_before less made → IsTurn p me b b' Same made less
 expect_turn p me b b' made less place want moment o seated took stays sizes says room =
     is_turn p me b b' Same made less seated took stays sizes
-    ((expect_places (numbers_of p.seat.table_id) p.seat.me.0 took.0 b b' made p.notes.items less took.1 sizes place want moment o (says took.0 less took.1.book)).held) ((expect_places (numbers_of p.seat.table_id) p.seat.me.0 took.0 b b' made p.notes.items less took.1 sizes place want moment o (says took.0 less took.1.book)).owed) tt room
+    ((expect_places (numbers_of p.seat.table_id) p.seat.me.0 took.0 b b' made p.notes.items less took.1 sizes place want moment o (says took.0 less took.1.book)).held) ((expect_places (numbers_of p.seat.table_id) p.seat.me.0 took.0 b b' made p.notes.items less took.1 sizes place want moment o (says took.0 less took.1.book)).owed) tt tt room
 
 pub expect_told : (p : Pass) (me : Me (Option Book) View) (b b' : Book) (q : PlaceChange) (made : Option Event) (less : ℕ) (place : ℕ) (want : Want) (moment : ℕ) (o : ExpectOutcome) (new : Pass)
     → (t : IsTurn p me b b' Same made less) → IsAfter p me b Same q made less new
@@ -224,7 +235,7 @@ pub claim_turn : (p : Pass) (me : Me (Option Book) View) (b b' : Book) (made : O
     → Tells b b' made (λ (old new : Sight). ClaimSays t' moment old new o) → p.spare ≡ spare_before less made → IsTurn p me b b' Same made less
 claim_turn p me b b' made less t' moment o seated took stays sizes says room =
     is_turn p me b b' Same made less seated took stays sizes
-    ((claim_places (numbers_of p.seat.table_id) p.seat.me.0 took.0 b b' made p.notes.items less took.1 sizes t' moment o (says took.0 less took.1.book)).held) ((claim_places (numbers_of p.seat.table_id) p.seat.me.0 took.0 b b' made p.notes.items less took.1 sizes t' moment o (says took.0 less took.1.book)).owed) tt room
+    ((claim_places (numbers_of p.seat.table_id) p.seat.me.0 took.0 b b' made p.notes.items less took.1 sizes t' moment o (says took.0 less took.1.book)).held) ((claim_places (numbers_of p.seat.table_id) p.seat.me.0 took.0 b b' made p.notes.items less took.1 sizes t' moment o (says took.0 less took.1.book)).owed) tt tt room
 
 pub claim_told : (p : Pass) (me : Me (Option Book) View) (b b' : Book) (q : PlaceChange) (made : Option Event) (less : ℕ) (t' : Tuple) (moment : ℕ) (o : ClaimOutcome) (new : Pass)
     → (t : IsTurn p me b b' Same made less) → IsAfter p me b Same q made less new
@@ -238,7 +249,7 @@ pub unexpect_turn : (p : Pass) (me : Me (Option Book) View) (b b' : Book) (made 
     → Tells b b' made (λ (old new : Sight). UnexpectSays id moment old new o) → p.spare ≡ spare_before less made → IsTurn p me b b' Same made less
 unexpect_turn p me b b' made less id moment o seated took stays sizes says room =
     is_turn p me b b' Same made less seated took stays sizes
-    ((unexpect_places (numbers_of p.seat.table_id) p.seat.me.0 took.0 b b' made p.notes.items less took.1 sizes id moment o (says took.0 less took.1.book)).held) ((unexpect_places (numbers_of p.seat.table_id) p.seat.me.0 took.0 b b' made p.notes.items less took.1 sizes id moment o (says took.0 less took.1.book)).owed) tt room
+    ((unexpect_places (numbers_of p.seat.table_id) p.seat.me.0 took.0 b b' made p.notes.items less took.1 sizes id moment o (says took.0 less took.1.book)).held) ((unexpect_places (numbers_of p.seat.table_id) p.seat.me.0 took.0 b b' made p.notes.items less took.1 sizes id moment o (says took.0 less took.1.book)).owed) tt tt room
 
 pub unexpect_told : (p : Pass) (me : Me (Option Book) View) (b b' : Book) (q : PlaceChange) (made : Option Event) (less : ℕ) (id moment : ℕ) (o : UnexpectOutcome) (new : Pass)
     → (t : IsTurn p me b b' Same made less) → IsAfter p me b Same q made less new

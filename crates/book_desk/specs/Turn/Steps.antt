@@ -12,7 +12,7 @@ use Rattle.book_desk.specs.declared.turn.change.Ending.{Ending}
 use Rattle.book_desk.specs.declared.turn.view.View.{View}
 use Rattle.book_desk.specs.Fields.{IsBook}
 use Rattle.book_desk.specs.Made.{with_made, noted}
-use Rattle.book_desk.specs.Turn.Change.{held_after, owed_after}
+use Rattle.book_desk.specs.Turn.Change.{IsRightChange, held_after, owed_after}
 use Rattle.book_desk.specs.Turn.Rule.{packed}
 use Rattle.book_desk.specs.Turn.Sums.{total}
 
@@ -101,7 +101,7 @@ ended e v = record v {
 abbrev pub Ends : Ending → Step (Option Book) → Me (Option Book) View → ℕ → Me (Option Book) View → Type 0
 Ends e step me found me' = (me'.0 ≡ ended e me.0) × (me'.1 ≡ rest me.1)
 
--- the references, and the owed places, of a book that is known
+-- the references, the owed places and the free places of a book that is known
 abbrev pub holds_in : Option Book → List Hold
 holds_in None = []
 holds_in (Some b) = b.holds.items
@@ -110,8 +110,12 @@ abbrev pub owed_in : Option Book → List ℕ
 owed_in None = []
 owed_in (Some b) = b.owed.items
 
--- A turn may end so with this book: the event led to it, and the references and the owed places of the book changed as
--- those of the pass.
+abbrev pub free_in : Option Book → List ℕ
+free_in None = []
+free_in (Some b) = b.free.items
+
+-- A turn may end so with this book: the event led to it, the references and the owed places of the book changed as those
+-- of the pass, and the change is right of the place.
 pub record CanEnd (e : Ending) (v : View) (b : Book) : Type 0 where
   pub some : 0 < v.shares
   pub turn : v.turn ≡ 1
@@ -119,6 +123,7 @@ pub record CanEnd (e : Ending) (v : View) (b : Book) : Type 0 where
   pub sizes : b.sizes ≡ v.sizes
   pub held : (weight : Hold → ℕ) → total weight b.holds.items + total weight v.held ≡ total weight (holds_in v.book) + total weight (held_after e.places v.held)
   pub owed : (weight : ℕ → ℕ) → total weight b.owed.items + total weight v.owed ≡ total weight (owed_in v.book) + total weight (owed_after e.places v.owed)
+  pub right : IsRightChange e.places (free_in v.book) b
   pub few : length (held_after e.places v.held) + length (owed_after e.places v.owed) ≤ 4
   pub own_few : length (noted v.own (length v.front) e.made) ≤ 2 ^ 30
 
