@@ -77,6 +77,8 @@ impl Model for TurnSpot {
 pub struct TurnDesk<'t, G: Gate> {
     pass: Pass,
     shared: &'t TurnShared,
+    /// The gate and the thread's number, with which a desk is made. No gate is passed: a turn has no middle that another
+    /// pass could see.
     gate: &'t G,
     worker: u32,
 }

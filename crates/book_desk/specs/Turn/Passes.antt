@@ -28,8 +28,8 @@ pub record IsSpent (v : View) : Type 0 where
   pub owed : v.owed ≡ []
   pub turn : v.turn ≡ 0
 
--- The pass has seen the first events of the history, and was told of some; its own events, and those that it gathered, are
--- events of it. Its shares are numbers of passes. The only pass has made every event.
+-- The pass has seen the first events of the history, and so had the one that it took in last (told). Its own events, and
+-- those that it gathered, are events of it. Its shares are numbers of passes. The only pass has made every event.
 pub record IsPass (z : Sizes) (log : List Event) (v : View) : Type 0 where
   pub front : StartsWith log v.front
   pub told : StartsWith log v.told

@@ -26,7 +26,8 @@ abbrev pub packed : ℕ → Book → ℕ
 packed turn b = turn + 2 * (b.events + 2 ^ 40 * length b.records.items)
 
 -- These events led to this book, of these sizes. The word says whether a pass has the turn, which is one at most. While
--- none has it the book is at home. The pass that has it knows the book as it is, and has seen every event.
+-- none has it the book is at home: there is a slot, which no pass has out, and its value is this book. The pass that has
+-- the turn knows the book as it is, and has seen every event.
 pub record IsKept (z : Sizes) (log : List Event) (b : Book) (s : State (Option Book) View) : Type 0 where
   pub book : IsBook log b
   pub sizes : b.sizes ≡ z

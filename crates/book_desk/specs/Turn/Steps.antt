@@ -23,8 +23,9 @@ events_in word = word / 2 % 2 ^ 40
 abbrev pub live_in : ℕ → ℕ
 live_in word = word / 2 / 2 ^ 40
 
--- These are all events so far; they are no fewer than the pass had seen, or was told of. There are at most 64 passes, and
--- the pass has no more shares, returned ones among them.
+-- These are all events so far; they are no fewer than the pass had seen, or than the one had seen that it took in last. As
+-- many as there are, and as many as this pass may still make, are no more than all passes may make: of 64 passes at most,
+-- so that each event's number is below 2^40. The pass has no more shares than there are passes, returned ones among them.
 pub record AreAll (v : View) (log : List Event) : Type 0 where
   pub front : StartsWith log v.front
   pub told : StartsWith log v.told

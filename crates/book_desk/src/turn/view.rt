@@ -16,7 +16,7 @@ pub struct View {
     pub returned: u64,
     /// The first events of the one history, as far as it has seen it.
     pub front: LinkedList<Event>,
-    /// As much as the pass had seen that was joined to it last.
+    /// What the pass had seen that it took in last. Only a load says that all events begin with this.
     pub told: LinkedList<Event>,
     pub own: LinkedList<Note>,
     /// The events of passes that were joined to it.
