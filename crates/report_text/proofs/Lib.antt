@@ -1,3 +1,6 @@
+pub mod Counts
 pub mod Gathers
+pub mod SameTexts
+pub mod SummaryLaws
 pub mod Texts
 pub mod Writes

@@ -1,2 +1,3 @@
 -- What the proofs of this crate speak of, and no public clause.
 pub mod Gathered
+pub mod Counting

@@ -4,6 +4,9 @@ pub mod Texts
 pub mod Row
 pub mod Answer
 pub mod Page
+pub mod FirstWord
+pub mod Summary
+pub mod SummaryLaws
 pub mod Piece
 pub mod Report
 pub mod Wrote

@@ -2,10 +2,13 @@
 #![tactic(auto)]
 
 mod answer;
+pub mod first_word;
+pub mod laws;
 mod line;
 pub mod page;
 mod piece;
 mod row;
+pub mod summary;
 #[cfg(test)]
 mod tests;
 pub mod write;

@@ -16,6 +16,7 @@ use std::test::Fail;
 use tuple_core::{Direction, Kind, NoMemory, Proto, Segment, Tuple};
 
 mod answers;
+mod summary;
 
 /// The flow of UDP from 10.0.0.1:5000 to 10.0.0.2:53.
 const QUERY: Tuple = Tuple {

@@ -59,7 +59,7 @@ pub fn write_each<K: Sink>(pieces: &[&[u8]], out: &mut K) -> Result<(), WriteFau
 
 /// Makes room for a line: where the page has too little, what it holds is written.
 #[tactic(auto, using(crate::proofs::Gathers::sent_nothing, crate::proofs::Gathers::sent_held, crate::proofs::Gathers::lost_held))]
-fn make_room<K: Sink>(page: &mut Page, out: &mut K) -> Result<(), WriteFault>
+pub(crate) fn make_room<K: Sink>(page: &mut Page, out: &mut K) -> Result<(), WriteFault>
     ensures room { IfOk result (λ _. HasRoom LONGEST_LINE page.new) }
     ensures gathered { Gathered [] page.old page.new (K.tape out.old) (K.tape out.new) result }
 {
