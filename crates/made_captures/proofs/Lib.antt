@@ -1,0 +1,4 @@
+pub mod Flows
+pub mod Lengths
+pub mod Reading
+pub mod Records

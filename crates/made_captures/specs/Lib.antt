@@ -1,0 +1,4 @@
+pub mod MadePacket
+pub mod MadeCapture
+pub mod MadeFrames
+pub mod Laws
