@@ -1,4 +1,5 @@
 pub mod ByClap
+pub mod PlainWord
 pub mod Ports
 pub mod ShortWords
 pub mod Wanting

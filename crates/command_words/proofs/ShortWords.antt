@@ -1,35 +1,40 @@
 -- What some words ask for, computed from clap's definitions.
 use lib.Count.{ones}
-use Rattle.std.proofs.Common.{◌≡◌, ℕ, false, List, [], ◌∷◌, None, refl, bytes_eq}
-use Rattle.clap.specs.Lexer.{strip_byte}
+use Rattle.std.proofs.Common.{◌≡◌, ◌∙◌, ℕ, false, List, [], ◌∷◌, Option, refl, ap, ap₂}
 use Rattle.clap.proofs.OnLiterals.{clap_on_literals}
-use Rattle.command_words.specs.Words.{app, asked_of, found_in}
-use Rattle.command_words.specs.WordsLaws.{CapturesAlone, CapturesOfAnyName, CapturesWithRules, WordsWithoutCaptures, begins_with_dash}
-
--- such a word is no option, and not the end of the options
-no_option : (word : List ℕ) → begins_with_dash word ≡ false → strip_byte 45 word ≡ None
-no_option [] other = refl
-no_option (c ∷ cs) other = rw other refl
-
-no_end : (word : List ℕ) → begins_with_dash word ≡ false → bytes_eq word (45 ∷ 45 ∷ []) ≡ false
-no_end [] other = refl
-no_end (c ∷ cs) other = rw other refl
-
-pub alone : CapturesAlone
-unfolding asked_of found_in app clap_on_literals ones
-alone program capture other =
-    let name : strip_byte 45 capture ≡ None = no_option capture other in
-    let end : bytes_eq capture (45 ∷ 45 ∷ []) ≡ false = no_end capture other in
-    simp (name, end)
+use Rattle.command_words.proofs.PlainWord.{same_faults, same_rows}
+use Rattle.file_text.specs.Reading.{◌>>=◌, required}
+use Rattle.command_words.specs.Words.{app, asked_of, found_from, found_in, FoundWords, table_app, with_values, within_limits}
+use Rattle.command_words.specs.declared.WordsError.TheVariants.{Usage}
+use Rattle.command_words.specs.WordsLaws.{CapturesAlone, CapturesOfAnyName, CapturesWithRules, MadeBesideCaptures, SummaryOfCaptures, WordsWithoutCaptures, begins_with_dash}
 
 pub any_name : CapturesOfAnyName
-unfolding asked_of found_in app clap_on_literals ones
+unfolding asked_of found_in app table_app clap_on_literals ones
 any_name program capture = refl
 
+same_found : (program capture : List ℕ) → begins_with_dash capture ≡ false →
+    found_in (program ∷ capture ∷ []) ≡ found_in (program ∷ (45 ∷ 45 ∷ []) ∷ capture ∷ [])
+unfolding found_in
+same_found program capture other = ap₂ found_from (same_faults program capture other) (same_rows program capture other)
+
+pub alone : CapturesAlone
+unfolding asked_of
+alone program capture other =
+    ap (λ (found : Option FoundWords). required Usage found >>= λ given. with_values given >>= within_limits)
+    (same_found program capture other) ∙ any_name program capture
+
 pub with_rules : CapturesWithRules
-unfolding asked_of found_in app clap_on_literals ones
+unfolding asked_of found_in app table_app clap_on_literals ones
 with_rules program rules capture = refl
 
+pub summary : SummaryOfCaptures
+unfolding asked_of found_in app table_app clap_on_literals ones
+summary program capture = refl
+
+pub beside : MadeBesideCaptures
+unfolding asked_of found_in app table_app clap_on_literals ones
+beside program seed capture = refl
+
 pub without : WordsWithoutCaptures
-unfolding asked_of found_in app clap_on_literals ones
+unfolding asked_of found_in app table_app clap_on_literals ones
 without = (refl, λ program. refl)

@@ -1,10 +1,10 @@
 -- No words are said to want memory.
-use Rattle.std.proofs.Common.{◌≡◌, ℕ, ◌&&◌, not, nat_le, nat_lt, Bool, true, false, if◌then◌else◌, List, length, Option, Some, None, Result, Ok, Err, refl}
+use Rattle.std.proofs.Common.{◌≡◌, ℕ, List, Option, Some, None, Result, Ok, Err, refl}
 use Rattle.file_text.specs.Reading.{◌>>=◌, required}
-use Rattle.command_words.specs.Words.{Request, asked_of, found_in, if_power_of_two, number_or, ports_or, some_captures, with_values, within_limits}
+use Rattle.command_words.specs.Words.{Request, asked_of, found_in, if_power_of_two, number_or, origin_of, past_limit, ports_or, unless_past, with_values, within_limits}
 use Rattle.command_words.specs.declared.WordsError.{WordsError}
 use Rattle.command_words.specs.declared.WordsError.TheVariants.{Limit, NoMemory, Usage}
-use Rattle.command_words.specs.declared.WordsLimit.TheVariants.{Buckets, Captures, Entries}
+use Rattle.command_words.specs.declared.WordsLimit.{WordsLimit}
 
 -- this says nothing of memory
 abbrev Tells : {A : Type 0} → Result A WordsError → Type 0
@@ -21,20 +21,19 @@ required_tells None = λ e. absurd (cc e)
 required_tells (Some x) = λ e. absurd (cc e)
 
 limits_tell : (asked : Request) → Tells (within_limits asked)
-limits_tell asked = by_tests (not (nat_le 1 asked.entries && nat_le asked.entries 65536)) (nat_lt 65536 asked.buckets) (nat_lt 63 (length asked.captures))
+limits_tell asked = by_limit (past_limit asked)
   where
-    by_tests : (a b c : Bool) → Tells (if a then Err (Limit Entries) else (if b then Err (Limit Buckets) else (if c then Err (Limit Captures) else Ok asked)))
-    by_tests true b c = λ e. absurd (cc e)
-    by_tests false true c = λ e. absurd (cc e)
-    by_tests false false true = λ e. absurd (cc e)
-    by_tests false false false = λ e. absurd (cc e)
+    by_limit : (past : Option WordsLimit) → Tells (unless_past past asked)
+    by_limit None = λ e. absurd (cc e)
+    by_limit (Some limit) = λ e. absurd (cc e)
 
 pub wants_no_memory : (words : List (List ℕ)) → asked_of words ≡ Err NoMemory → ⊥
 unfolding asked_of
 wants_no_memory words =
     then_tells (required Usage (found_in words)) _ (required_tells (found_in words)) (λ given.
     then_tells (with_values given) within_limits
-    (then_tells (required Usage (some_captures given.captures)) _ (required_tells (some_captures given.captures)) (λ captures.
+    (then_tells (required Usage (origin_of given.names given.make given.packets given.threads)) _
+    (required_tells (origin_of given.names given.make given.packets given.threads)) (λ origin.
     then_tells (required Usage (number_or 65536 given.entries)) _ (required_tells (number_or 65536 given.entries)) (λ entries.
     then_tells (required Usage (if_power_of_two (number_or 16384 given.buckets))) _ (required_tells (if_power_of_two (number_or 16384 given.buckets))) (λ buckets.
     then_tells (required Usage (ports_or 21 given.ftp)) _ (required_tells (ports_or 21 given.ftp)) (λ ports e. absurd (cc e))))))

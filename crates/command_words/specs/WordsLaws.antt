@@ -1,6 +1,6 @@
 -- What words ask for, whatever the names in them are.
-use Rattle.std.specs.Prelude.{◌≡◌, ℕ, ◌==◌, Bool, false, codes, List, [], ◌∷◌, ◌++◌, Some, None, Ok, Err}
-use Rattle.command_words.specs.Words.{Request, asked_of}
+use Rattle.std.specs.Prelude.{◌≡◌, ℕ, ◌==◌, Bool, false, true, codes, List, [], ◌∷◌, ◌++◌, Some, None, Ok, Err}
+use Rattle.command_words.specs.Words.{named, Names, Request, asked_of}
 use Rattle.command_words.specs.declared.WordsError.TheVariants.{NoMemory, Usage}
 
 -- the word begins with `-`
@@ -8,30 +8,43 @@ abbrev pub begins_with_dash : List ℕ → Bool
 begins_with_dash [] = false
 begins_with_dash (c ∷ cs) = c == 45
 
--- a capture, and all else as usual
-abbrev pub usual : List ℕ → Request
-usual capture = record {
-  rules = None;
-  script = None;
-  captures = capture ∷ [];
+-- these files, and all else as usual
+abbrev pub usual : Names → Request
+usual names = record {
+  origin = named names;
   entries = 65536;
   buckets = 16384;
   ftp = 21 ∷ [];
+  summary = false;
 }
+
+-- a capture, and no other file
+abbrev pub captured : List ℕ → Names
+captured capture = record { rules = None; script = None; captures = capture ∷ [] }
 
 -- behind the program's name stands a capture's
 abbrev pub CapturesAlone : Type 0
 CapturesAlone = (program capture : List ℕ) → begins_with_dash capture ≡ false
-    → asked_of (program ∷ capture ∷ []) ≡ Ok (usual capture)
+    → asked_of (program ∷ capture ∷ []) ≡ Ok (usual (captured capture))
 
 -- any name may stand behind `--`
 abbrev pub CapturesOfAnyName : Type 0
-CapturesOfAnyName = (program capture : List ℕ) → asked_of (program ∷ codes "--" ∷ capture ∷ []) ≡ Ok (usual capture)
+CapturesOfAnyName = (program capture : List ℕ) → asked_of (program ∷ codes "--" ∷ capture ∷ []) ≡ Ok (usual (captured capture))
 
 -- the same with a file of rules, of any name too
 abbrev pub CapturesWithRules : Type 0
 CapturesWithRules = (program rules capture : List ℕ)
-    → asked_of (program ∷ (codes "--rules=" ++ rules) ∷ codes "--" ∷ capture ∷ []) ≡ Ok (record (usual capture) { rules = Some rules })
+    → asked_of (program ∷ (codes "--rules=" ++ rules) ∷ codes "--" ∷ capture ∷ []) ≡ Ok (usual (record (captured capture) { rules = Some rules }))
+
+-- with the flag a summary is asked for
+abbrev pub SummaryOfCaptures : Type 0
+SummaryOfCaptures = (program capture : List ℕ)
+    → asked_of (program ∷ codes "--summary" ∷ codes "--" ∷ capture ∷ []) ≡ Ok (record (usual (captured capture)) { summary = true })
+
+-- a made workload stands beside no capture, whatever its seed is
+abbrev pub MadeBesideCaptures : Type 0
+MadeBesideCaptures = (program seed capture : List ℕ)
+    → asked_of (program ∷ (codes "--make=" ++ seed) ∷ codes "--packets=8" ∷ codes "--threads=2" ∷ codes "--" ∷ capture ∷ []) ≡ Err Usage
 
 -- the program's name is not enough, and less is not either
 abbrev pub WordsWithoutCaptures : Type 0

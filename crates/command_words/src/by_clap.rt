@@ -6,25 +6,27 @@ ghost use Rattle.clap.specs.Words.{all_of, app_of, first_of, found_of, rows_of, 
 ghost use Rattle.file_text.specs.Reading.{required};
 ghost use Rattle.command_words.specs.Asked.{IsOrNoMemory, texts};
 ghost use Rattle.command_words.specs.Internal.{given_as};
-ghost use Rattle.command_words.specs.Words.{app, bare_app, captures_rule, found_by, found_in, option_rule};
+ghost use Rattle.command_words.specs.Words.{app, bare_app, captures_rule, flag_rule, found_by, found_in, is_set, option_rule, table_app};
 ghost use Rattle.command_words.specs.declared.WordsError.TheVariants.{Usage};
 
-use crate::WordsError;
+use crate::{Named, WordsError};
 use clap::error::ErrorKind;
 use clap::{Arg, ArgAction, ArgMatches, Command};
 use room_list::RoomList;
 use std::alloc::{AllocError, Global};
 use tuple_core::NoMemory;
 
-/// The values of the options that stand in the words, and the captures.
+/// The values of the options that stand in the words, whether the flag does, and the captures.
 #[derive(Drop)]
 pub(crate) struct Found<'w> {
-    pub(crate) rules: Option<&'w str>,
-    pub(crate) script: Option<&'w str>,
+    pub(crate) names: Named<'w>,
+    pub(crate) make: Option<&'w str>,
+    pub(crate) packets: Option<&'w str>,
+    pub(crate) threads: Option<&'w str>,
     pub(crate) entries: Option<&'w str>,
     pub(crate) buckets: Option<&'w str>,
     pub(crate) ftp: Option<&'w str>,
-    pub(crate) captures: RoomList<&'w str>,
+    pub(crate) summary: bool,
 }
 
 /// An option that takes one value.
@@ -33,6 +35,14 @@ fn option<'w>(alloc: Global, name: &'w str) -> Arg<'w>
     ensures local { result.global ≡ false }
 {
     Arg::new(alloc, name).long(name)
+}
+
+/// An option that takes none.
+fn flag<'w>(alloc: Global, name: &'w str) -> Arg<'w>
+    ensures rule { rule_of result ≡ flag_rule name.entry.now }
+    ensures local { result.global ≡ false }
+{
+    Arg::new(alloc, name).long(name).action(ArgAction::SetTrue)
 }
 
 /// The command without arguments, and without options of clap's own.
@@ -55,6 +65,17 @@ fn with_option<'w>(
     command.arg(option(alloc, name))
 }
 
+/// The command with one more flag.
+fn with_flag<'w>(
+    alloc: Global,
+    command: Command<'w>,
+    name: &'w str,
+) -> Result<Command<'w>, AllocError>
+    ensures { IfOk result (λ more. app_of more ≡ with_rule (app_of command.entry) (flag_rule name.entry.now)) }
+{
+    command.arg(flag(alloc, name))
+}
+
 /// The command with the captures, as many as there are.
 fn with_captures(alloc: Global, command: Command<'_>) -> Result<Command<'_>, AllocError>
     ensures { IfOk result (λ more. app_of more ≡ with_rule (app_of command.entry) captures_rule) }
@@ -62,17 +83,29 @@ fn with_captures(alloc: Global, command: Command<'_>) -> Result<Command<'_>, All
     command.arg(Arg::new(alloc, "captures").action(ArgAction::Append))
 }
 
-/// The command.
-#[tactic(auto, unfolding(crate::specs::Words::app))]
-fn command<'w>(alloc: Global) -> Result<Command<'w>, AllocError>
-    ensures { IfOk result (λ command. app_of command ≡ app) }
+/// The command with five of its options.
+#[tactic(auto, unfolding(crate::specs::Words::table_app))]
+fn table_command<'w>(alloc: Global) -> Result<Command<'w>, AllocError>
+    ensures { IfOk result (λ command. app_of command ≡ table_app) }
 {
     let command = bare(alloc);
     let command = with_option(alloc, command, "rules")?;
     let command = with_option(alloc, command, "script")?;
     let command = with_option(alloc, command, "entries")?;
     let command = with_option(alloc, command, "buckets")?;
-    let command = with_option(alloc, command, "ftp")?;
+    with_option(alloc, command, "ftp")
+}
+
+/// The command.
+#[tactic(auto, unfolding(crate::specs::Words::app))]
+fn command<'w>(alloc: Global) -> Result<Command<'w>, AllocError>
+    ensures { IfOk result (λ command. app_of command ≡ app) }
+{
+    let command = table_command(alloc)?;
+    let command = with_option(alloc, command, "make")?;
+    let command = with_option(alloc, command, "packets")?;
+    let command = with_option(alloc, command, "threads")?;
+    let command = with_flag(alloc, command, "summary")?;
     with_captures(alloc, command)
 }
 
@@ -96,6 +129,16 @@ fn value<'w>(matches: &ArgMatches<'w>, name: &str) -> Option<&'w str>
     matches.get_str(name)
 }
 
+/// Whether a flag stands.
+fn is_set(matches: &ArgMatches<'_>, name: &str) -> bool
+    ensures { result ≡ is_set (first_of name.now (rows_of (found_of matches.now))) }
+{
+    match value(matches, name) {
+        Some(text) => text == "true",
+        None => false,
+    }
+}
+
 /// The captures.
 #[tactic(auto, using(crate::proofs::ByClap::all_found))]
 fn captures<'w>(alloc: Global, matches: &ArgMatches<'w>) -> Result<RoomList<&'w str>, NoMemory>
@@ -116,11 +159,17 @@ pub(crate) fn find<'w>(alloc: Global, words: &'w [String]) -> Result<Found<'w>, 
     let matches = parse(alloc, words)?;
     let captures = captures(alloc, &matches)?;
     Ok(Found {
-        rules: value(&matches, "rules"),
-        script: value(&matches, "script"),
+        names: Named {
+            rules: value(&matches, "rules"),
+            script: value(&matches, "script"),
+            captures,
+        },
+        make: value(&matches, "make"),
+        packets: value(&matches, "packets"),
+        threads: value(&matches, "threads"),
         entries: value(&matches, "entries"),
         buckets: value(&matches, "buckets"),
         ftp: value(&matches, "ftp"),
-        captures,
+        summary: is_set(&matches, "summary"),
     })
 }

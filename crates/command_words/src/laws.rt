@@ -1,6 +1,6 @@
 //! What words ask for: each law is the contract of a function that does nothing.
 
-ghost use Rattle.command_words.specs.WordsLaws.{CapturesAlone, CapturesOfAnyName, CapturesWithRules, WordsWantNoMemory, WordsWithoutCaptures};
+ghost use Rattle.command_words.specs.WordsLaws.{CapturesAlone, CapturesOfAnyName, CapturesWithRules, MadeBesideCaptures, SummaryOfCaptures, WordsWantNoMemory, WordsWithoutCaptures};
 
 /// A capture whose name does not begin with `-` is asked for by its name alone.
 pub fn captures_alone()
@@ -15,6 +15,16 @@ pub fn captures_of_any_name()
 /// It is asked for so with a file of rules of any name behind `--rules=`.
 pub fn captures_with_rules()
     ensures { CapturesWithRules }
+{}
+
+/// A summary of it is asked for by a flag before it.
+pub fn summary_of_captures()
+    ensures { SummaryOfCaptures }
+{}
+
+/// A capture beside a made workload is not of the form.
+pub fn made_beside_captures()
+    ensures { MadeBesideCaptures }
 {}
 
 /// Words without a capture are not of the form.

@@ -5,9 +5,9 @@
 
 ghost use Rattle.std.specs.Prelude.{◌≡◌, map, IfOk};
 ghost use Rattle.std.specs.String.{string_bytes};
-ghost use Rattle.command_words.specs.Asked.{IsOrNoMemory, asked_as};
-ghost use Rattle.command_words.specs.Internal.{formed_as};
-ghost use Rattle.command_words.specs.Words.{asked_of, IsWithin, within_limits};
+ghost use Rattle.command_words.specs.Asked.{IsOrNoMemory, asked_as, origin_as, workload_as};
+ghost use Rattle.command_words.specs.Internal.{formed_as, formed_origin_as, IsOrPast, wide_as};
+ghost use Rattle.command_words.specs.Words.{asked_of, IsWithin, past_origin, past_workload, within_limits};
 
 use room_list::RoomList;
 use std::alloc::{AllocError, Global};
@@ -19,23 +19,51 @@ mod tests;
 mod values;
 
 use by_clap::find;
-use values::{Formed, form};
+use values::{Formed, FormedOrigin, Wide, form};
+
+/// The names of files.
+#[derive(Drop)]
+pub struct Named<'w> {
+    /// That of a file of rules.
+    pub rules: Option<&'w str>,
+    /// That of a script.
+    pub script: Option<&'w str>,
+    /// Those of the captures, in their order.
+    pub captures: RoomList<&'w str>,
+}
+
+/// A workload that is to be made.
+#[derive(Clone, Copy)]
+pub struct Workload {
+    /// The number from which it follows.
+    pub seed: u32,
+    /// The packets of each capture.
+    pub packets: u32,
+    /// The captures, each of which is a thread.
+    pub threads: u32,
+}
+
+/// What is worked through.
+#[derive(Drop)]
+pub enum Origin<'w> {
+    /// Files that are named.
+    Named(Named<'w>),
+    /// A made workload; no file is read.
+    Made(Workload),
+}
 
 /// What the words ask for.
 #[derive(Drop)]
 pub struct Asked<'w> {
-    /// The name of a file of rules.
-    pub rules: Option<&'w str>,
-    /// The name of a script.
-    pub script: Option<&'w str>,
-    /// The names of the captures, in their order.
-    pub captures: RoomList<&'w str>,
+    pub origin: Origin<'w>,
     /// The most live entries.
     pub entries: u32,
     /// The buckets of the hash table.
     pub buckets: u32,
     /// The server ports whose connections have the helper of FTP.
     pub ftp: RoomList<u16>,
+    /// Whether a summary is written in place of the whole report.
+    pub summary: bool,
 }
 
 /// What there is too much of, or too little.
@@ -43,6 +71,11 @@ pub struct Asked<'w> {
 pub enum WordsLimit {
     Entries,
     Buckets,
+    Seed,
+    Packets,
+    Threads,
+    /// The flows of a made workload are more than the entries.
+    Flows,
     Captures,
 }
 
@@ -78,8 +111,57 @@ impl From<tuple_core::NoMemory> for WordsError {
 
 /// The most entries, and the most buckets.
 const MOST: u64 = 65_536;
-/// The most captures.
-const MOST_CAPTURES: usize = 63;
+/// The most captures, and the most threads of a workload.
+const MOST_CAPTURES: u64 = 63;
+/// The highest seed of a workload.
+const MOST_SEED: u64 = 4_294_967_295;
+/// The most packets of each capture of a workload.
+const MOST_PACKETS: u64 = 262_144;
+/// The packets of a flow of a workload.
+const FLOW: u64 = 4;
+
+/// The workload, where it is within the limits of a table of so many entries.
+fn limit_workload(entries: u64, wide: Wide) -> Result<Workload, WordsLimit>
+    ensures { IsOrPast workload_as (wide_as wide) (past_workload entries (wide_as wide)) result }
+{
+    let Wide {
+        seed,
+        packets,
+        threads,
+    } = wide;
+    if seed > MOST_SEED {
+        return Err(WordsLimit::Seed);
+    }
+    if packets < 1 || packets > MOST_PACKETS {
+        return Err(WordsLimit::Packets);
+    }
+    if threads < 1 || threads > MOST_CAPTURES {
+        return Err(WordsLimit::Threads);
+    }
+    if threads * packets.div_ceil(FLOW) > entries {
+        return Err(WordsLimit::Flows);
+    }
+    Ok(Workload {
+        seed: seed as u32,
+        packets: packets as u32,
+        threads: threads as u32,
+    })
+}
+
+/// What is worked through, where it is within the limits of a table of so many entries.
+fn limit_origin(entries: u64, formed: FormedOrigin<'_>) -> Result<Origin<'_>, WordsLimit>
+    ensures { IsOrPast origin_as (formed_origin_as formed.entry) (past_origin entries (formed_origin_as formed.entry)) result }
+{
+    match formed {
+        FormedOrigin::Named(names) => {
+            if names.captures.len() as u64 > MOST_CAPTURES {
+                return Err(WordsLimit::Captures);
+            }
+            Ok(Origin::Named(names))
+        }
+        FormedOrigin::Made(wide) => Ok(Origin::Made(limit_workload(entries, wide)?)),
+    }
+}
 
 /// What is asked, where the numbers are within their limits.
 fn limit(formed: Formed<'_>) -> Result<Asked<'_>, WordsError>
@@ -91,17 +173,16 @@ fn limit(formed: Formed<'_>) -> Result<Asked<'_>, WordsError>
     if formed.buckets > MOST {
         return Err(WordsError::Limit(WordsLimit::Buckets));
     }
-    if formed.captures.len() > MOST_CAPTURES {
-        return Err(WordsError::Limit(WordsLimit::Captures));
+    match limit_origin(formed.entries, formed.origin) {
+        Ok(origin) => Ok(Asked {
+            origin,
+            entries: formed.entries as u32,
+            buckets: formed.buckets as u32,
+            ftp: formed.ftp,
+            summary: formed.summary,
+        }),
+        Err(limit) => Err(WordsError::Limit(limit)),
     }
-    Ok(Asked {
-        rules: formed.rules,
-        script: formed.script,
-        captures: formed.captures,
-        entries: formed.entries as u32,
-        buckets: formed.buckets as u32,
-        ftp: formed.ftp,
-    })
 }
 
 /// What the words ask for. The first is the program's name.

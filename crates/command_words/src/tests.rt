@@ -1,8 +1,10 @@
 //! Command lines, and what they ask for.
 
-use crate::{Asked, WordsError, WordsLimit, read_words};
+use crate::{Asked, Named, Origin, WordsError, WordsLimit, read_words};
 use std::alloc::{AllocError, Global};
 use std::test::Fail;
+
+mod made;
 
 /// The words of a line, which stand between single spaces.
 fn split(alloc: Global, line: &str) -> Result<Vec<String>, AllocError> {
@@ -31,6 +33,7 @@ struct Wanted<'a> {
     entries: u32,
     buckets: u32,
     ftp: &'a [u16],
+    summary: bool,
 }
 
 /// What is wanted of a line without options.
@@ -41,16 +44,27 @@ const USUAL: Wanted<'static> = Wanted {
     entries: 65_536,
     buckets: 16_384,
     ftp: &[21],
+    summary: false,
 };
+
+/// Whether these are the files that are wanted.
+fn names_wanted(names: &Named<'_>, wanted: &Wanted<'_>) -> bool {
+    names.rules == wanted.rules
+        && names.script == wanted.script
+        && names.captures.as_slice() == wanted.captures
+}
 
 /// Whether it is what is wanted.
 fn is_wanted(asked: &Asked<'_>, wanted: &Wanted<'_>) -> bool {
-    asked.rules == wanted.rules
-        && asked.script == wanted.script
-        && asked.captures.as_slice() == wanted.captures
+    let named = match &asked.origin {
+        Origin::Named(names) => names_wanted(names, wanted),
+        Origin::Made(_) => false,
+    };
+    named
         && asked.entries == wanted.entries
         && asked.buckets == wanted.buckets
         && asked.ftp.as_slice() == wanted.ftp
+        && asked.summary == wanted.summary
 }
 
 /// Whether the line asks for what is wanted.
@@ -74,6 +88,7 @@ fn missing_words(rt: HostRuntime) -> Result<(), Fail> {
         "ctreplay c --entries",
         "ctreplay c --buckets",
         "ctreplay c --ftp",
+        "ctreplay --summary",
     ];
     for line in lines {
         assert!(rt;
@@ -98,6 +113,13 @@ fn repeated_and_unknown_options(rt: HostRuntime) -> Result<(), Fail> {
         "ctreplay -rules f c",
         "ctreplay -r f c",
         "ctreplay -c",
+        "ctreplay --summary --summary c",
+        "ctreplay --summary=true c",
+        "ctreplay --summary= c",
+        "ctreplay -s c",
+        "ctreplay --make 0 --make 0 --packets 8 --threads 2",
+        "ctreplay --make 0 --packets 8 --packets 8 --threads 2",
+        "ctreplay --make 0 --packets 8 --threads 2 --threads 2",
     ];
     for line in lines {
         assert!(rt;
@@ -372,6 +394,25 @@ fn ports(rt: HostRuntime) -> Result<(), Fail> {
 }
 
 #[test]
+fn summaries(rt: HostRuntime) -> Result<(), Fail> {
+    let cases = [
+        ("ctreplay --summary c", ["c"].as_slice(), true),
+        ("ctreplay c --summary", ["c"].as_slice(), true),
+        ("ctreplay -- --summary", ["--summary"].as_slice(), false),
+        ("ctreplay --summary true c", ["true", "c"].as_slice(), true),
+    ];
+    for (line, captures, summary) in cases {
+        let wanted = Wanted {
+            captures,
+            summary,
+            ..USUAL
+        };
+        assert!(rt; asks(rt.alloc(), line, &wanted)?, "{line}");
+    }
+    Ok(())
+}
+
+#[test]
 fn all_options(rt: HostRuntime) -> Result<(), Fail> {
     let wanted = Wanted {
         rules: Some("f"),
@@ -380,8 +421,10 @@ fn all_options(rt: HostRuntime) -> Result<(), Fail> {
         entries: 10,
         buckets: 32,
         ftp: &[2121],
+        summary: true,
     };
-    let line = "ctreplay a --ftp 2121 --script s --buckets 32 b --rules f --entries 10 -- -x";
+    let line =
+        "ctreplay a --ftp 2121 --script s --buckets 32 b --summary --rules f --entries 10 -- -x";
     assert!(rt; asks(rt.alloc(), line, &wanted)?);
     Ok(())
 }

@@ -2,13 +2,13 @@
 
 ghost use Rattle.std.specs.Prelude.{◌≡◌, ◌≤◌, None, Some, if◌then◌else◌, option_map};
 ghost use Rattle.file_text.specs.Reading.{required};
-ghost use Rattle.command_words.specs.Asked.{IsOrNoMemory};
-ghost use Rattle.command_words.specs.Internal.{formed_as, given_as, port_after};
-ghost use Rattle.command_words.specs.Words.{with_values, number_or, ports_in, ports_or, if_power_of_two};
+ghost use Rattle.command_words.specs.Asked.{IsOrNoMemory, names_as};
+ghost use Rattle.command_words.specs.Internal.{formed_as, formed_origin_as, given_as, port_after, wide_as};
+ghost use Rattle.command_words.specs.Words.{if_power_of_two, made, names_nothing, number_of, number_or, origin_of, ports_in, ports_or, with_values, workload_of};
 ghost use Rattle.command_words.specs.declared.WordsError.TheVariants.{Usage};
 
-use crate::WordsError;
 use crate::by_clap::Found;
+use crate::{Named, WordsError};
 use file_text::halves::split_once;
 use file_text::numbers::{number, read_port};
 use room_list::RoomList;
@@ -23,15 +23,36 @@ const FTP: u16 = 21;
 /// The most server ports of FTP.
 const MOST_PORTS: usize = 8;
 
-/// What is asked, before its numbers are held against the limits.
+/// The numbers of a workload, before they are held against the limits.
+#[derive(Clone, Copy)]
+pub(crate) struct Wide {
+    pub(crate) seed: u64,
+    pub(crate) packets: u64,
+    pub(crate) threads: u64,
+}
+
+/// What is worked through, before the same.
+#[derive(Drop)]
+pub(crate) enum FormedOrigin<'w> {
+    Named(Named<'w>),
+    Made(Wide),
+}
+
+/// What is asked, before the same.
 #[derive(Drop)]
 pub(crate) struct Formed<'w> {
-    pub(crate) rules: Option<&'w str>,
-    pub(crate) script: Option<&'w str>,
-    pub(crate) captures: RoomList<&'w str>,
+    pub(crate) origin: FormedOrigin<'w>,
     pub(crate) entries: u64,
     pub(crate) buckets: u64,
     pub(crate) ftp: RoomList<u16>,
+    pub(crate) summary: bool,
+}
+
+/// The number that the text writes.
+fn number_of(text: &str) -> Option<u64>
+    ensures { result ≡ number_of text.now }
+{
+    number(text.as_bytes(), 10, 0, 9_999_999_999)
 }
 
 /// The number that the text writes, or the usual one.
@@ -39,7 +60,7 @@ fn number_or(text: Option<&str>, usual: u64) -> Option<u64>
     ensures { result ≡ number_or usual (option_map (λ s. s.now) text.entry) }
 {
     match text {
-        Some(text) => number(text.as_bytes(), 10, 0, 9_999_999_999),
+        Some(text) => number_of(text),
         None => Some(usual),
     }
 }
@@ -106,13 +127,53 @@ fn ports_or(alloc: Global, text: Option<&str>) -> Result<RoomList<u16>, WordsErr
     }
 }
 
+/// Whether no file is named.
+fn names_nothing(names: &Named<'_>) -> bool
+    ensures { result ≡ names_nothing (names_as names.now) }
+{
+    names.rules.is_none() && names.script.is_none() && names.captures.is_empty()
+}
+
+/// The workload of three texts.
+fn workload(make: &str, packets: &str, threads: &str) -> Option<Wide>
+    ensures { option_map (λ wide. made (wide_as wide)) result
+        ≡ workload_of (number_of make.now) (number_of packets.now) (number_of threads.now) }
+{
+    Some(Wide {
+        seed: number_of(make)?,
+        packets: number_of(packets)?,
+        threads: number_of(threads)?,
+    })
+}
+
+/// What is worked through, where the options of a workload stand all, or none of them does.
+fn origin<'w>(
+    names: Named<'w>,
+    make: Option<&'w str>,
+    packets: Option<&'w str>,
+    threads: Option<&'w str>,
+) -> Option<FormedOrigin<'w>>
+    ensures { option_map formed_origin_as result
+        ≡ origin_of (names_as names.entry) (option_map (λ s. s.now) make.entry)
+        (option_map (λ s. s.now) packets.entry) (option_map (λ s. s.now) threads.entry) }
+{
+    match (make, packets, threads) {
+        (None, None, None) if names.captures.is_empty() => None,
+        (None, None, None) => Some(FormedOrigin::Named(names)),
+        (Some(make), Some(packets), Some(threads)) if names_nothing(&names) => {
+            Some(FormedOrigin::Made(workload(make, packets, threads)?))
+        }
+        _ => None,
+    }
+}
+
 /// What is asked, where each value is of its form.
 pub(crate) fn form(alloc: Global, found: Found<'_>) -> Result<Formed<'_>, WordsError>
     ensures { IsOrNoMemory formed_as (with_values (given_as found.entry)) result }
 {
-    if found.captures.is_empty() {
+    let Some(origin) = origin(found.names, found.make, found.packets, found.threads) else {
         return Err(WordsError::Usage);
-    }
+    };
     let Some(entries) = number_or(found.entries, ENTRIES) else {
         return Err(WordsError::Usage);
     };
@@ -121,11 +182,10 @@ pub(crate) fn form(alloc: Global, found: Found<'_>) -> Result<Formed<'_>, WordsE
     };
     let ftp = ports_or(alloc, found.ftp)?;
     Ok(Formed {
-        rules: found.rules,
-        script: found.script,
-        captures: found.captures,
+        origin,
         entries,
         buckets,
         ftp,
+        summary: found.summary,
     })
 }

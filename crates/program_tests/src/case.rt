@@ -1,7 +1,7 @@
 //! Runs of the whole program as data, and one call that makes a run and compares.
 
 use crate::content::{Content, bytes_of};
-use ct_io::{MemFiles, MemSink, NoGate};
+use ct_io::{Gate, MemFiles, MemSink, NoGate};
 use replay_top::top;
 use std::alloc::{AllocError, Global};
 use std::process::Abort;
@@ -42,6 +42,8 @@ pub enum Text<'c> {
     CutShort(&'c str),
     /// It begins with one and ends with the other.
     Around(&'c str, &'c str),
+    /// It is one of these.
+    OneOf(&'c [&'c str]),
     /// It begins so, and has these numbers, each in this line and this word of it.
     Numbers(&'c str, &'c [(u32, u32, Number)]),
     Any,
@@ -98,6 +100,16 @@ fn has_numbers(text: &[u8], numbers: &[(u32, u32, Number)]) -> bool {
     true
 }
 
+/// Whether a text is one of these.
+fn is_one_of(text: &[u8], all: &[&str]) -> bool {
+    for one in all {
+        if text == one.as_bytes() {
+            return true;
+        }
+    }
+    false
+}
+
 /// Whether a text is as expected.
 fn fits(text: &[u8], expected: &Text<'_>) -> bool {
     match expected {
@@ -107,6 +119,7 @@ fn fits(text: &[u8], expected: &Text<'_>) -> bool {
         Text::Around(begin, end) => {
             text.starts_with(begin.as_bytes()) && text.ends_with(end.as_bytes())
         }
+        Text::OneOf(all) => is_one_of(text, all),
         Text::Numbers(begin, numbers) => {
             text.starts_with(begin.as_bytes()) && has_numbers(text, numbers)
         }
@@ -146,15 +159,19 @@ struct Left {
     err: MemSink,
 }
 
-/// Runs the program.
-fn run<R: Threads + Wait + Sync + AllocGlobal>(rt: &R, case: &Case<'_>) -> Result<Left, Fail> {
+/// Runs the program, whose threads pass this gate.
+fn run<R: Threads + Wait + Sync + AllocGlobal, G: Gate + Sync>(
+    rt: &R,
+    case: &Case<'_>,
+    gate: &G,
+) -> Result<Left, Fail> {
     let alloc = rt.alloc();
     let words = words_of(alloc, case.words)?;
     let mut files = files_of(alloc, case.files, &case.faults)?;
     let mut out = MemSink::new(alloc, case.room, &[case.faults.out])?;
     let mut err = MemSink::new(alloc, 100, &[case.faults.err])?;
     let words = words.as_slice();
-    let run = top(rt, alloc, words, &mut files, &mut out, &mut err, &NoGate);
+    let run = top(rt, alloc, words, &mut files, &mut out, &mut err, gate);
     Ok(Left {
         status: run.status,
         reported: run.report.is_some(),
@@ -163,19 +180,29 @@ fn run<R: Threads + Wait + Sync + AllocGlobal>(rt: &R, case: &Case<'_>) -> Resul
     })
 }
 
-/// Asserts that a run leaves what it is to leave.
-pub fn holds<R: Threads + Wait + Sync + AllocGlobal + Abort>(
+/// Asserts that a run whose threads pass this gate leaves what it is to leave.
+pub fn holds_through<R: Threads + Wait + Sync + AllocGlobal + Abort, G: Gate + Sync>(
     rt: &R,
     case: &Case<'_>,
+    gate: &G,
     number: usize,
 ) -> Result<(), Fail> {
-    let left = run(rt, case)?;
+    let left = run(rt, case, gate)?;
     assert_eq!(rt; left.status, case.status, "status of run {number}");
     let reported = case.status == 0 || case.status == 4;
     assert_eq!(rt; left.reported, reported, "report of run {number}");
     assert!(rt; fits(left.out.bytes(), &case.out), "out of run {number}");
     assert!(rt; fits(left.err.bytes(), &case.err), "err of run {number}");
     Ok(())
+}
+
+/// Asserts that a run leaves what it is to leave.
+pub fn holds<R: Threads + Wait + Sync + AllocGlobal + Abort>(
+    rt: &R,
+    case: &Case<'_>,
+    number: usize,
+) -> Result<(), Fail> {
+    holds_through(rt, case, &NoGate, number)
 }
 
 /// Asserts that each run leaves what it is to leave.

@@ -8,8 +8,11 @@ use std::test::Fail;
 mod captures;
 mod flows;
 mod ftp;
+mod made;
 mod rules;
 mod scripts;
+mod summaries;
+mod threads;
 mod translated;
 mod words;
 

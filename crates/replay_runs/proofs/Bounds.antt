@@ -1,22 +1,22 @@
--- How many verdicts, answers and events there can be, and how late they are.
-use Rattle.std.proofs.Common.{◌≡◌, ℕ, zero, suc, ◌^◌, ◌<◌, ◌≤◌, List, [], ◌∷◌, length, map, max, take, drop, refl, ap, arith, length-drop}
+-- How many verdicts and answers there can be, and how late they are.
+use Rattle.std.proofs.Common.{◌≡◌, ℕ, zero, suc, ◌^◌, ◌<◌, ◌≤◌, List, [], ◌∷◌, length, map, max, drop, refl, ap, arith}
 use Rattle.std.specs.List.{list_all}
 use Rattle.std.specs.Prelude.{All}
 use Rattle.std.proofs.lemmas.Bool.{and_parts, leb-true}
+use Rattle.std.proofs.lemmas.List.{length-map}
 use Rattle.room_list.specs.Roomed.{Roomed}
-use Rattle.conntrack_cmd.specs.declared.command.Command.{Command}
-use Rattle.history_book.specs.declared.answer.Answer.{Answer}
 use Rattle.history_book.specs.declared.event.Event.{Event}
 use Rattle.history_book.specs.declared.event.Note.{Note}
 use Rattle.history_book.specs.declared.verdict.Verdict.{Verdict}
-use Rattle.packet_headers.specs.Capture.{AreTimely, is_timely}
+use Rattle.packet_headers.specs.Capture.{AreInside, AreTimely, is_timely}
 use Rattle.packet_headers.specs.declared.frame.Frame.{Frame}
 use Rattle.packet_path.specs.Packet.{Given, given_of}
 use Rattle.capture_list.specs.declared.Capture.{Capture}
-use Rattle.replay_runs.specs.Internal.Cut.{made_in_all}
-use Rattle.replay_runs.specs.Internal.Replayed.{count_given, given_frames, made_in, ThreadNotesFit}
-use Rattle.replay_runs.specs.Report.{AnswersFit, at_start, latest, latest_of, past_command, past_packet, Progress, ScriptRun, TrackerSetup, VerdictsFit}
-use Rattle.replay_runs.proofs.CapturesReplayed.{made_within}
+use Rattle.capture_list.specs.Frames.{frames_in}
+use Rattle.replay_runs.specs.Internal.Jobs.{CanReplay}
+use Rattle.replay_runs.specs.Internal.Replayed.{given_frames}
+use Rattle.replay_runs.specs.Internal.Together.{AreThreads}
+use Rattle.replay_runs.specs.Report.{at_start, latest, latest_of, past_packet, Progress, TrackerSetup, VerdictsFit}
 
 -- there is one verdict for each packet
 one_each : (tracker : TrackerSetup) (log : List Event) (mine : List Note) (now : Progress) (ps : List Given) (vs : List Verdict)
@@ -26,48 +26,34 @@ one_each tracker log mine now [] (w ∷ vs) fit = absurd fit
 one_each tracker log mine now (q ∷ ps) [] fit = absurd fit
 one_each tracker log mine now (q ∷ ps) (w ∷ vs) (f, fs) = ap suc (one_each tracker log (drop w.made mine) (past_packet now mine w) ps vs fs)
 
--- one answer for each command
-pub one_answer_each : (run : ScriptRun) (mine : List Note) (now : Progress) (cs : List Command) (answers : List Answer)
-    → AnswersFit run mine now cs answers → length answers ≡ length cs
-one_answer_each run mine now [] [] fit = refl
-one_answer_each run mine now [] (b ∷ answers) fit = absurd fit
-one_answer_each run mine now (d ∷ cs) [] fit = absurd fit
-one_answer_each run mine now (d ∷ cs) (b ∷ answers) (f, fs) =
-    ap suc (one_answer_each run (drop b.made mine) (past_command run now mine b) cs answers fs)
-
-module _ (tracker : TrackerSetup) (log : List Event) where
+module _ (tracker : TrackerSetup) (log : List Event) (end : ℕ) where
   -- one list of verdicts for each capture
-  pub one_thread_each : (own : List Note) (gss : List (List Given)) (vss : List (Roomed Verdict))
-      → ThreadNotesFit tracker log own gss vss → length vss ≡ length gss
-  one_thread_each own [] [] fit = refl
-  one_thread_each own [] (w ∷ vss) fit = absurd fit
-  one_thread_each own (gs ∷ gss) [] fit = absurd fit
-  one_thread_each own (gs ∷ gss) (w ∷ vss) (f, fs) = ap suc (one_thread_each (drop (made_in w.items) own) gss vss fs)
+  pub one_thread_each : (gss : List (List Given)) (vss : List (Roomed Verdict)) (lists : List (Roomed Note))
+      → AreThreads tracker log end gss vss lists → length vss ≡ length gss
+  one_thread_each [] [] [] threads = refl
+  one_thread_each [] [] (l ∷ lists) threads = absurd threads
+  one_thread_each [] (w ∷ vss) lists threads = absurd threads
+  one_thread_each (gs ∷ gss) [] lists threads = absurd threads
+  one_thread_each (gs ∷ gss) (w ∷ vss) [] threads = absurd threads
+  one_thread_each (gs ∷ gss) (w ∷ vss) (l ∷ lists) (thread, threads) = ap suc (one_thread_each gss vss lists threads)
 
-  -- no list has more verdicts than there are packets
-  pub verdicts_few : (n : ℕ) (own : List Note) (gss : List (List Given)) (vss : List (Roomed Verdict))
-      → ThreadNotesFit tracker log own gss vss → count_given gss < n → All (λ (vs : Roomed Verdict). length vs.items < n) vss
-  verdicts_few n own [] [] fit few k d within = absurd (omega (arith, within))
-  verdicts_few n own [] (w ∷ vss) fit few k d within = absurd fit
-  verdicts_few n own (gs ∷ gss) [] fit few k d within = absurd fit
-  verdicts_few n own (gs ∷ gss) (w ∷ vss) (f, fs) few zero d within =
-      omega (arith, few, one_each tracker log (take (made_in w.items) own) at_start gs w.items f)
-  verdicts_few n own (gs ∷ gss) (w ∷ vss) (f, fs) few (suc k) d within =
-      verdicts_few n (drop (made_in w.items) own) gss vss fs (omega (arith, few)) k d (omega (arith, within))
-
-  -- the threads made no more events than there are
-  pub made_few : (own : List Note) (gss : List (List Given)) (vss : List (Roomed Verdict))
-      → ThreadNotesFit tracker log own gss vss → made_in_all vss ≤ length own
-  made_few own [] [] fit = omega arith
-  made_few own [] (w ∷ vss) fit = absurd fit
-  made_few own (gs ∷ gss) [] fit = absurd fit
-  made_few own (gs ∷ gss) (w ∷ vss) (f, fs) =
+  -- no list has more verdicts than its capture has frames
+  pub verdicts_few : (n : ℕ) (captures : List Capture) (vss : List (Roomed Verdict)) (lists : List (Roomed Note))
+      → AreThreads tracker log end (map given_frames captures) vss lists → frames_in captures < n
+      → All (λ (vs : Roomed Verdict). length vs.items < n) vss
+  verdicts_few n [] [] lists threads few k d within = absurd (omega (arith, within))
+  verdicts_few n [] (w ∷ vss) lists threads few k d within = absurd threads
+  verdicts_few n (c ∷ captures) [] lists threads few k d within = absurd threads
+  verdicts_few n (c ∷ captures) (w ∷ vss) [] threads few k d within = absurd threads
+  verdicts_few n (c ∷ captures) (w ∷ vss) (l ∷ lists) (thread, threads) few zero d within =
       omega (
         arith,
-        made_few (drop (made_in w.items) own) gss vss fs,
-        made_within tracker log own gs w.items f,
-        length-drop (made_in w.items) own,
+        few,
+        one_each tracker log l.items at_start (given_frames c) w.items thread.fit,
+        length-map c.frames.items (given_of c.bytes.items),
       )
+  verdicts_few n (c ∷ captures) (w ∷ vss) (l ∷ lists) (thread, threads) few (suc k) d within =
+      verdicts_few n captures vss lists threads (omega (arith, few)) k d (omega (arith, within))
 
 -- the frames of a capture are no later than this
 latest_within : (bytes : List ℕ) (frames : List Frame) (moment : ℕ) → moment ≤ 10 ^ 16 → AreTimely frames
@@ -80,10 +66,23 @@ latest_within bytes (f ∷ frames) moment le timely =
     latest_within bytes frames (max moment f.moment) (omega (arith, le, here)) both.1
 
 -- nor are those of several
-pub latest_of_within : (captures : List Capture) (moment : ℕ) → moment ≤ 10 ^ 16 → All (λ c. AreTimely c.frames.items) captures
+pub latest_of_within : (captures : List Capture) (moment : ℕ) → moment ≤ 10 ^ 16 → All CanReplay captures
     → latest_of moment (map given_frames captures) ≤ 10 ^ 16
-latest_of_within [] moment le timely = le
-latest_of_within (c ∷ captures) moment le timely =
+latest_of_within [] moment le can = le
+latest_of_within (c ∷ captures) moment le can =
     latest_of_within captures (latest moment (given_frames c))
-    (latest_within c.bytes.items c.frames.items moment le (timely 0 c (omega arith)))
-    (λ k d within. timely (suc k) d (omega (arith, within)))
+    (latest_within c.bytes.items c.frames.items moment le (can 0 c (omega arith)).timely)
+    (λ k d within. can (suc k) d (omega (arith, within)))
+
+-- each of captures that have no more frames than this together can be replayed
+pub can_replay : (captures : List Capture) → All (λ c. AreInside c.bytes.items c.frames.items) captures
+    → All (λ c. AreTimely c.frames.items) captures → frames_in captures ≤ 4194304 → All CanReplay captures
+can_replay [] inside timely few k d within = absurd (omega (arith, within))
+can_replay (c ∷ captures) inside timely few zero d within = record {
+  inside = inside 0 c (omega arith);
+  timely = timely 0 c (omega arith);
+  few = omega (arith, few);
+}
+can_replay (c ∷ captures) inside timely few (suc k) d within =
+    can_replay captures (λ i e below. inside (suc i) e (omega (arith, below))) (λ i e below. timely (suc i) e (omega (arith, below)))
+    (omega (arith, few)) k d (omega (arith, within))

@@ -1,7 +1,12 @@
+pub mod Beginning
 pub mod Bounds
-pub mod CapturesReplayed
-pub mod Cuts
+pub mod Counting
+pub mod Each
+pub mod Finishing
 pub mod FitsNamed
+pub mod Halves
+pub mod Interleaved
+pub mod Joining
 pub mod Latest
 pub mod Marks
 pub mod Names
@@ -9,4 +14,5 @@ pub mod Replays
 pub mod Reports
 pub mod Runs
 pub mod Scripts
+pub mod Splitting
 pub mod Threads

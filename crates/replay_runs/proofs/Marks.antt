@@ -8,6 +8,7 @@ use Rattle.history_book.specs.declared.event.Note.{Note}
 use Rattle.history_book.specs.Mark.{mark_at, mark_past}
 use Rattle.history_book.specs.Point.{StartsWith}
 use Rattle.history_book.specs.Sight.{IsKnown, Sight}
+use Rattle.replay_runs.proofs.Each.{each_end}
 
 -- the numbers of these events are below n
 abbrev pub NumbersBelow : ℕ → List Note → Type 0
@@ -22,11 +23,6 @@ mark_past-le n mark (x ∷ xs) le (h, hs) = mark_past-le n (max mark (x.number +
 pub mark_at-le : (n mark : ℕ) (points : List ℕ) → mark ≤ n → AllByRecursion (λ p. p ≤ n) points → mark_at mark points ≤ n
 mark_at-le n mark [] le h = le
 mark_at-le n mark (p ∷ ps) le (h, hs) = mark_at-le n (max mark p) ps (omega arith) hs
-
--- what holds of each item of a list holds of its last ones
-each_end : {X : Type 0} (P : X → Type 0) (xs ys : List X) → AllByRecursion P (xs ++ ys) → AllByRecursion P ys
-each_end P [] ys h = h
-each_end P (x ∷ xs) ys (h, hs) = each_end P xs ys hs
 
 -- events of a history have numbers below its length
 numbers_within : (front : List Event) (own : List Note) → AllByRecursion (λ (n : Note). slice_get front n.number ≡ Some n.event) own

@@ -1,12 +1,13 @@
 -- The events of several threads, each named by the thread and the packet or command that made it.
 use Rattle.std.proofs.Common.{◌≡◌, ℕ, zero, suc, ◌+◌, ◌<◌, ◌≤◌, List, [], ◌∷◌, ◌++◌, length, map, take, drop, Some, slice_get, refl, sym, ap, subst, ◌∙◌, arith, length-drop}
 use Rattle.std.specs.List.{AllByRecursion}
-use Rattle.std.proofs.lemmas.List.{length-map, map-append, take-append-drop}
+use Rattle.std.proofs.lemmas.List.{map-append, take-append-drop}
 use Rattle.room_list.specs.Roomed.{Roomed}
 use Rattle.history_book.specs.declared.event.Note.{Note}
 use Rattle.history_book.specs.declared.event.Numbered.{Numbered}
 use Rattle.history_book.specs.Merge.{all_notes, CoverEach, CoverFrom, IsMerged, EventSpan}
-use Rattle.history_book.specs.Numbered.{IsNumberedFrom, notes_of}
+use Rattle.history_book.specs.Numbered.{notes_of}
+use Rattle.replay_runs.proofs.Each.{each_append}
 
 abbrev pub name_of : ℕ → ℕ → Note → Numbered
 name_of thread index n = record { number = n.number; thread = thread; index = index; event = n.event }
@@ -64,11 +65,6 @@ all_named_notes thread (l ∷ lists) (ss ∷ sss) (here, covers) =
     (named_in_notes thread 0 0 (length l.items) l.items ss here (omega arith))
     ∙ ap (λ xs. l.items ++ xs) (all_named_notes (thread + 1) lists sss covers)
 
--- what holds of each of two lists holds of both together
-pub each_append : {X : Type 0} (P : X → Type 0) (xs ys : List X) → AllByRecursion P xs → AllByRecursion P ys → AllByRecursion P (xs ++ ys)
-each_append P [] ys h k = k
-each_append P (x ∷ xs) ys (h, hs) k = (h, each_append P xs ys hs k)
-
 get-drop : {X : Type 0} (m k l : ℕ) (xs : List X) → l ≡ m + k → slice_get (drop m xs) k ≡ slice_get xs l
 get-drop zero k l xs e = ap (slice_get xs) (omega arith)
 get-drop (suc m) k l [] e = refl
@@ -121,7 +117,7 @@ each_of_threads P from (l ∷ lists) (ss ∷ sss) (here, covers) h =
     h (suc t) at index thread notes note us span (omega (arith, e)) is_list is_note is_shares is_share low high))
 
 -- each event that a thread made stands in the merged history
-each_stands : (lists : List (Roomed Note)) (sss : List (List EventSpan)) (history : List Numbered) → CoverEach lists sss
+pub each_stands : (lists : List (Roomed Note)) (sss : List (List EventSpan)) (history : List Numbered) → CoverEach lists sss
     → IsMerged lists sss history → AllByRecursion (λ (n : Numbered). slice_get history n.number ≡ Some n) (all_named 0 lists sss)
 each_stands lists sss history covers merged =
     each_of_threads (λ (n : Numbered). slice_get history n.number ≡ Some n) 0 lists sss covers
@@ -130,39 +126,3 @@ each_stands lists sss history covers merged =
     (merged.each thread at index notes note ss span
     (subst (λ (i : ℕ). slice_get lists i ≡ Some notes) same is_list) is_note
     (subst (λ (i : ℕ). slice_get sss i ≡ Some ss) same is_shares) is_share low high).stands)
-
--- a list of which these are the items at their numbers, which are all numbers from n on, is these
-same_items : (n : ℕ) (history names : List Numbered) → IsNumberedFrom n names → length history ≡ length names
-    → AllByRecursion (λ (x : Numbered). (k : ℕ) → x.number ≡ n + k → slice_get history k ≡ Some x) names → history ≡ names
-same_items n [] [] numbers long h = refl
-same_items n [] (x ∷ names) numbers long h = absurd (omega (arith, long))
-same_items n (y ∷ history) [] numbers long h = absurd (omega (arith, long))
-same_items n (y ∷ history) (x ∷ names) (here, numbers) long (h, hs) =
-    let first : slice_get (y ∷ history) 0 ≡ Some x = h 0 (omega (arith, here)) in
-    let same : y ≡ x = cc first in
-    ap (λ z. z ∷ history) same
-    ∙ ap (λ zs. x ∷ zs) (same_items (n + 1) history names numbers (omega (arith, long)) (later n y history names hs))
-  where
-    later : (n : ℕ) (y : Numbered) (history names : List Numbered)
-        → AllByRecursion (λ (x : Numbered). (k : ℕ) → x.number ≡ n + k → slice_get (y ∷ history) k ≡ Some x) names
-        → AllByRecursion (λ (x : Numbered). (k : ℕ) → x.number ≡ (n + 1) + k → slice_get history k ≡ Some x) names
-    later n y history [] hs = tt
-    later n y history (z ∷ zs) (g, gs) = ((λ k e. g (suc k) (omega (arith, e))), later n y history zs gs)
-
--- the merged history is the named events of each thread, one thread after the other, where their numbers are 0, 1, 2 and so on
-pub merged_in_order : (lists : List (Roomed Note)) (sss : List (List EventSpan)) (history : List Numbered) → CoverEach lists sss
-    → IsMerged lists sss history → IsNumberedFrom 0 (all_named 0 lists sss) → history ≡ all_named 0 lists sss
-merged_in_order lists sss history covers merged numbers =
-    let names : List Numbered = all_named 0 lists sss in
-    let long : length history ≡ length names =
-    merged.whole ∙ ap length (sym (all_named_notes 0 lists sss covers))
-    ∙ length-map names (λ (n : Numbered). record { number = n.number; event = n.event }) in
-    same_items 0 history names numbers long (at_number history names (each_stands lists sss history covers merged))
-  where
-    at_number : (history names : List Numbered) → AllByRecursion (λ (n : Numbered). slice_get history n.number ≡ Some n) names
-        → AllByRecursion (λ (x : Numbered). (k : ℕ) → x.number ≡ 0 + k → slice_get history k ≡ Some x) names
-    at_number history [] h = tt
-    at_number history (x ∷ xs) (h, hs) = (
-      (λ k e. let same : x.number ≡ k = omega (arith, e) in subst (λ (i : ℕ). slice_get history i ≡ Some x) same h),
-      at_number history xs hs,
-    )

@@ -1,7 +1,7 @@
 -- What the run of a script has done so far.
-use Rattle.std.proofs.Common.{◌≡◌, ℕ, ◌+◌, ◌*◌, ◌-◌, ◌<◌, ◌≤◌, Bool, true, false, ◌==◌, cond, List, [], ◌∷◌, ◌++◌, length, max, take, drop, get_or, refl, sym, ap, subst, ◌∙◌, arith, length-append, length-drop}
+use Rattle.std.proofs.Common.{◌≡◌, ℕ, ◌+◌, ◌*◌, ◌-◌, ◌<◌, ◌≤◌, Bool, true, false, ◌==◌, cond, List, [], ◌∷◌, ◌++◌, length, max, take, drop, get_or, refl, sym, ap, subst, ◌∙◌, arith, append_assoc, length-append, length-drop}
 use Rattle.std.proofs.lemmas.Bool.{eqb-true}
-use Rattle.std.proofs.lemmas.List.{drop-append-le, take-append-le, take_more}
+use Rattle.std.proofs.lemmas.List.{append-nil, drop-append-le, take-append-le, take_more}
 use Rattle.std.proofs.Math.Seq.{drop-length, take-length}
 use Rattle.room_list.specs.Roomed.{Roomed}
 use Rattle.conntrack_cmd.specs.Answer.{FitsCommand}
@@ -12,6 +12,7 @@ use Rattle.history_book.specs.declared.answer.Answer.{Answer}
 use Rattle.history_book.specs.declared.event.Event.{Event}
 use Rattle.history_book.specs.declared.event.Note.{Note}
 use Rattle.history_book.specs.Mark.{mark_after_command, mark_past}
+use Rattle.history_book.specs.Places.{HoldsNothing}
 use Rattle.history_book.specs.Point.{StartsWith}
 use Rattle.history_book.specs.Sight.{IsKnown, Sight}
 use Rattle.history_book.specs.SightLaws.{GoingOnAddsUp}
@@ -25,16 +26,18 @@ abbrev pub from_first : (first index mark : ℕ) → Progress
 from_first first index mark = record { first = first; index = index; mark = mark }
 
 -- so many of the commands were performed
-pub record IsAnswered (commands : List Command) (moment first count : ℕ) (old new : Sight) (answers : Roomed Answer) : Type 0 where
+pub record IsAnswered (commands : List Command) (moment first count : ℕ) (old new : Sight) (before all : Roomed Answer) : Type 0 where
   pub own : List Note
+  pub answers : List Answer
+  pub behind : all.items ≡ before.items ++ answers
   pub went : WentOn old new own
   pub few : length own ≤ 66560 * count
   pub fit : (wait end index mark : ℕ) → EndsInTime wait end index count (length old.front) → mark ≤ length old.front
-      → AnswersFit (run_seen new moment wait end) own (from_first first index mark) (take count commands) answers.items
+      → AnswersFit (run_seen new moment wait end) own (from_first first index mark) (take count commands) answers
   pub mark : (wait end index mark : ℕ) → EndsInTime wait end index count (length old.front) → mark ≤ length old.front
-      → (past_answers (run_seen new moment wait end) (from_first first index mark) own answers.items).mark ≤ length new.front
-  pub counted : length answers.items ≡ count
-  pub room : length commands ≤ answers.room
+      → (past_answers (run_seen new moment wait end) (from_first first index mark) own answers).mark ≤ length new.front
+  pub counted : length answers ≡ count
+  pub room : all.room ≡ before.room
   pub held : new.held ≡ []
   pub owed : new.owed ≡ []
   pub known : IsKnown new
@@ -51,7 +54,7 @@ before_le run now n le ends =
 
 module _ (still : AnswersStillFit) (longer log : List Event) (starts : StartsWith longer log) (moment wait end : ℕ) where
   -- answers fit when the history goes on
-  answers_stay : (mine : List Note) (now : Progress) (cs : List Command) (answers : List Answer)
+  pub answers_stay : (mine : List Note) (now : Progress) (cs : List Command) (answers : List Answer)
       → AnswersFit (record { log = log; moment = moment; wait = wait; end_of_captures = end }) mine now cs answers
       → AnswersFit (record { log = longer; moment = moment; wait = wait; end_of_captures = end }) mine now cs answers
   answers_stay mine now [] [] fit = fit
@@ -69,7 +72,7 @@ module _ (still : AnswersStillFit) (longer log : List Event) (starts : StartsWit
       )
 
   -- the script's progress does not look at the history
-  same_past : (now : Progress) (mine : List Note) (answers : List Answer)
+  pub same_past : (now : Progress) (mine : List Note) (answers : List Answer)
       → past_answers (record { log = longer; moment = moment; wait = wait; end_of_captures = end }) now mine answers
       ≡ past_answers (record { log = log; moment = moment; wait = wait; end_of_captures = end }) now mine answers
   same_past now mine [] = refl
@@ -134,6 +137,31 @@ module _ (run : ScriptRun) where
             (sym (past_stays mine own now d b f)) rest),
       )
 
+  -- the answers to commands and to those behind them
+  pub answers_behind : (mine own : List Note) (now : Progress) (cs ds : List Command) (answers more : List Answer)
+      → AnswersFit run mine now cs answers → AnswersFit run own (past_answers run now mine answers) ds more
+      → AnswersFit run (mine ++ own) now (cs ++ ds) (answers ++ more)
+  answers_behind mine own now [] ds [] more fit then = subst (λ xs. AnswersFit run (xs ++ own) now ds more) (sym fit) then
+  answers_behind mine own now [] ds (b ∷ answers) more fit then = absurd fit
+  answers_behind mine own now (d ∷ cs) ds [] more fit then = absurd fit
+  answers_behind mine own now (d ∷ cs) ds (b ∷ answers) more (f, fs) then =
+      let rest = answers_behind (drop b.made mine) own (past_command run now mine b) cs ds answers more fs then in
+      let dropped : drop b.made mine ++ own ≡ drop b.made (mine ++ own) = sym (drop-append-le b.made mine own f.within) in (
+        answer_stays mine own now d b f,
+        subst (λ xs. AnswersFit run xs (past_command run now (mine ++ own) b) (cs ++ ds) (answers ++ more)) dropped
+            (subst (λ (next : Progress). AnswersFit run (drop b.made mine ++ own) next (cs ++ ds) (answers ++ more))
+            (sym (past_stays mine own now d b f)) rest),
+      )
+
+  -- there is one answer for each command
+  pub one_answer_each : (mine : List Note) (now : Progress) (cs : List Command) (answers : List Answer)
+      → AnswersFit run mine now cs answers → length answers ≡ length cs
+  one_answer_each mine now [] [] fit = refl
+  one_answer_each mine now [] (b ∷ answers) fit = absurd fit
+  one_answer_each mine now (d ∷ cs) [] fit = absurd fit
+  one_answer_each mine now (d ∷ cs) (b ∷ answers) (f, fs) =
+      omega (arith, one_answer_each (drop b.made mine) (past_command run now mine b) cs answers fs)
+
   -- how far the script is after one answer more
   past_push : (mine own : List Note) (now : Progress) (cs : List Command) (answers : List Answer) (a : Answer)
       → AnswersFit run mine now cs answers
@@ -147,7 +175,7 @@ module _ (run : ScriptRun) where
       ∙ past_push (drop b.made mine) own (past_command run now mine b) cs answers a fs
 
   -- it has made all of the events, by as many answers
-  first_past : (mine : List Note) (now : Progress) (cs : List Command) (answers : List Answer)
+  pub first_past : (mine : List Note) (now : Progress) (cs : List Command) (answers : List Answer)
       → AnswersFit run mine now cs answers → (past_answers run now mine answers).first ≡ now.first + length mine
   first_past mine now [] [] fit = omega (arith, ap length fit)
   first_past mine now [] (b ∷ answers) fit = absurd fit
@@ -155,27 +183,26 @@ module _ (run : ScriptRun) where
   first_past mine now (d ∷ cs) (b ∷ answers) (f, fs) =
       omega (arith, first_past (drop b.made mine) (past_command run now mine b) cs answers fs, length-drop b.made mine, f.within)
 
-  index_past : (mine : List Note) (now : Progress) (answers : List Answer)
+  pub index_past : (mine : List Note) (now : Progress) (answers : List Answer)
       → (past_answers run now mine answers).index ≡ now.index + length answers
   index_past mine now [] = omega arith
   index_past mine now (b ∷ answers) = omega (arith, index_past (drop b.made mine) (past_command run now mine b) answers)
 
 -- no command was performed yet
-pub answered_start : GoingOnAddsUp → (commands : List Command) (moment first : ℕ) (old : Sight) (answers : Roomed Answer) → IsKnown old
-    → answers.items ≡ [] → length commands ≤ answers.room → old.held ≡ [] → old.owed ≡ []
-    → IsAnswered commands moment first 0 old old answers
-answered_start going commands moment first old answers known none room held owed = record {
+pub answered_start : GoingOnAddsUp → (commands : List Command) (moment first : ℕ) (old : Sight) (before : Roomed Answer) → IsKnown old
+    → HoldsNothing old → IsAnswered commands moment first 0 old old before before
+answered_start going commands moment first old before known empty = record {
   own = [];
+  answers = [];
+  behind = sym (append-nil before.items);
   went = (going.resting old).went;
   few = omega arith;
-  fit = λ wait end index mark ends seen.
-      subst (λ all. AnswersFit (run_seen old moment wait end) [] (from_first first index mark) [] all) (sym none) refl;
-  mark = λ wait end index mark ends seen.
-      subst (λ all. (past_answers (run_seen old moment wait end) (from_first first index mark) [] all).mark ≤ length old.front) (sym none) seen;
-  counted = ap length none;
-  room = room;
-  held = held;
-  owed = owed;
+  fit = λ wait end index mark ends seen. refl;
+  mark = λ wait end index mark ends seen. seen;
+  counted = refl;
+  room = refl;
+  held = empty.held;
+  owed = empty.owed;
   known = known;
 }
 
@@ -188,11 +215,11 @@ sooner : (wait end index count seen : ℕ) → EndsInTime wait end index (count 
 sooner wait end index count seen ends = λ from before. ends from (omega (arith, before))
 
 module _ (still : AnswersStillFit) (lower : LowerMarksFit) (commands : List Command) (d : Command) (moment first count base : ℕ) (old mid new : Sight)
-    (answers more : Roomed Answer) (a : Answer) (so_far : IsAnswered commands moment first count old mid answers)
+    (start answers more : Roomed Answer) (a : Answer) (so_far : IsAnswered commands moment first count old mid start answers)
     (performed : Performed (get_or commands count d) moment mid new a) (known : IsKnown new) (counts : length old.own ≡ base + first)
     (wait end index mark : ℕ) (ends : EndsInTime wait end index (count + 1) (length old.front)) (seen : mark ≤ length old.front) where
   here : Progress
-  here = past_answers (run_seen new moment wait end) (from_first first index mark) so_far.own answers.items
+  here = past_answers (run_seen new moment wait end) (from_first first index mark) so_far.own so_far.answers
 
   longer : length mid.front ≤ length new.front
   longer = omega (arith, ap length performed.went.front.1, length-append mid.front performed.went.front.0)
@@ -204,7 +231,7 @@ module _ (still : AnswersStillFit) (lower : LowerMarksFit) (commands : List Comm
   unfolding here
   mark_so_far =
       subst (λ (p : Progress). p.mark ≤ length mid.front)
-      (sym (same_past still new.front mid.front performed.went.front moment wait end (from_first first index mark) so_far.own answers.items))
+      (sym (same_past still new.front mid.front performed.went.front moment wait end (from_first first index mark) so_far.own so_far.answers))
       (so_far.mark wait end index mark (sooner wait end index count (length old.front) ends) seen)
 
   mark_here : mark_before (run_seen new moment wait end) here ≤ length mid.front
@@ -214,26 +241,26 @@ module _ (still : AnswersStillFit) (lower : LowerMarksFit) (commands : List Comm
       let at : index + count ≡ wait =
       omega (
         arith,
-        index_past (run_seen new moment wait end) so_far.own (from_first first index mark) answers.items,
+        index_past (run_seen new moment wait end) so_far.own (from_first first index mark) so_far.answers,
         so_far.counted,
         eqb-true here.index wait reached,
       ) in
       omega (arith, ends (omega (arith, at)) (omega (arith, at)), old_within))
 
-  stays : AnswersFit (run_seen new moment wait end) so_far.own (from_first first index mark) (take count commands) answers.items
+  stays : AnswersFit (run_seen new moment wait end) so_far.own (from_first first index mark) (take count commands) so_far.answers
   stays =
       answers_stay still new.front mid.front performed.went.front moment wait end so_far.own (from_first first index mark) (take count commands)
-      answers.items (so_far.fit wait end index mark (sooner wait end index count (length old.front) ends) seen)
+      so_far.answers (so_far.fit wait end index mark (sooner wait end index count (length old.front) ends) seen)
 
   next_mark : (past_answers (run_seen new moment wait end) (from_first first index mark) (so_far.own ++ performed.own)
-      (answers.items ++ counted_from base a ∷ [])).mark ≤ length new.front
+      (so_far.answers ++ counted_from base a ∷ [])).mark ≤ length new.front
   unfolding here
   next_mark =
       let last : ℕ = length new.front in
       let before : ℕ = mark_before (run_seen new moment wait end) here in
       let all : take a.made performed.own ≡ performed.own = ap (λ n. take n performed.own) performed.made ∙ take-length performed.own in
       rw (past_push (run_seen new moment wait end) so_far.own performed.own (from_first first index mark) (take count commands)
-      answers.items (counted_from base a) stays)
+      so_far.answers (counted_from base a) stays)
       (subst (λ xs. mark_after_command before xs (counted_from base a) ≤ last) (sym all)
       (let past : mark_past before performed.own ≤ last =
       mark_past-le last before performed.own (omega (arith, mark_here, longer))
@@ -249,7 +276,7 @@ module _ (still : AnswersStillFit) (lower : LowerMarksFit) (commands : List Comm
       ap length so_far.went.own,
       length-append old.own so_far.own,
       counts,
-      first_past (run_seen new moment wait end) so_far.own (from_first first index mark) (take count commands) answers.items stays,
+      first_past (run_seen new moment wait end) so_far.own (from_first first index mark) (take count commands) so_far.answers stays,
     );
     made = performed.made;
     timed = performed.timed;
@@ -259,26 +286,28 @@ module _ (still : AnswersStillFit) (lower : LowerMarksFit) (commands : List Comm
 
   next_fit : count < length commands
       → AnswersFit (run_seen new moment wait end) (so_far.own ++ performed.own) (from_first first index mark) (take (count + 1) commands)
-      (answers.items ++ counted_from base a ∷ [])
+      (so_far.answers ++ counted_from base a ∷ [])
   unfolding here
   next_fit below =
       subst (λ cs. AnswersFit (run_seen new moment wait end) (so_far.own ++ performed.own) (from_first first index mark) cs
-      (answers.items ++ counted_from base a ∷ []))
+      (so_far.answers ++ counted_from base a ∷ []))
       (sym (take_more commands count d below))
-      (answers_push (run_seen new moment wait end) so_far.own performed.own (from_first first index mark) (take count commands) answers.items
+      (answers_push (run_seen new moment wait end) so_far.own performed.own (from_first first index mark) (take count commands) so_far.answers
       (get_or commands count d) (counted_from base a) stays next_answer)
 
 -- one command more was performed
 pub answered_next : (going : GoingOnAddsUp) (still : AnswersStillFit) (lower : LowerMarksFit) (commands : List Command) (d : Command)
-    (moment first count base : ℕ) (old mid new : Sight) (answers more : Roomed Answer) (a : Answer)
-    (so_far : IsAnswered commands moment first count old mid answers)
+    (moment first count base : ℕ) (old mid new : Sight) (start answers more : Roomed Answer) (a : Answer)
+    (so_far : IsAnswered commands moment first count old mid start answers)
     (performed : Performed (get_or commands count d) moment mid new a) (known : IsKnown new) (counts : length old.own ≡ base + first)
     → count < length commands → old.sizes.entries + old.sizes.expectations ≤ 66560
     → more.items ≡ answers.items ++ counted_from base a ∷ [] → more.room ≡ answers.room
-    → IsAnswered commands moment first (count + 1) old new more
-answered_next going still lower commands d moment first count base old mid new answers more a so_far performed known counts below small items room =
-    record {
+    → IsAnswered commands moment first (count + 1) old new start more
+answered_next going still lower commands d moment first count base old mid new start answers more a so_far performed known counts below small items
+    room = record {
       own = so_far.own ++ performed.own;
+      answers = so_far.answers ++ counted_from base a ∷ [];
+      behind = items ∙ ap (λ xs. xs ++ counted_from base a ∷ []) so_far.behind ∙ append_assoc start.items so_far.answers (counted_from base a ∷ []);
       went = going.twice old mid new so_far.own performed.own so_far.went performed.went;
       few = omega (
         arith,
@@ -290,37 +319,34 @@ answered_next going still lower commands d moment first count base old mid new a
         length-append so_far.own performed.own,
       );
       fit = λ wait end index mark ends seen.
-          subst (λ all. AnswersFit (run_seen new moment wait end) (so_far.own ++ performed.own) (from_first first index mark)
-          (take (count + 1) commands) all)
-          (sym items)
-          (next_fit still lower commands d moment first count base old mid new answers more a so_far performed known counts wait end index mark
-          ends seen below);
+          next_fit still lower commands d moment first count base old mid new start answers more a so_far performed known counts wait end index mark
+          ends seen below;
       mark = λ wait end index mark ends seen.
-          subst (λ all. (past_answers (run_seen new moment wait end) (from_first first index mark) (so_far.own ++ performed.own) all).mark
-          ≤ length new.front)
-          (sym items)
-          (next_mark still lower commands d moment first count base old mid new answers more a so_far performed known counts wait end index mark
-          ends seen);
-      counted = ap length items ∙ length-append answers.items (counted_from base a ∷ []) ∙ ap (λ n. n + 1) so_far.counted;
-      room = omega (arith, so_far.room, room);
+          next_mark still lower commands d moment first count base old mid new start answers more a so_far performed known counts wait end index
+          mark ends seen;
+      counted = length-append so_far.answers (counted_from base a ∷ []) ∙ ap (λ n. n + 1) so_far.counted;
+      room = room ∙ so_far.room;
       held = performed.held;
       owed = performed.owed;
       known = known;
     }
 
 -- all commands were performed
-pub answered_all : (commands : List Command) (moment first count : ℕ) (old new : Sight) (answers : Roomed Answer)
-    → IsAnswered commands moment first count old new answers → count ≡ length commands → Answered commands moment first old new answers.items
-answered_all commands moment first count old new answers done all = record {
+pub answered_all : (commands : List Command) (moment first count : ℕ) (old new : Sight) (before all : Roomed Answer)
+    → IsAnswered commands moment first count old new before all → count ≡ length commands
+    → Answered commands moment first old new before.items all.items
+answered_all commands moment first count old new before all done whole = record {
   own = done.own;
+  answers = done.answers;
+  behind = done.behind;
   went = done.went;
-  few = omega (arith, done.few, all);
+  few = omega (arith, done.few, whole);
   fit = λ wait end index mark ends seen.
-      subst (λ cs. AnswersFit (run_seen new moment wait end) done.own (from_first first index mark) cs answers.items)
-      (ap (λ n. take n commands) all ∙ take-length commands)
-      (done.fit wait end index mark (subst (λ (n : ℕ). EndsInTime wait end index n (length old.front)) (sym all) ends) seen);
+      subst (λ cs. AnswersFit (run_seen new moment wait end) done.own (from_first first index mark) cs done.answers)
+      (ap (λ n. take n commands) whole ∙ take-length commands)
+      (done.fit wait end index mark (subst (λ (n : ℕ). EndsInTime wait end index n (length old.front)) (sym whole) ends) seen);
   mark = λ wait end index mark ends seen.
-      done.mark wait end index mark (subst (λ (n : ℕ). EndsInTime wait end index n (length old.front)) (sym all) ends) seen;
+      done.mark wait end index mark (subst (λ (n : ℕ). EndsInTime wait end index n (length old.front)) (sym whole) ends) seen;
   held = done.held;
   owed = done.owed;
   known = done.known;

@@ -1,9 +1,9 @@
 -- Several threads over one history: each has its own events of it.
-use Rattle.std.proofs.Common.{◌≡◌, ℕ, zero, suc, ◌+◌, ◌<◌, ◌≤◌, Bool, true, false, cond, ◌==◌, List, [], ◌∷◌, ◌++◌, length, take, drop, refl, sym, ap, subst, ◌∙◌, arith}
-use Rattle.std.specs.Prelude.{◌≢◌, filter, nat_lt}
+use Rattle.std.proofs.Common.{◌≡◌, ℕ, zero, suc, ◌+◌, ◌<◌, ◌≤◌, true, false, cond, ◌==◌, List, [], ◌∷◌, ◌++◌, length, take, drop, refl, sym, ap, subst, ◌∙◌, arith}
+use Rattle.std.specs.Prelude.{◌≢◌, AllPairs, filter, nat_lt}
 use Rattle.std.specs.List.{AllByRecursion}
-use Rattle.std.proofs.lemmas.Bool.{eq-eqb, ltb-true, ne_eqb}
-use Rattle.std.proofs.lemmas.List.{append-nil, drop-append-le, take-append-le}
+use Rattle.std.proofs.lemmas.Bool.{eq-eqb, eqb-true, ltb-true, ne_eqb}
+use Rattle.std.proofs.lemmas.List.{append-nil}
 use Rattle.std.proofs.lemmas.List.Elements.{filter-append}
 use Rattle.room_list.specs.Roomed.{Roomed}
 use Rattle.history_book.specs.declared.answer.Answer.{Answer}
@@ -14,21 +14,26 @@ use Rattle.history_book.specs.declared.verdict.Verdict.{Verdict}
 use Rattle.history_book.specs.Merge.{CoverEach, CoverFrom, EventSpan, spans_of, spans_of_answers, spans_of_verdicts}
 use Rattle.history_book.specs.Numbered.{events_of, notes_of}
 use Rattle.packet_path.specs.Packet.{Given}
-use Rattle.replay_runs.specs.Internal.Cut.{cut_by, items_of}
-use Rattle.replay_runs.specs.Internal.Replayed.{made_in, ThreadNotesFit}
+use Rattle.packet_path.specs.Laws.{VerdictsStillFit}
+use Rattle.history_book.specs.Point.{StartsWith}
+use Rattle.replay_runs.specs.Internal.Together.{AreThreads}
 use Rattle.replay_runs.specs.Report.{AreNamedFrom, AreNamedInEach, at_start, captures_end, made_by, ThreadsFit, TrackerSetup, VerdictsFit}
-use Rattle.replay_runs.proofs.CapturesReplayed.{made_within}
+use Rattle.replay_runs.proofs.Counting.{either}
+use Rattle.replay_runs.proofs.Each.{each_append, each_passed, each_weaker}
+use Rattle.replay_runs.proofs.Interleaved.{rising, RisesFrom}
+use Rattle.replay_runs.proofs.Replays.{notes_still_fit}
 use Rattle.replay_runs.proofs.Marks.{mark_past-le, NumbersBelow}
 use Rattle.replay_runs.proofs.FitsNamed.{shares_named, verdicts_cover}
-use Rattle.replay_runs.proofs.Names.{all_named, each_append, name_of, named, named_in, named_in_notes}
+use Rattle.replay_runs.proofs.Names.{all_named, name_of, named, named_in, named_in_notes}
 
--- each list has the events of a thread's verdicts, with numbers below m, and the last has the script's
+-- each list has the events of a thread's verdicts, with numbers below m that rise, and the last has the script's, which rise
 pub data ListsFit (tracker : TrackerSetup) (log : List Event) (m : ℕ) (script : List Note)
     : List (List Given) → List (Roomed Verdict) → List (Roomed Note) → Type 0 where
-  last : (l : Roomed Note) → l.items ≡ script → ListsFit tracker log m script [] [] (l ∷ [])
+  last : (l : Roomed Note) → l.items ≡ script → RisesFrom 0 l.items → ListsFit tracker log m script [] [] (l ∷ [])
   more : (gs : List Given) (gss : List (List Given)) (vs : Roomed Verdict) (vss : List (Roomed Verdict))
       (l : Roomed Note) (lists : List (Roomed Note))
-      → VerdictsFit tracker log l.items at_start gs vs.items → NumbersBelow m l.items → ListsFit tracker log m script gss vss lists
+      → VerdictsFit tracker log l.items at_start gs vs.items → NumbersBelow m l.items → RisesFrom 0 l.items
+      → ListsFit tracker log m script gss vss lists
       → ListsFit tracker log m script (gs ∷ gss) (vs ∷ vss) (l ∷ lists)
 
 -- what holds of each item of a list holds of its first ones
@@ -43,47 +48,39 @@ each_dropped P zero xs h = h
 each_dropped P (suc k) [] h = tt
 each_dropped P (suc k) (x ∷ xs) (h, hs) = each_dropped P k xs hs
 
--- so does what follows from it
-each_weaker : {X : Type 0} (P Q : X → Type 0) → ((x : X) → P x → Q x) → (xs : List X) → AllByRecursion P xs → AllByRecursion Q xs
-each_weaker P Q f [] h = tt
-each_weaker P Q f (x ∷ xs) (h, hs) = (f x h, each_weaker P Q f xs hs)
-
 -- what always holds
 each_always : {X : Type 0} (P : X → Type 0) → ((x : X) → P x) → (xs : List X) → AllByRecursion P xs
 each_always P f [] = tt
 each_always P f (x ∷ xs) = (f x, each_always P f xs)
 
-module _ (tracker : TrackerSetup) (log : List Event) (m : ℕ) (script : List Note) where
-  -- a desk's events that are cut by its verdicts are such lists
-  pub lists_fit : (own : List Note) (gss : List (List Given)) (vss : List (Roomed Verdict)) (lists : List (Roomed Note))
-      → ThreadNotesFit tracker log own gss vss → NumbersBelow m own → items_of lists ≡ cut_by vss (own ++ script)
-      → ListsFit tracker log m script gss vss lists
-  lists_fit own [] [] [] fit below is = absurd (cc is)
-  lists_fit own [] [] (l ∷ []) fit below is =
-      let same : l.items ≡ own ++ script = cc is in last l (same ∙ ap (λ xs. xs ++ script) fit)
-  lists_fit own [] [] (l ∷ k ∷ lists) fit below is = absurd (cc is)
-  lists_fit own [] (w ∷ vss) lists fit below is = absurd fit
-  lists_fit own (gs ∷ gss) [] lists fit below is = absurd fit
-  lists_fit own (gs ∷ gss) (w ∷ vss) [] fit below is = absurd (cc is)
-  lists_fit own (gs ∷ gss) (w ∷ vss) (l ∷ lists) (f, fs) below is =
-      let count : ℕ = made_in w.items in
-      let within : count ≤ length own = made_within tracker log own gs w.items f in
-      let here : l.items ≡ take count (own ++ script) = cc is in
-      let rest : items_of lists ≡ cut_by vss (drop count (own ++ script)) = cc is in
-      let first : take count own ≡ l.items = sym (take-append-le count own script within) ∙ sym here in
-      more gs gss w vss l lists
-      (subst (λ xs. VerdictsFit tracker log xs at_start gs w.items) first f)
-      (subst (λ xs. NumbersBelow m xs) first (each_taken (λ (x : Note). x.number < m) count own below))
-      (lists_fit (drop count own) gss vss lists fs (each_dropped (λ (x : Note). x.number < m) count own below)
-      (rest ∙ ap (cut_by vss) (drop-append-le count own script within)))
+-- events in the order of their numbers rise from 0
+rising_all : (xs : List Note) → AllPairs (λ (a b : Note). a.number < b.number) xs → RisesFrom 0 xs
+rising_all xs ordered = rising 0 xs (each_always (λ (x : Note). 0 ≤ x.number) (λ x. omega arith) xs) ordered
 
+-- the lists of threads and the script's are such lists, when the history goes on
+pub lists_fit : (still : VerdictsStillFit) (tracker : TrackerSetup) (longer log : List Event) (starts : StartsWith longer log) (m : ℕ)
+    (script : Roomed Note) → AllPairs (λ (a b : Note). a.number < b.number) script.items
+    → (gss : List (List Given)) (vss : List (Roomed Verdict)) (lists : List (Roomed Note)) → AreThreads tracker log m gss vss lists
+    → ListsFit tracker longer m script.items gss vss (lists ++ script ∷ [])
+lists_fit still tracker longer log starts m script ordered [] [] [] threads = last script refl (rising_all script.items ordered)
+lists_fit still tracker longer log starts m script ordered [] [] (l ∷ lists) threads = absurd threads
+lists_fit still tracker longer log starts m script ordered [] (w ∷ vss) lists threads = absurd threads
+lists_fit still tracker longer log starts m script ordered (gs ∷ gss) [] lists threads = absurd threads
+lists_fit still tracker longer log starts m script ordered (gs ∷ gss) (w ∷ vss) [] threads = absurd threads
+lists_fit still tracker longer log starts m script ordered (gs ∷ gss) (w ∷ vss) (l ∷ lists) (thread, threads) =
+    more gs gss w vss l (lists ++ script ∷ [])
+    (notes_still_fit still tracker longer log starts l.items at_start gs w.items thread.fit)
+    thread.below (rising_all l.items thread.ordered)
+    (lists_fit still tracker longer log starts m script ordered gss vss lists threads)
+
+module _ (tracker : TrackerSetup) (log : List Event) (m : ℕ) (script : List Note) where
   -- each list is covered by the spans of its thread
   pub lists_covered : {gss : List (List Given)} {vss : List (Roomed Verdict)} {lists : List (Roomed Note)}
       → ListsFit tracker log m script gss vss lists → (answers : List Answer) → CoverFrom 0 (length script) (spans_of_answers answers)
       → CoverEach lists (spans_of vss answers)
-  lists_covered (last l same) answers covers =
+  lists_covered (last l same rises) answers covers =
       (subst (λ xs. CoverFrom 0 (length xs) (spans_of_answers answers)) (sym same) covers, tt)
-  lists_covered (more gs gss vs vss l lists fit below later) answers covers = (
+  lists_covered (more gs gss vs vss l lists fit below rises later) answers covers = (
     verdicts_cover tracker log l.items at_start (length l.items) gs vs.items fit (omega arith),
     lists_covered later answers covers,
   )
@@ -91,19 +88,8 @@ module _ (tracker : TrackerSetup) (log : List Event) (m : ℕ) (script : List No
   -- there is a list for each thread, and one for the script
   pub lists_count : {gss : List (List Given)} {vss : List (Roomed Verdict)} {lists : List (Roomed Note)}
       → ListsFit tracker log m script gss vss lists → length lists ≡ length vss + 1
-  lists_count (last l same) = refl
-  lists_count (more gs gss vs vss l lists fit below later) = omega (arith, lists_count later)
-
--- what passes a test is kept
-kept : {X : Type 0} (b : Bool) (Q : X → Type 0) (x : X) (xs : List X) → (b ≡ true → Q x) → AllByRecursion Q xs
-    → AllByRecursion Q (cond b (x ∷ xs) xs)
-kept true Q x xs h hs = (h refl, hs)
-kept false Q x xs h hs = hs
-
-filter_each : {X : Type 0} (p : X → Bool) (Q : X → Type 0) (xs : List X) → AllByRecursion (λ x. p x ≡ true → Q x) xs
-    → AllByRecursion Q (filter p xs)
-filter_each p Q [] h = tt
-filter_each p Q (x ∷ xs) (h, hs) = kept (p x) Q x (filter p xs) h (filter_each p Q xs hs)
+  lists_count (last l same rises) = refl
+  lists_count (more gs gss vs vss l lists fit below rises later) = omega (arith, lists_count later)
 
 -- a thread's events are those that it made
 made_by_self : (thread : ℕ) (events : List Numbered) → AllByRecursion (λ (n : Numbered). n.thread ≡ thread) events
@@ -175,16 +161,32 @@ made_by_later t thread notes ss rest other =
     (made_by_others t (named_in thread 0 notes ss)
     (each_of_thread (λ (n : Numbered). n.thread ≢ t) thread (λ n k. other) notes ss))
 
+-- a thread's events rise, and so do those of the threads behind it
+one_rises : (t thread : ℕ) (notes : List Note) (ss : List EventSpan) (rest : List Numbered) → CoverFrom 0 (length notes) ss → RisesFrom 0 notes
+    → AllByRecursion (λ (n : Numbered). n.thread ≢ thread) rest → (thread ≢ t → RisesFrom 0 (notes_of (made_by t rest)))
+    → RisesFrom 0 (notes_of (made_by t (named_in thread 0 notes ss ++ rest)))
+one_rises t thread notes ss rest covers rises others later =
+    either (thread == t)
+    (λ e. let same : thread ≡ t = eqb-true thread t e in
+    subst (λ (k : ℕ). RisesFrom 0 (notes_of (made_by k (named_in thread 0 notes ss ++ rest)))) same
+    (subst (λ xs. RisesFrom 0 (notes_of xs)) (sym (made_by_first thread notes ss rest others))
+    (subst (RisesFrom 0) (sym (named_in_notes thread 0 0 (length notes) notes ss covers (omega arith))) rises)))
+    (λ e. let other : thread ≢ t = (λ same. differ (sym e ∙ eq-eqb thread t same)) in
+    subst (λ xs. RisesFrom 0 (notes_of xs)) (sym (made_by_later t thread notes ss rest other)) (later other))
+  where
+    differ : false ≡ true → ⊥
+    differ e = absurd (cc e)
+
 module _ (tracker : TrackerSetup) (log : List Event) (m : ℕ) (script : List Note) where
   -- the script's events
   pub script_made : {gss : List (List Given)} {vss : List (Roomed Verdict)} {lists : List (Roomed Note)}
       → ListsFit tracker log m script gss vss lists → (answers : List Answer) (thread end : ℕ) → end ≡ thread + length gss
       → made_by end (all_named thread lists (spans_of vss answers)) ≡ named_in end 0 script (spans_of_answers answers)
-  script_made (last l same) answers thread end at =
+  script_made (last l same rises) answers thread end at =
       let here : thread ≡ end = omega (arith, at) in
       subst (λ (k : ℕ). made_by end (all_named k (l ∷ []) (spans_of [] answers)) ≡ named_in end 0 script (spans_of_answers answers)) (sym here)
       (made_by_first end l.items (spans_of_answers answers) [] tt ∙ ap (λ xs. named_in end 0 xs (spans_of_answers answers)) same)
-  script_made (more gs gss vs vss l lists fit below later) answers thread end at =
+  script_made (more gs gss vs vss l lists fit below rises later) answers thread end at =
       made_by_later end thread l.items (spans_of_verdicts vs.items) (all_named (thread + 1) lists (spans_of vss answers))
       (omega (arith, at))
       ∙ script_made later answers (thread + 1) end (omega (arith, at))
@@ -193,45 +195,53 @@ module _ (tracker : TrackerSetup) (log : List Event) (m : ℕ) (script : List No
   pub threads_within : {gss : List (List Given)} {vss : List (Roomed Verdict)} {lists : List (Roomed Note)}
       → ListsFit tracker log m script gss vss lists → (answers : List Answer) (thread end : ℕ) → end ≡ thread + length gss
       → AllByRecursion (λ (n : Numbered). n.thread ≤ end) (all_named thread lists (spans_of vss answers))
-  threads_within (last l same) answers thread end at =
+  threads_within (last l same rises) answers thread end at =
       each_append (λ (n : Numbered). n.thread ≤ end) (named_in thread 0 l.items (spans_of_answers answers)) []
       (each_of_thread (λ (n : Numbered). n.thread ≤ end) thread (λ n k. omega (arith, at)) l.items (spans_of_answers answers)) tt
-  threads_within (more gs gss vs vss l lists fit below later) answers thread end at =
+  threads_within (more gs gss vs vss l lists fit below rises later) answers thread end at =
       each_append (λ (n : Numbered). n.thread ≤ end) (named_in thread 0 l.items (spans_of_verdicts vs.items))
       (all_named (thread + 1) lists (spans_of vss answers))
       (each_of_thread (λ (n : Numbered). n.thread ≤ end) thread (λ n k. omega (arith, at)) l.items (spans_of_verdicts vs.items))
       (threads_within later answers (thread + 1) end (omega (arith, at)))
 
   -- the threads before the script's made their events before m
-  events_before : {gss : List (List Given)} {vss : List (Roomed Verdict)} {lists : List (Roomed Note)}
+  pub events_before : {gss : List (List Given)} {vss : List (Roomed Verdict)} {lists : List (Roomed Note)}
       → ListsFit tracker log m script gss vss lists → (answers : List Answer) (thread end : ℕ) → end ≡ thread + length gss
       → AllByRecursion (λ (n : Numbered). nat_lt n.thread end ≡ true → n.number < m) (all_named thread lists (spans_of vss answers))
-  events_before (last l same) answers thread end at =
+  events_before (last l same rises) answers thread end at =
       each_append (λ (n : Numbered). nat_lt n.thread end ≡ true → n.number < m) (named_in thread 0 l.items (spans_of_answers answers)) []
       (each_of_thread (λ (n : Numbered). nat_lt n.thread end ≡ true → n.number < m) thread
       (λ n k e. absurd (omega (arith, at, ltb-true thread end e))) l.items (spans_of_answers answers)) tt
-  events_before (more gs gss vs vss l lists fit below later) answers thread end at =
+  events_before (more gs gss vs vss l lists fit below rises later) answers thread end at =
       each_append (λ (n : Numbered). nat_lt n.thread end ≡ true → n.number < m) (named_in thread 0 l.items (spans_of_verdicts vs.items))
       (all_named (thread + 1) lists (spans_of vss answers))
       (each_named_in (λ (n : Numbered). nat_lt n.thread end ≡ true → n.number < m) thread 0 l.items (spans_of_verdicts vs.items)
       (each_weaker (λ (n : Note). n.number < m) (λ (n : Note). (k : ℕ) → nat_lt thread end ≡ true → n.number < m) (λ n h k e. h) l.items below))
       (events_before later answers (thread + 1) end (omega (arith, at)))
 
-  -- so the captures end no later than that
-  pub end_within : {gss : List (List Given)} {vss : List (Roomed Verdict)} {lists : List (Roomed Note)}
-      → ListsFit tracker log m script gss vss lists → (answers : List Answer) (end : ℕ) → end ≡ length gss
-      → captures_end end (all_named 0 lists (spans_of vss answers)) ≤ m
-  end_within {vss = vss} {lists = lists} fit answers end at =
-      let all : List Numbered = all_named 0 lists (spans_of vss answers) in
-      let events : List Numbered = filter (λ (n : Numbered). nat_lt n.thread end) all in
-      mark_past-le m 0 (notes_of events) (omega arith)
-      (below_notes events
-      (filter_each (λ (n : Numbered). nat_lt n.thread end) (λ (n : Numbered). n.number < m) all
-      (events_before fit answers 0 end (omega (arith, at)))))
-    where
-      below_notes : (xs : List Numbered) → AllByRecursion (λ (n : Numbered). n.number < m) xs → NumbersBelow m (notes_of xs)
-      below_notes [] h = tt
-      below_notes (x ∷ xs) (h, hs) = (h, below_notes xs hs)
+  -- what each thread made of the lists rises
+  pub made_rises : {gss : List (List Given)} {vss : List (Roomed Verdict)} {lists : List (Roomed Note)}
+      → ListsFit tracker log m script gss vss lists → (answers : List Answer) → CoverEach lists (spans_of vss answers) → (t thread : ℕ)
+      → RisesFrom 0 (notes_of (made_by t (all_named thread lists (spans_of vss answers))))
+  made_rises (last l same rises) answers (covers, tt) t thread =
+      one_rises t thread l.items (spans_of_answers answers) [] covers rises tt (λ other. tt)
+  made_rises (more gs gss vs vss l lists fit below rises later) answers (covers, after) t thread =
+      let rest : List Numbered = all_named (thread + 1) lists (spans_of vss answers) in
+      one_rises t thread l.items (spans_of_verdicts vs.items) rest covers rises
+      (others_later thread (thread + 1) lists (spans_of vss answers) (omega arith))
+      (λ other. made_rises later answers after t (thread + 1))
+
+-- the captures end no later than m, where their events have numbers below it
+pub ends_within : (m end : ℕ) (history : List Numbered)
+    → AllByRecursion (λ (n : Numbered). nat_lt n.thread end ≡ true → n.number < m) history → captures_end end history ≤ m
+ends_within m end history before =
+    let events : List Numbered = filter (λ (n : Numbered). nat_lt n.thread end) history in
+    mark_past-le m 0 (notes_of events) (omega arith)
+    (below_notes events (each_passed (λ (n : Numbered). nat_lt n.thread end) (λ (n : Numbered). n.number < m) history before))
+  where
+    below_notes : (xs : List Numbered) → AllByRecursion (λ (n : Numbered). n.number < m) xs → NumbersBelow m (notes_of xs)
+    below_notes [] h = tt
+    below_notes (x ∷ xs) (h, hs) = (h, below_notes xs hs)
 
 -- the events of each thread name the packets and the commands that made them
 pub each_named_from : (history : List Numbered) (thread : ℕ) (lists : List (Roomed Note)) (sss : List (List EventSpan)) → CoverEach lists sss
@@ -254,8 +264,8 @@ module _ (tracker : TrackerSetup) (m : ℕ) (script : List Note) (history : List
       → ListsFit tracker (events_of history) m script gss vss lists → (answers : List Answer) (thread : ℕ)
       → ((t : ℕ) → thread ≤ t → made_by t history ≡ made_by t (all_named thread lists (spans_of vss answers)))
       → ThreadsFit tracker history thread gss vss
-  threads_fit (last l same) answers thread made = tt
-  threads_fit (more gs gss vs vss l lists fit below later) answers thread made =
+  threads_fit (last l same rises) answers thread made = tt
+  threads_fit (more gs gss vs vss l lists fit below rises later) answers thread made =
       let ss : List EventSpan = spans_of_verdicts vs.items in
       let rest : List Numbered = all_named (thread + 1) lists (spans_of vss answers) in
       let own : made_by thread history ≡ named_in thread 0 l.items ss =

@@ -1,5 +1,6 @@
 -- What private functions keep for the clauses of the public ones. A reader of those need not open it.
 pub mod Answered
-pub mod Cut
+pub mod Jobs
 pub mod Replayed
 pub mod Stopped
+pub mod Together

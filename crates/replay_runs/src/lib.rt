@@ -1,6 +1,10 @@
 //! Replays captures and then a script over a tracker, and reports what became of them.
 #![tactic(auto)]
 
-mod cut;
+mod beside;
+mod captures;
+mod desks;
+mod jobs;
 pub mod replay;
 mod script_run;
+mod shared;

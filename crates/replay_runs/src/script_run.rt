@@ -1,21 +1,20 @@
-//! Performs the commands of a script, once all captures were replayed.
+//! Performs the commands of a script.
 
-ghost use Rattle.std.specs.Prelude.{◌≡◌, ◌+◌, ◌*◌, ◌≤◌, ◌^◌, [], All, length, map, IfOk, OnErr};
-ghost use Rattle.conntrack_cmd.specs.Moment.{moment_of};
-ghost use Rattle.history_book.specs.Sight.{IsKnown};
-ghost use Rattle.replay_runs.specs.Internal.Answered.{Answered};
+ghost use Rattle.std.specs.Prelude.{◌≡◌, ◌+◌, ◌≤◌, length, map, OnErr, OnOk};
+ghost use Rattle.replay_runs.specs.Internal.Answered.{Answered, CanPerform};
 ghost use Rattle.replay_runs.specs.Internal.Replayed.{given_frames};
 ghost use Rattle.replay_runs.specs.Internal.Stopped.{Stopped};
 ghost use Rattle.replay_runs.specs.Report.{latest, latest_of};
 
+use crate::shared::Shared;
 use capture_list::Capture;
 use conntrack_cmd::command::Command;
 use conntrack_cmd::laws::{answers_still_fit, lower_marks_fit};
 use conntrack_cmd::perform::perform;
+use ct_io::{Crossing, Gate};
 use history_book::answer::{Answer, Answers};
 use history_book::desk::Desk;
 use history_book::sight_laws::going_on_adds_up;
-use std::alloc::Global;
 use std::sync::Wait;
 use tuple_core::NoMemory;
 
@@ -41,35 +40,32 @@ pub fn latest_moment(captures: &[Capture]) -> u64
     moment
 }
 
-/// Performs commands of a script in their order, with a desk that holds and owes nothing: what is answered to each at
-/// this moment. Before these the script made `first` events, which are the last that the desk made.
-pub fn run_script<R: Wait, D: Desk>(
+/// Performs commands of a script in their order, with a desk that holds and owes nothing: what is answered to each at the
+/// script's moment comes behind the answers that are there. Before these the script made `first` events, which are the
+/// last that the desk made. The thread of this number passes the gate before each.
+pub fn run_script<R: Wait, G: Gate, D: Desk>(
     rt: &R,
-    alloc: Global,
+    shared: &Shared<'_, G>,
     desk: &mut D,
+    answers: &mut Answers,
     commands: &[Command],
-    moment: u64,
     first: u64,
-) -> Result<Answers, NoMemory>
-    requires timely { moment ≤ 10 ^ 16 }
-    requires named { All (λ c. moment_of c ≤ 10 ^ 16) commands.now }
-    requires small { (D.sight desk.old).sizes.entries + (D.sight desk.old).sizes.expectations ≤ 66560 }
-    requires made { first ≤ length (D.sight desk.old).own }
-    requires few { length (D.sight desk.old).own + 66560 * length commands.now + 66560 ≤ 2 ^ 30 }
-    requires nothing_held { (D.sight desk.old).held ≡ [] }
-    requires nothing_owed { (D.sight desk.old).owed ≡ [] }
-    requires knows { IsKnown (D.sight desk.old) }
-    ensures performed { IfOk result (λ answers.
-        Answered commands.now moment first (D.sight desk.old) (D.sight desk.new) answers.items) }
+    number: u32,
+) -> Result<(), NoMemory>
+    requires can { CanPerform commands.now shared.now.moment first (D.sight desk.old) }
+    requires room { length answers.old.items + length commands.now ≤ answers.old.room }
+    ensures performed { OnOk result (Answered commands.now shared.now.moment first
+        (D.sight desk.old) (D.sight desk.new) answers.old.items answers.new.items) }
     ensures stopped { OnErr result (Stopped (D.sight desk.old) (D.sight desk.new)) }
+    ensures room { answers.new.room ≡ answers.old.room }
 {
     answers_still_fit();
     lower_marks_fit();
     going_on_adds_up();
     let base = desk.made() - first;
-    let mut answers = Answers::new(alloc, commands.len())?;
     'commands: for command in commands {
-        let answer = match perform(rt, alloc, desk, command, moment) {
+        shared.gate.at(number, Crossing::BeforeCommand);
+        let answer = match perform(rt, shared.alloc, desk, command, shared.moment) {
             Ok(answer) => answer,
             Err(error) => return Err(error),
         };
@@ -78,5 +74,5 @@ pub fn run_script<R: Wait, D: Desk>(
             ..answer
         });
     }
-    Ok(answers)
+    Ok(())
 }

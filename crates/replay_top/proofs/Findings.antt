@@ -1,6 +1,6 @@
 -- What the inputs are decides how a run ends.
 use Rattle.std.proofs.Common.{false, ◌≡◌, ℕ, zero, suc, Ok, Err, List, [], ◌∷◌, refl, ap, subst, ◌∙◌, inl, inr, arith}
-use Rattle.command_words.specs.Words.{asked_of, Request}
+use Rattle.command_words.specs.Words.{asked_of, made, named, Origin, Request}
 use Rattle.command_words.specs.declared.WordsError.{WordsError}
 use Rattle.command_words.specs.declared.WordsError.TheVariants as unasked
 use Rattle.std.specs.Prelude.{All}
@@ -23,7 +23,8 @@ use Rattle.replay_top.specs.Internal.Ending.{line_about, name_among, refusal_for
 use Rattle.run_inputs.specs.Reading.{HasCauseFrom, IsReached, part_of, SameFaultsBut}
 use Rattle.run_inputs.specs.Laws.{GivenIsTold, WordsSayOne}
 use Rattle.replay_top.specs.Replay.{IsReplay, IsReplayOf}
-use Rattle.run_inputs.specs.Files.{files_asked, files_named, files_of, InputFile, AskFor}
+use Rattle.run_inputs.specs.Files.{files_asked, files_named, files_of, files_of_names, files_of_origin, InputFile, AskFor}
+use Rattle.run_inputs.specs.Made.{AreInputsOf}
 
 -- ---- causes
 
@@ -154,18 +155,28 @@ others_refused words files files' NoMemory cause same = others_same words files 
 
 -- ---- findings
 
+-- there is no first flaw where there is no file
+no_first : (before : Totals) (bytes : List (List ℕ)) (file : ℕ) (f : Flaw) → FirstFlawFrom before [] bytes file f → ⊥
+no_first before bytes file f first = first
+
 module _ (as_told : GivenIsTold) (say : WordsSayOne) (words : List (List ℕ)) (files files' : Source) (out out' : Tape) where
   -- what the words ask for is what they were said to ask for
   at_asked : (asked : Request) (P : Request → Type 0) → asked_of words ≡ Ok asked → AskFor words P → P asked
   at_asked asked P says of = subst P (say.request words of.asked asked of.says says) of.holds
+
+  -- inputs that were read have no flaw, and what is made is no file
+  inputs_clean : (origin : Origin) (bytes : List (List ℕ)) (contents : List Content) (file : ℕ) (f : Flaw)
+      → AreInputsOf files origin bytes contents → FirstFlaw AreTold files (files_of_origin origin) file f → ⊥
+  inputs_clean (named names) bytes contents file f inputs first =
+      as_told.read files (files_of_names names) bytes first.bytes contents file f inputs.0 first.given inputs.1 first.first
+  inputs_clean (made workload) bytes contents file f inputs first = no_first no_totals first.bytes file f first.first
 
   -- where a report was made, no file has a flaw
   replayed_clean : (report : Report) (file : ℕ) (f : Flaw) → IsReplay words files report
       → AskFor words (λ asked. FirstFlaw AreTold files (files_of asked) file f) → ⊥
   replayed_clean report file f of first =
       let replay : IsReplayOf files first.asked report = at_asked first.asked (λ (asked : Request). IsReplayOf files asked report) first.says of in
-      as_told.read files (files_of first.asked) replay.bytes first.holds.bytes replay.contents file f replay.given first.holds.given
-      replay.read first.holds.first
+      inputs_clean first.asked.origin replay.bytes replay.contents file f replay.inputs first.holds
 
   -- where all files are read, none was found to have a flaw
   clean_unflawed : (file : ℕ) (f : Flaw) → AskFor words (λ asked. FirstFlaw AreGiven files (files_of asked) file f)

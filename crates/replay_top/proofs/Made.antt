@@ -1,7 +1,8 @@
 -- What a report of all files that are asked for is.
-use Rattle.std.proofs.Common.{◌≡◌, ℕ, Option, Some, None, List, [], ◌∷◌, ◌++◌, map, refl, sym, subst, ap, ◌∙◌}
+use Rattle.std.proofs.Common.{◌≡◌, ℕ, Option, Some, None, List, [], ◌∷◌, ◌++◌, length, map, suc, refl, sym, subst, ap, ◌∙◌}
 use Rattle.std.specs.Prelude.{Err, IfOk, Ok, option_to_list, Result}
-use Rattle.command_words.specs.Words.{Request}
+use Rattle.std.proofs.lemmas.List.{length-map}
+use Rattle.command_words.specs.Words.{made, named, Origin, Request}
 use Rattle.conntrack_cmd.specs.declared.read.Script.{Script}
 use Rattle.ct_io.specs.Source.{Source}
 use Rattle.history_book.specs.declared.report.Report.{Report}
@@ -11,12 +12,15 @@ use Rattle.packet_path.specs.Packet.{Given, given_of}
 use Rattle.capture_list.specs.declared.Capture.{Capture}
 use Rattle.run_inputs.specs.declared.flaw.FileKind.TheVariants as kind
 use Rattle.run_inputs.specs.declared.input.Inputs.{Inputs}
-use Rattle.run_inputs.specs.Content.{Content, no_totals, rules, script}
+use Rattle.run_inputs.specs.Content.{Content, no_totals, rules, script, Totals, totals_with}
 use Rattle.run_inputs.specs.Inputs.{AreGiven, AreReadFrom}
-use Rattle.run_inputs.specs.Reading.{bytes_in, contents_in, GaveContents, GaveInputs, GaveRules, GaveScript}
+use Rattle.run_inputs.specs.Reading.{bytes_in, contents_in, GaveContents, GaveInputs, GaveOrigin, GaveRules, GaveScript}
+use Rattle.run_inputs.specs.Made.{AreInputsOf}
 use Rattle.replay_top.specs.Internal.Replaying.{ReplaysInputs}
 use Rattle.replay_runs.specs.Replaying.{work_of}
-use Rattle.replay_top.specs.Replay.{given_in, IsReplayOf, rules_in, sizes_of, work_with}
+use Rattle.replay_top.specs.Replay.{given_in, IsReplayOf, rules_in, sizes_of, threads_of, work_with}
+use Rattle.made_captures.specs.MadeCapture.{made_capture}
+use Rattle.std.proofs.lemmas.List.FromFn.{length-map-range_with_len}
 use Rattle.replay_runs.specs.Report.{IsWellFormed, Work}
 use Rattle.run_inputs.specs.Files.{files_of_kind, InputFile}
 use Rattle.room_list.specs.Roomed.{Roomed}
@@ -54,8 +58,15 @@ given_captures : (captures : List Capture) → given_in (bytes_in captures) (con
 given_captures [] = refl
 given_captures (c ∷ captures) = ap (λ (given : List (List Given)). given_of_capture c ∷ given) (given_captures captures)
 
+-- a script without a command, and captures alone
+captures_alone : (said : Script) (captures : List Capture) → said.commands.items ≡ [] → said.wait ≡ 0
+    → work_of captures said ≡ work_with (given_in (bytes_in captures) (contents_in captures)) (contents_in captures)
+captures_alone said captures commands wait =
+    rw (commands, wait) (sym (no_commands (given_in (bytes_in captures) (contents_in captures)) captures
+    ∙ ap (λ (given : List (List Given)). record { captures = given; commands = []; wait = 0 }) (given_captures captures)))
+
 -- what files say, of which the rules and the work are these
-record Made (files : Source) (inputs : List InputFile) (ruled : List Rule) (done : Work) : Type 0 where
+record ReadFiles (files : Source) (inputs : List InputFile) (ruled : List Rule) (done : Work) : Type 0 where
   bytes : List (List ℕ)
   contents : List Content
   given : AreGiven files inputs bytes
@@ -63,21 +74,20 @@ record Made (files : Source) (inputs : List InputFile) (ruled : List Rule) (done
   rules : ruled ≡ rules_in contents
   work : done ≡ work_with (given_in bytes contents) contents
 
-made : (files : Source) (r s : Option (List ℕ)) (names : List (List ℕ)) (ruled : List Rule) (said : Script) (captures : List Capture)
+read_files : (files : Source) (r s : Option (List ℕ)) (names : List (List ℕ)) (ruled : List Rule) (said : Script) (captures : List Capture)
     → GaveRules files r ruled → GaveScript files s said
     → GaveContents files no_totals (files_of_kind kind.Capture names) (bytes_in captures) (contents_in captures)
-    → Made files (files_of_kind kind.Rules (option_to_list r) ++ files_of_kind kind.Script (option_to_list s) ++ files_of_kind kind.Capture names)
+    → ReadFiles files (files_of_kind kind.Rules (option_to_list r) ++ files_of_kind kind.Script (option_to_list s) ++ files_of_kind kind.Capture names)
     ruled (work_of captures said)
-made files None None names ruled said captures gr gs gc = record {
+read_files files None None names ruled said captures gr gs gc = record {
   bytes = bytes_in captures;
   contents = contents_in captures;
   given = gc.given;
   read = gc.read;
   rules = gr ∙ sym (no_rules captures);
-  work = rw (gs.0, gs.1) (sym (no_commands (given_in (bytes_in captures) (contents_in captures)) captures
-      ∙ ap (λ (given : List (List Given)). record { captures = given; commands = []; wait = 0 }) (given_captures captures)));
+  work = captures_alone said captures gs.0 gs.1;
 }
-made files None (Some s) names ruled said captures gr gs gc = record {
+read_files files None (Some s) names ruled said captures gr gs gc = record {
   bytes = gs.bytes ∷ bytes_in captures;
   contents = script said.commands.items said.wait ∷ contents_in captures;
   given = (gs.given, gc.given);
@@ -85,16 +95,15 @@ made files None (Some s) names ruled said captures gr gs gc = record {
   rules = gr ∙ sym (no_rules captures);
   work = sym (ap (λ (given : List (List Given)). record { captures = given; commands = said.commands.items; wait = said.wait }) (given_captures captures));
 }
-made files (Some r) None names ruled said captures gr gs gc = record {
+read_files files (Some r) None names ruled said captures gr gs gc = record {
   bytes = gr.bytes ∷ bytes_in captures;
   contents = rules ruled ∷ contents_in captures;
   given = (gr.given, gc.given);
   read = (gr.read, gc.read);
   rules = refl;
-  work = rw (gs.0, gs.1) (sym (no_commands (given_in (bytes_in captures) (contents_in captures)) captures
-      ∙ ap (λ (given : List (List Given)). record { captures = given; commands = []; wait = 0 }) (given_captures captures)));
+  work = captures_alone said captures gs.0 gs.1;
 }
-made files (Some r) (Some s) names ruled said captures gr gs gc = record {
+read_files files (Some r) (Some s) names ruled said captures gr gs gc = record {
   bytes = gr.bytes ∷ gs.bytes ∷ bytes_in captures;
   contents = rules ruled ∷ script said.commands.items said.wait ∷ contents_in captures;
   given = (gr.given, (gs.given, gc.given));
@@ -103,18 +112,66 @@ made files (Some r) (Some s) names ruled said captures gr gs gc = record {
   work = sym (ap (λ (given : List (List Given)). record { captures = given; commands = said.commands.items; wait = said.wait }) (given_captures captures));
 }
 
+-- the same of all that is asked for
+record Worked (files : Source) (origin : Origin) (ruled : List Rule) (done : Work) : Type 0 where
+  bytes : List (List ℕ)
+  contents : List Content
+  inputs : AreInputsOf files origin bytes contents
+  rules : ruled ≡ rules_in contents
+  work : done ≡ work_with (given_in bytes contents) contents
+
+worked : (files : Source) (origin : Origin) (inputs : Inputs) → GaveOrigin files origin inputs
+    → Worked files origin inputs.rules.items (work_of inputs.captures.items inputs.script)
+worked files (named names) inputs gave =
+    let all = read_files files names.rules names.script names.captures inputs.rules.items inputs.script inputs.captures.items gave.rules
+    gave.script gave.captures in
+    record { bytes = all.bytes; contents = all.contents; inputs = (all.given, all.read); rules = all.rules; work = all.work }
+worked files (made workload) inputs gave = record {
+  bytes = bytes_in inputs.captures.items;
+  contents = contents_in inputs.captures.items;
+  inputs = gave.captures;
+  rules = gave.rules ∙ sym (no_rules inputs.captures.items);
+  work = captures_alone inputs.script inputs.captures.items gave.commands gave.wait;
+}
+
 -- a report of what was read is one of what is asked for
 pub replay_made : (files : Source) (asked : Request) (inputs : Inputs) (report : Report) → GaveInputs files asked inputs
     → ReplaysInputs asked inputs report → IsReplayOf files asked report
 replay_made files asked inputs report gave of =
-    let all = made files asked.rules asked.script asked.captures inputs.rules.items inputs.script inputs.captures.items gave.rules gave.script gave.captures in
+    let all = worked files asked.origin inputs gave in
     record {
       bytes = all.bytes;
-      given = all.given;
       contents = all.contents;
-      read = all.read;
+      inputs = all.inputs;
       setup = of.setup;
       rules = ap (λ (r : Roomed Rule). r.items) of.rules ∙ all.rules;
       ftp = of.ftp;
       well_formed = subst (λ (w : Work). IsWellFormed (record { setup = of.setup; sizes = sizes_of asked }) w report) all.work of.well_formed;
     }
+
+-- there is one for each file that was read
+read_long : (before : Totals) (inputs : List InputFile) (bytes : List (List ℕ)) (contents : List Content)
+    → AreReadFrom before inputs bytes contents → length bytes ≡ length inputs
+read_long before [] [] [] read = refl
+read_long before [] [] (content ∷ contents) read = absurd read
+read_long before [] (b ∷ bytes) contents read = absurd read
+read_long before (input ∷ inputs) [] contents read = absurd read
+read_long before (input ∷ inputs) (b ∷ bytes) [] read = absurd read
+read_long before (input ∷ inputs) (b ∷ bytes) (content ∷ contents) (here, read) =
+    ap suc (read_long (totals_with before b content) inputs bytes contents read)
+
+-- so there are as many captures as were asked for, or as are made
+counted : (files : Source) (origin : Origin) (inputs : Inputs) → GaveOrigin files origin inputs → length inputs.captures.items ≡ threads_of origin
+counted files (named names) inputs gave =
+    sym (length-map inputs.captures.items (λ (c : Capture). c.bytes.items))
+    ∙ read_long no_totals (files_of_kind kind.Capture names.captures) (bytes_in inputs.captures.items) (contents_in inputs.captures.items)
+    gave.captures.read
+    ∙ length-map names.captures (λ (name : List ℕ). record { kind = kind.Capture; name = name })
+counted files (made workload) inputs gave =
+    sym (length-map inputs.captures.items (λ (c : Capture). c.bytes.items))
+    ∙ ap length gave.captures.made
+    ∙ length-map-range_with_len (made_capture workload.seed workload.packets) 0 workload.threads
+
+pub captures_counted : (files : Source) (asked : Request) (inputs : Inputs) → GaveInputs files asked inputs
+    → length inputs.captures.items ≡ threads_of asked.origin
+captures_counted files asked inputs gave = counted files asked.origin inputs gave

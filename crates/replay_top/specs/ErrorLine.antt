@@ -68,6 +68,10 @@ script_fault_text fault = line_fault_text fault.line (script_kind_text fault.kin
 abbrev pub words_limit_text : WordsLimit → List ℕ
 words_limit_text limit.Entries = codes "limit: entries\n"
 words_limit_text limit.Buckets = codes "limit: buckets\n"
+words_limit_text limit.Seed = codes "limit: seed\n"
+words_limit_text limit.Packets = codes "limit: packets\n"
+words_limit_text limit.Threads = codes "limit: threads\n"
+words_limit_text limit.Flows = codes "limit: flows\n"
 words_limit_text limit.Captures = codes "limit: captures\n"
 
 -- a limit of a kind of file, in words

@@ -1,6 +1,6 @@
 -- What a run of the program reports and prints.
-use Rattle.std.specs.Prelude.{◌≡◌, ℕ, List, [], ◌∷◌, map}
-use Rattle.command_words.specs.Words.{Request}
+use Rattle.std.specs.Prelude.{◌≡◌, ℕ, ◌+◌, Bool, true, false, List, [], ◌∷◌, length, map}
+use Rattle.command_words.specs.Words.{Origin, Request, made, named}
 use Rattle.ct_io.specs.Counts.{Rose}
 use Rattle.ct_io.specs.Source.{Source}
 use Rattle.ct_io.specs.Tape.{Tape}
@@ -9,11 +9,12 @@ use Rattle.packet_path.specs.Packet.{Given, given_of}
 use Rattle.packet_path.specs.declared.setup.Setup.{Setup}
 use Rattle.history_book.specs.declared.report.Report.{Report}
 use Rattle.history_book.specs.declared.sizes.Sizes.{Sizes}
-use Rattle.run_inputs.specs.Content.{Content, frames, no_totals, rules, script}
-use Rattle.run_inputs.specs.Inputs.{AreGiven, AreReadFrom}
+use Rattle.run_inputs.specs.Content.{Content, frames, rules, script}
+use Rattle.run_inputs.specs.Made.{AreInputsOf}
 use Rattle.replay_runs.specs.Report.{IsWellFormed, Work}
-use Rattle.run_inputs.specs.Files.{files_of, AskFor}
+use Rattle.run_inputs.specs.Files.{AskFor}
 use Rattle.report_text.specs.Report.{report_text}
+use Rattle.report_text.specs.Summary.{summary_text}
 use Rattle.report_text.specs.Wrote.{followed_by, WroteFront}
 
 -- the rules of files that say this; without a file of rules there are none
@@ -39,19 +40,24 @@ work_with captures (script commands wait ∷ contents) =
     record { captures = captures; commands = commands; wait = wait }
 work_with captures (frames said ∷ contents) = work_with captures contents
 
--- The sizes of the tracker that is asked for. It makes one pass. Its buckets and its seed are read by no definition.
+-- how many threads work through it, besides the script's
+abbrev pub threads_of : Origin → ℕ
+threads_of (named names) = length names.captures
+threads_of (made workload) = workload.threads
+
+-- The sizes of the tracker that is asked for. It makes a pass for each capture and one for the script. Its buckets and its
+-- seed are read by no definition.
 abbrev pub sizes_of : Request → Sizes
 sizes_of asked =
-    record { entries = asked.entries; buckets = asked.buckets; seed = 1; passes = 1; expectations = 1024 }
+    record { entries = asked.entries; buckets = asked.buckets; seed = 1; passes = threads_of asked.origin + 1; expectations = 1024 }
 
--- The report is that of the files that are asked for: they are read, and it is well formed for what they say, with a
--- tracker of the sizes, the rules and the ports of the helper that are asked for. Where the contents of a file are told,
--- its bytes are these; else no more is said of them.
+-- The report is that of what is asked for: files that are named, which are read, or a workload that is made. It is well
+-- formed for what their bytes say, with a tracker of the sizes, the rules and the ports of the helper that are asked for.
+-- Where the contents of a file are told, its bytes are these; else no more is said of them.
 pub record IsReplayOf (files : Source) (asked : Request) (report : Report) : Type 0 where
   pub bytes : List (List ℕ)
-  pub given : AreGiven files (files_of asked) bytes
   pub contents : List Content
-  pub read : AreReadFrom no_totals (files_of asked) bytes contents
+  pub inputs : AreInputsOf files asked.origin bytes contents
   pub setup : Setup
   pub rules : setup.rules.items ≡ rules_in contents
   pub ftp : setup.ftp.items ≡ asked.ftp
@@ -61,13 +67,25 @@ pub record IsReplayOf (files : Source) (asked : Request) (report : Report) : Typ
 abbrev pub IsReplay : List (List ℕ) → Source → Report → Type 0
 IsReplay words files report = AskFor words (λ asked. IsReplayOf files asked report)
 
--- the same, and what was written is followed by exactly the report's text
-pub record IsPrinted (words : List (List ℕ)) (files : Source) (before after : Tape) (report : Report) : Type 0 where
-  pub replay : IsReplay words files report
-  pub text : after.written ≡ followed_by before.written (report_text report)
+-- what is printed of a report: its text, or its summary where that is asked for
+abbrev pub text_of : Bool → Report → List ℕ
+text_of false report = report_text report
+text_of true report = summary_text report
 
--- the same report, but the count of faults rose, and only some first bytes of its text were written
-pub record IsCutShort (words : List (List ℕ)) (files : Source) (before after : Tape) (report : Report) : Type 0 where
-  pub replay : IsReplay words files report
+-- the report is that of what is asked for, and what was written is followed by exactly the text that is
+pub record IsPrintedFor (files : Source) (before after : Tape) (report : Report) (asked : Request) : Type 0 where
+  pub replay : IsReplayOf files asked report
+  pub text : after.written ≡ followed_by before.written (text_of asked.summary report)
+
+-- the same of what the words ask for
+abbrev pub IsPrinted : List (List ℕ) → Source → Tape → Tape → Report → Type 0
+IsPrinted words files before after report = AskFor words (IsPrintedFor files before after report)
+
+-- the same report, but the count of faults rose, and only some first bytes of the text were written
+pub record IsCutShortFor (files : Source) (before after : Tape) (report : Report) (asked : Request) : Type 0 where
+  pub replay : IsReplayOf files asked report
   pub failed : Rose before.faults after.faults
-  pub text : WroteFront (report_text report) before.written after.written
+  pub text : WroteFront (text_of asked.summary report) before.written after.written
+
+abbrev pub IsCutShort : List (List ℕ) → Source → Tape → Tape → Report → Type 0
+IsCutShort words files before after report = AskFor words (IsCutShortFor files before after report)

@@ -1,14 +1,14 @@
 //! The one line on the error output.
 
 ghost use Rattle.std.specs.Prelude.{◌≡◌, ◌≤◌, ◌++◌, codes, decimal, length};
-ghost use Rattle.command_words.specs.Asked.{asked_as, texts};
+ghost use Rattle.command_words.specs.Asked.{asked_as, names_as, texts};
 ghost use Rattle.report_text.specs.Page.{Adds, HasRoom};
 ghost use Rattle.report_text.specs.Wrote.{Wrote};
 ghost use Rattle.replay_top.specs.ErrorLine.{error_line, fault_text, flaw_line, limit_text, line_fault_text, rule_kind_text, script_kind_text, Tells, words_limit_text, write_failed};
 ghost use Rattle.replay_top.specs.Internal.Ending.{line_about, name_among};
-ghost use Rattle.run_inputs.specs.Files.{file_at, files_of, files_of_kind};
+ghost use Rattle.run_inputs.specs.Files.{file_at, files_of, files_of_kind, files_of_names};
 
-use command_words::{Asked, WordsLimit};
+use command_words::{Asked, Named, Origin, WordsLimit};
 use conntrack_cmd::read::ScriptKind;
 use ct_io::Sink;
 use nat_setup::read::RuleKind;
@@ -129,6 +129,10 @@ fn words_limit_text(limit: WordsLimit) -> &'static [u8]
     match limit {
         WordsLimit::Entries => b"limit: entries\n",
         WordsLimit::Buckets => b"limit: buckets\n",
+        WordsLimit::Seed => b"limit: seed\n",
+        WordsLimit::Packets => b"limit: packets\n",
+        WordsLimit::Threads => b"limit: threads\n",
+        WordsLimit::Flows => b"limit: flows\n",
         WordsLimit::Captures => b"limit: captures\n",
     }
 }
@@ -198,17 +202,27 @@ fn name_at<'w>(names: &[&'w str], index: usize) -> &'w str
     }
 }
 
-/// The name of the file of this number among those that are asked for; no text where there is none.
-fn file_name<'w>(asked: &Asked<'w>, file: usize) -> &'w str
-    ensures { result.now ≡ (file_at (files_of (asked_as asked.now)) file).name }
+/// The name of the file of this number among these; no text where there is none.
+fn name_of<'w>(names: &Named<'w>, file: usize) -> &'w str
+    ensures { result.now ≡ (file_at (files_of_names (names_as names.now)) file).name }
 {
-    let captures = asked.captures.as_slice();
-    match (asked.rules, asked.script, file) {
+    let captures = names.captures.as_slice();
+    match (names.rules, names.script, file) {
         (Some(rules), _, 0) => rules,
         (Some(_), Some(script), 1) | (None, Some(script), 0) => script,
         (Some(_), Some(_), _) => name_at(captures, file - 2),
         (Some(_), None, _) | (None, Some(_), _) => name_at(captures, file - 1),
         (None, None, _) => name_at(captures, file),
+    }
+}
+
+/// The name of the file of this number among those that are asked for; no text where there is none.
+fn file_name<'w>(asked: &Asked<'w>, file: usize) -> &'w str
+    ensures { result.now ≡ (file_at (files_of (asked_as asked.now)) file).name }
+{
+    match &asked.origin {
+        Origin::Named(names) => name_of(names, file),
+        Origin::Made(_) => "",
     }
 }
 

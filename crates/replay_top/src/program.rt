@@ -1,6 +1,6 @@
 //! The whole program as one call.
 
-ghost use Rattle.std.specs.Prelude.{◌≡◌, ◌≢◌, ◌≤◌, None, IfOk, IsSomeAnd, map};
+ghost use Rattle.std.specs.Prelude.{◌≡◌, ◌≢◌, ◌≤◌, [], length, None, IfOk, IsSomeAnd, map};
 ghost use Rattle.std.specs.String.{string_bytes};
 ghost use Rattle.command_words.specs.Asked.{asked_as};
 ghost use Rattle.command_words.specs.Words.{IsWithin};
@@ -12,7 +12,9 @@ ghost use Rattle.run_inputs.specs.Inputs.{Finding, Finds};
 ghost use Rattle.replay_top.specs.Internal.Ending.{Ends, line_about, Replays};
 ghost use Rattle.run_inputs.specs.Ready.{IsReady};
 ghost use Rattle.replay_top.specs.Internal.Replaying.{ReplaysInputs};
-ghost use Rattle.replay_top.specs.Replay.{IsCutShort, IsPrinted};
+ghost use Rattle.replay_top.specs.Replay.{IsCutShort, IsPrinted, text_of, threads_of};
+ghost use Rattle.report_text.specs.Wrote.{Wrote};
+ghost use Rattle.run_inputs.specs.Files.{files_named, files_of};
 
 use crate::ending::{Ending, Run, refusal_for};
 use crate::error_line::{name_among, tell_not_written, tell_refusal};
@@ -22,7 +24,9 @@ use ct_io::{Files, Gate, Sink};
 use history_book::report::Report;
 use packet_path::setup::{Ports, Setup};
 use replay_runs::replay::replay;
-use report_text::write::write_report;
+use report_text::page::LONGEST_LINE;
+use report_text::summary::write_summary;
+use report_text::write::{WriteFault, write_report};
 use run_inputs::laws::{given_is_told, words_say_one};
 use run_inputs::{Inputs, Refusal, read_all, refusal_status};
 use std::alloc::Global;
@@ -43,13 +47,15 @@ fn copied(alloc: Global, ports: &Ports) -> Result<Ports, NoMemory>
 }
 
 /// Replays what was read, as it is asked for.
-fn replay_inputs<R: Wait>(
+fn replay_inputs<R: Threads + Wait + Sync, G: Gate + Sync>(
     rt: &R,
     alloc: Global,
     asked: &Asked<'_>,
     inputs: Inputs,
+    gate: &G,
 ) -> Result<Report, NoMemory>
     requires within { IsWithin (asked_as asked.now) }
+    requires counted { length inputs.captures.items ≡ threads_of (asked_as asked.now).origin }
     requires ready { IsReady inputs }
     ensures { IfOk result (ReplaysInputs (asked_as asked.now) inputs) }
 {
@@ -60,45 +66,67 @@ fn replay_inputs<R: Wait>(
     } = inputs;
     let ftp = copied(alloc, &asked.ftp)?;
     let setup = Setup { rules, ftp };
-    replay(rt, alloc, &sizes_of(asked), captures, &script, &setup)
+    replay(rt, alloc, &sizes_of(asked), captures, &script, &setup, gate)
 }
 
 /// Reads the files that are asked for, and replays them.
 #[tactic(auto, using(crate::proofs::Made::replay_made))]
-fn replay_asked<R: Wait, F: Files>(
+fn replay_asked<R: Threads + Wait + Sync, F: Files, G: Gate + Sync>(
     rt: &R,
     alloc: Global,
     files: &mut F,
     asked: &Asked<'_>,
+    gate: &G,
 ) -> Result<Report, Refusal>
     requires { IsWithin (asked_as asked.now) }
     ensures replays { Replays (asked_as asked.now) (F.source files.old) (F.source files.new) result }
+    ensures no_file { files_of (asked_as asked.now) ≡ [] → F.source files.new ≡ F.source files.old }
     ensures stays { Stays (F.source files.old) (F.source files.new) }
 {
     let inputs = match read_all(alloc, files, asked) {
         Ok(inputs) => inputs,
         Err(why) => return Err(why),
     };
-    match replay_inputs(rt, alloc, asked, inputs) {
+    match replay_inputs(rt, alloc, asked, inputs, gate) {
         Ok(report) => Ok(report),
         Err(_) => Err(Refusal::NoMemory),
     }
 }
 
-/// Replays what is asked for, and writes the report's text to `out`.
-fn run<R: Wait, F: Files, K: Sink>(
+/// Writes a report's text, or its summary.
+fn print<K: Sink>(
+    summary: bool,
+    report: &Report,
+    buffer: &mut [u8],
+    out: &mut K,
+) -> Result<(), WriteFault>
+    requires { LONGEST_LINE ≤ length buffer.old }
+    ensures wrote { Wrote (text_of summary report.now) (K.tape out.old) (K.tape out.new) result }
+    ensures faults_stay { (K.tape out.old).faults ≤ (K.tape out.new).faults }
+{
+    if summary {
+        write_summary(report, buffer, out)
+    } else {
+        write_report(report, buffer, out)
+    }
+}
+
+/// Replays what is asked for, and writes the report's text to `out`, or its summary.
+fn run<R: Threads + Wait + Sync, F: Files, K: Sink, G: Gate + Sync>(
     rt: &R,
     alloc: Global,
     asked: &Asked<'_>,
     files: &mut F,
     out: &mut K,
+    gate: &G,
 ) -> Ending
     requires { IsWithin (asked_as asked.now) }
     ensures ends { Ends (asked_as asked.now) (F.source files.old) (F.source files.new)
         (K.tape out.old) (K.tape out.new) result }
+    ensures no_file { files_of (asked_as asked.now) ≡ [] → F.source files.new ≡ F.source files.old }
     ensures stays { Stays (F.source files.old) (F.source files.new) }
 {
-    let report = match replay_asked(rt, alloc, files, asked) {
+    let report = match replay_asked(rt, alloc, files, asked, gate) {
         Ok(report) => report,
         Err(why) => return Ending::Refused(why),
     };
@@ -106,7 +134,7 @@ fn run<R: Wait, F: Files, K: Sink>(
         Ok(buffer) => buffer,
         Err(_) => return Ending::Refused(Refusal::NoMemory),
     };
-    match write_report(&report, buffer.as_mut_slice(), out) {
+    match print(asked.summary, &report, buffer.as_mut_slice(), out) {
         Ok(()) => Ending::Done(report),
         Err(_) => Ending::NotWritten(report),
     }
@@ -125,20 +153,25 @@ fn refused<K: Sink>(why: Refusal, name: &str, err: &mut K) -> Run
     }
 }
 
-/// The whole program: reads the words, then the rules, the script and the captures that they name, replays the captures
-/// and performs the script's commands, and writes the report's text to `out`, or one line to `err`.
+/// The whole program: reads the words, then the rules, the script and the captures that they name, or makes the captures
+/// of a workload, replays the captures and performs the script's commands, and writes the report's text to `out`, or its
+/// summary, or one line to `err`.
 ///
-/// `words` are `ctreplay [--rules F] [--script F] [--entries N] [--buckets N] [--ftp LIST] CAPTURE..`. The captures are
-/// replayed one after another, and behind them the script's commands are performed. New flows are translated by the
-/// rules, and connections to the ports of the list, or else to 21, have the helper of FTP. The tracker has room for so
-/// many entries, or else 65,536, and so many buckets, or else 16,384.
+/// `words` are `ctreplay [--rules F] [--script F] [--entries N] [--buckets N] [--ftp LIST] [--summary] CAPTURE..`, or
+/// `ctreplay --make SEED --packets N --threads T [--entries N] [--buckets N] [--ftp LIST] [--summary]`, with which no
+/// file is read. The captures are replayed beside each other, each in a thread of its own, and beside them the commands of
+/// the script that stand before `wait` are performed in its thread; those behind it follow when all captures were
+/// replayed. New flows are translated by the rules, and connections to the ports of the list, or else to 21, have the
+/// helper of FTP. The tracker has room for so many entries, or else 65,536, and so many buckets, or else 16,384.
 ///
 /// The statuses are 0 (all was written), 1 (the words are not of that form), 2 (a file is no file of rules, no script, or
 /// no capture), 3 (one could not be opened or read), 4 (the output could not be written), 5 (a number or a size is past
 /// its limit: 1 to 65,536 entries, 65,536 buckets, 63 captures, 1,048,576 bytes of rules and of the script, 268,435,456
-/// of a capture and 1,073,741,824 of all captures, and 4,194,304 packets) and 6 (memory was wanted). The first of these
-/// decides, in the order of words, rules, script and captures. The report is there with 0 and 4. No thread is started
-/// and the gate is not called.
+/// of a capture and 1,073,741,824 of all captures, and 4,194,304 packets; of a workload a seed up to 4,294,967,295, 1 to
+/// 262,144 packets of each thread, 1 to 63 threads, and as many flows as entries) and 6 (memory was wanted). The first
+/// of these decides, in the order of words, rules, script and captures. The report is there with 0 and 4. Each thread
+/// passes the gate before each packet or command, under its number: the captures' are those of their places, from 0 on,
+/// and the script's is the next.
 #[tactic(auto, using(crate::proofs::Findings::has_cause, crate::proofs::Findings::others_same, crate::proofs::Findings::failed_files))]
 pub fn top<R: Threads + Wait + Sync, F: Files, K: Sink, G: Gate + Sync>(
     rt: &R,
@@ -147,9 +180,9 @@ pub fn top<R: Threads + Wait + Sync, F: Files, K: Sink, G: Gate + Sync>(
     files: &mut F,
     out: &mut K,
     err: &mut K,
-    _gate: &G,
+    gate: &G,
 ) -> Run
-    // What is printed is the text of one legal history with its verdicts and answers.
+    // What is printed is the text of one legal history with its verdicts and answers, or its summary.
     ensures headline { result.status ≡ 0 → IsSomeAnd result.report
         (IsPrinted (map string_bytes words.now) (F.source files.old)
         (K.tape out.old) (K.tape out.new)) }
@@ -180,6 +213,8 @@ pub fn top<R: Threads + Wait + Sync, F: Files, K: Sink, G: Gate + Sync>(
         Tells write_failed (K.tape err.old) (K.tape err.new) }
     ensures same_faults { result.status ≢ 3 →
         SameFaults (F.source files.old) (F.source files.new) }
+    ensures no_file { files_named (map string_bytes words.now) ≡ [] →
+        F.source files.new ≡ F.source files.old }
     ensures others { OthersStand (map string_bytes words.now)
         (F.source files.old) (F.source files.new) }
     ensures same_output_faults { result.status ≢ 4 →
@@ -192,7 +227,7 @@ pub fn top<R: Threads + Wait + Sync, F: Files, K: Sink, G: Gate + Sync>(
         Ok(asked) => asked,
         Err(error) => return refused(refusal_for(error), "", err),
     };
-    match run(rt, alloc, &asked, files, out) {
+    match run(rt, alloc, &asked, files, out, gate) {
         Ending::Done(report) => Run {
             status: 0,
             report: Some(report),

@@ -1,6 +1,6 @@
 -- The files that the words of the command line name, in the order in which they are read.
 use Rattle.std.specs.Prelude.{◌≡◌, ℕ, Result, Ok, Err, option_to_list, List, [], ◌++◌, map, slice_get, unwrap_or}
-use Rattle.command_words.specs.Words.{asked_of, Request}
+use Rattle.command_words.specs.Words.{asked_of, made, named, Names, Origin, Request}
 use Rattle.command_words.specs.declared.WordsError.{WordsError}
 use Rattle.run_inputs.specs.declared.flaw.FileKind.{FileKind}
 use Rattle.run_inputs.specs.declared.flaw.FileKind.TheVariants.{Capture, Rules, Script}
@@ -14,11 +14,20 @@ pub record InputFile : Type 0 where
 abbrev pub files_of_kind : FileKind → List (List ℕ) → List InputFile
 files_of_kind kind names = map (λ (name : List ℕ). record { kind = kind; name = name }) names
 
--- the files of a request, in the order in which they are read
+-- the files of these names, in the order in which they are read
+abbrev pub files_of_names : Names → List InputFile
+files_of_names names =
+    files_of_kind Rules (option_to_list names.rules) ++ files_of_kind Script (option_to_list names.script)
+    ++ files_of_kind Capture names.captures
+
+-- what is named is read; of a made workload no file is
+abbrev pub files_of_origin : Origin → List InputFile
+files_of_origin (named names) = files_of_names names
+files_of_origin (made workload) = []
+
+-- the files of a request
 abbrev pub files_of : Request → List InputFile
-files_of asked =
-    files_of_kind Rules (option_to_list asked.rules) ++ files_of_kind Script (option_to_list asked.script)
-    ++ files_of_kind Capture asked.captures
+files_of asked = files_of_origin asked.origin
 
 -- the files of what is asked; none where the words ask for nothing
 abbrev pub files_asked : Result Request WordsError → List InputFile

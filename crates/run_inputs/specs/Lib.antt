@@ -4,5 +4,6 @@ pub mod Files
 pub mod Flaw
 pub mod Inputs
 pub mod Laws
+pub mod Made
 pub mod Reading
 pub mod Ready

@@ -1,7 +1,7 @@
 -- What reading some of the files of a run gives. They stand behind captures of some total, and the first of them has some
 -- number in the run.
 use Rattle.std.specs.Prelude.{if◌then◌else◌, ◌≡◌, ◌≢◌, ◌≤◌, ℕ, ◌+◌, min, nat_le, List, [], ◌∷◌, length, map, Option, Some, None, Result, Ok, Err, IfSome}
-use Rattle.command_words.specs.Words.{Request}
+use Rattle.command_words.specs.Words.{made, named, Names, Origin, Request, Workload}
 use Rattle.conntrack_cmd.specs.declared.read.Script.{Script}
 use Rattle.ct_io.specs.Source.{SameFaults, Source}
 use Rattle.nat_setup.specs.declared.rule.Rule.{Rule}
@@ -19,6 +19,7 @@ use Rattle.run_inputs.specs.Causes.{CannotOpen, CannotRead, refusal_status}
 use Rattle.run_inputs.specs.Content.{bytes_left, Content, totals_with, IsShortEnough, frames, IsRead, most_bytes, most_capture_bytes, most_packets, no_totals, rules, script, Totals}
 use Rattle.run_inputs.specs.Flaw.{HasFlaw}
 use Rattle.run_inputs.specs.Inputs.{AreGiven, AreReadFrom, FirstFlawFrom, ReachesFrom}
+use Rattle.run_inputs.specs.Made.{AreMade}
 use Rattle.run_inputs.specs.Ready.{CanReplay, IsReady}
 use Rattle.run_inputs.specs.Files.{files_of_kind, InputFile}
 
@@ -143,13 +144,29 @@ pub record GaveCaptures (files : Source) (names : List (List ℕ)) (captures : L
   pub gave : GaveContents files no_totals (files_of_kind kind.Capture names) (bytes_in captures) (contents_in captures)
   pub ready : CanReplay captures
 
--- all files that are asked for were read
-pub record GaveInputs (files : Source) (asked : Request) (inputs : Inputs) : Type 0 where
-  pub rules : GaveRules files asked.rules inputs.rules.items
-  pub script : GaveScript files asked.script inputs.script
-  pub captures : GaveContents files no_totals (files_of_kind kind.Capture asked.captures)
+-- all files of these names were read
+pub record GaveNamed (files : Source) (names : Names) (inputs : Inputs) : Type 0 where
+  pub rules : GaveRules files names.rules inputs.rules.items
+  pub script : GaveScript files names.script inputs.script
+  pub captures : GaveContents files no_totals (files_of_kind kind.Capture names.captures)
       (bytes_in inputs.captures.items) (contents_in inputs.captures.items)
   pub ready : IsReady inputs
+
+-- the captures are those of this workload, without rules and without a command
+pub record GaveMade (workload : Workload) (inputs : Inputs) : Type 0 where
+  pub rules : inputs.rules.items ≡ []
+  pub commands : inputs.script.commands.items ≡ []
+  pub wait : inputs.script.wait ≡ 0
+  pub captures : AreMade workload (bytes_in inputs.captures.items) (contents_in inputs.captures.items)
+  pub ready : IsReady inputs
+
+abbrev pub GaveOrigin : Source → Origin → Inputs → Type 0
+GaveOrigin files (named names) inputs = GaveNamed files names inputs
+GaveOrigin files (made workload) inputs = GaveMade workload inputs
+
+-- all that is asked for is there
+abbrev pub GaveInputs : Source → Request → Inputs → Type 0
+GaveInputs files asked inputs = GaveOrigin files asked.origin inputs
 
 -- ---- a capture by itself
 

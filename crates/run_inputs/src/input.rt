@@ -2,20 +2,21 @@
 
 ghost use Rattle.std.specs.Prelude.{◌≡◌, ◌≤◌, [], ◌∷◌, ◌^◌, length, All, IfOk, option_map, option_to_list};
 ghost use Rattle.std.specs.List.{AllByRecursion};
-ghost use Rattle.command_words.specs.Asked.{asked_as, texts};
-ghost use Rattle.command_words.specs.Words.{IsWithin};
+ghost use Rattle.command_words.specs.Asked.{asked_as, names_as, texts};
+ghost use Rattle.command_words.specs.Words.{AreNamesWithin, IsWithin};
 ghost use Rattle.conntrack_cmd.specs.Moment.{moment_of};
 ghost use Rattle.ct_io.specs.Source.{Stays};
 ghost use Rattle.nat_setup.specs.Rule.{IsLawfulRule};
 ghost use Rattle.run_inputs.specs.Content.{totals_with, IsShortEnough, frames, most_bytes, most_packets, no_totals};
-ghost use Rattle.run_inputs.specs.Reading.{CaptureReadAs, GaveBytes, GaveCapture, GaveCaptures, GaveInputs, GaveRules, GaveScript, HasRoomFor, most_read, part_of, ReadAs, too_long, totals_as};
-ghost use Rattle.run_inputs.specs.Files.{files_of, files_of_kind};
+ghost use Rattle.run_inputs.specs.Reading.{CaptureReadAs, GaveBytes, GaveCapture, GaveCaptures, GaveInputs, GaveNamed, GaveRules, GaveScript, HasRoomFor, most_read, part_of, ReadAs, too_long, totals_as};
+ghost use Rattle.run_inputs.specs.Files.{files_of, files_of_kind, files_of_names};
 
 use crate::flaw::{FileKind, Flaw, Refusal};
+use crate::made::make_inputs;
 use crate::read::{ReadError, read_file};
 use crate::totals::CaptureTotals;
 use capture_list::{Capture, Captures};
-use command_words::Asked;
+use command_words::{Asked, Named, Origin};
 use conntrack_cmd::command::Commands;
 use conntrack_cmd::laws::commands_are_lawful;
 use conntrack_cmd::read::{Script, ScriptError, read_script};
@@ -136,7 +137,7 @@ fn read_rule_file<F: Files>(
 }
 
 /// A script without commands.
-fn no_script(alloc: Global) -> Result<Script, NoMemory>
+pub(crate) fn no_script(alloc: Global) -> Result<Script, NoMemory>
     ensures commands { IfOk result (λ script. script.commands.items ≡ []) }
     ensures wait { IfOk result (λ script. script.wait ≡ 0) }
 {
@@ -282,8 +283,36 @@ pub struct Inputs {
     pub captures: Captures,
 }
 
-/// Reads all files that are asked for: the rules, then the script, and then the captures in their order.
+/// Reads all files of these names: the rules, then the script, and then the captures in their order.
 #[tactic(auto, using(crate::proofs::All::rules_refused, crate::proofs::All::script_refused, crate::proofs::All::captures_refused))]
+fn read_named<F: Files>(alloc: Global, files: &mut F, names: &Named<'_>) -> Result<Inputs, Refusal>
+    requires { AreNamesWithin (names_as names.now) }
+    ensures reads { ReadAs (part_of no_totals 0 (files_of_names (names_as names.now)))
+        (λ inputs. GaveNamed (F.source files.old) (names_as names.now) inputs)
+        (F.source files.old) (F.source files.new) result }
+    ensures stays { Stays (F.source files.old) (F.source files.new) }
+{
+    let rules = match read_rule_file(alloc, files, names.rules) {
+        Ok(rules) => rules,
+        Err(why) => return Err(why),
+    };
+    let script_file = usize::from(names.rules.is_some());
+    let script = match read_script_file(alloc, files, names.script, script_file) {
+        Ok(script) => script,
+        Err(why) => return Err(why),
+    };
+    let first_capture = script_file + usize::from(names.script.is_some());
+    match read_captures(alloc, files, names.captures.as_slice(), first_capture) {
+        Ok(captures) => Ok(Inputs {
+            rules,
+            script,
+            captures,
+        }),
+        Err(why) => Err(why),
+    }
+}
+
+/// Reads all that is asked for: the files that are named, or else a made workload, for which no file is opened.
 pub fn read_all<F: Files>(
     alloc: Global,
     files: &mut F,
@@ -293,24 +322,14 @@ pub fn read_all<F: Files>(
     ensures reads { ReadAs (part_of no_totals 0 (files_of (asked_as asked.now)))
         (λ inputs. GaveInputs (F.source files.old) (asked_as asked.now) inputs)
         (F.source files.old) (F.source files.new) result }
+    ensures no_file { files_of (asked_as asked.now) ≡ [] → F.source files.new ≡ F.source files.old }
     ensures stays { Stays (F.source files.old) (F.source files.new) }
 {
-    let rules = match read_rule_file(alloc, files, asked.rules) {
-        Ok(rules) => rules,
-        Err(why) => return Err(why),
-    };
-    let script_file = usize::from(asked.rules.is_some());
-    let script = match read_script_file(alloc, files, asked.script, script_file) {
-        Ok(script) => script,
-        Err(why) => return Err(why),
-    };
-    let first_capture = script_file + usize::from(asked.script.is_some());
-    match read_captures(alloc, files, asked.captures.as_slice(), first_capture) {
-        Ok(captures) => Ok(Inputs {
-            rules,
-            script,
-            captures,
-        }),
-        Err(why) => Err(why),
+    match &asked.origin {
+        Origin::Named(names) => read_named(alloc, files, names),
+        Origin::Made(workload) => match make_inputs(alloc, workload) {
+            Ok(inputs) => Ok(inputs),
+            Err(_) => Err(Refusal::NoMemory),
+        },
     }
 }

@@ -1,9 +1,10 @@
-//! The inputs of a run: the files that its words name, read one after another.
+//! The inputs of a run: the files that its words name, read one after another, or a made workload.
 #![tactic(auto)]
 
 mod flaw;
 mod input;
 pub mod laws;
+mod made;
 mod read;
 mod totals;
 

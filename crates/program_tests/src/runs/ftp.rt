@@ -133,6 +133,7 @@ script 6
 ";
 
 const LISTS: &str = "\
+wait
 -L expect
 expire 303999999
 -L expect

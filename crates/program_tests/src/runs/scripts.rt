@@ -73,8 +73,7 @@ const COMMANDS: &str = "\
 -L
 ";
 
-/// The script comes after the captures, with `wait` or without it.
-static SWEEPS: [Case<'static>; 3] = [
+static SWEEPS: [Case<'static>; 2] = [
     Case {
         files: &[
             (SCRIPT, Content::Repeated(1, "wait\n", COMMANDS)),
@@ -85,15 +84,10 @@ static SWEEPS: [Case<'static>; 3] = [
     },
     Case {
         files: &[
-            (SCRIPT, Content::Repeated(1, "", COMMANDS)),
-            (NAME, ANSWERED_AND_OPENED),
-        ],
-        out: Text::Is(SWEPT),
-        ..SCRIPTED
-    },
-    Case {
-        files: &[
-            (SCRIPT, Content::Repeated(1, "# all of it\n\n", COMMANDS)),
+            (
+                SCRIPT,
+                Content::Repeated(1, "# all of it\n\nwait\n", COMMANDS),
+            ),
             (NAME, ANSWERED_AND_OPENED),
         ],
         out: Text::Is(SWEPT),
@@ -135,21 +129,8 @@ expire 32000000
 -L expect
 ";
 
-const TWO_THREADS: &str = "\
-events 6
-0 confirm 0.0 udp src=10.0.0.1 dst=10.0.0.2 sport=5000 dport=53 src=10.0.0.2 dst=10.0.0.1 sport=53 dport=5000 until=1030000000
-1 touch 0.1 id=0 reply until=1120500000 replied
-2 confirm 1.0 icmp src=10.0.0.1 dst=10.0.0.2 type=8 code=0 id=7 src=10.0.0.2 dst=10.0.0.1 type=0 code=0 id=7 until=31000000
-3 touch 1.1 id=2 reply until=32000000 replied
-4 destroy s.0 id=2 expired
-5 destroy s.2 id=0 deleted
-thread 0 packets 2
-0 NEW id=0 @1
-1 ESTABLISHED_REPLY id=0 @2
-thread 1 packets 3
-0 NEW id=2 @3
-1 ESTABLISHED_REPLY id=2 @4
-2 INVALID new @4
+/// What the script does behind two captures. It is the same in whatever order their packets were worked on.
+const BEHIND_TWO_THREADS: &str = "\
 script 4
 0 expired 1 0 @4 @5
 1 get 1 @5
@@ -179,11 +160,65 @@ fn two_captures_and_a_script(rt: HostRuntime) -> Result<(), Fail> {
             (NAME, Content::Bytes(&CAPTURE)),
         ],
         room: 4000,
-        out: Text::Is(TWO_THREADS),
+        out: Text::Around("events 6\n", BEHIND_TWO_THREADS),
         ..REPLAYED
     };
     holds(&rt, &CASE, 0)
 }
+
+const BESIDE_A_QUERY: [&str; 2] = [
+    "\
+events 1
+0 confirm 0.0 udp src=10.0.0.1 dst=10.0.0.2 sport=5000 dport=53 src=10.0.0.2 dst=10.0.0.1 sport=53 dport=5000 until=1030000000
+thread 0 packets 1
+0 NEW id=0 @1
+script 1
+0 count 0 @0
+",
+    "\
+events 1
+0 confirm 0.0 udp src=10.0.0.1 dst=10.0.0.2 sport=5000 dport=53 src=10.0.0.2 dst=10.0.0.1 sport=53 dport=5000 until=1030000000
+thread 0 packets 1
+0 NEW id=0 @1
+script 1
+0 count 1 @1
+",
+];
+
+#[test]
+fn a_command_beside_a_capture(rt: HostRuntime) -> Result<(), Fail> {
+    static CASE: Case<'static> = Case {
+        files: &[
+            (SCRIPT, Content::Text("-C\n")),
+            (NAME, Content::First(72, &CAPTURE)),
+        ],
+        out: Text::OneOf(&BESIDE_A_QUERY),
+        ..SCRIPTED
+    };
+    holds(&rt, &CASE, 0)
+}
+
+const UNTRACKED_BESIDE: &str = "\
+events 3
+0 confirm 0.0 udp src=10.0.0.1 dst=10.0.0.2 sport=5000 dport=53 src=10.0.0.2 dst=10.0.0.1 sport=53 dport=5000 until=1030000000
+1 touch 0.1 id=0 reply until=1120500000 replied
+2 destroy s.2 id=0 deleted
+thread 0 packets 2
+0 NEW id=0 @1
+1 ESTABLISHED_REPLY id=0 @2
+thread 1 packets 1
+0 INVALID header
+script 4
+0 expired 0 0 @2 @2
+1 get 1 @2
+udp      17 120 src=10.0.0.1 dst=10.0.0.2 sport=5000 dport=53 src=10.0.0.2 dst=10.0.0.1 sport=53 dport=5000 @2
+2 deleted 1 @2 @3
+udp      17 120 src=10.0.0.1 dst=10.0.0.2 sport=5000 dport=53 src=10.0.0.2 dst=10.0.0.1 sport=53 dport=5000 @2
+3 expectations 0 @3
+";
+
+/// A packet with nothing in it.
+const NOTHING: Content<'static> = Content::Capture(PLAIN, &[(1, 0, Packet::Raw(b""))]);
 
 /// A run of rules, a script and two captures.
 const FOUR_FILES: Case<'static> = Case {
@@ -197,9 +232,9 @@ const FOUR_FILES: Case<'static> = Case {
         ),
         (SCRIPT, Content::Text(TWO_THREADS_SCRIPT)),
         (NAME, Content::Bytes(&CAPTURE)),
-        (SECOND, ECHO),
+        (SECOND, NOTHING),
     ],
-    out: Text::Is(TWO_THREADS),
+    out: Text::Is(UNTRACKED_BESIDE),
     ..REPLAYED
 };
 
@@ -212,39 +247,39 @@ const NOT_WRITTEN: Case<'static> = Case {
 
 static WRITES: [Case<'static>; 7] = [
     Case {
-        room: TWO_THREADS.len(),
+        room: UNTRACKED_BESIDE.len(),
         faults: Faults { out: 0, ..NONE },
-        out: Text::First(0, TWO_THREADS),
+        out: Text::First(0, UNTRACKED_BESIDE),
         ..NOT_WRITTEN
     },
     Case {
         room: 0,
-        out: Text::First(0, TWO_THREADS),
+        out: Text::First(0, UNTRACKED_BESIDE),
         ..NOT_WRITTEN
     },
     Case {
         room: 1,
-        out: Text::First(1, TWO_THREADS),
+        out: Text::First(1, UNTRACKED_BESIDE),
         ..NOT_WRITTEN
     },
     Case {
-        room: 700,
-        out: Text::First(700, TWO_THREADS),
+        room: 300,
+        out: Text::First(300, UNTRACKED_BESIDE),
         ..NOT_WRITTEN
     },
     Case {
-        room: 700,
+        room: 300,
         faults: Faults { out: 1, ..NONE },
-        out: Text::First(700, TWO_THREADS),
+        out: Text::First(300, UNTRACKED_BESIDE),
         ..NOT_WRITTEN
     },
     Case {
-        room: TWO_THREADS.len() - 1,
-        out: Text::First(TWO_THREADS.len() - 1, TWO_THREADS),
+        room: UNTRACKED_BESIDE.len() - 1,
+        out: Text::First(UNTRACKED_BESIDE.len() - 1, UNTRACKED_BESIDE),
         ..NOT_WRITTEN
     },
     Case {
-        room: TWO_THREADS.len(),
+        room: UNTRACKED_BESIDE.len(),
         ..FOUR_FILES
     },
 ];
@@ -254,7 +289,9 @@ fn writes_fail_over_captures_and_a_script(rt: HostRuntime) -> Result<(), Fail> {
     all_hold(&rt, &WRITES)
 }
 
-const TWICE: &str = "\
+/// Either thread is the first, and the other one meets its entry, or is merged into it.
+const TWICE: [&str; 4] = [
+    "\
 events 2
 0 confirm 0.0 udp src=10.0.0.1 dst=10.0.0.2 sport=5000 dport=53 src=10.0.0.2 dst=10.0.0.1 sport=53 dport=5000 until=1030000000
 1 touch 1.0 id=0 original until=1030000000
@@ -263,14 +300,43 @@ thread 0 packets 1
 thread 1 packets 1
 0 NEW id=0 @2
 script 0
-";
+",
+    "\
+events 2
+0 confirm 1.0 udp src=10.0.0.1 dst=10.0.0.2 sport=5000 dport=53 src=10.0.0.2 dst=10.0.0.1 sport=53 dport=5000 until=1030000000
+1 touch 0.0 id=0 original until=1030000000
+thread 0 packets 1
+0 NEW id=0 @2
+thread 1 packets 1
+0 NEW id=0 @1
+script 0
+",
+    "\
+events 1
+0 confirm 0.0 udp src=10.0.0.1 dst=10.0.0.2 sport=5000 dport=53 src=10.0.0.2 dst=10.0.0.1 sport=53 dport=5000 until=1030000000
+thread 0 packets 1
+0 NEW id=0 @1
+thread 1 packets 1
+0 MERGED id=0 @1
+script 0
+",
+    "\
+events 1
+0 confirm 1.0 udp src=10.0.0.1 dst=10.0.0.2 sport=5000 dport=53 src=10.0.0.2 dst=10.0.0.1 sport=53 dport=5000 until=1030000000
+thread 0 packets 1
+0 MERGED id=0 @1
+thread 1 packets 1
+0 NEW id=0 @1
+script 0
+",
+];
 
 #[test]
 fn one_capture_twice(rt: HostRuntime) -> Result<(), Fail> {
     static CASE: Case<'static> = Case {
         words: &["ctreplay", NAME, NAME],
         files: &[(NAME, Content::First(72, &CAPTURE))],
-        out: Text::Is(TWICE),
+        out: Text::OneOf(&TWICE),
         ..REPLAYED
     };
     holds(&rt, &CASE, 0)
@@ -439,7 +505,7 @@ static MANY: [Case<'static>; 6] = [
             (SCRIPT, Content::Repeated(256, "-C\n", "wait\n# no more\n")),
             (NAME, Content::Bytes(&CAPTURE)),
         ],
-        out: Text::Around("", "255 count 1 @2\n"),
+        out: Text::Around("events 2\n", "\n"),
         ..SCRIPTED
     },
 ];

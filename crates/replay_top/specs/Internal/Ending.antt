@@ -14,9 +14,8 @@ use Rattle.run_inputs.specs.declared.flaw.Refusal.TheVariants as refusal
 use Rattle.replay_top.specs.ErrorLine.{error_line, flaw_line, words_limit_text}
 use Rattle.run_inputs.specs.Reading.{HasCauseFrom, part_of, SameFaultsBut}
 use Rattle.run_inputs.specs.Content.{no_totals}
-use Rattle.replay_top.specs.Replay.{IsReplayOf}
+use Rattle.replay_top.specs.Replay.{IsReplayOf, text_of}
 use Rattle.run_inputs.specs.Files.{file_at, files_of, InputFile}
-use Rattle.report_text.specs.Report.{report_text}
 use Rattle.report_text.specs.Wrote.{followed_by, WroteFront}
 
 -- the refusal of words that ask for nothing
@@ -52,10 +51,10 @@ Replays asked files files' (Err why) =
 -- how a run that is asked for ends: what it did with the files, and what it wrote
 abbrev pub Ends : Request → Source → Source → Tape → Tape → Ending → Type 0
 Ends asked files files' out out' (Done report) =
-    IsReplayOf files asked report × (out'.written ≡ followed_by out.written (report_text report)) × SameFaults files files'
+    IsReplayOf files asked report × (out'.written ≡ followed_by out.written (text_of asked.summary report)) × SameFaults files files'
     × (out'.faults ≡ out.faults)
 Ends asked files files' out out' (NotWritten report) =
-    IsReplayOf files asked report × Rose out.faults out'.faults × WroteFront (report_text report) out.written out'.written
+    IsReplayOf files asked report × Rose out.faults out'.faults × WroteFront (text_of asked.summary report) out.written out'.written
     × SameFaults files files'
 Ends asked files files' out out' (Refused why) =
     HasCauseFrom (part_of no_totals 0 (files_of asked)) files files' why × (out' ≡ out) × SameFaultsBut why files files'

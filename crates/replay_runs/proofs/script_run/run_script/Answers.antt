@@ -4,15 +4,15 @@ use Rattle.replay_runs.proofs.script_run.run_script.Goals as goal
 
 pub commands-init : goal.commands-init
 commands-init g c =
-    answered_start c.going_on_adds_up.ensures.all c.args.commands.now c.args.moment c.args.first (g.D.Desk.sight c.args.desk.now) c.in_ok-answers.answers
-    c.requires.knows c.in_ok-answers.ensures.empty c.in_ok-answers.ensures.room c.requires.nothing_held c.requires.nothing_owed
+    answered_start c.going_on_adds_up.ensures.all c.args.commands.now c.args.shared.now.moment c.args.first (g.D.Desk.sight c.args.desk.now)
+    c.args.answers.now c.requires.can.known c.requires.can.empty
 
 pub commands-preserved : goal.commands-preserved
 commands-preserved g c =
-    answered_next c.going_on_adds_up.ensures.all c.answers_still_fit.ensures c.lower_marks_fit.ensures c.args.commands.now _ c.args.moment
-    c.args.first c.commands.command-index (c.made.result - c.args.first)
+    answered_next c.going_on_adds_up.ensures.all c.answers_still_fit.ensures c.lower_marks_fit.ensures c.args.commands.now _
+    c.args.shared.now.moment c.args.first c.commands.command-index (c.made.result - c.args.first)
     (g.D.Desk.sight c.args.desk.now) (g.D.Desk.sight c.commands.desk) (g.D.Desk.sight c.perform.new.desk)
-    c.commands.answers c.push.new.self c.in-Ok.answer c.commands.invariant
-    c.in-Ok.ensures.performed c.in-Ok.ensures.knows (omega (arith, c.made.ensures.exact, c.requires.made))
-    (omega (arith, c.commands-test.true)) c.requires.small c.push.ensures.items
+    c.args.answers.now c.commands.answers c.push.new.self c.in-Ok.answer c.commands.invariant
+    c.in-Ok.ensures.performed c.in-Ok.ensures.knows (omega (arith, c.made.ensures.exact, c.requires.can.made))
+    (omega (arith, c.commands-test.true)) c.requires.can.small c.push.ensures.items
     c.push.ensures.room

@@ -1,0 +1,198 @@
+//! Command lines of made workloads.
+
+use super::{fault, split};
+use crate::{Asked, Origin, WordsError, WordsLimit, Workload, read_words};
+use std::alloc::{AllocError, Global};
+use std::test::Fail;
+
+/// Whether this workload is asked for, with a table of so many entries, and a summary or not.
+fn is_made(asked: &Asked<'_>, wanted: (u32, u32, u32), entries: u32, summary: bool) -> bool {
+    let made = match asked.origin {
+        Origin::Made(
+            Workload {
+                seed,
+                packets,
+                threads,
+            },
+        ) => (seed, packets, threads) == wanted,
+        Origin::Named(_) => false,
+    };
+    made && asked.entries == entries && asked.summary == summary
+}
+
+/// Whether the line asks for this.
+fn makes(
+    alloc: Global,
+    line: &str,
+    wanted: (u32, u32, u32),
+    entries: u32,
+    summary: bool,
+) -> Result<bool, AllocError> {
+    let words = split(alloc, line)?;
+    match read_words(alloc, words.as_slice()) {
+        Ok(asked) => Ok(is_made(&asked, wanted, entries, summary)),
+        Err(_) => Ok(false),
+    }
+}
+
+#[test]
+fn workloads(rt: HostRuntime) -> Result<(), Fail> {
+    let cases = [
+        ("ctreplay --make 0 --packets 8 --threads 2", (0, 8, 2)),
+        ("ctreplay --make=0 --packets=8 --threads=2", (0, 8, 2)),
+        ("ctreplay --threads 2 --packets 8 --make 0 --", (0, 8, 2)),
+        (
+            "ctreplay --make 4294967295 --packets 1 --threads 63",
+            (4_294_967_295, 1, 63),
+        ),
+        (
+            "ctreplay --make 0000000001 --packets 262144 --threads 1",
+            (1, 262_144, 1),
+        ),
+        (
+            "ctreplay --make 7 --packets 4160 --threads 63",
+            (7, 4_160, 63),
+        ),
+    ];
+    for (line, wanted) in cases {
+        assert!(rt; makes(rt.alloc(), line, wanted, 65_536, false)?, "{line}");
+    }
+    let table = [
+        (
+            "ctreplay --make 0 --packets 8 --threads 2 --entries 4",
+            4,
+            false,
+        ),
+        (
+            "ctreplay --entries 5 --summary --make 0 --packets 8 --threads 2",
+            5,
+            true,
+        ),
+    ];
+    for (line, entries, summary) in table {
+        assert!(rt;
+            makes(rt.alloc(), line, (0, 8, 2), entries, summary)?,
+            "{line}"
+        );
+    }
+    Ok(())
+}
+
+#[test]
+fn no_workloads(rt: HostRuntime) -> Result<(), Fail> {
+    let lines = [
+        "ctreplay --make 0",
+        "ctreplay --make 0 --packets 8",
+        "ctreplay --make 0 --threads 2",
+        "ctreplay --packets 8 --threads 2",
+        "ctreplay --packets 8",
+        "ctreplay --threads 2",
+        "ctreplay --make=0 c",
+        "ctreplay --packets 8 c",
+        "ctreplay --packets 8 --threads 2 c",
+        "ctreplay --make 0 --threads 2 c",
+        "ctreplay --make 0 --packets 8 c",
+        "ctreplay --make 0 --packets 8 --threads 2 c",
+        "ctreplay --make 0 --packets 8 --threads 2 -- c",
+        "ctreplay --make 0 --packets 8 --threads 2 --rules f",
+        "ctreplay --make 0 --packets 8 --threads 2 --script s",
+        "ctreplay --make 0 --packets 8 --threads 2 ",
+        "ctreplay --make= --packets 8 --threads 2",
+        "ctreplay --make x --packets 8 --threads 2",
+        "ctreplay --make=-1 --packets 8 --threads 2",
+        "ctreplay --make 00000000000 --packets 8 --threads 2",
+        "ctreplay --make 0 --packets 8. --threads 2",
+        "ctreplay --make 0 --packets 10000000000 --threads 2",
+        "ctreplay --make 0 --packets 8 --threads +2",
+        "ctreplay --make 0 --packets 8 --threads",
+        // The form is before all limits.
+        "ctreplay --make 4294967296 --packets 8",
+        "ctreplay --make 0 --packets 0 --threads 2 --buckets 3",
+        "ctreplay --make 0 --packets 0 --threads 2 --ftp 0",
+    ];
+    for line in lines {
+        assert!(rt;
+            fault(rt.alloc(), line)? == Some(WordsError::Usage),
+            "{line}"
+        );
+    }
+    Ok(())
+}
+
+#[test]
+fn limits(rt: HostRuntime) -> Result<(), Fail> {
+    let cases = [
+        (
+            "ctreplay --make 4294967296 --packets 8 --threads 2",
+            WordsLimit::Seed,
+        ),
+        (
+            "ctreplay --make 0 --packets 0 --threads 2",
+            WordsLimit::Packets,
+        ),
+        (
+            "ctreplay --make 0 --packets 262145 --threads 2",
+            WordsLimit::Packets,
+        ),
+        (
+            "ctreplay --make 0 --packets 4294967297 --threads 2",
+            WordsLimit::Packets,
+        ),
+        (
+            "ctreplay --make 0 --packets 8 --threads 0",
+            WordsLimit::Threads,
+        ),
+        (
+            "ctreplay --make 0 --packets 8 --threads 64",
+            WordsLimit::Threads,
+        ),
+        (
+            "ctreplay --make 0 --packets 8 --threads 4294967297",
+            WordsLimit::Threads,
+        ),
+        (
+            "ctreplay --make 0 --packets 8 --threads 2 --entries 3",
+            WordsLimit::Flows,
+        ),
+        (
+            "ctreplay --make 0 --packets 9 --threads 1 --entries 2",
+            WordsLimit::Flows,
+        ),
+        (
+            "ctreplay --make 0 --packets 4161 --threads 63",
+            WordsLimit::Flows,
+        ),
+        (
+            "ctreplay --make 0 --packets 262144 --threads 2",
+            WordsLimit::Flows,
+        ),
+        // The first that is passed is told.
+        (
+            "ctreplay --make 4294967296 --packets 0 --threads 0 --buckets 131072 --entries 0",
+            WordsLimit::Entries,
+        ),
+        (
+            "ctreplay --make 4294967296 --packets 0 --threads 0 --buckets 131072",
+            WordsLimit::Buckets,
+        ),
+        (
+            "ctreplay --make 4294967296 --packets 0 --threads 0",
+            WordsLimit::Seed,
+        ),
+        (
+            "ctreplay --make 0 --packets 0 --threads 0",
+            WordsLimit::Packets,
+        ),
+        (
+            "ctreplay --make 0 --packets 262144 --threads 64",
+            WordsLimit::Threads,
+        ),
+    ];
+    for (line, limit) in cases {
+        assert!(rt;
+            fault(rt.alloc(), line)? == Some(WordsError::Limit(limit)),
+            "{line}"
+        );
+    }
+    Ok(())
+}

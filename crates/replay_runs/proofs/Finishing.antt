@@ -1,0 +1,197 @@
+-- What was done when the commands behind `wait` were performed too.
+use Rattle.std.proofs.Common.{◌≡◌, ℕ, ◌+◌, ◌^◌, ◌≤◌, List, [], ◌∷◌, ◌++◌, length, map, take, drop, min, sym, ap, subst, ◌∙◌, arith, length-drop, length-take}
+use Rattle.std.specs.Prelude.{All}
+use Rattle.std.proofs.lemmas.List.{take-append-drop}
+use Rattle.std.proofs.lemmas.List.Elements.{All-drop, All-same, All-take}
+use Rattle.room_list.specs.Roomed.{Roomed}
+use Rattle.conntrack_cmd.specs.declared.command.Command.{Command}
+use Rattle.conntrack_cmd.specs.declared.read.Script.{Script}
+use Rattle.conntrack_cmd.specs.Laws.{AnswersStillFit}
+use Rattle.conntrack_cmd.specs.Moment.{moment_of}
+use Rattle.history_book.specs.declared.answer.Answer.{Answer}
+use Rattle.history_book.specs.declared.event.Event.{Event}
+use Rattle.history_book.specs.declared.event.Note.{Note}
+use Rattle.history_book.specs.declared.sizes.Sizes.{Sizes}
+use Rattle.history_book.specs.declared.verdict.Verdict.{Verdict}
+use Rattle.history_book.specs.Fresh.{IsFresh}
+use Rattle.history_book.specs.Point.{StartsWith}
+use Rattle.history_book.specs.Sight.{IsKnown, Sight}
+use Rattle.history_book.specs.Sizes.{AreWithinLimits}
+use Rattle.packet_path.specs.Laws.{VerdictsStillFit}
+use Rattle.packet_path.specs.Packet.{Given}
+use Rattle.capture_list.specs.declared.Capture.{Capture}
+use Rattle.replay_runs.specs.declared.desks.Joined.{Joined}
+use Rattle.replay_runs.specs.declared.shared.Shared.{Shared}
+use Rattle.replay_runs.specs.Internal.Answered.{Answered, CanPerform, past_answers, run_seen}
+use Rattle.replay_runs.specs.Internal.Jobs.{CanReplay}
+use Rattle.replay_runs.specs.Internal.Replayed.{given_frames}
+use Rattle.replay_runs.specs.Internal.Together.{AreThreads, HasRun, IsRun}
+use Rattle.replay_runs.specs.Replaying.{work_of}
+use Rattle.replay_runs.specs.Report.{AnswersFit, at_start, latest_of, Progress, TrackerSetup}
+use Rattle.replay_runs.proofs.Bounds.{latest_of_within}
+use Rattle.replay_runs.proofs.Replays.{notes_still_fit}
+use Rattle.replay_runs.proofs.Scripts.{answers_behind, answers_stay, first_past, from_first, index_past, one_answer_each, same_past}
+
+-- what the threads made of a history is the same of one that goes on
+threads_still : (still : VerdictsStillFit) (tracker : TrackerSetup) (longer log : List Event) (starts : StartsWith longer log) (end : ℕ)
+    (gss : List (List Given)) (vss : List (Roomed Verdict)) (lists : List (Roomed Note))
+    → AreThreads tracker log end gss vss lists → AreThreads tracker longer end gss vss lists
+threads_still still tracker longer log starts end [] [] [] threads = tt
+threads_still still tracker longer log starts end [] [] (l ∷ lists) threads = absurd threads
+threads_still still tracker longer log starts end [] (w ∷ vss) lists threads = absurd threads
+threads_still still tracker longer log starts end (gs ∷ gss) [] lists threads = absurd threads
+threads_still still tracker longer log starts end (gs ∷ gss) (w ∷ vss) [] threads = absurd threads
+threads_still still tracker longer log starts end (gs ∷ gss) (w ∷ vss) (l ∷ lists) (thread, threads) = (
+  record {
+    fit = notes_still_fit still tracker longer log starts l.items at_start gs w.items thread.fit;
+    below = thread.below;
+    ordered = thread.ordered;
+  },
+  threads_still still tracker longer log starts end gss vss lists threads,
+)
+
+module _ {G : Type 0} (still : VerdictsStillFit) (answers_still : AnswersStillFit) (shared : Shared G) (captures : List Capture) (script : Script)
+    (old mid new : Sight) (joined : Joined) (before behind : List Command) (firsts : List Answer) (all : Roomed Answer) (n : ℕ)
+    (fresh : IsFresh old.tracker old.sizes old) (run : HasRun shared captures before old mid joined firsts)
+    (answered : Answered behind shared.moment (length mid.own) mid new firsts all.items)
+    (count : n ≡ min (length script.commands.items) script.wait) (front : before ≡ take n script.commands.items)
+    (back : behind ≡ drop n script.commands.items) where
+  before_wait : length before ≤ script.wait
+  before_wait = omega (arith, count, ap length front, length-take n script.commands.items)
+
+  whole : before ++ behind ≡ script.commands.items
+  whole = ap (λ cs. cs ++ behind) front ∙ ap (λ cs. take n script.commands.items ++ cs) back ∙ take-append-drop n script.commands.items
+
+  module _ (end : ℕ) where
+    past : Progress
+    past = past_answers (run_seen new shared.moment script.wait end) at_start mid.own firsts
+
+    first_fit : AnswersFit (run_seen new shared.moment script.wait end) mid.own at_start before firsts
+    first_fit =
+        answers_stay answers_still new.front mid.front answered.went.front shared.moment script.wait end mid.own at_start before firsts
+        (run.fit script.wait end before_wait)
+
+    past_mark : past.mark ≤ length mid.front
+    unfolding past
+    past_mark =
+        omega (
+          arith,
+          run.mark script.wait end before_wait,
+          ap (λ (p : Progress). p.mark)
+              (same_past answers_still new.front mid.front answered.went.front shared.moment script.wait end at_start mid.own firsts),
+        )
+
+    past_is : from_first (length mid.own) (length before) past.mark ≡ past
+    unfolding past
+    past_is = λ i. record {
+      first = first_is i;
+      index = index_is i;
+      mark = past.mark;
+    }
+      where
+        first_is : length mid.own ≡ past.first
+        first_is =
+            omega (arith, first_past (run_seen new shared.moment script.wait end) mid.own at_start before firsts first_fit)
+
+        index_is : length before ≡ past.index
+        index_is =
+            omega (
+              arith,
+              index_past (run_seen new shared.moment script.wait end) mid.own at_start firsts,
+              one_answer_each (run_seen new shared.moment script.wait end) mid.own at_start before firsts first_fit,
+            )
+
+    all_fit : end ≤ length mid.front → AnswersFit (run_seen new shared.moment script.wait end) new.own at_start script.commands.items all.items
+    unfolding past
+    all_fit within =
+        subst (λ xs. AnswersFit (run_seen new shared.moment script.wait end) xs at_start script.commands.items all.items) (sym answered.went.own)
+        (subst (λ ys. AnswersFit (run_seen new shared.moment script.wait end) (mid.own ++ answered.own) at_start script.commands.items ys)
+        (sym answered.behind)
+        (subst (λ cs. AnswersFit (run_seen new shared.moment script.wait end) (mid.own ++ answered.own) at_start cs (firsts ++ answered.answers)) whole
+        (answers_behind (run_seen new shared.moment script.wait end) mid.own answered.own at_start before behind firsts answered.answers first_fit
+        (subst (λ (p : Progress). AnswersFit (run_seen new shared.moment script.wait end) answered.own p behind answered.answers) past_is
+        (answered.fit script.wait end (length before) past.mark (λ from below. within) past_mark)))))
+
+  -- all of the work was done
+  pub run_done : shared.moment ≡ latest_of 0 (map given_frames captures) → old.sizes.passes ≡ length captures + 1
+      → IsRun (record { setup = shared.setup.now; sizes = old.sizes }) (work_of captures script) old.tracker
+      (record { spot = new; joined = joined; answers = all })
+  run_done moment passes = record {
+    tracked = answered.went.pass.tracker ∙ ap (λ (s : Sight). s.tracker) run.kept;
+    sized = answered.went.pass.sizes ∙ ap (λ (s : Sight). s.sizes) run.kept;
+    empty = record { held = answered.held; owed = answered.owed };
+    whole = omega (
+      arith,
+      passes,
+      answered.went.pass.shares,
+      answered.went.pass.returned,
+      ap (λ (s : Sight). s.shares) run.kept,
+      ap (λ (s : Sight). s.returned) run.kept,
+    );
+    known = answered.known;
+    gathered = answered.went.pass.gathered ∙ ap (λ (s : Sight). s.gathered) run.kept;
+    end = length mid.front;
+    threads = threads_still still (record { setup = shared.setup.now; sizes = old.sizes }) new.front mid.front answered.went.front
+        (length mid.front) (map given_frames captures) joined.threads.items joined.lists.items run.threads;
+    fit = λ e within.
+        subst (λ (m : ℕ). AnswersFit (run_seen new m script.wait e) new.own at_start script.commands.items all.items) moment (all_fit e within);
+  }
+
+-- what every desk of a tracker within the limits has room for
+small_sizes : (sizes : Sizes) → AreWithinLimits sizes → sizes.entries + sizes.expectations ≤ 66560
+small_sizes sizes limits = omega (arith, limits.entries, limits.expectations)
+
+-- the first desk can perform the commands before `wait`
+pub first_can : (captures : List Capture) (commands before : List Command) (moment n : ℕ) (old : Sight) → AreWithinLimits old.sizes
+    → IsFresh old.tracker old.sizes old → IsKnown old → moment ≡ latest_of 0 (map given_frames captures) → All CanReplay captures
+    → length commands ≤ 256 → All (λ c. moment_of c ≤ 10 ^ 16) commands → before ≡ take n commands → CanPerform before moment 0 old
+first_can captures commands before moment n old limits fresh known is can short named front = record {
+  timely = omega (arith, is, latest_of_within captures 0 (omega arith) can);
+  named = All-same (λ c. moment_of c ≤ 10 ^ 16) before (take n commands) front (All-take (λ c. moment_of c ≤ 10 ^ 16) n commands named);
+  small = small_sizes old.sizes limits;
+  made = omega arith;
+  few = omega (arith, ap length fresh.own, short, ap length front, length-take n commands);
+  empty = record { held = fresh.held; owed = fresh.owed };
+  known = known;
+}
+
+module _ {G : Type 0} (shared : Shared G) (captures : List Capture) (commands before behind : List Command) (n : ℕ) (old mid : Sight)
+    (joined : Joined) (firsts : Roomed Answer) (run : HasRun shared captures before old mid joined firsts.items)
+    (can : CanPerform before shared.moment 0 old) (short : length commands ≤ 256) (front : before ≡ take n commands)
+    (back : behind ≡ drop n commands) where
+  -- and the others when all desks have joined it
+  pub then_can : (made : ℕ) → made ≡ length mid.own → All (λ c. moment_of c ≤ 10 ^ 16) commands → CanPerform behind shared.moment made mid
+  then_can made own named = record {
+    timely = can.timely;
+    named = All-same (λ c. moment_of c ≤ 10 ^ 16) behind (drop n commands) back (All-drop (λ c. moment_of c ≤ 10 ^ 16) n commands named);
+    small = subst (λ (z : Sizes). z.entries + z.expectations ≤ 66560) (sym (ap (λ (s : Sight). s.sizes) run.kept)) can.small;
+    made = omega (arith, own);
+    few = omega (
+      arith,
+      short,
+      run.few,
+      ap length front,
+      ap length back,
+      length-take n commands,
+      length-drop n commands,
+    );
+    empty = record {
+      held = ap (λ (s : Sight). s.held) run.kept ∙ can.empty.held;
+      owed = ap (λ (s : Sight). s.owed) run.kept ∙ can.empty.owed;
+    };
+    known = run.known;
+  }
+
+  -- there is room for their answers
+  pub then_room : length commands ≤ firsts.room → length firsts.items + length behind ≤ firsts.room
+  then_room room =
+      omega (
+        arith,
+        room,
+        ap length front,
+        ap length back,
+        length-take n commands,
+        length-drop n commands,
+        one_answer_each (run_seen mid shared.moment (length before) 0) mid.own at_start before firsts.items
+            (run.fit (length before) 0 (omega arith)),
+      )

@@ -1,0 +1,92 @@
+-- What handing over shares to further desks has done so far.
+use Rattle.std.proofs.Common.{◌≡◌, ℕ, ◌+◌, ◌<◌, ◌≤◌, List, [], ◌∷◌, ◌++◌, length, take, get_or, refl, sym, ap, subst, ◌∙◌, arith}
+use Rattle.std.specs.List.{AllZip}
+use Rattle.std.specs.Prelude.{All, Ok}
+use Rattle.std.proofs.lemmas.List.{take_more}
+use Rattle.std.proofs.lemmas.List.Elements.{All-get_or}
+use Rattle.std.proofs.lemmas.Slice.Zip.{all_zipped_more}
+use Rattle.std.proofs.Math.Seq.{take-length}
+use Rattle.room_list.specs.Roomed.{Roomed}
+use Rattle.history_book.specs.declared.verdict.Verdict.{Verdict}
+use Rattle.history_book.specs.Sight.{IsKnown, Sight}
+use Rattle.history_book.specs.Split.{CanSplit, Splits}
+use Rattle.capture_list.specs.declared.Capture.{Capture}
+use Rattle.replay_runs.specs.declared.jobs.Job.{Job}
+use Rattle.replay_runs.specs.Internal.Jobs.{AreFurther, CanReplay, HasSplit, IsFurther, IsSet}
+use Rattle.replay_runs.proofs.Each.{each_append}
+
+-- so many of the captures have a thread
+pub record IsSplitting (captures : List Capture) (count : ℕ) (old now : Sight) (jobs : List (Job Sight)) : Type 0 where
+  pub kept : now ≡ record old { front = now.front; shares = now.shares }
+  pub shares : now.shares + count ≡ old.shares
+  pub known : IsKnown now
+  pub set : AllZip (IsSet (λ s. s)) (take count captures) jobs
+  pub further : AreFurther old.tracker old.sizes jobs
+
+-- none has one yet
+pub splitting_start : (captures : List Capture) (old : Sight) (jobs : List (Job Sight)) → IsKnown old → jobs ≡ [] → IsSplitting captures 0 old old jobs
+splitting_start captures old jobs known none = record {
+  kept = refl;
+  shares = omega arith;
+  known = known;
+  set = subst (λ js. AllZip (IsSet (λ s. s)) [] js) (sym none) tt;
+  further = subst (λ js. AreFurther old.tracker old.sizes js) (sym none) tt;
+}
+
+-- there is a share for one more
+pub splitting_can : (captures : List Capture) (count : ℕ) (old now : Sight) (jobs : List (Job Sight)) → IsSplitting captures count old now jobs
+    → count < length captures → old.shares ≡ length captures + 1 → CanSplit 1 now
+splitting_can captures count old now jobs so_far below all = record { some = omega arith; rest = omega (arith, so_far.shares, below, all) }
+
+-- what a desk that was split off is
+further_set : (tracker : List ℕ) (old mid now further : Sight) → mid ≡ record old { front = mid.front; shares = mid.shares }
+    → Splits 1 mid now further → IsFurther old.tracker old.sizes further
+further_set tracker old mid now further kept splits = record {
+  tracked = ap (λ (s : Sight). s.tracker) splits.is ∙ ap (λ (s : Sight). s.tracker) kept;
+  sized = ap (λ (s : Sight). s.sizes) splits.is ∙ ap (λ (s : Sight). s.sizes) kept;
+  shares = ap (λ (s : Sight). s.shares) splits.is;
+  returned = ap (λ (s : Sight). s.returned) splits.is;
+  gathered = ap (λ (s : Sight). s.gathered) splits.is;
+  empty = record { held = ap (λ (s : Sight). s.held) splits.is; owed = ap (λ (s : Sight). s.owed) splits.is };
+}
+
+-- one more has a thread
+pub splitting_next : (captures : List Capture) (count : ℕ) (old mid now further : Sight) (jobs more : List (Job Sight)) (capture : Capture)
+    (verdicts : Roomed Verdict) → IsSplitting captures count old mid jobs → Splits 1 mid now further → IsKnown now → IsKnown further
+    → count < length captures → capture ≡ get_or captures count capture → All CanReplay captures → verdicts.items ≡ []
+    → length capture.frames.items ≤ verdicts.room
+    → more ≡ jobs ++ record { desk = further; verdicts = verdicts; ended = Ok tt } ∷ []
+    → IsSplitting captures (count + 1) old now more
+splitting_next captures count old mid now further jobs more capture verdicts so_far splits known further_known below is can none room pushed =
+    let job : Job Sight = record { desk = further; verdicts = verdicts; ended = Ok tt } in
+    let set : IsSet (λ s. s) capture job = record {
+      can = subst CanReplay (sym is) (All-get_or CanReplay captures count capture below can);
+      room = room;
+      none = none;
+      own = ap (λ (s : Sight). s.own) splits.is;
+      empty = record { held = ap (λ (s : Sight). s.held) splits.is; owed = ap (λ (s : Sight). s.owed) splits.is };
+      known = further_known;
+    } in
+    let taken : take (count + 1) captures ≡ take count captures ++ capture ∷ [] =
+    take_more captures count capture below ∙ ap (λ c. take count captures ++ c ∷ []) (sym is) in
+    record {
+      kept = splits.kept ∙ ap (λ (s : Sight). record s { front = now.front; shares = now.shares }) so_far.kept;
+      shares = omega (arith, so_far.shares, splits.shared);
+      known = known;
+      set = rw (taken, pushed) (all_zipped_more (IsSet (λ s. s)) (take count captures) jobs capture job so_far.set set);
+      further = subst (λ js. AreFurther old.tracker old.sizes js) (sym pushed)
+          (each_append (λ (j : Job Sight). IsFurther old.tracker old.sizes j.desk) jobs (job ∷ []) so_far.further
+          (further_set old.tracker old mid now further so_far.kept splits, tt));
+    }
+
+-- each has one
+pub splitting_all : (captures : List Capture) (count : ℕ) (old now : Sight) (jobs : List (Job Sight)) → IsSplitting captures count old now jobs
+    → count ≡ length captures → old.shares ≡ length captures + 1 → HasSplit captures old now jobs
+splitting_all captures count old now jobs done all shares =
+    let one : now.shares ≡ 1 = omega (arith, done.shares, all, shares) in
+    record {
+      kept = done.kept ∙ ap (λ (n : ℕ). record old { front = now.front; shares = n }) one;
+      known = done.known;
+      set = subst (λ cs. AllZip (IsSet (λ s. s)) cs jobs) (ap (λ n. take n captures) all ∙ take-length captures) done.set;
+      further = done.further;
+    }

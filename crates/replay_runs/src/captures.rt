@@ -1,0 +1,97 @@
+//! Replays a capture, over any desk.
+
+ghost use Rattle.std.specs.Prelude.{◌≡◌, ◌+◌, ◌*◌, ◌≤◌, ◌^◌, [], length, map, OnErr, OnOk};
+ghost use Rattle.std.specs.List.{AllByRecursion};
+ghost use Rattle.history_book.specs.Places.{HoldsNothing};
+ghost use Rattle.history_book.specs.Sight.{IsKnown};
+ghost use Rattle.nat_setup.specs.Rule.{IsLawfulRule};
+ghost use Rattle.packet_headers.specs.Capture.{AreInside, AreTimely};
+ghost use Rattle.packet_path.specs.Packet.{given_of};
+ghost use Rattle.replay_runs.specs.Internal.Replayed.{given_frames, Replayed};
+ghost use Rattle.replay_runs.specs.Internal.Stopped.{Stopped};
+
+use crate::shared::Shared;
+use capture_list::Capture;
+use ct_io::{Crossing, Gate};
+use history_book::desk::Desk;
+use history_book::report::Verdicts;
+use history_book::sight_laws::going_on_adds_up;
+use history_book::verdict::Verdict;
+use packet_headers::frame::Frame;
+use packet_path::handle::handle;
+use packet_path::laws::{lower_marks_fit, verdicts_still_fit};
+use std::sync::Wait;
+use tuple_core::NoMemory;
+
+/// Handles the frames of a capture, whose file has these bytes, in their order, with a desk that holds
+/// and owes nothing, and says what became of each. Events are counted from the first of this capture. The thread of this
+/// number passes the gate before each.
+fn replay_frames<R: Wait, G: Gate, D: Desk>(
+    rt: &R,
+    shared: &Shared<'_, G>,
+    desk: &mut D,
+    bytes: &[u8],
+    frames: &[Frame],
+    verdicts: &mut Verdicts,
+    number: u32,
+) -> Result<(), NoMemory>
+    requires lawful { AllByRecursion IsLawfulRule shared.now.setup.now.rules.items }
+    requires inside { AreInside bytes.now frames.now }
+    requires timely { AreTimely frames.now }
+    requires few { length (D.sight desk.old).own + 8 * length frames.now + 8 ≤ 2 ^ 30 }
+    requires room { length frames.now ≤ verdicts.old.room }
+    requires none { verdicts.old.items ≡ [] }
+    requires nothing_held { (D.sight desk.old).held ≡ [] }
+    requires nothing_owed { (D.sight desk.old).owed ≡ [] }
+    requires knows { IsKnown (D.sight desk.old) }
+    ensures replayed { OnOk result (Replayed shared.now.setup.now (map (given_of bytes.now) frames.now)
+        (D.sight desk.old) (D.sight desk.new) verdicts.new.items) }
+    ensures stopped { OnErr result (Stopped (D.sight desk.old) (D.sight desk.new)) }
+{
+    lower_marks_fit();
+    verdicts_still_fit();
+    going_on_adds_up();
+    let base = desk.made();
+    'frames: for frame in frames {
+        shared.gate.at(number, Crossing::BeforePacket);
+        let verdict = match handle(rt, desk, bytes, frame, shared.setup) {
+            Ok(verdict) => verdict,
+            Err(error) => return Err(error),
+        };
+        verdicts.push(Verdict {
+            first: verdict.first - base,
+            ..verdict
+        });
+    }
+    Ok(())
+}
+
+/// Handles the frames of a capture in their order, with a desk that holds and owes nothing, and says what became of
+/// each. First it asks for room for the events of most captures: two for each frame.
+pub fn replay_capture<R: Wait, G: Gate, D: Desk>(
+    rt: &R,
+    shared: &Shared<'_, G>,
+    desk: &mut D,
+    capture: &Capture,
+    verdicts: &mut Verdicts,
+    number: u32,
+) -> Result<(), NoMemory>
+    requires lawful { AllByRecursion IsLawfulRule shared.now.setup.now.rules.items }
+    requires inside { AreInside capture.now.bytes.items capture.now.frames.items }
+    requires timely { AreTimely capture.now.frames.items }
+    requires few { length (D.sight desk.old).own + 8 * length capture.now.frames.items + 8 ≤ 2 ^ 30 }
+    requires room { length capture.now.frames.items ≤ verdicts.old.room }
+    requires none { verdicts.old.items ≡ [] }
+    requires nothing_held { (D.sight desk.old).held ≡ [] }
+    requires nothing_owed { (D.sight desk.old).owed ≡ [] }
+    requires knows { IsKnown (D.sight desk.old) }
+    ensures replayed { OnOk result (Replayed shared.now.setup.now (given_frames capture.now)
+        (D.sight desk.old) (D.sight desk.new) verdicts.new.items) }
+    ensures stopped { OnErr result (Stopped (D.sight desk.old) (D.sight desk.new)) }
+{
+    going_on_adds_up();
+    let bytes = capture.bytes.as_slice();
+    let frames = capture.frames.as_slice();
+    desk.ready(2 * frames.len() as u64)?;
+    replay_frames(rt, shared, desk, bytes, frames, verdicts, number)
+}
