@@ -13,7 +13,7 @@ use Rattle.packet_headers.specs.declared.frame.Frame.{Frame}
 use Rattle.packet_path.specs.Packet.{Given, given_of}
 use Rattle.capture_list.specs.declared.Capture.{Capture}
 use Rattle.capture_list.specs.Frames.{frames_in}
-use Rattle.replay_runs.specs.Internal.Jobs.{CanReplay}
+use Rattle.replay_runs.specs.Internal.Jobs.{CanBeReplayed}
 use Rattle.replay_runs.specs.Internal.Replayed.{given_frames}
 use Rattle.replay_runs.specs.Internal.Together.{AreThreads}
 use Rattle.replay_runs.specs.Report.{at_start, latest, latest_of, past_packet, Progress, TrackerSetup, VerdictsFit}
@@ -66,7 +66,7 @@ latest_within bytes (f ∷ frames) moment le timely =
     latest_within bytes frames (max moment f.moment) (omega (arith, le, here)) both.1
 
 -- nor are those of several
-pub latest_of_within : (captures : List Capture) (moment : ℕ) → moment ≤ 10 ^ 16 → All CanReplay captures
+pub latest_of_within : (captures : List Capture) (moment : ℕ) → moment ≤ 10 ^ 16 → All CanBeReplayed captures
     → latest_of moment (map given_frames captures) ≤ 10 ^ 16
 latest_of_within [] moment le can = le
 latest_of_within (c ∷ captures) moment le can =
@@ -76,7 +76,7 @@ latest_of_within (c ∷ captures) moment le can =
 
 -- each of captures that have no more frames than this together can be replayed
 pub can_replay : (captures : List Capture) → All (λ c. AreInside c.bytes.items c.frames.items) captures
-    → All (λ c. AreTimely c.frames.items) captures → frames_in captures ≤ 4194304 → All CanReplay captures
+    → All (λ c. AreTimely c.frames.items) captures → frames_in captures ≤ 4194304 → All CanBeReplayed captures
 can_replay [] inside timely few k d within = absurd (omega (arith, within))
 can_replay (c ∷ captures) inside timely few zero d within = record {
   inside = inside 0 c (omega arith);

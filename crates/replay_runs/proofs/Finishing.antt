@@ -23,7 +23,7 @@ use Rattle.capture_list.specs.declared.Capture.{Capture}
 use Rattle.replay_runs.specs.declared.desks.Joined.{Joined}
 use Rattle.replay_runs.specs.declared.shared.Shared.{Shared}
 use Rattle.replay_runs.specs.Internal.Answered.{Answered, CanPerform, past_answers, run_seen}
-use Rattle.replay_runs.specs.Internal.Jobs.{CanReplay}
+use Rattle.replay_runs.specs.Internal.Jobs.{CanBeReplayed}
 use Rattle.replay_runs.specs.Internal.Replayed.{given_frames}
 use Rattle.replay_runs.specs.Internal.Together.{AreThreads, HasRun, IsRun}
 use Rattle.replay_runs.specs.Replaying.{work_of}
@@ -143,7 +143,7 @@ small_sizes sizes limits = omega (arith, limits.entries, limits.expectations)
 
 -- the first desk can perform the commands before `wait`
 pub first_can : (captures : List Capture) (commands before : List Command) (moment n : ℕ) (old : Sight) → AreWithinLimits old.sizes
-    → IsFresh old.tracker old.sizes old → IsKnown old → moment ≡ latest_of 0 (map given_frames captures) → All CanReplay captures
+    → IsFresh old.tracker old.sizes old → IsKnown old → moment ≡ latest_of 0 (map given_frames captures) → All CanBeReplayed captures
     → length commands ≤ 256 → All (λ c. moment_of c ≤ 10 ^ 16) commands → before ≡ take n commands → CanPerform before moment 0 old
 first_can captures commands before moment n old limits fresh known is can short named front = record {
   timely = omega (arith, is, latest_of_within captures 0 (omega arith) can);

@@ -12,7 +12,7 @@ use Rattle.history_book.specs.Sight.{IsKnown, Sight}
 use Rattle.history_book.specs.Split.{CanSplit, Splits}
 use Rattle.capture_list.specs.declared.Capture.{Capture}
 use Rattle.replay_runs.specs.declared.jobs.Job.{Job}
-use Rattle.replay_runs.specs.Internal.Jobs.{AreFurther, CanReplay, HasSplit, IsFurther, IsSet}
+use Rattle.replay_runs.specs.Internal.Jobs.{AreFurther, CanBeReplayed, HasSplit, IsFurther, IsSet}
 use Rattle.replay_runs.proofs.Each.{each_append}
 
 -- so many of the captures have a thread
@@ -53,14 +53,14 @@ further_set tracker old mid now further kept splits = record {
 -- one more has a thread
 pub splitting_next : (captures : List Capture) (count : ℕ) (old mid now further : Sight) (jobs more : List (Job Sight)) (capture : Capture)
     (verdicts : Roomed Verdict) → IsSplitting captures count old mid jobs → Splits 1 mid now further → IsKnown now → IsKnown further
-    → count < length captures → capture ≡ get_or captures count capture → All CanReplay captures → verdicts.items ≡ []
+    → count < length captures → capture ≡ get_or captures count capture → All CanBeReplayed captures → verdicts.items ≡ []
     → length capture.frames.items ≤ verdicts.room
     → more ≡ jobs ++ record { desk = further; verdicts = verdicts; ended = Ok tt } ∷ []
     → IsSplitting captures (count + 1) old now more
 splitting_next captures count old mid now further jobs more capture verdicts so_far splits known further_known below is can none room pushed =
     let job : Job Sight = record { desk = further; verdicts = verdicts; ended = Ok tt } in
     let set : IsSet (λ s. s) capture job = record {
-      can = subst CanReplay (sym is) (All-get_or CanReplay captures count capture below can);
+      can = subst CanBeReplayed (sym is) (All-get_or CanBeReplayed captures count capture below can);
       room = room;
       none = none;
       own = ap (λ (s : Sight). s.own) splits.is;

@@ -3,7 +3,7 @@
 ghost use Rattle.std.specs.Prelude.{◌≡◌, ◌+◌, ◌≤◌, [], All, length, IfOk};
 ghost use Rattle.history_book.specs.Places.{HoldsNothing};
 ghost use Rattle.history_book.specs.Sight.{IsKnown};
-ghost use Rattle.replay_runs.specs.Internal.Jobs.{AreFurther, CanReplay, HasJoined, HasSplit};
+ghost use Rattle.replay_runs.specs.Internal.Jobs.{AreFurther, CanBeReplayed, HasJoined, HasSplit};
 
 use crate::jobs::Job;
 use book_desk::turn_desk::TurnDesk;
@@ -26,7 +26,7 @@ pub fn split_off<'t, G: Gate>(
     desk: &mut TurnDesk<'t, G>,
     captures: &[Capture],
 ) -> Result<Vec<Job<TurnDesk<'t, G>>>, NoMemory>
-    requires captures { All CanReplay captures.now }
+    requires captures { All CanBeReplayed captures.now }
     requires shares { desk.old.shares ≡ length captures.now + 1 }
     requires few { length captures.now ≤ 63 }
     requires knows { IsKnown desk.old }
@@ -34,10 +34,7 @@ pub fn split_off<'t, G: Gate>(
 {
     let mut jobs = Vec::with_capacity(alloc, captures.len())?;
     'captures: for (worker, capture) in captures.iter().enumerate() {
-        let verdicts = match Verdicts::new(alloc, capture.frames.len()) {
-            Ok(verdicts) => verdicts,
-            Err(error) => return Err(error),
-        };
+        let verdicts = Verdicts::new(alloc, capture.frames.len())?;
         jobs.push_reserved(Job {
             desk: desk.split(worker as u32, 1),
             verdicts,
@@ -67,10 +64,7 @@ pub fn join_in<'t, G: Gate>(
             verdicts,
             ended,
         } = job;
-        match ended {
-            Ok(()) => {}
-            Err(error) => return Err(error),
-        }
+        ended?;
         let notes = desk.join(other);
         lists.push_reserved(notes);
         threads.push(verdicts);

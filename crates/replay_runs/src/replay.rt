@@ -10,7 +10,7 @@ ghost use Rattle.nat_setup.specs.Rule.{IsLawfulRule};
 ghost use Rattle.packet_headers.specs.Capture.{AreInside, AreTimely};
 ghost use Rattle.capture_list.specs.Frames.{frames_in};
 ghost use Rattle.replay_runs.specs.Internal.Answered.{CanPerform};
-ghost use Rattle.replay_runs.specs.Internal.Jobs.{CanReplay};
+ghost use Rattle.replay_runs.specs.Internal.Jobs.{CanBeReplayed};
 ghost use Rattle.replay_runs.specs.Internal.Replayed.{given_frames};
 ghost use Rattle.replay_runs.specs.Internal.Together.{HasRun, IsRun};
 ghost use Rattle.replay_runs.specs.Replaying.{work_of};
@@ -57,7 +57,7 @@ fn run_to_wait<'t, R: Threads + Wait + Sync, G: Gate + Sync>(
     commands: &[Command],
 ) -> Result<Joined, NoMemory>
     requires lawful { AllByRecursion IsLawfulRule shared.now.setup.now.rules.items }
-    requires captures { All CanReplay captures.now }
+    requires captures { All CanBeReplayed captures.now }
     requires few { length captures.now ≤ 63 }
     requires fresh { IsFresh desk.old.tracker desk.old.sizes desk.old }
     requires passes { desk.old.sizes.passes ≡ length captures.now + 1 }
@@ -91,7 +91,7 @@ fn replay_on<'t, R: Threads + Wait + Sync, G: Gate + Sync>(
     script: &Script,
 ) -> Result<Outcome, NoMemory>
     requires lawful { AllByRecursion IsLawfulRule shared.now.setup.now.rules.items }
-    requires captures { All CanReplay captures.now }
+    requires captures { All CanBeReplayed captures.now }
     requires few { length captures.now ≤ 63 }
     requires commands { length script.now.commands.items ≤ 256 }
     requires named { All (λ c. moment_of c ≤ 10 ^ 16) script.now.commands.items }

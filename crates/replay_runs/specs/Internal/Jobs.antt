@@ -17,14 +17,14 @@ use Rattle.replay_runs.specs.Internal.Replayed.{given_frames, Replayed}
 use Rattle.replay_runs.specs.Internal.Stopped.{Stopped}
 
 -- a capture can be replayed: its frames lie in its bytes, are timely and not too many
-pub record CanReplay (capture : Capture) : Type 0 where
+pub record CanBeReplayed (capture : Capture) : Type 0 where
   pub inside : AreInside capture.bytes.items capture.frames.items
   pub timely : AreTimely capture.frames.items
   pub few : length capture.frames.items ≤ 4194304
 
 -- the thread of a capture has not begun: its desk made no event and keeps no place, and there is room for the verdicts
 pub record IsSet {D : Type 0} (sight : D → Sight) (capture : Capture) (job : Job D) : Type 0 where
-  pub can : CanReplay capture
+  pub can : CanBeReplayed capture
   pub room : length capture.frames.items ≤ job.verdicts.room
   pub none : job.verdicts.items ≡ []
   pub own : (sight job.desk).own ≡ []

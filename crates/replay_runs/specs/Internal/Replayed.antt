@@ -1,7 +1,5 @@
--- What a desk and its verdicts are, once the frames of captures were handled.
-use Rattle.std.specs.Prelude.{◌≡◌, ℕ, ◌+◌, ◌*◌, ◌≤◌, List, [], ◌∷◌, length, map, take, drop}
-use Rattle.room_list.specs.Roomed.{Roomed}
-use Rattle.history_book.specs.declared.event.Event.{Event}
+-- What a desk and its verdicts are, once the frames of a capture were handled.
+use Rattle.std.specs.Prelude.{◌≡◌, ◌*◌, ◌≤◌, List, [], ◌∷◌, length, map, drop}
 use Rattle.history_book.specs.declared.event.Note.{Note}
 use Rattle.history_book.specs.declared.verdict.Verdict.{Verdict}
 use Rattle.history_book.specs.Sight.{IsKnown, Sight}
@@ -14,11 +12,6 @@ use Rattle.replay_runs.specs.Report.{at_start, past_packet, Progress, TrackerSet
 -- what was given of the frames of a capture
 abbrev pub given_frames : Capture → List Given
 given_frames c = map (given_of c.bytes.items) c.frames.items
-
--- how many packets were given
-abbrev pub count_given : List (List Given) → ℕ
-count_given [] = 0
-count_given (gs ∷ gss) = length gs + count_given gss
 
 -- the tracker of a desk, set up so
 abbrev pub tracker_with : Setup → Sight → TrackerSetup
@@ -36,30 +29,6 @@ pub record Replayed (setup : Setup) (given : List Given) (old new : Sight) (verd
   pub went : WentOn old new own
   pub few : length own ≤ 8 * length given
   pub fit : VerdictsFit (tracker_with setup old) new.front own at_start given verdicts
-  pub held : new.held ≡ []
-  pub owed : new.owed ≡ []
-  pub known : IsKnown new
-
--- how many events the packets made
-abbrev pub made_in : List Verdict → ℕ
-made_in [] = 0
-made_in (v ∷ vs) = v.made + made_in vs
-
--- each capture is a thread, which made the next of these events; together they made all of them
-abbrev pub ThreadNotesFit : TrackerSetup → List Event → List Note → List (List Given) → List (Roomed Verdict) → Type 0
-ThreadNotesFit tracker log notes [] [] = notes ≡ []
-ThreadNotesFit tracker log notes [] (vs ∷ vss) = ⊥
-ThreadNotesFit tracker log notes (gs ∷ gss) [] = ⊥
-ThreadNotesFit tracker log notes (gs ∷ gss) (vs ∷ vss) =
-    VerdictsFit tracker log (take (made_in vs.items) notes) at_start gs vs.items
-    × ThreadNotesFit tracker log (drop (made_in vs.items) notes) gss vss
-
--- the same of several captures, each by a thread
-pub record AllReplayed (setup : Setup) (given : List (List Given)) (old new : Sight) (threads : List (Roomed Verdict)) : Type 0 where
-  pub own : List Note
-  pub went : WentOn old new own
-  pub few : length own ≤ 8 * count_given given
-  pub fit : ThreadNotesFit (tracker_with setup old) new.front own given threads
   pub held : new.held ≡ []
   pub owed : new.owed ≡ []
   pub known : IsKnown new

@@ -5,10 +5,10 @@ use Rattle.replay_runs.proofs.desks.split_off.Goals as goal
 pub captures-preserved : goal.captures-preserved
 captures-preserved g c = record {
   split = splitting_next c.args.captures.now c.captures-2.worker c.args.desk.now c.captures-2.desk c.split.new.self c.split.result
-      c.captures-2.jobs.items c.push_reserved.new.self.items c.index-captures-worker.result c.in-Ok.verdicts
+      c.captures-2.jobs.items c.push_reserved.new.self.items c.index-captures-worker.result c.in_ok-verdicts.verdicts
       c.captures-2.invariant.split c.split.ensures.splits c.split.ensures.knows c.split.ensures.further_knows
-      (omega (arith, c.captures-test.true)) c.index-captures-worker.is c.requires.captures c.in-Ok.ensures.empty
-      (omega (arith, c.in-Ok.ensures.room, c.len.ensures.exact)) c.push_reserved.ensures.items;
+      (omega (arith, c.captures-test.true)) c.index-captures-worker.is c.requires.captures c.in_ok-verdicts.ensures.empty
+      (omega (arith, c.in_ok-verdicts.ensures.room, c.len.ensures.exact)) c.push_reserved.ensures.items;
   room = omega (arith, c.captures-2.invariant.room, c.push_reserved.ensures.len);
   capacity = c.push_reserved.ensures.capacity ∙ c.captures-2.invariant.capacity;
 }
