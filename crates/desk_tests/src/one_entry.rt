@@ -1,34 +1,19 @@
 //! Packets over a desk of one entry, which is ended by hand between them.
 
-ghost use Rattle.std.specs.Prelude.{◌≡◌, ◌+◌, ◌≤◌, ◌^◌, []};
+ghost use Rattle.std.specs.Prelude.{◌≡◌, []};
 ghost use Rattle.history_book.specs.Sizes.{AreWithinLimits};
 
+use crate::packets::{ANOTHER, QUERY, handled};
 use book_desk::desk::PlainDesk;
 use history_book::desk::Desk;
 use history_book::event::Why;
 use history_book::outcome::{HoldOutcome, KillOutcome, ReleaseOutcome};
 use history_book::sizes::Sizes;
-use history_book::verdict::{Class, Verdict};
-use nat_setup::rule::Rules;
-use packet_headers::frame::{Frame, Link};
-use packet_path::handle::handle;
-use packet_path::setup::{Ports, Setup};
+use history_book::verdict::Class;
 use std::process::Abort;
 use std::sync::Wait;
 use std::test::Fail;
 use tuple_core::NoMemory;
-
-/// A query of UDP from 10.0.0.1:5000 to 10.0.0.2:53.
-const QUERY: [u8; 32] = [
-    0x45, 0, 0, 0x20, 0, 0, 0, 0, 0x40, 0x11, 0, 0, 10, 0, 0, 1, 10, 0, 0, 2, 0x13, 0x88, 0, 0x35,
-    0, 0x0c, 0, 0, 0, 0, 0, 0,
-];
-
-/// A query of UDP from 10.0.0.3:5000 to 10.0.0.2:53.
-const ANOTHER: [u8; 32] = [
-    0x45, 0, 0, 0x20, 0, 0, 0, 0, 0x40, 0x11, 0, 0, 10, 0, 0, 3, 10, 0, 0, 2, 0x13, 0x88, 0, 0x35,
-    0, 0x0c, 0, 0, 0, 0, 0, 0,
-];
 
 /// A pool of one place.
 fn sizes() -> Sizes
@@ -41,40 +26,6 @@ fn sizes() -> Sizes
         passes: 1,
         expectations: 0,
     }
-}
-
-/// The frame of 32 bytes at this moment, in microseconds.
-fn frame(moment: u32) -> Frame
-    ensures inside { result.start + result.captured ≡ 32 }
-    ensures timely { result.moment ≤ 10 ^ 16 }
-{
-    Frame {
-        moment: u64::from(moment),
-        start: 0,
-        captured: 32,
-        original: 32,
-        link: Link::Raw,
-    }
-}
-
-/// What becomes of a packet at this moment, without rules.
-fn handled<R: Wait + Abort + AllocGlobal>(
-    rt: &R,
-    desk: &mut PlainDesk,
-    packet: &[u8; 32],
-    moment: u32,
-) -> Result<Verdict, NoMemory>
-    requires held { desk.old.held ≡ [] }
-    requires owed { desk.old.owed ≡ [] }
-    ensures held { desk.new.held ≡ [] }
-    ensures owed { desk.new.owed ≡ [] }
-{
-    assert!(rt; desk.made() < 1000);
-    let setup = Setup {
-        rules: Rules::new(rt.alloc(), 0)?,
-        ftp: Ports::new(rt.alloc(), 0)?,
-    };
-    handle(rt, desk, packet, &frame(moment), &setup)
 }
 
 /// Ends the one entry, which is expired at 31 s.

@@ -1,6 +1,7 @@
 //! What becomes of a packet where another pass comes between the calls of its own.
 
 use super::stage::{Act, Call, Turn};
+use crate::packets::{QUERY, SYN};
 use case::{Case, Fate, LATE, SECOND, Step, holds};
 use history_book::record::Flow;
 use history_book::verdict::Label;
@@ -11,19 +12,7 @@ use tuple_core::{Direction, Proto, Segment, Tuple};
 mod case;
 mod ftp;
 
-/// A query of UDP from 10.0.0.1:5000 to 10.0.0.2:53.
-const QUERY: [u8; 32] = [
-    0x45, 0, 0, 0x20, 0, 0, 0, 0, 0x40, 0x11, 0, 0, 10, 0, 0, 1, 10, 0, 0, 2, 0x13, 0x88, 0, 0x35,
-    0, 0x0c, 0, 0, 0, 0, 0, 0,
-];
-
-/// A segment of TCP with SYN from 10.0.0.1:40000 to 10.0.0.2:80.
-const SYN: [u8; 40] = [
-    0x45, 0, 0, 0x28, 0, 0, 0, 0, 0x40, 6, 0, 0, 10, 0, 0, 1, 10, 0, 0, 2, 0x9c, 0x40, 0, 0x50, 0,
-    0, 0, 0, 0, 0, 0, 0, 0x50, 2, 0, 0, 0, 0, 0, 0,
-];
-
-/// The same with RST.
+/// A segment of TCP with RST from 10.0.0.1:40000 to 10.0.0.2:80.
 const RST: [u8; 40] = [
     0x45, 0, 0, 0x28, 0, 0, 0, 0, 0x40, 6, 0, 0, 10, 0, 0, 1, 10, 0, 0, 2, 0x9c, 0x40, 0, 0x50, 0,
     0, 0, 0, 0, 0, 0, 0, 0x50, 4, 0, 0, 0, 0, 0, 0,
