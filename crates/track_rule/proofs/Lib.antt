@@ -1,0 +1,9 @@
+pub mod Sums
+pub mod Carried
+pub mod Frames
+pub mod Lists
+pub mod Counting
+pub mod Pool
+pub mod Loads
+pub mod Turns
+pub mod Refs

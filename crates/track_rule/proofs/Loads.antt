@@ -1,0 +1,162 @@
+-- Steps that change no word: a load, and an exchange that fails. What a load tells of the history and of the references.
+use Rattle.std.specs.Prelude.{min, nat_lt}
+use Rattle.track_rule.proofs.Lists.{bit_low}
+use Rattle.std.proofs.Common.{◌≡◌, ◌≢◌, ℕ, ◌+◌, ◌-◌, ◌*◌, ◌/◌, ◌%◌, ◌^◌, ◌<◌, ◌≤◌, suc, List, [], ◌∷◌, length, refl, sym, ap, subst, ◌∙◌, ⊎_elim, inl, arith, set, append-nil}
+use Rattle.std.specs.Prelude.{slice_index, slice_set}
+use Rattle.std.proofs.lemmas.Bool.{cases_lt}
+use Rattle.std.proofs.lemmas.List.{set-get_or}
+use mathlib.Core.Option.{none, some}
+use lib.ListN.{get_elem?}
+use Rattle.atomic_table.specs.Table.{Allows, State, keeps as unchanged, step}
+use Rattle.history_book.specs.declared.event.Event.{Event}
+use Rattle.history_book.specs.declared.event.Note.{Note}
+use Rattle.history_book.specs.declared.sizes.Sizes.{Sizes}
+use Rattle.history_book.specs.Sight.{notes_from}
+use Rattle.track_rule.specs.declared.slot.Slot.{Slot}
+use Rattle.track_rule.specs.declared.view.Places.{Places}
+use Rattle.track_rule.specs.declared.view.View.{View}
+use Rattle.track_rule.specs.Free.{turn_of}
+use Rattle.track_rule.specs.History.{events_in, live_in, packed, records_after}
+use Rattle.track_rule.specs.Layout.{phase_at, refs_at, refs_word}
+use Rattle.track_rule.specs.Passes.{ArePasses, IsPass, made_weight, shares_of}
+use Rattle.track_rule.specs.Readings.{found, noted}
+use Rattle.track_rule.specs.References.{held_times, keeps}
+use Rattle.track_rule.specs.Rule.{Holds, IsKept, Ledger}
+use Rattle.track_rule.specs.Steps.{AreAll, LoadStep, LoadsRefs, LookStep, found_history, most_keeps, saw}
+use Rattle.track_rule.specs.Sums.{Each, times, total}
+use Rattle.track_rule.proofs.Pool.{Moves, few_references, free_moved, moved, pass_moved, references_moved}
+use Rattle.track_rule.proofs.Sums.{length_total, total_gap, total_term, total_times}
+
+-- a view in which at most the readings and what was seen differ keeps the rule
+pub reads : (z : Sizes) (l : Ledger) (s : State Slot View) (id i : ℕ) (v w : View) → IsKept z l s → get_elem? s.views id ≡ some v
+    → Moves v w → IsPass z l.log w → w.places ≡ v.places → w.free ≡ v.free
+    → IsKept z l (record { words = slice_set s.words i (slice_index s.words i); homes = s.homes; views = set s.views id w })
+reads z l s id i v w h at m p places free =
+    subst (λ (ws : List ℕ). IsKept z l (record { words = ws; homes = s.homes; views = set s.views id w })) (sym (set-get_or s.words i 0))
+    (moved z l s id v w s.words s.homes l.free h at m p (λ k a b. refl) refl (λ k a. refl)
+    (references_moved z s.words s.words s.views id v w at (record {
+      count = λ p below. ap (λ (x : Places). refs_at z s.words p + (held_times p x.held + times p x.carried)) (sym places);
+      beyond = λ p above. ap (λ (x : Places). held_times p x.held + times p x.carried) places;
+      phases = λ p. refl;
+      carried = subst (λ (x : Places). (p : ℕ) → times p x.carried ≤ held_times p x.held) (sym places) (h.references.carried id v at);
+    }) h.references)
+    (free_moved z s.words s.words s.homes s.homes s.views id v w l.free l.free at (record {
+      once = λ p below. ap (λ (x : Places). times p l.free + times p x.owed + min (refs_at z s.words p) 1) places;
+      beyond = λ p above. ap (λ (x : Places). times p l.free + times p x.owed) places;
+      idle = h.free_list.idle;
+      phases = λ p. refl;
+      turn = ap (λ x. slice_index s.words 1 + turn_of x) (sym free);
+      single = h.free_list.single;
+      home = h.free_list.home;
+      others = inl refl;
+      away = λ list e. h.free_list.away id v at list (sym free ∙ e);
+      few = omega (arith, h.free_list.few id v at, ap (λ (x : Places). length x.held + length x.owed) places);
+      clear = subst (λ (x : Places). (p : ℕ) → 0 < times p x.clear → (0 < times p x.owed) × (phase_at z s.words p ≡ 0)) (sym places)
+          (h.free_list.clear id v at);
+    }) h.free_list))
+
+-- as many notes as events
+pub length-notes : (k : ℕ) (es : List Event) → length (notes_from k es) ≡ length es
+length-notes k [] = refl
+length-notes k (e ∷ es) = ap suc (length-notes (k + 1) es)
+
+module _ (z : Sizes) (log : List Event) (vs : List View) (h : ArePasses z log vs) where
+  -- a pass makes and gathers so many events at most
+  pass_few : Each (λ v. made_weight (λ n. 1) v ≤ 2 ^ 30 * shares_of v) vs
+  pass_few i v at =
+      let p : IsPass z log v = h.each i v at in
+      ⊎_elim
+      (λ (e : 0 < v.passes.shares). omega (arith, p.own_few, p.gathered_few, length_total v.seen.own, length_total v.seen.gathered, e))
+      (λ (e : v.passes.shares ≤ 0).
+      omega (arith, ap length (p.spent (omega (arith, e))).own, p.gathered_few, length_total v.seen.own, length_total v.seen.gathered))
+      (cases_lt 0 v.passes.shares)
+
+  -- so there are few of them, and room for those that this pass may still make
+  pub few_events : (i : ℕ) (v : View) → get_elem? vs i ≡ some v → 0 < v.passes.shares → length log + (2 ^ 30 - length v.seen.own) ≤ 2 ^ 30 * z.passes
+  few_events i v at has_some =
+      let p : IsPass z log v = h.each i v at in
+      let all = h.made (λ (n : Note). 1) in
+      let gap = total_gap (made_weight (λ n. 1)) (λ u. 2 ^ 30 * shares_of u) vs i v at pass_few in
+      omega (
+        arith,
+        all,
+        gap,
+        length_total (notes_from 0 log),
+        length-notes 0 log,
+        length_total v.seen.own,
+        length_total v.seen.gathered,
+        p.own_few,
+        p.gathered_few,
+        total_times (2 ^ 30) shares_of vs,
+        h.all,
+        has_some,
+      )
+
+-- the parts of the word
+word_events : (e r : ℕ) → e < 2 ^ 40 → (e + 2 ^ 40 * r) % 2 ^ 40 ≡ e
+word_events e r few = omega arith
+
+word_live : (e r : ℕ) → e < 2 ^ 40 → (e + 2 ^ 40 * r) / 2 ^ 40 ≡ r
+word_live e r few = omega arith
+
+-- a load of the history word keeps the rule, and shows the whole history
+pub looks : (slots id : ℕ) (v : View) (c : List (ℕ × Slot)) → 0 < v.passes.shares
+    → Allows (Holds v.passes.sizes) slots id (v, c) 0 (λ n. n) (LookStep (step slots 0 0 0 none) (v, c))
+looks slots id v c has_some s (l, h) long at range =
+    let z : Sizes = v.passes.sizes in
+    let w : View = noted (found_history (slice_index s.words 0) v) (saw l.log v) in
+    let p : IsPass z l.log v = h.passes.each id v at in
+    let m : Moves v w = record { passes = refl; own = refl; gathered = refl; stand = refl; commit = refl; deck = refl; note = refl } in
+    let few = few_events z l.log s.views h.passes id v at has_some in
+    let low : length l.log < 2 ^ 40 = omega (arith, few, h.limits.passes) in (
+      w,
+      unchanged,
+      tt,
+      (l, reads z l s id 0 v w h at m (pass_moved z l.log v w p m has_some ([], sym (append-nil l.log)) p.told) refl refl),
+      (
+        record {
+          same = refl;
+          all = record {
+            front = p.front;
+            told = p.told;
+            legal = h.history.legal;
+            few = few;
+            shares = omega (arith, total_term shares_of s.views id v at, h.passes.all);
+            alone = λ one. p.alone one has_some;
+          };
+          events = ap events_in h.history.word ∙ word_events (length l.log) (length (records_after l.log)) low;
+          live = ap live_in h.history.word ∙ word_live (length l.log) (length (records_after l.log)) low;
+        },
+        refl,
+      ),
+    )
+
+-- what every load of a references word tells
+pub refs_told : (z : Sizes) (l : Ledger) (s : State Slot View) (id p : ℕ) (v : View) → IsKept z l s → get_elem? s.views id ≡ some v → p < z.entries
+    → (slice_index s.words (refs_word z p) < most_keeps) × (keeps p v ≤ slice_index s.words (refs_word z p))
+refs_told z l s id p v h at below = (
+  omega (arith, h.references.counted p below, few_references z l s h p, bit_low (nat_lt 2 (phase_at z s.words p))),
+  omega (arith, h.references.counted p below, total_term (keeps p) s.views id v at),
+)
+
+-- two places have two words
+pub one_place : (z : Sizes) (p q : ℕ) → refs_word z p ≡ refs_word z q → p ≡ q
+one_place z p q e = omega (arith, e)
+
+-- a load of the references of a place
+pub loads : (slots id p : ℕ) (v : View) (c : List (ℕ × Slot)) → p < v.passes.sizes.entries → 0 < v.passes.shares
+    → Allows (Holds v.passes.sizes) slots id (v, c) (refs_word v.passes.sizes p) (λ n. n)
+    (LoadStep (step slots (refs_word v.passes.sizes p) 0 0 none) (v, c))
+loads slots id p v c below has_some s (l, h) long at range =
+    let z : Sizes = v.passes.sizes in
+    let n : ℕ = slice_index s.words (refs_word z p) in
+    let w : View = noted (found (refs_word z p) n) v in
+    let one : IsPass z l.log v = h.passes.each id v at in
+    let m : Moves v w = record { passes = refl; own = refl; gathered = refl; stand = refl; commit = refl; deck = refl; note = refl } in
+    let told = refs_told z l s id p v h at below in (
+      w,
+      unchanged,
+      tt,
+      (l, reads z l s id (refs_word z p) v w h at m (pass_moved z l.log v w one m has_some one.front one.told) refl refl),
+      λ q same. subst (λ (k : ℕ). LoadsRefs k v n w × (c ≡ c)) (one_place z p q same) (record { view = refl; few = told.0; own = told.1 }, refl),
+    )

@@ -1,0 +1,152 @@
+-- The parts that a step on the pool changes: the passes, the references and the free list.
+use Rattle.std.proofs.lemmas.Bool.{cases_lt}
+use Rattle.std.specs.Prelude.{◌==◌}
+use Rattle.std.proofs.Common.{◌≡◌, ◌≢◌, ℕ, ◌+◌, ◌*◌, ◌^◌, ◌<◌, ◌≤◌, ◌⊎◌, min, Option, Some, None, List, [], ◌∷◌, length, refl, sym, ap, subst, ◌∙◌, ⊎_elim, arith, set}
+use Rattle.std.specs.List.{AllPairs}
+use Rattle.std.specs.Prelude.{slice_index, nat_le, nat_lt, ◌&&◌}
+use mathlib.Core.Option.{Option as Slotted, some}
+use lib.ListN.{get_elem?}
+use Rattle.atomic_table.specs.Table.{State}
+use Rattle.history_book.specs.declared.event.Event.{Event}
+use Rattle.history_book.specs.declared.event.Note.{Note}
+use Rattle.history_book.specs.declared.sizes.Sizes.{Sizes}
+use Rattle.history_book.specs.Point.{StartsWith}
+use Rattle.history_book.specs.Sight.{AreEventsOf, notes_from}
+use Rattle.track_rule.specs.declared.slot.Slot.{Slot}
+use Rattle.track_rule.specs.declared.view.Seen.{Seen}
+use Rattle.track_rule.specs.declared.view.Shares.{Shares}
+use Rattle.track_rule.specs.declared.view.View.{View}
+use Rattle.track_rule.specs.Free.{IsFreeList, IsHome, has_turn, owes, turn_of}
+use Rattle.track_rule.specs.Layout.{phase_at, refs_at}
+use Rattle.track_rule.specs.Passes.{ArePasses, IsPass, has_share, made_weight, shares_of}
+use Rattle.track_rule.specs.References.{AreReferences, held_times, keeps, table_keeps}
+use Rattle.track_rule.specs.Rule.{IsKept, Ledger}
+use Rattle.track_rule.specs.Sums.{Each, bit, times, total}
+use Rattle.track_rule.proofs.Carried.{carries_set}
+use Rattle.track_rule.proofs.Frames.{Leaves, Quiet, Stays, kept, no_commit, no_stand}
+use Rattle.track_rule.proofs.Lists.{total_long}
+use Rattle.track_rule.proofs.Sums.{each_other, each_put, total_le, total_same, total_set, total_term, total_times, total_two}
+
+-- what a step on the pool leaves of a view
+pub record Moves (v w : View) : Type 0 where
+  pub passes : w.passes ≡ v.passes
+  pub own : w.seen.own ≡ v.seen.own
+  pub gathered : w.seen.gathered ≡ v.seen.gathered
+  pub stand : w.stand ≡ v.stand
+  pub commit : w.commit ≡ v.commit
+  pub deck : w.deck ≡ v.deck
+  pub note : w.note ≡ v.note
+
+-- a pass with some shares that has seen so much
+pub pass_moved : (z : Sizes) (log : List Event) (v w : View) → IsPass z log v → Moves v w → 0 < v.passes.shares
+    → StartsWith log w.seen.front → StartsWith log w.seen.told → IsPass z log w
+pass_moved z log v w p m has_some front told = record {
+  front = front;
+  told = told;
+  own = subst (AreEventsOf log) (sym m.own) p.own;
+  ordered = subst (AllPairs (λ (a b : Note). a.number < b.number)) (sym m.own) p.ordered;
+  own_few = omega (arith, p.own_few, ap length m.own);
+  gathered = subst (AreEventsOf log) (sym m.gathered) p.gathered;
+  gathered_few = omega (arith, p.gathered_few, ap length m.gathered, ap (λ (s : Shares). s.returned) m.passes);
+  below = omega (arith, p.below, ap (λ (s : Shares). s.first) m.passes, ap (λ (s : Shares). s.shares) m.passes);
+  alone = λ one has. m.own ∙ p.alone one has_some;
+  spent = λ none_left. absurd (omega (arith, none_left, has_some, ap (λ (s : Shares). s.shares) m.passes));
+}
+
+passes_moved : (z : Sizes) (log : List Event) (vs : List View) (i : ℕ) (v w : View) → get_elem? vs i ≡ some v → Moves v w → IsPass z log w
+    → ArePasses z log vs → ArePasses z log (set vs i w)
+passes_moved z log vs i v w at m p h = record {
+  each = each_put (IsPass z log) vs i w h.each p;
+  apart = λ n. omega (
+    arith,
+    h.apart n,
+    total_same (has_share n) vs i v w at (ap (λ (s : Shares). bit (nat_le s.first n && nat_lt n (s.first + s.shares))) m.passes),
+  );
+  all = total_same shares_of vs i v w at (ap (λ (s : Shares). s.shares + s.returned) m.passes) ∙ h.all;
+  made = λ weight. h.made weight
+      ∙ sym (total_same (made_weight weight) vs i v w at (λ k. total weight (m.own k) + total weight (m.gathered k)));
+}
+
+-- a step of one pass on the pool
+pub moved : (z : Sizes) (l : Ledger) (s : State Slot View) (id : ℕ) (v w : View) (ws' : List ℕ) (hs' : List (Slotted Slot)) (free' : List ℕ)
+    → IsKept z l s → get_elem? s.views id ≡ some v → Moves v w → IsPass z l.log w
+    → Quiet z s.words ws' → length ws' ≡ length s.words → Stays s.homes hs'
+    → AreReferences z ws' (set s.views id w) → IsFreeList z ws' hs' (set s.views id w) free'
+    → IsKept z (record l { free = free' }) (record { words = ws'; homes = hs'; views = set s.views id w })
+moved z l s id v w ws' hs' free' h at m p quiet long homes references free_list =
+    kept z l s ws' hs' (set s.views id w) free' h quiet long homes
+    (record {
+      stand = carries_set (λ (u : View). u.stand) no_stand s.views id v w at m.stand;
+      commit = carries_set (λ (u : View). u.commit) no_commit s.views id v w at m.commit;
+      deck = carries_set (λ (u : View). u.deck) None s.views id v w at m.deck;
+      note = carries_set (λ (u : View). u.note) None s.views id v w at m.note;
+    })
+    (passes_moved z l.log s.views id v w at m p h.passes) references free_list
+
+-- what a step does to the references: a balance for each place
+pub record RefsStep (z : Sizes) (ws ws' : List ℕ) (v w : View) : Type 0 where
+  pub count : (p : ℕ) → p < z.entries → refs_at z ws' p + keeps p v ≡ refs_at z ws p + keeps p w
+  pub beyond : (p : ℕ) → z.entries ≤ p → keeps p w ≡ keeps p v
+  pub phases : (p : ℕ) → phase_at z ws' p ≡ phase_at z ws p
+  pub carried : (p : ℕ) → times p w.places.carried ≤ held_times p w.places.held
+
+pub references_moved : (z : Sizes) (ws ws' : List ℕ) (vs : List View) (i : ℕ) (v w : View) → get_elem? vs i ≡ some v → RefsStep z ws ws' v w
+    → AreReferences z ws vs → AreReferences z ws' (set vs i w)
+references_moved z ws ws' vs i v w at t h = record {
+  counted = λ p below.
+      omega (arith, h.counted p below, t.count p below, total_set (keeps p) vs i v w at, ap table_keeps (t.phases p));
+  beyond = λ p above. omega (arith, h.beyond p above, t.beyond p above, total_set (keeps p) vs i v w at);
+  carried = each_put (λ u. (p : ℕ) → times p u.places.carried ≤ held_times p u.places.held) vs i w h.carried t.carried;
+}
+
+-- and to the free list
+pub record FreeStep (z : Sizes) (ws ws' : List ℕ) (hs' : List (Slotted Slot)) (vs : List View) (v w : View) (free free' : List ℕ) : Type 0 where
+  pub once : (p : ℕ) → p < z.entries
+      → times p free' + owes p w + min (refs_at z ws' p) 1 ≡ times p free + owes p v + min (refs_at z ws p) 1
+  pub beyond : (p : ℕ) → z.entries ≤ p → times p free' + owes p w ≡ times p free + owes p v
+  pub idle : (p : ℕ) → 0 < times p free' → phase_at z ws' p ≡ 0
+  pub phases : (p : ℕ) → phase_at z ws' p ≡ phase_at z ws p
+  pub turn : slice_index ws' 1 + has_turn v ≡ slice_index ws 1 + has_turn w
+  pub single : slice_index ws' 1 ≤ 1
+  pub home : slice_index ws' 1 ≡ 0 → IsHome z hs' free'
+  pub others : (free' ≡ free) ⊎ (total has_turn vs ≡ has_turn v)
+  pub away : (list : List ℕ) → w.free ≡ Some list → list ≡ free'
+  pub few : length w.places.held + length w.places.owed ≤ 4
+  pub clear : (p : ℕ) → 0 < times p w.places.clear → (0 < times p w.places.owed) × (phase_at z ws' p ≡ 0)
+
+pub free_moved : (z : Sizes) (ws ws' : List ℕ) (hs hs' : List (Slotted Slot)) (vs : List View) (i : ℕ) (v w : View) (free free' : List ℕ)
+    → get_elem? vs i ≡ some v → FreeStep z ws ws' hs' vs v w free free' → IsFreeList z ws hs vs free
+    → IsFreeList z ws' hs' (set vs i w) free'
+free_moved z ws ws' hs hs' vs i v w free free' at t h = record {
+  once = λ p below. omega (arith, h.once p below, t.once p below, total_set (owes p) vs i v w at);
+  beyond = λ p above. omega (arith, h.beyond p above, t.beyond p above, total_set (owes p) vs i v w at);
+  idle = t.idle;
+  turn = omega (arith, h.turn, t.turn, total_set has_turn vs i v w at);
+  single = t.single;
+  home = t.home;
+  away = each_other (λ u. (list : List ℕ) → u.free ≡ Some list → list ≡ free') vs i w
+      (λ j u other at' list has.
+      ⊎_elim (λ (e : free' ≡ free). h.away j u at' list has ∙ sym e)
+      (λ (e : total has_turn vs ≡ has_turn v). absurd (omega (arith, e, ap turn_of has, total_two has_turn vs i j v u at at' other)))
+      t.others) t.away;
+  few = each_put (λ u. length u.places.held + length u.places.owed ≤ 4) vs i w h.few t.few;
+  clear = each_put (λ u. (p : ℕ) → 0 < times p u.places.clear → (0 < times p u.places.owed) × (phase_at z ws' p ≡ 0)) vs i w
+      (λ j u at' p some. let c = h.clear j u at' p some in (c.0, t.phases p ∙ c.1)) t.clear;
+}
+
+-- the passes keep few references to a place
+module _ (z : Sizes) (l : Ledger) (s : State Slot View) (h : IsKept z l s) where
+  keeps_low : (p : ℕ) → Each (λ v. keeps p v ≤ 8 * shares_of v) s.views
+  keeps_low p i v at =
+      let one : IsPass z l.log v = h.passes.each i v at in
+      ⊎_elim
+      (λ (e : 0 < v.passes.shares).
+      omega (arith, e, h.free_list.few i v at, h.references.carried i v at p, total_long (λ k. k.place == p) v.places.held))
+      (λ (e : v.passes.shares ≤ 0).
+      let sp = (one.spent (omega (arith, e))).nothing in
+      omega (arith, ap (held_times p) sp.held, ap (times p) sp.carried))
+      (cases_lt 0 v.passes.shares)
+
+  pub few_references : (p : ℕ) → total (keeps p) s.views + 1 < 2 ^ 16
+  few_references p =
+      omega (arith, total_le (keeps p) (λ v. 8 * shares_of v) s.views (keeps_low p), total_times 8 shares_of s.views, h.passes.all, h.limits.passes)

@@ -1,0 +1,351 @@
+-- The references of a place: the first one, one more, and one less.
+use Rattle.std.specs.Prelude.{if◌then◌else◌, ◌&&◌}
+use Rattle.std.proofs.lemmas.Bool.{false≢true}
+use Rattle.history_book.specs.Point.{StartsWith}
+use Rattle.track_rule.specs.declared.view.Seen.{Seen}
+use Rattle.track_rule.specs.declared.view.Purpose.TheVariants.{Testing}
+use Rattle.std.proofs.Common.{◌⊎◌, ◌≡◌, ◌≢◌, ℕ, ◌+◌, ◌-◌, ◌*◌, ◌%◌, ◌^◌, ◌<◌, ◌≤◌, zero, suc, eqb, true, false, Bool, Option, Some, None, List, [], ◌∷◌, length, refl, sym, ap, subst, ◌∙◌, ⊎_elim, inl, inr, arith, set, eq-eqb, ne_eqb}
+use Rattle.std.specs.Prelude.{slice_index, slice_set, min, unwrap_or, ◌==◌, nat_lt}
+use Rattle.std.proofs.lemmas.Bool.{cases_Bool, cases_eq, cases_lt}
+use Rattle.std.proofs.lemmas.List.{get_or-set_other, get_or-set_same, length-set}
+use prog.Atomic.{either}
+use mathlib.Core.Option.{none, some}
+use lib.ListN.{get_elem?}
+use Rattle.atomic_table.specs.Table.{Act, Allows, State, Valid, carried_after, keeps as unchanged, step, stepped}
+use Rattle.atomic_table.proofs.Lists.{exchanged}
+use Rattle.history_book.specs.declared.sizes.Sizes.{Sizes}
+use Rattle.track_rule.specs.declared.slot.Slot.{Slot}
+use Rattle.track_rule.specs.declared.view.View.{View}
+use Rattle.track_rule.specs.Free.{IsHome, has_turn, is_among, known_free, owes, taken_out, turn_of}
+use Rattle.track_rule.specs.Layout.{phase_at, phase_word, refs_at, refs_word, word_count}
+use Rattle.track_rule.specs.Passes.{IsPass}
+use Rattle.track_rule.specs.Readings.{found, noted, stored}
+use Rattle.track_rule.specs.References.{held_times, is_at, is_held, keeps, without}
+use Rattle.track_rule.specs.Rule.{Holds, IsKept, Ledger}
+use Rattle.track_rule.specs.Steps.{LowerStep, LowersRefs, MissedRefs, OpenStep, Opens, RaiseStep, RaisedRefs, RaisesRefs, keep, let_go, opened, owed_then}
+use Rattle.track_rule.specs.Sums.{bit, times, total}
+use Rattle.track_rule.proofs.Frames.{Quiet}
+use Rattle.track_rule.proofs.Lists.{bit_low, length_without, other_bit, other_taken, other_without, same_bit, same_taken, same_without, some_of, total_some}
+use Rattle.track_rule.proofs.Loads.{one_place, reads, refs_told}
+use Rattle.track_rule.proofs.Pool.{Moves, few_references, free_moved, moved, pass_moved, references_moved}
+use Rattle.track_rule.proofs.Sums.{total_term}
+
+-- the references word of one place
+module _ (z : Sizes) (ws : List ℕ) (p n : ℕ) where
+  refs_quiet : Quiet z ws (slice_set ws (refs_word z p) n)
+  refs_quiet k other apart = get_or-set_other ws (refs_word z p) k n 0 (apart p)
+
+  refs_turn : slice_index (slice_set ws (refs_word z p) n) 1 ≡ slice_index ws 1
+  refs_turn = get_or-set_other ws (refs_word z p) 1 n 0 (λ e. omega (arith, e))
+
+  refs_else : (q : ℕ) → q ≢ p → refs_at z (slice_set ws (refs_word z p) n) q ≡ refs_at z ws q
+  refs_else q other = get_or-set_other ws (refs_word z p) (refs_word z q) n 0 (λ e. other (one_place z q p e))
+
+  refs_phase : (q : ℕ) → phase_at z (slice_set ws (refs_word z p) n) q ≡ phase_at z ws q
+  refs_phase q = get_or-set_other ws (refs_word z p) (phase_word z q) n 0 (λ e. omega (arith, e))
+
+  refs_here : refs_word z p < length ws → refs_at z (slice_set ws (refs_word z p) n) p ≡ n
+  refs_here low = get_or-set_same ws (refs_word z p) n 0 low
+
+-- The view changes in its places, the free list and the readings: what it keeps and owes changes at one place alone.
+pub record RefsMove (v w : View) (p n : ℕ) (free free' : List ℕ) (before : ℕ) : Type 0 where
+  pub moves : Moves v w
+  pub seen : w.seen ≡ v.seen
+  pub keeps_here : n + keeps p v ≡ before + keeps p w
+  pub keeps_else : (q : ℕ) → q ≢ p → keeps q w ≡ keeps q v
+  pub once_here : times p free' + owes p w + min n 1 ≡ times p free + owes p v + min before 1
+  pub once_else : (q : ℕ) → q ≢ p → times q free' + owes q w ≡ times q free + owes q v
+  pub fewer : (q : ℕ) → times q free' ≤ times q free
+  pub carried : (q : ℕ) → times q w.places.carried ≤ held_times q w.places.held
+  pub turn : has_turn w ≡ has_turn v
+  pub holder : (free' ≡ free) ⊎ (has_turn v ≡ 1)
+  pub away : (list : List ℕ) → w.free ≡ Some list → list ≡ free'
+  pub few : length w.places.held + length w.places.owed ≤ 4
+  pub clear : w.places.clear ≡ v.places.clear
+  pub owed : (q : ℕ) → 0 < times q v.places.owed → 0 < times q w.places.owed
+
+-- a references word becomes n, and the view changes so
+pub counts : (z : Sizes) (l : Ledger) (s : State Slot View) (id p n : ℕ) (v w : View) (free' : List ℕ) → IsKept z l s → get_elem? s.views id ≡ some v
+    → 0 < v.passes.shares → p < z.entries → RefsMove v w p n l.free free' (refs_at z s.words p)
+    → IsKept z (record l { free = free' }) (record { words = slice_set s.words (refs_word z p) n; homes = s.homes; views = set s.views id w })
+counts z l s id p n v w free' h at has_some below t =
+    let one : IsPass z l.log v = h.passes.each id v at in
+    let ws : List ℕ = s.words in
+    let now : refs_at z (slice_set ws (refs_word z p) n) p ≡ n = refs_here z ws p n (omega (arith, h.count, below)) in
+    moved z l s id v w (slice_set ws (refs_word z p) n) s.homes free' h at t.moves
+    (pass_moved z l.log v w one t.moves has_some (subst (λ (x : Seen). StartsWith l.log x.front) (sym t.seen) one.front)
+    (subst (λ (x : Seen). StartsWith l.log x.told) (sym t.seen) one.told))
+    (refs_quiet z ws p n) (length-set ws (refs_word z p) n) (λ k other. refl)
+    (references_moved z ws (slice_set ws (refs_word z p) n) s.views id v w at (record {
+      count = λ q low.
+          ⊎_elim
+          (λ (e : q ≡ p). subst (λ (x : ℕ). refs_at z (slice_set ws (refs_word z p) n) x + keeps x v ≡ refs_at z ws x + keeps x w) (sym e)
+          (omega (arith, now, t.keeps_here)))
+          (λ (e : q ≢ p). omega (arith, refs_else z ws p n q e, t.keeps_else q e)) (cases_eq q p);
+      beyond = λ q above. t.keeps_else q (λ e. omega (arith, e, above, below));
+      phases = refs_phase z ws p n;
+      carried = t.carried;
+    }) h.references)
+    (free_moved z ws (slice_set ws (refs_word z p) n) s.homes s.homes s.views id v w l.free free' at (record {
+      once = λ q low.
+          ⊎_elim
+          (λ (e : q ≡ p).
+          subst (λ (x : ℕ). times x free' + owes x w + min (refs_at z (slice_set ws (refs_word z p) n) x) 1 ≡ times x l.free + owes x v + min (refs_at z ws x) 1) (sym e)
+          (ap (λ (k : ℕ). times p free' + owes p w + min k 1) now ∙ t.once_here))
+          (λ (e : q ≢ p). omega (arith, ap (λ (k : ℕ). min k 1) (refs_else z ws p n q e), t.once_else q e)) (cases_eq q p);
+      beyond = λ q above. t.once_else q (λ e. omega (arith, e, above, below));
+      idle = λ q on. refs_phase z ws p n q ∙ h.free_list.idle q (omega (arith, on, t.fewer q));
+      phases = refs_phase z ws p n;
+      turn = omega (arith, refs_turn z ws p n, t.turn);
+      single = omega (arith, refs_turn z ws p n, h.free_list.single);
+      home = λ none_has.
+          ⊎_elim
+          (λ (e : free' ≡ l.free). subst (IsHome z s.homes) (sym e) (h.free_list.home (sym (refs_turn z ws p n) ∙ none_has)))
+          (λ (e : has_turn v ≡ 1).
+          absurd (omega (arith, none_has, refs_turn z ws p n, h.free_list.turn, e, total_term has_turn s.views id v at)))
+          t.holder;
+      others =
+          ⊎_elim (λ (e : free' ≡ l.free). inl e)
+          (λ (e : has_turn v ≡ 1). inr (omega (arith, h.free_list.turn, h.free_list.single, e, total_term has_turn s.views id v at))) t.holder;
+      away = t.away;
+      few = t.few;
+      clear = λ q on.
+          let c = h.free_list.clear id v at q (omega (arith, on, ap (times q) t.clear)) in
+          (t.owed q c.0, refs_phase z ws p n q ∙ c.1);
+    }) h.free_list)
+
+-- the first reference to a place from the free list
+pub opening : (slots id p : ℕ) (v : View) (c : List (ℕ × Slot)) → p < v.passes.sizes.entries → 0 < v.passes.shares
+    → is_among p (known_free v) ≡ true → length v.places.held + length v.places.owed ≤ 3
+    → Allows (Holds v.passes.sizes) slots id (v, c) (refs_word v.passes.sizes p) (λ _. 1)
+    (λ _. OpenStep (step slots (refs_word v.passes.sizes p) 1 0 none) (v, c) 1)
+opening slots id p v c below has_some on room s (l, h) sized at range =
+    let z : Sizes = v.passes.sizes in
+    let w : View = opened p v in
+    let turn : has_turn v ≡ 1 = has_list v.free p on in
+    let known : known_free v ≡ l.free = of_turn v l.free turn (h.free_list.away id v at) in
+    let there : is_among p l.free ≡ true = sym (ap (is_among p) known) ∙ on in
+    let counted : 1 ≤ times p l.free = total_some (λ q. q == p) l.free there in
+    let once = h.free_list.once p below in
+    let nobody : refs_at z s.words p ≡ 0 = none_left (times p l.free) (total (owes p) s.views) (refs_at z s.words p) once counted in
+    let mine : keeps p v ≤ total (keeps p) s.views = total_term (keeps p) s.views id v at in
+    let owing : owes p v ≤ total (owes p) s.views = total_term (owes p) s.views id v at in
+    let not_held : keeps p v ≡ 0 = omega (arith, nobody, h.references.counted p below, mine) in
+    let not_owed : owes p v ≡ 0 = omega (arith, once, counted, owing) in
+    let taken : known_free v ≡ l.free = known in (
+      w,
+      unchanged,
+      tt,
+      (
+        record l { free = taken_out p (known_free v) },
+        counts z l s id p 1 v w (taken_out p (known_free v)) h at has_some below (record {
+          moves = record { passes = refl; own = refl; gathered = refl; stand = refl; commit = refl; deck = refl; note = refl };
+          seen = refl;
+          keeps_here = omega (arith, nobody, same_bit p p refl);
+          keeps_else = λ q other. omega (arith, other_bit p q (λ e. other (sym e)));
+          once_here = omega (arith, nobody, ap (times p) known, same_taken p (known_free v) on);
+          once_else = λ q other. omega (arith, ap (times q) known, other_taken p q (known_free v) on (λ e. other (sym e)));
+          fewer = λ q. ⊎_elim (λ (e : p ≡ q). subst (λ (x : ℕ). times x (taken_out p (known_free v)) ≤ times x l.free) e
+              (omega (arith, ap (times p) known, same_taken p (known_free v) on)))
+              (λ (e : p ≢ q). omega (arith, ap (times q) known, other_taken p q (known_free v) on e)) (cases_eq p q);
+          carried = λ q. omega (arith, h.references.carried id v at q);
+          turn = sym turn;
+          holder = inr turn;
+          away = λ list e. some_injective_list (taken_out p (known_free v)) list e;
+          few = omega (arith, room);
+          clear = refl;
+          owed = λ q any. any;
+        }),
+      ),
+      λ q same. subst (λ (k : ℕ). Opens k v w × (c ≡ c)) (one_place z p q same) (record { view = refl; held = omega (arith, not_held); owed = not_owed }, refl),
+    )
+  where
+    has_list : (o : Option (List ℕ)) (p : ℕ) → is_among p (unwrap_or o []) ≡ true → turn_of o ≡ 1
+    has_list None p e = absurd (false≢true e)
+    has_list (Some list) p e = refl
+
+    of_turn : (v : View) (free : List ℕ) → has_turn v ≡ 1 → ((list : List ℕ) → v.free ≡ Some list → list ≡ free) → known_free v ≡ free
+    of_turn v free turn away = of_option v.free turn away
+      where
+        of_option : (o : Option (List ℕ)) → turn_of o ≡ 1 → ((list : List ℕ) → o ≡ Some list → list ≡ free) → unwrap_or o [] ≡ free
+        of_option None turn away = absurd (omega (arith, turn))
+        of_option (Some list) turn away = away list refl
+
+    none_left : (f o n : ℕ) → f + o + min n 1 ≡ 1 → 1 ≤ f → n ≡ 0
+    none_left f o zero all any = refl
+    none_left f o (suc n) all any = absurd (omega (arith, all, any))
+
+    some_injective_list : (a b : List ℕ) → Some a ≡ Some b → b ≡ a
+    some_injective_list a b e = cc
+
+-- one of three that add up to one, of which the last counts once at most
+none_owed : (f o d n : ℕ) → f + o + min n 1 ≡ 1 → d ≤ o → 0 < n → d ≡ 0
+none_owed f o d zero all low any = absurd (omega (arith, any))
+none_owed f o d (suc n) all low any = omega (arith, all, low)
+
+both_some : (m n : ℕ) → 0 < m → 0 < n → min m 1 ≡ min n 1
+both_some zero n a b = absurd (omega (arith, a))
+both_some (suc m) zero a b = absurd (omega (arith, b))
+both_some (suc m) (suc n) a b = omega arith
+
+-- one reference more where there are so many
+abbrev raised : ℕ → ℕ → View → View
+raised p seen v = noted (stored (refs_word v.passes.sizes p) (seen + 1)) (record v { places = record v.places { held = keep p Testing ∷ v.places.held } })
+
+module _ (slots id p seen : ℕ) (v : View) (c : List (ℕ × Slot)) (below : p < v.passes.sizes.entries) (has_some : 0 < v.passes.shares)
+    (some_seen : 0 < seen) (s : State Slot View) (l : Ledger) (h : IsKept v.passes.sizes l s) (at : get_elem? s.views id ≡ some v) where
+  raised_hit : length v.places.held + length v.places.owed ≤ 3 → refs_at v.passes.sizes s.words p ≡ seen
+      → IsKept v.passes.sizes l (record { words = slice_set s.words (refs_word v.passes.sizes p) (seen + 1); homes = s.homes; views = set s.views id (raised p seen v) })
+      × RaisedRefs p seen v (raised p seen v)
+  raised_hit room hit =
+      let once = h.free_list.once p below in
+      let owing : owes p v ≤ total (owes p) s.views = total_term (owes p) s.views id v at in
+      let not_owed : owes p v ≡ 0 =
+      none_owed (times p l.free) (total (owes p) s.views) (owes p v) (refs_at v.passes.sizes s.words p) once owing (omega (arith, hit, some_seen)) in (
+        counts v.passes.sizes l s id p (seen + 1) v (raised p seen v) l.free h at has_some below (record {
+          moves = record { passes = refl; own = refl; gathered = refl; stand = refl; commit = refl; deck = refl; note = refl };
+          seen = refl;
+          keeps_here = omega (arith, hit, same_bit p p refl);
+          keeps_else = λ q other. omega (arith, other_bit p q (λ e. other (sym e)));
+          once_here = ap (λ (k : ℕ). times p l.free + owes p v + k)
+              (both_some (seen + 1) (refs_at v.passes.sizes s.words p) (omega arith) (omega (arith, hit, some_seen)));
+          once_else = λ q other. refl;
+          fewer = λ q. omega arith;
+          carried = λ q. omega (arith, h.references.carried id v at q);
+          turn = refl;
+          holder = inl refl;
+          away = h.free_list.away id v at;
+          few = omega (arith, room);
+          clear = refl;
+          owed = λ q any. any;
+        }),
+        record { view = refl; owed = not_owed },
+      )
+
+  read_missed : (n : ℕ) → slice_index s.words (refs_word v.passes.sizes p) ≡ n
+      → IsKept v.passes.sizes l (record {
+        words = slice_set s.words (refs_word v.passes.sizes p) (slice_index s.words (refs_word v.passes.sizes p));
+        homes = s.homes;
+        views = set s.views id (noted (found (refs_word v.passes.sizes p) n) v);
+      })
+  read_missed n e =
+      let w : View = noted (found (refs_word v.passes.sizes p) n) v in
+      let one : IsPass v.passes.sizes l.log v = h.passes.each id v at in
+      let m : Moves v w = record { passes = refl; own = refl; gathered = refl; stand = refl; commit = refl; deck = refl; note = refl } in
+      reads v.passes.sizes l s id (refs_word v.passes.sizes p) v w h at m (pass_moved v.passes.sizes l.log v w one m has_some one.front one.told) refl refl
+
+pub raising : (slots id p seen : ℕ) (v : View) (c : List (ℕ × Slot)) → p < v.passes.sizes.entries → 0 < v.passes.shares → 0 < seen
+    → length v.places.held + length v.places.owed ≤ 3
+    → Allows (Holds v.passes.sizes) slots id (v, c) (refs_word v.passes.sizes p) (λ n. either (eqb n seen) (seen + 1) n)
+    (RaiseStep (step slots (refs_word v.passes.sizes p) seen (seen + 1) none) (v, c))
+raising slots id p seen v c below has_some some_seen room s (l, h) sized at range =
+    let z : Sizes = v.passes.sizes in
+    let word : ℕ = refs_word v.passes.sizes p in
+    let n : ℕ = slice_index s.words (refs_word v.passes.sizes p) in
+    exchanged (slice_index s.words (refs_word v.passes.sizes p)) seen (seen + 1)
+    (λ (m : ℕ). (w : View) × (a : Act Slot) × Valid s.homes c a × Holds v.passes.sizes (stepped s (refs_word v.passes.sizes p) m id c w a)
+    × RaiseStep (step slots (refs_word v.passes.sizes p) seen (seen + 1) none) (v, c) (slice_index s.words (refs_word v.passes.sizes p)) (w, carried_after c a))
+    (λ (hit : slice_index s.words (refs_word v.passes.sizes p) ≡ seen).
+    let w : View = raised p seen v in
+    let r = raised_hit slots id p seen v c below has_some some_seen s l h at room hit in (
+      w,
+      unchanged,
+      tt,
+      (l, r.0),
+      λ q same. subst (λ (k : ℕ). RaisesRefs (n == seen) k seen v n w × (c ≡ c)) (one_place z p q same)
+          (subst (λ (b : Bool). RaisesRefs b p seen v n w × (c ≡ c)) (sym (eq-eqb n seen hit)) (r.1, refl)),
+    ))
+    (λ (miss : slice_index s.words (refs_word v.passes.sizes p) ≢ seen).
+    let w : View = noted (found word n) v in
+    let told = refs_told z l s id p v h at below in (
+      w,
+      unchanged,
+      tt,
+      (l, read_missed slots id p seen v c below has_some some_seen s l h at n refl),
+      λ q same. subst (λ (k : ℕ). RaisesRefs (n == seen) k seen v n w × (c ≡ c)) (one_place z p q same)
+          (subst (λ (b : Bool). RaisesRefs b p seen v n w × (c ≡ c)) (sym (ne_eqb n seen miss))
+          (record { view = refl; other = ne_eqb n seen miss; few = told.0 }, refl)),
+    ))
+
+-- one reference less
+lowered_word : (n : ℕ) → 0 < n → n < 2 ^ 64 → (n + (2 ^ 64 - 1)) % 2 ^ 64 ≡ n - 1
+lowered_word n has_some range = omega (arith, has_some, range)
+
+times_then : (p q n : ℕ) (owed : List ℕ) → times q (owed_then p n owed) ≡ times q owed + bit (n == 1 && p == q)
+times_then p q n owed = owed_at (n == 1)
+  where
+    owed_at : (b : Bool) → times q (if b then p ∷ owed else owed) ≡ times q owed + bit (b && p == q)
+    owed_at true = omega arith
+    owed_at false = omega arith
+
+length_then : (p n : ℕ) (owed : List ℕ) → length (owed_then p n owed) ≤ length owed + 1
+length_then p n owed = long_at (n == 1)
+  where
+    long_at : (b : Bool) → length (if b then p ∷ owed else owed) ≤ length owed + 1
+    long_at true = omega arith
+    long_at false = omega arith
+
+-- what is owed at the place, and the references that are left
+last_balance : (f d n : ℕ) → 0 < n → f + (d + bit (n == 1)) + min (n - 1) 1 ≡ f + d + min n 1
+last_balance f d zero has_some = absurd (omega (arith, has_some))
+last_balance f d (suc zero) has_some = omega arith
+last_balance f d (suc (suc n)) has_some = omega (arith, other_bit (suc (suc n)) 1 (λ e. omega (arith, e)))
+
+pub lowering : (slots id p : ℕ) (v : View) (c : List (ℕ × Slot)) → p < v.passes.sizes.entries → 0 < v.passes.shares
+    → is_held p v.places.held ≡ true → times p v.places.carried ≡ 0
+    → Allows (Holds v.passes.sizes) slots id (v, c) (refs_word v.passes.sizes p) (λ n. (n + (2 ^ 64 - 1)) % 2 ^ 64)
+    (LowerStep (step slots (refs_word v.passes.sizes p) 1 0 none) (v, c))
+lowering slots id p v c below has_some held free_of s (l, h) sized at range =
+    let z : Sizes = v.passes.sizes in
+    let n : ℕ = slice_index s.words (refs_word z p) in
+    let w : View = let_go p n v in
+    let told = refs_told z l s id p v h at below in
+    let some_held : 1 ≤ held_times p v.places.held = total_some (is_at p) v.places.held held in
+    let some_left : 0 < n = omega (arith, told.1, some_held) in
+    let owing : owes p v ≤ total (owes p) s.views = total_term (owes p) s.views id v at in
+    let not_owed : owes p v ≡ 0 = none_owed (times p l.free) (total (owes p) s.views) (owes p v) n (h.free_list.once p below) owing some_left in
+    let less : held_times p (without p v.places.held) + 1 ≡ held_times p v.places.held = same_without p v.places.held held in
+    let next : (n + (2 ^ 64 - 1)) % 2 ^ 64 ≡ n - 1 = lowered_word n some_left range in (
+      w,
+      unchanged,
+      tt,
+      (
+        l,
+        subst (λ (k : ℕ). IsKept z l (record { words = slice_set s.words (refs_word z p) k; homes = s.homes; views = set s.views id w })) (sym next)
+            (counts z l s id p (n - 1) v w l.free h at has_some below (record {
+              moves = record { passes = refl; own = refl; gathered = refl; stand = refl; commit = refl; deck = refl; note = refl };
+              seen = refl;
+              keeps_here = omega (arith, some_left, less);
+              keeps_else = λ q other. omega (arith, other_without p q v.places.held held (λ e. other (sym e)));
+              once_here = omega (arith, times_here p n v.places.owed, last_balance (times p l.free) (owes p v) n some_left);
+              once_else = λ q other. omega (arith, times_else p q n v.places.owed other);
+              fewer = λ q. omega arith;
+              carried = λ q.
+                  ⊎_elim
+                  (λ (e : p ≡ q). subst (λ (k : ℕ). times k v.places.carried ≤ held_times k (without p v.places.held)) e (omega (arith, free_of)))
+                  (λ (e : p ≢ q). omega (arith, h.references.carried id v at q, other_without p q v.places.held held e)) (cases_eq p q);
+              turn = refl;
+              holder = inl refl;
+              away = h.free_list.away id v at;
+              few = omega (arith, h.free_list.few id v at, length_without p v.places.held held, length_then p n v.places.owed);
+              clear = refl;
+              owed = λ q any. omega (arith, any, times_then p q n v.places.owed);
+            })),
+      ),
+      λ q same. subst (λ (k : ℕ). LowersRefs k v n w × (c ≡ c)) (one_place z p q same)
+          (record { view = refl; some = some_left; few = told.0; own = omega (arith, told.1); owed = not_owed }, refl),
+    )
+  where
+    times_here : (p n : ℕ) (owed : List ℕ) → times p (owed_then p n owed) ≡ times p owed + bit (n == 1)
+    times_here p n owed = times_then p p n owed ∙ ap (λ (b : Bool). times p owed + bit (n == 1 && b)) (eq-eqb p p refl) ∙ both (n == 1)
+      where
+        both : (b : Bool) → times p owed + bit (b && true) ≡ times p owed + bit b
+        both true = refl
+        both false = refl
+
+    times_else : (p q n : ℕ) (owed : List ℕ) → q ≢ p → times q (owed_then p n owed) ≡ times q owed
+    times_else p q n owed other = times_then p q n owed ∙ ap (λ (b : Bool). times q owed + bit (n == 1 && b)) (ne_eqb p q (λ e. other (sym e))) ∙ neither (n == 1)
+      where
+        neither : (b : Bool) → times q owed + bit (b && false) ≡ times q owed
+        neither true = omega arith
+        neither false = omega arith

@@ -1,0 +1,77 @@
+-- The chains of the buckets. A chain is a list of links, each of a place below the entries and each with the two words of
+-- its tuple, which belongs to the bucket. While a generation is odd, one pass has the bucket, and knows its chain. However
+-- tuples are weighed, the chain of a bucket weighs what the live records weigh in it, and the tuples of places that a pass
+-- has linked and not yet confirmed, or not yet unlinked. So it has each of these once, and no other.
+use Rattle.std.specs.Prelude.{◌≡◌, ℕ, ◌+◌, ◌-◌, ◌*◌, ◌%◌, ◌<◌, ◌≤◌, ◌==◌, Bool, if◌then◌else◌, bit_xor, List, [], ◌∷◌, slice_index}
+use Rattle.tuple_core.specs.Hash.{mix}
+use Rattle.tuple_core.specs.Words.{address_word, flow_word}
+use Rattle.history_book.specs.declared.event.Event.{Event}
+use Rattle.history_book.specs.declared.record.Record.{Record}
+use Rattle.history_book.specs.declared.sizes.Sizes.{Sizes}
+use Rattle.track_rule.specs.declared.view.Entry.{Entry}
+use Rattle.track_rule.specs.declared.view.Hook.{Hook}
+use Rattle.track_rule.specs.declared.view.Shut.{Shut}
+use Rattle.track_rule.specs.declared.view.View.{View}
+use Rattle.track_rule.specs.History.{records_after}
+use Rattle.track_rule.specs.Layout.{first_word, gen_at, head_word, next_word, place_of, second_word}
+use Rattle.track_rule.specs.Phases.{of_place}
+use Rattle.track_rule.specs.Sums.{Each, bit, total}
+
+-- the bucket of two words of a tuple
+abbrev pub bucket_of : Sizes → ℕ → ℕ → ℕ
+bucket_of z first second = mix (bit_xor (mix (bit_xor first z.seed)) second) % z.buckets
+
+-- the link, and its tuple, stand in the words so, and the tuple belongs to the bucket
+pub record IsLinked (z : Sizes) (words : List ℕ) (bucket : ℕ) (e : Entry) : Type 0 where
+  pub some : 0 < e.link
+  pub below : place_of e.link < z.entries
+  pub first : slice_index words (first_word z e.link) ≡ e.first
+  pub second : slice_index words (second_word z e.link) ≡ e.second
+  pub placed : bucket_of z e.first e.second ≡ bucket
+
+-- from this link on these entries follow, to the end
+abbrev pub IsChain : Sizes → List ℕ → ℕ → ℕ → List Entry → Type 0
+IsChain z words bucket link [] = link ≡ 0
+IsChain z words bucket link (e ∷ es) =
+    (link ≡ e.link) × IsLinked z words bucket e × IsChain z words bucket (slice_index words (next_word z e.link)) es
+
+-- the two entries of a record, and that of a hook
+abbrev pub original_of : Record → Entry
+original_of r = record { link = 1 + 2 * r.place; first = address_word r.original; second = flow_word r.original }
+
+abbrev pub reply_of : Record → Entry
+reply_of r = record { link = 2 + 2 * r.place; first = address_word r.reply; second = flow_word r.reply }
+
+abbrev pub entry_of : Hook → Entry
+entry_of h = record { link = h.link; first = h.first; second = h.second }
+
+-- what an entry weighs in a bucket
+abbrev pub side : Sizes → ℕ → (Entry → ℕ) → Entry → ℕ
+side z bucket weight e = (if bucket_of z e.first e.second == bucket then weight e else 0)
+
+-- what a record weighs in it
+abbrev pub links_in : Sizes → ℕ → (Entry → ℕ) → Record → ℕ
+links_in z bucket weight r = side z bucket weight (original_of r) + side z bucket weight (reply_of r)
+
+-- what the links of a pass weigh that stand and are not those of a live record
+abbrev pub loose_of : Sizes → ℕ → (Entry → ℕ) → View → ℕ
+loose_of z bucket weight v = total (λ (h : Hook). (if h.up then side z bucket weight (entry_of h) else 0)) v.stand.hooks
+
+-- how often a pass has shut the bucket, and how many hooks it has at a link
+abbrev pub shuts_of : ℕ → View → ℕ
+shuts_of bucket v = total (λ (s : Shut). bit (s.bucket == bucket)) v.stand.shut
+
+abbrev pub hooks_at : ℕ → View → ℕ
+hooks_at link v = total (λ (h : Hook). bit (h.link == link)) v.stand.hooks
+
+-- the chain of a bucket as the pass that shut it knows it
+abbrev pub chain_in : ℕ → List Shut → List Entry
+chain_in bucket [] = []
+chain_in bucket (s ∷ rest) = (if s.bucket == bucket then s.chain else chain_in bucket rest)
+
+pub record AreChains (z : Sizes) (log : List Event) (words : List ℕ) (views : List View) (chains : ℕ → List Entry) : Type 0 where
+  pub linked : (b : ℕ) → b < z.buckets → IsChain z words b (slice_index words (head_word z b)) (chains b)
+  pub gens : (b : ℕ) → b < z.buckets → gen_at z words b % 2 ≡ total (shuts_of b) views
+  pub mine : (b : ℕ) → b < z.buckets → Each (λ v. 0 < shuts_of b v → chain_in b v.stand.shut ≡ chains b) views
+  pub chained : (b : ℕ) → b < z.buckets → (weight : Entry → ℕ) → total weight (chains b) ≡ total (links_in z b weight) (records_after log) + total (loose_of z b weight) views
+  pub lone : (link : ℕ) → 0 < link → total (hooks_at link) views + total (of_place (place_of link)) (records_after log) ≤ 1

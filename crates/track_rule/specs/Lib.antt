@@ -1,0 +1,17 @@
+pub mod Sums
+pub mod Layout
+pub mod Slots
+pub mod Readings
+pub mod Passes
+pub mod History
+pub mod References
+pub mod Free
+pub mod Records
+pub mod Phases
+pub mod Chains
+pub mod Walks
+pub mod Expected
+pub mod Rule
+pub mod Sights
+pub mod Steps
+pub mod Shares

@@ -1,0 +1,44 @@
+-- The readings of a pass, the oldest first: what its loads and its failed exchanges found, and what its own changes left.
+use Rattle.std.specs.Prelude.{◌≡◌, ℕ, ◌==◌, ◌&&◌, ◌||◌, not, Bool, true, false, Option, None, Some, List, [], ◌∷◌, ◌++◌, drop, filter, length}
+use Rattle.std.specs.List.{list_any}
+use Rattle.track_rule.specs.declared.view.Reading.{Reading}
+use Rattle.track_rule.specs.declared.view.View.{View}
+
+-- a value that was found in a word
+abbrev pub found : ℕ → ℕ → Reading
+found word value = record { word = word; value = value; own = false; free = None }
+
+-- a value that this pass stored in a word
+abbrev pub stored : ℕ → ℕ → Reading
+stored word value = record { word = word; value = value; own = true; free = None }
+
+-- the pass with one reading more
+abbrev pub noted : Reading → View → View
+noted r v = record v { readings = v.readings ++ r ∷ [] }
+
+-- what a call added to the readings
+abbrev pub added : View → View → List Reading
+added v w = drop (length v.readings) w.readings
+
+-- one of them was found in this word and has this value
+abbrev pub is_found : ℕ → ℕ → List Reading → Bool
+is_found word value readings = list_any (λ r. r.word == word && r.value == value && not r.own) readings
+
+abbrev pub of_word : ℕ → List Reading → List Reading
+of_word word readings = filter (λ r. r.word == word) readings
+
+-- one has the value `was`, and the next one found the value `now`
+abbrev pub turns_over : ℕ → ℕ → List Reading → Bool
+turns_over was now [] = false
+turns_over was now (r ∷ []) = false
+turns_over was now (r ∷ s ∷ rest) = (r.value == was && s.value == now && not s.own) || turns_over was now (s ∷ rest)
+
+-- The word gave two different values: of two readings of it, next to each other, the later one was found and differs. So
+-- another pass changed the word between them.
+pub record Gave (word was now : ℕ) (readings : List Reading) : Type 0 where
+  pub differ : (was == now) ≡ false
+  pub turns : turns_over was now (of_word word readings) ≡ true
+
+-- the pass changed a word itself that the test names
+abbrev pub changes : (ℕ → Bool) → List Reading → Bool
+changes test readings = list_any (λ r. r.own && test r.word) readings

@@ -1,0 +1,61 @@
+-- What holds of a table between any two steps of its passes.
+use Rattle.std.specs.Prelude.{◌≡◌, ℕ, Option, None, List, [], length}
+use Rattle.atomic_table.specs.Table.{State}
+use Rattle.history_book.specs.declared.event.Event.{Event}
+use Rattle.history_book.specs.declared.sizes.Sizes.{Sizes}
+use Rattle.history_book.specs.Sizes.{AreWithinLimits}
+use Rattle.track_rule.specs.declared.slot.Slot.{Slot}
+use Rattle.track_rule.specs.declared.view.Entry.{Entry}
+use Rattle.track_rule.specs.declared.view.Middle.TheVariants.{Calm}
+use Rattle.track_rule.specs.declared.view.View.{View}
+use Rattle.track_rule.specs.Layout.{word_count}
+use Rattle.track_rule.specs.Passes.{ArePasses}
+use Rattle.track_rule.specs.History.{IsHistory}
+use Rattle.track_rule.specs.References.{AreReferences}
+use Rattle.track_rule.specs.Free.{IsFreeList}
+use Rattle.track_rule.specs.Records.{AreRecords}
+use Rattle.track_rule.specs.Phases.{ArePhases}
+use Rattle.track_rule.specs.Chains.{AreChains}
+use Rattle.track_rule.specs.Walks.{AreWalks}
+use Rattle.track_rule.specs.Expected.{AreExpected}
+
+-- what no word shows: the one history, the free list, and the chain of each bucket
+pub record Ledger : Type 0 where
+  pub log : List Event
+  pub free : List ℕ
+  pub chains : ℕ → List Entry
+
+-- the nine parts of the rule
+pub record IsKept (z : Sizes) (l : Ledger) (s : State Slot View) : Type 0 where
+  pub limits : AreWithinLimits z
+  pub count : length s.words ≡ word_count z
+  pub passes : ArePasses z l.log s.views
+  pub history : IsHistory z l.log s.words
+  pub references : AreReferences z s.words s.views
+  pub free_list : IsFreeList z s.words s.homes s.views l.free
+  pub records : AreRecords z l.log s.words s.homes s.views
+  pub phases : ArePhases z l.log s.words s.views
+  pub chains : AreChains z l.log s.words s.views l.chains
+  pub walks : AreWalks z s.words s.views l.chains
+  pub expected : AreExpected z l.log s.words s.homes s.views
+
+abbrev pub Holds : Sizes → State Slot View → Type 0
+Holds z s = (l : Ledger) × IsKept z l s
+
+-- a pass with these shares, which has seen this much, and nothing else
+abbrev pub fresh_view : Sizes → ℕ → ℕ → List Event → View
+fresh_view z first shares front = record {
+  passes = record { sizes = z; first = first; shares = shares; returned = 0 };
+  seen = record { front = front; told = []; own = []; gathered = [] };
+  places = record { held = []; owed = []; clear = []; carried = [] };
+  free = None;
+  stand = record { shut = []; hooks = [] };
+  commit = record { hand = None; middle = Calm };
+  deck = None;
+  note = None;
+  readings = [];
+}
+
+-- the first pass has all shares
+abbrev pub first_view : Sizes → View
+first_view z = fresh_view z 0 z.passes []

@@ -1,0 +1,50 @@
+-- What contracts see of a pass, and of a table.
+use Rattle.std.specs.Prelude.{◌≡◌, ◌+◌, ℕ, ◌<◌, List, []}
+use Rattle.atomic_table.specs.Seated.{TableId}
+use Rattle.history_book.specs.declared.sizes.Sizes.{Sizes}
+use Rattle.history_book.specs.Sizes.{AreWithinLimits}
+use Rattle.track_rule.specs.declared.slot.Slot.{Slot}
+use Rattle.track_rule.specs.declared.view.View.{View}
+use Rattle.track_rule.specs.Layout.{IsTable}
+use Rattle.track_rule.specs.Passes.{HasNothing}
+use Rattle.track_rule.specs.Rule.{first_view}
+use Rattle.track_rule.specs.Slots.{AllSuit, numbers, numbers_of}
+
+-- the table of the pass, what the pass knows, and the slots that it has out, each with what lies in it
+pub record PassSight : Type 0 where
+  pub table : TableId
+  pub view : View
+  pub slots : List (ℕ × Slot)
+
+-- a table and its sizes
+pub record BoardSight : Type 0 where
+  pub table : TableId
+  pub sizes : Sizes
+
+abbrev pub sizes_of : PassSight → Sizes
+sizes_of p = p.view.passes.sizes
+
+-- the pass is one of this table
+pub record IsPassOf (board : BoardSight) (p : PassSight) : Type 0 where
+  pub table : p.table ≡ board.table
+  pub sizes : sizes_of p ≡ board.sizes
+
+-- a pass has a share, and out of their slots what its turns let it have out
+pub record IsPassSight (p : PassSight) : Type 0 where
+  pub table : IsTable (sizes_of p) p.table
+  pub limits : AreWithinLimits (sizes_of p)
+  pub some : 0 < p.view.passes.shares
+  pub carries : numbers p.slots ≡ numbers_of p.view
+  pub suit : AllSuit p.slots
+
+-- the first pass of a table of these sizes
+pub record IsFirst (z : Sizes) (board : BoardSight) (p : PassSight) : Type 0 where
+  pub table : p.table ≡ board.table
+  pub sizes : board.sizes ≡ z
+  pub view : p.view ≡ first_view z
+  pub slots : p.slots ≡ []
+
+-- the pass has nothing of the table
+pub record IsEmpty (p : PassSight) : Type 0 where
+  pub view : HasNothing p.view
+  pub slots : p.slots ≡ []

@@ -1,0 +1,180 @@
+-- What the steps of a pass tell it: v is what it knew before, w what it knows after, n what the step found.
+use Rattle.std.specs.Prelude.{◌≡◌, ◌≢◌, ℕ, ◌+◌, ◌-◌, ◌*◌, ◌<◌, ◌≤◌, ◌==◌, ◌^◌, Bool, true, false, min, if◌then◌else◌, MatchBool, Option, Some, None, List, [], ◌∷◌, length}
+use mathlib.Core.Option.{none}
+use Rattle.atomic_table.specs.Table.{Me, Step, rest}
+use Rattle.room_list.specs.Roomed.{Roomed}
+use Rattle.history_book.specs.History.{is_legal}
+use Rattle.history_book.specs.Point.{StartsWith}
+use Rattle.history_book.specs.Sight.{notes_from}
+use Rattle.history_book.specs.declared.event.Event.{Event}
+use Rattle.track_rule.specs.declared.slot.Slot.{Slot}
+use Rattle.track_rule.specs.declared.slot.Slot.TheVariants.{Free}
+use Rattle.track_rule.specs.declared.view.Keep.{Keep}
+use Rattle.track_rule.specs.declared.view.Purpose.{Purpose}
+use Rattle.track_rule.specs.declared.view.Purpose.TheVariants.{Taken, Testing}
+use Rattle.track_rule.specs.declared.view.Reading.{Reading}
+use Rattle.track_rule.specs.declared.view.View.{View}
+use Rattle.track_rule.specs.Free.{is_among, known_free, taken_out, turn_of, unlisted}
+use Rattle.track_rule.specs.History.{events_in, live_in, records_after}
+use Rattle.track_rule.specs.Layout.{refs_word}
+use Rattle.track_rule.specs.Readings.{found, noted, stored}
+use Rattle.track_rule.specs.References.{held_times, keeps, without}
+use Rattle.track_rule.specs.Slots.{list_in, slot_of_free}
+use Rattle.track_rule.specs.Sums.{times}
+
+-- a pass keeps a reference to the place
+abbrev pub keep : ℕ → Purpose → Keep
+keep place purpose = record { place = place; purpose = purpose }
+
+-- THE HISTORY WORD
+
+-- These are all events so far; they are no fewer than the pass had seen, or was told of. The pass has room for its own
+-- events among those that the word can count, and has no more shares than there are passes.
+pub record AreAll (v : View) (log : List Event) : Type 0 where
+  pub front : StartsWith log v.seen.front
+  pub told : StartsWith log v.seen.told
+  pub legal : is_legal v.passes.sizes log ≡ true
+  pub few : length log + (2 ^ 30 - length v.seen.own) ≤ 2 ^ 30 * v.passes.sizes.passes
+  pub shares : v.passes.shares + v.passes.returned ≤ v.passes.sizes.passes
+  pub alone : v.passes.sizes.passes ≡ 1 → v.seen.own ≡ notes_from 0 log
+
+-- how long the free list is, if the pass knows it
+abbrev pub length_of : Option (List ℕ) → Option ℕ
+length_of None = None
+length_of (Some list) = Some (length list)
+
+-- a reading of the history word, which names the length of the free list under its turn
+abbrev pub found_history : ℕ → View → Reading
+found_history word v = record { word = 0; value = word; own = false; free = length_of v.free }
+
+-- the pass has seen these events
+abbrev pub saw : List Event → View → View
+saw log v = record v { seen = record v.seen { front = log } }
+
+-- A load: the pass has seen all events, and the word is theirs.
+pub record Looks (v : View) (word : ℕ) (w : View) : Type 0 where
+  pub same : w ≡ noted (found_history word v) (saw w.seen.front v)
+  pub all : AreAll v w.seen.front
+  pub events : events_in word ≡ length w.seen.front
+  pub live : live_in word ≡ length (records_after w.seen.front)
+
+-- THE FREE LIST
+
+-- the pass has its turn, and knows it
+abbrev pub with_turn : List ℕ → View → View
+with_turn free v = noted (stored 1 1) (record v { free = Some free })
+
+-- The turn was free, and the pass has it now, with the list out of its slot. There is room for all places. No place that
+-- the pass holds or owes is on the list, which has only places below the entries; and what it owes is owed once. There is
+-- room on the list for what it owes.
+pub record TookFree (v : View) (slots : List (ℕ × Slot)) (w : View) (slots' : List (ℕ × Slot)) : Type 0 where
+  pub view : w ≡ with_turn (list_in slots').items v
+  pub out : slots' ≡ (0, Free (list_in slots')) ∷ slots
+  pub room : v.passes.sizes.entries ≤ (list_in slots').room
+  pub fits : length (list_in slots').items + length v.places.owed ≤ v.passes.sizes.entries
+  pub apart : (p : ℕ) → times p (list_in slots').items + times p v.places.owed + min (held_times p v.places.held) 1 ≤ 1
+  pub below : (p : ℕ) → v.passes.sizes.entries ≤ p → times p (list_in slots').items + times p v.places.owed ≡ 0
+
+-- Another pass has it.
+pub record MissedFree (v : View) (slots : List (ℕ × Slot)) (w : View) (slots' : List (ℕ × Slot)) : Type 0 where
+  pub view : w ≡ noted (found 1 1) v
+  pub out : slots' ≡ slots
+
+abbrev pub TakesFree : Bool → View → List (ℕ × Slot) → View → List (ℕ × Slot) → Type 0
+TakesFree took v slots w slots' = MatchBool took (TookFree v slots w slots') (MissedFree v slots w slots')
+
+-- What is owed and stands on this list is given up to it. There is room for all places, and no place is lost or put there
+-- twice: each that was on the list or owed still is.
+pub record CanGive (v : View) (list : Roomed ℕ) : Type 0 where
+  pub room : v.passes.sizes.entries ≤ list.room
+  pub whole : (p : ℕ) → times p list.items + times p (unlisted list.items v.places.owed) ≡ times p (known_free v) + times p v.places.owed
+
+-- the pass has given the list back
+abbrev pub gave_free : List ℕ → View → View
+gave_free list v = noted (stored 1 0) (record v {
+  free = None;
+  places = record v.places { owed = unlisted list v.places.owed; clear = unlisted list v.places.clear };
+})
+
+-- REFERENCES
+
+-- the references of one place are few
+abbrev pub most_keeps : ℕ
+most_keeps = 2 ^ 16
+
+-- A place from the free list has a reference now, the pass's own.
+abbrev pub opened : ℕ → View → View
+opened place v = noted (stored (refs_word v.passes.sizes place) 1) (record v {
+  free = Some (taken_out place (known_free v));
+  places = record v.places { held = keep place Taken ∷ v.places.held };
+})
+
+-- So it did not hold the place, nor owe it.
+pub record Opens (place : ℕ) (v w : View) : Type 0 where
+  pub view : w ≡ opened place v
+  pub held : held_times place v.places.held ≡ 0
+  pub owed : times place v.places.owed ≡ 0
+
+-- A load of the references: there are at least those that the pass keeps itself.
+pub record LoadsRefs (place : ℕ) (v : View) (n : ℕ) (w : View) : Type 0 where
+  pub view : w ≡ noted (found (refs_word v.passes.sizes place) n) v
+  pub few : n < most_keeps
+  pub own : keeps place v ≤ n
+
+-- One reference more where there were so many. A place with references is owed by nobody.
+pub record RaisedRefs (place seen : ℕ) (v w : View) : Type 0 where
+  pub view : w ≡ noted (stored (refs_word v.passes.sizes place) (seen + 1)) (record v { places = record v.places { held = keep place Testing ∷ v.places.held } })
+  pub owed : times place v.places.owed ≡ 0
+
+-- There were others.
+pub record MissedRefs (place seen : ℕ) (v : View) (n : ℕ) (w : View) : Type 0 where
+  pub view : w ≡ noted (found (refs_word v.passes.sizes place) n) v
+  pub other : (n == seen) ≡ false
+  pub few : n < most_keeps
+
+abbrev pub RaisesRefs : Bool → ℕ → ℕ → View → ℕ → View → Type 0
+RaisesRefs same place seen v n w = MatchBool same (RaisedRefs place seen v w) (MissedRefs place seen v n w)
+
+-- A pass owes the place whose last reference it gave up.
+abbrev pub owed_then : ℕ → ℕ → List ℕ → List ℕ
+owed_then place n owed = (if n == 1 then place ∷ owed else owed)
+
+abbrev pub let_go : ℕ → ℕ → View → View
+let_go place n v = noted (stored (refs_word v.passes.sizes place) (n - 1)) (record v {
+  places = record v.places { held = without place v.places.held; owed = owed_then place n v.places.owed };
+})
+
+-- One reference less, of so many. The last one was the only one that the pass kept.
+pub record LowersRefs (place : ℕ) (v : View) (n : ℕ) (w : View) : Type 0 where
+  pub view : w ≡ let_go place n v
+  pub some : 0 < n
+  pub few : n < most_keeps
+  pub own : held_times place v.places.held ≤ n
+  pub owed : times place v.places.owed ≡ 0
+
+-- WHAT THE STEPS ARE ON THE TABLE
+
+abbrev pub LookStep : Step Slot → Me Slot View → ℕ → Me Slot View → Type 0
+LookStep step me n me' = Looks me.0 n me'.0 × (me'.1 ≡ me.1)
+
+abbrev pub TakeStep : Step Slot → Me Slot View → ℕ → Me Slot View → Type 0
+TakeStep step me n me' = TakesFree (n == 0) me.0 me.1 me'.0 me'.1
+
+abbrev pub GiveStep : Step Slot → Me Slot View → ℕ → Me Slot View → Type 0
+GiveStep step me n me' = (me'.0 ≡ gave_free (list_in me.1).items me.0) × (me'.1 ≡ rest me.1)
+
+-- the word of the step is the references word of this place
+abbrev pub IsRefsWord : Step Slot → View → ℕ → Type 0
+IsRefsWord step v place = step.word ≡ refs_word v.passes.sizes place
+
+abbrev pub OpenStep : Step Slot → Me Slot View → ℕ → Me Slot View → Type 0
+OpenStep step me n me' = (p : ℕ) → IsRefsWord step me.0 p → Opens p me.0 me'.0 × (me'.1 ≡ me.1)
+
+abbrev pub LoadStep : Step Slot → Me Slot View → ℕ → Me Slot View → Type 0
+LoadStep step me n me' = (p : ℕ) → IsRefsWord step me.0 p → LoadsRefs p me.0 n me'.0 × (me'.1 ≡ me.1)
+
+abbrev pub RaiseStep : Step Slot → Me Slot View → ℕ → Me Slot View → Type 0
+RaiseStep step me n me' = (p : ℕ) → IsRefsWord step me.0 p → RaisesRefs (n == step.first) p step.first me.0 n me'.0 × (me'.1 ≡ me.1)
+
+abbrev pub LowerStep : Step Slot → Me Slot View → ℕ → Me Slot View → Type 0
+LowerStep step me n me' = (p : ℕ) → IsRefsWord step me.0 p → LowersRefs p me.0 n me'.0 × (me'.1 ≡ me.1)

@@ -1,0 +1,45 @@
+-- What a pass noted on a walk along a chain without a lock. A noted generation is at most the present one. Where it still
+-- is that one, and even, what was met begins the chain. Otherwise the note says nothing. It speaks of the words and of the
+-- chains alone, and of no other pass. The readings of a pass are what its steps found and left: no step of another pass
+-- takes one of them away, and they say nothing of the present words.
+use Rattle.std.specs.Prelude.{◌≡◌, ℕ, ◌<◌, ◌≤◌, ◌%◌, Bool, true, Option, Some, None, List, [], ◌∷◌}
+use Rattle.history_book.specs.declared.sizes.Sizes.{Sizes}
+use Rattle.track_rule.specs.declared.view.Entry.{Entry}
+use Rattle.track_rule.specs.declared.view.Met.{Met}
+use Rattle.track_rule.specs.declared.view.View.{View}
+use Rattle.track_rule.specs.declared.view.Walk.{Walk}
+use Rattle.track_rule.specs.Layout.{gen_at}
+use Rattle.track_rule.specs.Sums.{Each}
+
+-- entries that were passed, the newest first, and those after them
+abbrev pub rev_onto : List Entry → List Entry → List Entry
+rev_onto [] es = es
+rev_onto (p ∷ ps) es = rev_onto ps (p ∷ es)
+
+-- a word was not read, or it is this one
+abbrev pub IsRead : Option ℕ → ℕ → Type 0
+IsRead None n = Unit {0}
+IsRead (Some m) n = m ≡ n
+
+-- what was met is these entries, as far as it was read
+abbrev pub Matches : List Met → List Entry → Type 0
+Matches [] [] = Unit {0}
+Matches [] (e ∷ es) = ⊥
+Matches (m ∷ ms) [] = ⊥
+Matches (m ∷ ms) (e ∷ es) = (m.link ≡ e.link) × IsRead m.first e.first × IsRead m.second e.second × Matches ms es
+
+-- what was met begins the chain, and is all of it where the end was met
+pub record Stands (chain : List Entry) (n : Walk) : Type 0 where
+  pub passed : List Entry
+  pub rest : List Entry
+  pub all : chain ≡ rev_onto passed rest
+  pub matches : Matches n.met passed
+  pub ended : n.ended ≡ true → rest ≡ []
+
+pub record IsWalk (z : Sizes) (words : List ℕ) (chains : ℕ → List Entry) (n : Walk) : Type 0 where
+  pub bucket : n.bucket < z.buckets
+  pub least : n.generation ≤ gen_at z words n.bucket
+  pub stands : gen_at z words n.bucket ≡ n.generation → n.generation % 2 ≡ 0 → Stands (chains n.bucket) n
+
+pub record AreWalks (z : Sizes) (words : List ℕ) (views : List View) (chains : ℕ → List Entry) : Type 0 where
+  pub each : Each (λ v. (n : Walk) → v.note ≡ Some n → IsWalk z words chains n) views

@@ -1,0 +1,9 @@
+//! The shared table of the tracker: its words and slots, the rule that holds of them between any two steps of any passes,
+//! and the steps.
+#![tactic(auto)]
+
+pub mod free_list;
+pub mod layout;
+pub mod rule;
+pub mod slot;
+pub mod view;
