@@ -52,7 +52,7 @@ pub record Leaves (vs vs' : List View) : Type 1 where
   pub stand : Carries (λ (v : View). v.stand) no_stand vs vs'
   pub commit : Carries (λ (v : View). v.commit) no_commit vs vs'
   pub deck : Carries (λ (v : View). v.deck) None vs vs'
-  pub note : Carries (λ (v : View). v.note) None vs vs'
+  pub note : (P : Option Walk → Type 0) → P None → Each (λ v. P v.note) vs → Each (λ v. P v.note) vs'
 
 module _ (z : Sizes) (ws ws' : List ℕ) (quiet : Quiet z ws ws') where
   same_phase : (p : ℕ) → phase_at z ws' p ≡ phase_at z ws p
@@ -137,7 +137,7 @@ module _ (z : Sizes) (ws ws' : List ℕ) (quiet : Quiet z ws ws') where
 
   walks_stay : (vs vs' : List View) (chains : ℕ → List Entry) → Leaves vs vs' → AreWalks z ws vs chains → AreWalks z ws' vs' chains
   walks_stay vs vs' chains leaves h = record {
-    each = leaves.note.each (λ (o : Option Walk). (n : Walk) → o ≡ Some n → IsWalk z ws' chains n) (λ n e. absurd (none-some n e)) (λ i v at n e. walk_stays n (h.each i v at n e));
+    each = leaves.note (λ (o : Option Walk). (n : Walk) → o ≡ Some n → IsWalk z ws' chains n) (λ n e. absurd (none-some n e)) (λ i v at n e. walk_stays n (h.each i v at n e));
   }
     where
       walk_stays : (n : Walk) → IsWalk z ws chains n → IsWalk z ws' chains n

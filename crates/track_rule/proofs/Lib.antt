@@ -7,3 +7,5 @@ pub mod Pool
 pub mod Loads
 pub mod Turns
 pub mod Refs
+pub mod Handed
+pub mod Start

@@ -93,10 +93,10 @@ module _ (z : Sizes) (log : List Event) (vs : List View) (h : ArePasses z log vs
       )
 
 -- the parts of the word
-word_events : (e r : ℕ) → e < 2 ^ 40 → (e + 2 ^ 40 * r) % 2 ^ 40 ≡ e
+pub word_events : (e r : ℕ) → e < 2 ^ 40 → (e + 2 ^ 40 * r) % 2 ^ 40 ≡ e
 word_events e r few = omega arith
 
-word_live : (e r : ℕ) → e < 2 ^ 40 → (e + 2 ^ 40 * r) / 2 ^ 40 ≡ r
+pub word_live : (e r : ℕ) → e < 2 ^ 40 → (e + 2 ^ 40 * r) / 2 ^ 40 ≡ r
 word_live e r few = omega arith
 
 -- a load of the history word keeps the rule, and shows the whole history

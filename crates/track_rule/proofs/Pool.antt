@@ -79,7 +79,7 @@ moved z l s id v w ws' hs' free' h at m p quiet long homes references free_list 
       stand = carries_set (λ (u : View). u.stand) no_stand s.views id v w at m.stand;
       commit = carries_set (λ (u : View). u.commit) no_commit s.views id v w at m.commit;
       deck = carries_set (λ (u : View). u.deck) None s.views id v w at m.deck;
-      note = carries_set (λ (u : View). u.note) None s.views id v w at m.note;
+      note = (carries_set (λ (u : View). u.note) None s.views id v w at m.note).each;
     })
     (passes_moved z l.log s.views id v w at m p h.passes) references free_list
 

@@ -11,6 +11,7 @@ pub mod Phases
 pub mod Chains
 pub mod Walks
 pub mod Expected
+pub mod Opening
 pub mod Rule
 pub mod Sights
 pub mod Steps

@@ -1,0 +1,274 @@
+-- Shares are handed over, a pass takes in another one, the first pass begins, and the last one ends.
+use Rattle.std.specs.Prelude.{slice_get, slice_index, nat_le, nat_lt, ◌&&◌, min}
+use Rattle.std.specs.List.{All, AllPairs}
+use Rattle.std.proofs.Common.{◌≡◌, ◌≢◌, ℕ, ◌+◌, ◌-◌, ◌*◌, ◌^◌, ◌<◌, ◌≤◌, zero, suc, true, Option, Some, None, List, [], ◌∷◌, ◌++◌, length, refl, sym, ap, subst, ◌∙◌, ⊎_elim, arith, set, length-append}
+use Rattle.std.proofs.lemmas.Bool.Decides.{nat_tests}
+use Rattle.history_book.specs.History.{is_legal}
+use Rattle.std.proofs.lemmas.List.Elements.{All-append}
+use Rattle.std.proofs.lemmas.Option.{none-some}
+use mathlib.Core.Option.{Option as Slotted, some}
+use lib.ListN.{get_elem?}
+use Rattle.atomic_table.specs.Table.{Joins, Splits, State}
+use Rattle.atomic_table.proofs.Lists.{set_else}
+use Rattle.history_book.specs.declared.event.Event.{Event}
+use Rattle.history_book.specs.declared.event.Note.{Note}
+use Rattle.history_book.specs.declared.sizes.Sizes.{Sizes}
+use Rattle.track_rule.specs.declared.slot.Slot.{Slot}
+use Rattle.track_rule.specs.declared.view.Places.{Places}
+use Rattle.track_rule.specs.declared.view.View.{View}
+use Rattle.track_rule.specs.Free.{IsFreeList, has_turn, owes, turn_of}
+use Rattle.track_rule.specs.History.{events_in, live_in, records_after}
+use Rattle.track_rule.specs.Layout.{phase_at, refs_at}
+use Rattle.track_rule.specs.Passes.{ArePasses, HasNothing, IsPass, IsSpent, has_share, made_weight, shares_of}
+use Rattle.track_rule.specs.References.{AreReferences, held_times, keeps, table_keeps}
+use Rattle.track_rule.specs.Rule.{Holds, IsKept, Ledger, fresh_view}
+use Rattle.track_rule.specs.Shares.{IsLast, further, joined, shares_left, spent_view}
+use Rattle.track_rule.specs.Sums.{Each, bit, times, total}
+use Rattle.track_rule.proofs.Carried.{Carries, carries_cut, carries_join}
+use Rattle.track_rule.proofs.Frames.{Leaves, kept, no_commit, no_stand}
+use Rattle.track_rule.proofs.Loads.{few_events, word_events, word_live}
+use Rattle.track_rule.proofs.Sums.{each_more, each_put, total_append, total_only, total_same, total_set, total_term, total_two}
+
+abbrev pub no_places : Places
+no_places = record { held = []; owed = []; clear = []; carried = [] }
+
+-- the references and the free list where all views together have the same places and the same turn
+references_carry : (z : Sizes) (ws : List ℕ) (vs vs' : List View) → Carries (λ (v : View). v.places) no_places vs vs' → AreReferences z ws vs → AreReferences z ws vs'
+references_carry z ws vs vs' c h = record {
+  counted = λ p below. h.counted p below ∙ ap (λ (n : ℕ). n + table_keeps (phase_at z ws p)) (sym (kept_by p));
+  beyond = λ p above. kept_by p ∙ h.beyond p above;
+  carried = c.each (λ (x : Places). (p : ℕ) → times p x.carried ≤ held_times p x.held) (λ p. omega arith) h.carried;
+}
+  where
+    kept_by : (p : ℕ) → total (keeps p) vs' ≡ total (keeps p) vs
+    kept_by p = c.sums (λ (x : Places). held_times p x.held + times p x.carried) refl
+
+free_carry : (z : Sizes) (ws : List ℕ) (hs : List (Slotted Slot)) (vs vs' : List View) (free : List ℕ) → Carries (λ (v : View). v.places) no_places vs vs'
+    → Carries (λ (v : View). v.free) None vs vs' → IsFreeList z ws hs vs free → IsFreeList z ws hs vs' free
+free_carry z ws hs vs vs' free c t h = record {
+  once = λ p below. omega (arith, h.once p below, owed_by p);
+  beyond = λ p above. omega (arith, h.beyond p above, owed_by p);
+  idle = h.idle;
+  turn = h.turn ∙ sym (t.sums turn_of refl);
+  single = h.single;
+  home = h.home;
+  away = t.each (λ (o : Option (List ℕ)). (list : List ℕ) → o ≡ Some list → list ≡ free) (λ list e. absurd (none-some list e)) h.away;
+  few = c.each (λ (x : Places). length x.held + length x.owed ≤ 4) (omega arith) h.few;
+  clear = c.each (λ (x : Places). (p : ℕ) → 0 < times p x.clear → (0 < times p x.owed) × (phase_at z ws p ≡ 0)) (λ p any. absurd (omega (arith, any))) h.clear;
+}
+  where
+    owed_by : (p : ℕ) → total (owes p) vs' ≡ total (owes p) vs
+    owed_by p = c.sums (λ (x : Places). times p x.owed) refl
+
+-- other passes, which together have the same of everything
+handed : (z : Sizes) (l : Ledger) (s : State Slot View) (vs' : List View) → IsKept z l s → ArePasses z l.log vs' → Leaves s.views vs'
+    → Carries (λ (v : View). v.places) no_places s.views vs' → Carries (λ (v : View). v.free) None s.views vs'
+    → IsKept z l (record { words = s.words; homes = s.homes; views = vs' })
+handed z l s vs' h passes leaves places free =
+    kept z l s s.words s.homes vs' l.free h (λ k a b. refl) refl (λ k a. refl) leaves passes
+    (references_carry z s.words s.views vs' places h.references)
+    (free_carry z s.words s.homes s.views vs' l.free places free h.free_list)
+
+-- numbers below a place, and those from it on
+abbrev in_range : ℕ → ℕ → ℕ → ℕ
+in_range first count n = bit (nat_le first n && nat_lt n (first + count))
+
+range_cut : (first left right n : ℕ) → in_range first left n + in_range (first + left) right n ≡ in_range first (left + right) n
+range_cut first left right n = grind (arith, nat_tests)
+
+-- a pass with fewer shares
+pass_left : (z : Sizes) (log : List Event) (shares : ℕ) (v : View) → shares < v.passes.shares → IsPass z log v → IsPass z log (shares_left shares v)
+pass_left z log shares v fewer p = record {
+  front = p.front;
+  told = p.told;
+  own = p.own;
+  ordered = p.ordered;
+  own_few = p.own_few;
+  gathered = p.gathered;
+  gathered_few = p.gathered_few;
+  below = omega (arith, p.below);
+  alone = λ one has. p.alone one (omega (arith, fewer));
+  spent = λ none_left. absurd (omega (arith, none_left, fewer));
+}
+
+-- the pass that has them now
+pass_further : (z : Sizes) (log : List Event) (shares : ℕ) (v : View) → 1 ≤ shares → shares < v.passes.shares → IsPass z log v
+    → (z.passes ≡ 1 → ⊥) → IsPass z log (further shares v)
+pass_further z log shares v has_some fewer p many = record {
+  front = p.front;
+  told = (log, refl);
+  own = λ i d short. absurd (omega (arith, short));
+  ordered = λ i j d lt short. absurd (omega (arith, short));
+  own_few = omega arith;
+  gathered = λ i d short. absurd (omega (arith, short));
+  gathered_few = omega arith;
+  below = omega (arith, p.below, fewer);
+  alone = λ one has. absurd (many one);
+  spent = λ none_left. absurd (omega (arith, none_left, has_some));
+}
+
+-- the shares are cut in two
+shares_cut : (n shares : ℕ) (v : View) → shares < v.passes.shares → has_share n (shares_left shares v) + has_share n (further shares v) ≡ has_share n v
+shares_cut n shares v fewer =
+    let whole : v.passes.shares - shares + shares ≡ v.passes.shares = omega (arith, fewer) in
+    range_cut v.passes.first (v.passes.shares - shares) shares n ∙ ap (λ (k : ℕ). in_range v.passes.first k n) whole
+
+-- a sum over the passes, with one that changed and a further one
+total_cut : (f : View → ℕ) (vs : List View) (i : ℕ) (v left right : View) → get_elem? vs i ≡ some v → f left + f right ≡ f v
+    → total f (set vs i left ++ right ∷ []) ≡ total f vs
+total_cut f vs i v left right at cut = omega (arith, total_append f (set vs i left) (right ∷ []), total_set f vs i v left at, cut)
+
+-- handing over shares keeps the rule
+pub splits : (z : Sizes) (id shares : ℕ) (v : View) → 1 ≤ shares → shares < v.passes.shares
+    → Splits (Holds z) id v (shares_left shares v) (further shares v)
+splits z id shares v has_some fewer s (l, h) at =
+    let left : View = shares_left shares v in
+    let right : View = further shares v in
+    let p : IsPass z l.log v = h.passes.each id v at in
+    let many : z.passes ≡ 1 → ⊥ = λ one. omega (arith, one, h.passes.all, fewer, has_some, total_term shares_of s.views id v at) in (
+      l,
+      handed z l s (set s.views id left ++ right ∷ []) h
+          (record {
+            each = each_more (IsPass z l.log) (set s.views id left) right
+                (each_put (IsPass z l.log) s.views id left h.passes.each (pass_left z l.log shares v fewer p)) (pass_further z l.log shares v has_some fewer p many);
+            apart = λ n. omega (arith, h.passes.apart n, total_cut (has_share n) s.views id v left right at (shares_cut n shares v fewer));
+            all = total_cut shares_of s.views id v left right at (omega (arith, fewer)) ∙ h.passes.all;
+            made = λ weight. h.passes.made weight ∙ sym (total_cut (made_weight weight) s.views id v left right at (omega arith));
+          })
+          (record {
+            stand = carries_cut (λ (u : View). u.stand) no_stand s.views id v left right at refl refl;
+            commit = carries_cut (λ (u : View). u.commit) no_commit s.views id v left right at refl refl;
+            deck = carries_cut (λ (u : View). u.deck) None s.views id v left right at refl refl;
+            note = (carries_cut (λ (u : View). u.note) None s.views id v left right at refl refl).each;
+          })
+          (carries_cut (λ (u : View). u.places) no_places s.views id v left right at refl refl)
+          (carries_cut (λ (u : View). u.free) None s.views id v left right at refl refl),
+    )
+
+-- a pass that took in another one
+pass_joined : (z : Sizes) (log : List Event) (v w : View) → 0 < v.passes.shares → 0 < w.passes.shares → IsPass z log v → IsPass z log w
+    → (z.passes ≡ 1 → ⊥) → IsPass z log (joined v w)
+pass_joined z log v w has_some other p q many = record {
+  front = p.front;
+  told = q.front;
+  own = p.own;
+  ordered = p.ordered;
+  own_few = p.own_few;
+  gathered = All-append (λ (n : Note). slice_get log n.number ≡ Some n.event) (v.seen.gathered ++ w.seen.own) w.seen.gathered
+      (All-append (λ (n : Note). slice_get log n.number ≡ Some n.event) v.seen.gathered w.seen.own p.gathered q.own) q.gathered;
+  gathered_few = omega (
+    arith,
+    length-append (v.seen.gathered ++ w.seen.own) w.seen.gathered,
+    length-append v.seen.gathered w.seen.own,
+    p.gathered_few,
+    q.own_few,
+    q.gathered_few,
+    other,
+  );
+  below = p.below;
+  alone = λ one has. absurd (many one);
+  spent = λ none_left. absurd (omega (arith, none_left, has_some));
+}
+
+-- nothing is left of the other one
+pass_spent : (z : Sizes) (log : List Event) → IsPass z log spent_view
+pass_spent z log = record {
+  front = (log, refl);
+  told = (log, refl);
+  own = λ i d short. absurd (omega (arith, short));
+  ordered = λ i j d lt short. absurd (omega (arith, short));
+  own_few = omega arith;
+  gathered = λ i d short. absurd (omega (arith, short));
+  gathered_few = omega arith;
+  below = omega arith;
+  alone = λ one has. absurd (omega (arith, has));
+  spent = λ none_left. record {
+    own = refl;
+    gathered = refl;
+    nothing = record {
+      held = refl;
+      owed = refl;
+      clear = refl;
+      carried = refl;
+      free = refl;
+      shut = refl;
+      hooks = refl;
+      hand = refl;
+      middle = refl;
+      deck = refl;
+    };
+  };
+}
+
+-- a sum over the passes of which two were joined
+total_joined : (f : View → ℕ) (vs : List View) (i j : ℕ) (v w both spent : View) → get_elem? vs i ≡ some v
+    → get_elem? (set vs i both) j ≡ some w → f both + f spent ≡ f v + f w → total f (set (set vs i both) j spent) ≡ total f vs
+total_joined f vs i j v w both spent at at' same =
+    omega (arith, total_set f (set vs i both) j w spent at', total_set f vs i v both at, same)
+
+-- taking in another pass keeps the rule
+pub joins : (z : Sizes) (id other : ℕ) (v w : View) → 0 < v.passes.shares → 0 < w.passes.shares → HasNothing w
+    → Joins (Holds z) id v other w (joined v w) spent_view
+joins z id other v w has_some has_other none s (l, h) at apart at' =
+    let both : View = joined v w in
+    let vs : List View = set s.views id both in
+    let there : get_elem? s.views other ≡ some w = sym (set_else s.views id other both apart) ∙ at' in
+    let p : IsPass z l.log v = h.passes.each id v at in
+    let q : IsPass z l.log w = h.passes.each other w there in
+    let many : z.passes ≡ 1 → ⊥ =
+    λ one. omega (arith, one, h.passes.all, has_some, has_other, total_two shares_of s.views id other v w at there apart) in (
+      l,
+      handed z l s (set vs other spent_view) h
+          (record {
+            each = each_put (IsPass z l.log) vs other spent_view
+                (each_put (IsPass z l.log) s.views id both h.passes.each (pass_joined z l.log v w has_some has_other p q many)) (pass_spent z l.log);
+            apart = λ n. omega (
+              arith,
+              h.passes.apart n,
+              total_set (has_share n) vs other w spent_view at',
+              total_same (has_share n) s.views id v both at refl,
+              range_none n,
+            );
+            all = total_joined shares_of s.views id other v w both spent_view at at' (omega arith) ∙ h.passes.all;
+            made = λ weight. h.passes.made weight ∙ sym (total_joined (made_weight weight) s.views id other v w both spent_view at at'
+                (omega (arith, total_append weight (v.seen.gathered ++ w.seen.own) w.seen.gathered, total_append weight v.seen.gathered w.seen.own)));
+          })
+          (record {
+            stand = carries_join (λ (u : View). u.stand) no_stand s.views id other v w both spent_view at at' refl
+                (λ k. record { shut = none.shut k; hooks = none.hooks k }) refl;
+            commit = carries_join (λ (u : View). u.commit) no_commit s.views id other v w both spent_view at at' refl
+                (λ k. record { hand = none.hand k; middle = none.middle k }) refl;
+            deck = carries_join (λ (u : View). u.deck) None s.views id other v w both spent_view at at' refl none.deck refl;
+            note = λ P base all. each_put (λ (u : View). P u.note) vs other spent_view
+                (each_put (λ (u : View). P u.note) s.views id both all (all id v at)) base;
+          })
+          (carries_join (λ (u : View). u.places) no_places s.views id other v w both spent_view at at' refl
+          (λ k. record { held = none.held k; owed = none.owed k; clear = none.clear k; carried = none.carried k }) refl)
+          (carries_join (λ (u : View). u.free) None s.views id other v w both spent_view at at' refl none.free refl),
+    )
+  where
+    range_none : (n : ℕ) → in_range 0 0 n ≡ 0
+    range_none n = grind (arith, nat_tests)
+
+-- what the last pass finds
+pub last_pass : (z : Sizes) (l : Ledger) (s : State Slot View) (id : ℕ) (v : View) → v.passes.sizes ≡ z → IsKept z l s → get_elem? s.views id ≡ some v
+    → 0 < v.passes.shares → v.passes.shares + v.passes.returned ≡ z.passes → IsLast v (slice_index s.words 0)
+last_pass z l s id v sized h at has_some all =
+    let p : IsPass z l.log v = h.passes.each id v at in
+    let whole : total shares_of s.views ≡ shares_of v = h.passes.all ∙ sym all in
+    let low : length l.log < 2 ^ 40 = omega (arith, few_events z l.log s.views h.passes id v at has_some, h.limits.passes) in
+    record {
+      log = l.log;
+      front = p.front;
+      told = p.told;
+      legal = subst (λ (y : Sizes). is_legal y l.log ≡ true) (sym sized) h.history.legal;
+      events = ap events_in h.history.word ∙ word_events (length l.log) (length (records_after l.log)) low;
+      live = ap live_in h.history.word ∙ word_live (length l.log) (length (records_after l.log)) low;
+      own = p.own;
+      gathered = p.gathered;
+      made = λ weight. h.passes.made weight ∙ total_only (made_weight weight) shares_of s.views id v at whole
+          (λ j u at' none_left.
+          let sp : IsSpent u = (h.passes.each j u at').spent (omega (arith, none_left)) in
+          omega (arith, ap (total weight) sp.own, ap (total weight) sp.gathered));
+      alone = λ one. p.alone (sym (ap (λ (y : Sizes). y.passes) sized) ∙ one) has_some;
+    }
