@@ -1,6 +1,6 @@
 -- A part of each view, when one view changes, a view is cut in two, or two are joined: sums over the part stay, and what is
 -- so of each part stays so.
-use Rattle.std.proofs.Common.{◌≡◌, ◌≢◌, ℕ, ◌+◌, List, [], ◌∷◌, ◌++◌, refl, sym, ap, subst, ◌∙◌, arith, set}
+use Rattle.std.proofs.Common.{◌≡◌, ℕ, List, [], ◌∷◌, ◌++◌, sym, ap, subst, arith, set}
 use mathlib.Core.Option.{some}
 use lib.ListN.{get_elem?}
 use Rattle.track_rule.specs.Sums.{Each, total}

@@ -1,7 +1,7 @@
 -- The parts of the rule that a step leaves. Steps on the pool change references words and the turn of the free list alone.
-use Rattle.std.proofs.Common.{length, ◌-◌, ◌%◌, ◌==◌, if◌then◌else◌, ◌≡◌, ◌≢◌, ℕ, ◌+◌, ◌*◌, ◌<◌, ◌≤◌, zero, suc, Option, Some, None, List, [], ◌∷◌, refl, sym, ap, subst, ◌∙◌, arith, set}
+use Rattle.std.proofs.Common.{length, ◌-◌, ◌%◌, ◌==◌, if◌then◌else◌, ◌≡◌, ◌≢◌, ℕ, ◌+◌, ◌<◌, ◌≤◌, Option, Some, None, List, [], ◌∷◌, refl, sym, ap, subst, ◌∙◌, arith}
 use Rattle.std.specs.Prelude.{slice_index}
-use mathlib.Core.Option.{Option as Slotted, some}
+use mathlib.Core.Option.{Option as Slotted}
 use lib.ListN.{get_elem?}
 use Rattle.expect_table.specs.declared.expectation.Expectation.{Expectation}
 use Rattle.history_book.specs.declared.event.Event.{Event}
@@ -18,7 +18,7 @@ use Rattle.history_book.specs.State.{record_of}
 use Rattle.history_book.specs.declared.record.Record.{Record}
 use Rattle.track_rule.specs.declared.view.Hook.{Hook}
 use Rattle.track_rule.specs.declared.view.Shut.{Shut}
-use Rattle.track_rule.specs.Expected.{AreExpected, IsExpectedHome, deck_turn}
+use Rattle.track_rule.specs.Expected.{AreExpected, deck_turn}
 use Rattle.track_rule.specs.History.{IsHistory, records_after, state_after}
 use Rattle.track_rule.specs.Layout.{first_word, gen_at, gen_word, head_word, next_word, phase_at, phase_word, record_slot, refs_word, second_word, turn_at, turn_word}
 use Rattle.track_rule.specs.Passes.{ArePasses}

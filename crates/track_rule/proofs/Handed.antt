@@ -1,12 +1,11 @@
 -- Shares are handed over, a pass takes in another one, the first pass begins, and the last one ends.
-use Rattle.std.specs.Prelude.{slice_get, slice_index, nat_le, nat_lt, ◌&&◌, min}
-use Rattle.std.specs.List.{All, AllPairs}
-use Rattle.std.proofs.Common.{◌≡◌, ◌≢◌, ℕ, ◌+◌, ◌-◌, ◌*◌, ◌^◌, ◌<◌, ◌≤◌, zero, suc, true, Option, Some, None, List, [], ◌∷◌, ◌++◌, length, refl, sym, ap, subst, ◌∙◌, ⊎_elim, arith, set, length-append}
+use Rattle.std.specs.Prelude.{slice_get, slice_index, nat_le, nat_lt, ◌&&◌}
+use Rattle.std.proofs.Common.{◌≡◌, ℕ, ◌+◌, ◌-◌, ◌^◌, ◌<◌, ◌≤◌, true, Option, Some, None, List, [], ◌∷◌, ◌++◌, length, refl, sym, ap, subst, ◌∙◌, arith, set, length-append}
 use Rattle.std.proofs.lemmas.Bool.Decides.{nat_tests}
 use Rattle.history_book.specs.History.{is_legal}
 use Rattle.std.proofs.lemmas.List.Elements.{All-append}
 use Rattle.std.proofs.lemmas.Option.{none-some}
-use mathlib.Core.Option.{Option as Slotted, some}
+use mathlib.Core.Option.{Option as Slotted, some, some-injective, some-ne-none}
 use lib.ListN.{get_elem?}
 use Rattle.atomic_table.specs.Table.{Joins, Splits, State}
 use Rattle.atomic_table.proofs.Lists.{set_else}
@@ -16,14 +15,14 @@ use Rattle.history_book.specs.declared.sizes.Sizes.{Sizes}
 use Rattle.track_rule.specs.declared.slot.Slot.{Slot}
 use Rattle.track_rule.specs.declared.view.Places.{Places}
 use Rattle.track_rule.specs.declared.view.View.{View}
-use Rattle.track_rule.specs.Free.{IsFreeList, has_turn, owes, turn_of}
+use Rattle.track_rule.specs.Free.{IsFreeList, owes, turn_of}
 use Rattle.track_rule.specs.History.{events_in, live_in, records_after}
-use Rattle.track_rule.specs.Layout.{phase_at, refs_at}
+use Rattle.track_rule.specs.Layout.{phase_at}
 use Rattle.track_rule.specs.Passes.{ArePasses, HasNothing, IsPass, IsSpent, has_share, made_weight, shares_of}
 use Rattle.track_rule.specs.References.{AreReferences, held_times, keeps, table_keeps}
-use Rattle.track_rule.specs.Rule.{Holds, IsKept, Ledger, fresh_view}
+use Rattle.track_rule.specs.Rule.{Holds, IsKept, Ledger}
 use Rattle.track_rule.specs.Shares.{IsLast, further, joined, shares_left, spent_view}
-use Rattle.track_rule.specs.Sums.{Each, bit, times, total}
+use Rattle.track_rule.specs.Sums.{bit, times, total}
 use Rattle.track_rule.proofs.Carried.{Carries, carries_cut, carries_join}
 use Rattle.track_rule.proofs.Frames.{Leaves, kept, no_commit, no_stand}
 use Rattle.track_rule.proofs.Loads.{few_events, word_events, word_live}
@@ -272,3 +271,8 @@ last_pass z l s id v sized h at has_some all =
           omega (arith, ap (total weight) sp.own, ap (total weight) sp.gathered));
       alone = λ one. p.alone (sym (ap (λ (y : Sizes). y.passes) sized) ∙ one) has_some;
     }
+
+-- the first word of a list
+pub first_word : (ws : List ℕ) (n : ℕ) → get_elem? ws 0 ≡ some n → slice_index ws 0 ≡ n
+first_word [] n at = absurd (some-ne-none n (sym at))
+first_word (w ∷ ws) n at = some-injective w n at

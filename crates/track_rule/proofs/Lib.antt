@@ -3,9 +3,11 @@ pub mod Carried
 pub mod Frames
 pub mod Lists
 pub mod Counting
-pub mod Pool
+pub mod Balance
 pub mod Loads
 pub mod Turns
 pub mod Refs
 pub mod Handed
 pub mod Start
+pub mod Seats
+pub mod Columns

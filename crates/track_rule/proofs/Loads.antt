@@ -1,7 +1,7 @@
 -- Steps that change no word: a load, and an exchange that fails. What a load tells of the history and of the references.
 use Rattle.std.specs.Prelude.{min, nat_lt}
 use Rattle.track_rule.proofs.Lists.{bit_low}
-use Rattle.std.proofs.Common.{◌≡◌, ◌≢◌, ℕ, ◌+◌, ◌-◌, ◌*◌, ◌/◌, ◌%◌, ◌^◌, ◌<◌, ◌≤◌, suc, List, [], ◌∷◌, length, refl, sym, ap, subst, ◌∙◌, ⊎_elim, inl, arith, set, append-nil}
+use Rattle.std.proofs.Common.{◌≡◌, ℕ, ◌+◌, ◌-◌, ◌*◌, ◌/◌, ◌%◌, ◌^◌, ◌<◌, ◌≤◌, suc, List, [], ◌∷◌, length, refl, sym, ap, subst, ◌∙◌, ⊎_elim, inl, arith, set, append-nil}
 use Rattle.std.specs.Prelude.{slice_index, slice_set}
 use Rattle.std.proofs.lemmas.Bool.{cases_lt}
 use Rattle.std.proofs.lemmas.List.{set-get_or}
@@ -16,15 +16,15 @@ use Rattle.track_rule.specs.declared.slot.Slot.{Slot}
 use Rattle.track_rule.specs.declared.view.Places.{Places}
 use Rattle.track_rule.specs.declared.view.View.{View}
 use Rattle.track_rule.specs.Free.{turn_of}
-use Rattle.track_rule.specs.History.{events_in, live_in, packed, records_after}
+use Rattle.track_rule.specs.History.{events_in, live_in, records_after}
 use Rattle.track_rule.specs.Layout.{phase_at, refs_at, refs_word}
 use Rattle.track_rule.specs.Passes.{ArePasses, IsPass, made_weight, shares_of}
 use Rattle.track_rule.specs.Readings.{found, noted}
 use Rattle.track_rule.specs.References.{held_times, keeps}
 use Rattle.track_rule.specs.Rule.{Holds, IsKept, Ledger}
-use Rattle.track_rule.specs.Steps.{AreAll, LoadStep, LoadsRefs, LookStep, found_history, most_keeps, saw}
-use Rattle.track_rule.specs.Sums.{Each, times, total}
-use Rattle.track_rule.proofs.Pool.{Moves, few_references, free_moved, moved, pass_moved, references_moved}
+use Rattle.track_rule.specs.Steps.{LoadStep, LoadsRefs, LookStep, found_history, most_keeps, saw}
+use Rattle.track_rule.specs.Sums.{Each, times}
+use Rattle.track_rule.proofs.Balance.{Moves, few_references, free_moved, moved, pass_moved, references_moved}
 use Rattle.track_rule.proofs.Sums.{length_total, total_gap, total_term, total_times}
 
 -- a view in which at most the readings and what was seen differ keeps the rule

@@ -4,9 +4,9 @@ use Rattle.std.proofs.lemmas.Bool.{false≢true}
 use Rattle.history_book.specs.Point.{StartsWith}
 use Rattle.track_rule.specs.declared.view.Seen.{Seen}
 use Rattle.track_rule.specs.declared.view.Purpose.TheVariants.{Testing}
-use Rattle.std.proofs.Common.{◌⊎◌, ◌≡◌, ◌≢◌, ℕ, ◌+◌, ◌-◌, ◌*◌, ◌%◌, ◌^◌, ◌<◌, ◌≤◌, zero, suc, eqb, true, false, Bool, Option, Some, None, List, [], ◌∷◌, length, refl, sym, ap, subst, ◌∙◌, ⊎_elim, inl, inr, arith, set, eq-eqb, ne_eqb}
-use Rattle.std.specs.Prelude.{slice_index, slice_set, min, unwrap_or, ◌==◌, nat_lt}
-use Rattle.std.proofs.lemmas.Bool.{cases_Bool, cases_eq, cases_lt}
+use Rattle.std.proofs.Common.{◌⊎◌, ◌≡◌, ◌≢◌, ℕ, ◌+◌, ◌-◌, ◌%◌, ◌^◌, ◌<◌, ◌≤◌, zero, suc, eqb, true, false, Bool, Option, Some, None, List, [], ◌∷◌, length, refl, sym, ap, subst, ◌∙◌, ⊎_elim, inl, inr, arith, set, eq-eqb, ne_eqb}
+use Rattle.std.specs.Prelude.{slice_index, slice_set, min, unwrap_or, ◌==◌}
+use Rattle.std.proofs.lemmas.Bool.{cases_eq}
 use Rattle.std.proofs.lemmas.List.{get_or-set_other, get_or-set_same, length-set}
 use prog.Atomic.{either}
 use mathlib.Core.Option.{none, some}
@@ -17,17 +17,17 @@ use Rattle.history_book.specs.declared.sizes.Sizes.{Sizes}
 use Rattle.track_rule.specs.declared.slot.Slot.{Slot}
 use Rattle.track_rule.specs.declared.view.View.{View}
 use Rattle.track_rule.specs.Free.{IsHome, has_turn, is_among, known_free, owes, taken_out, turn_of}
-use Rattle.track_rule.specs.Layout.{phase_at, phase_word, refs_at, refs_word, word_count}
+use Rattle.track_rule.specs.Layout.{phase_at, phase_word, refs_at, refs_word}
 use Rattle.track_rule.specs.Passes.{IsPass}
 use Rattle.track_rule.specs.Readings.{found, noted, stored}
 use Rattle.track_rule.specs.References.{held_times, is_at, is_held, keeps, without}
 use Rattle.track_rule.specs.Rule.{Holds, IsKept, Ledger}
-use Rattle.track_rule.specs.Steps.{LowerStep, LowersRefs, MissedRefs, OpenStep, Opens, RaiseStep, RaisedRefs, RaisesRefs, keep, let_go, opened, owed_then}
+use Rattle.track_rule.specs.Steps.{LowerStep, LowersRefs, OpenStep, Opens, RaiseStep, RaisedRefs, RaisesRefs, keep, let_go, opened, owed_then}
 use Rattle.track_rule.specs.Sums.{bit, times, total}
 use Rattle.track_rule.proofs.Frames.{Quiet}
-use Rattle.track_rule.proofs.Lists.{bit_low, length_without, other_bit, other_taken, other_without, same_bit, same_taken, same_without, some_of, total_some}
+use Rattle.track_rule.proofs.Lists.{length_without, other_bit, other_taken, other_without, same_bit, same_taken, same_without, total_some}
 use Rattle.track_rule.proofs.Loads.{one_place, reads, refs_told}
-use Rattle.track_rule.proofs.Pool.{Moves, few_references, free_moved, moved, pass_moved, references_moved}
+use Rattle.track_rule.proofs.Balance.{Moves, free_moved, moved, pass_moved, references_moved}
 use Rattle.track_rule.proofs.Sums.{total_term}
 
 -- the references word of one place

@@ -1,9 +1,8 @@
 -- The rule holds where one pass has all shares of a table at which nothing was done yet.
-use Rattle.std.specs.Prelude.{map, slice_index, replicate, nat_le, nat_lt, ◌&&◌, min}
-use Rattle.std.proofs.Common.{◌^◌, ◌≡◌, ◌≢◌, ℕ, ◌+◌, ◌-◌, ◌*◌, ◌%◌, ◌<◌, ◌≤◌, zero, suc, true, Option, Some, None, List, [], ◌∷◌, length, refl, sym, ap, subst, ◌∙◌, ⊎_elim, arith}
-use Rattle.std.proofs.lemmas.Bool.{cases_lt}
+use Rattle.std.specs.Prelude.{map, slice_index, replicate}
+use Rattle.std.proofs.Common.{◌^◌, ◌≡◌, ℕ, ◌+◌, ◌*◌, ◌%◌, ◌<◌, ◌≤◌, zero, suc, true, Some, List, [], ◌∷◌, length, refl, sym, ap, subst, ◌∙◌, arith}
 use Rattle.std.proofs.lemmas.Bool.Decides.{nat_tests}
-use Rattle.std.proofs.lemmas.List.{get_or-replicate, length-replicate}
+use Rattle.std.proofs.lemmas.List.{length-replicate}
 use Rattle.std.proofs.lemmas.Option.{none-some}
 use mathlib.Core.Option.{some, some-injective, some-ne-none}
 use lib.ListN.{get_elem?}
@@ -18,7 +17,6 @@ use Rattle.history_book.specs.Sizes.{AreWithinLimits}
 use Rattle.room_list.specs.Roomed.{Roomed}
 use Rattle.track_rule.specs.declared.slot.Slot.{Slot}
 use Rattle.track_rule.specs.declared.slot.Slot.TheVariants.{Vacant, Free, Expects}
-use Rattle.track_rule.specs.declared.view.Entry.{Entry}
 use Rattle.track_rule.specs.declared.view.View.{View}
 use Rattle.track_rule.specs.Layout.{gen_word, head_word, phase_at, phase_word, place_of, refs_word, turn_word, word_count}
 use Rattle.track_rule.specs.Opening.{IsWhole, first_slots}
@@ -28,7 +26,7 @@ use Rattle.track_rule.specs.Phases.{of_both, of_place, shows}
 use Rattle.track_rule.specs.Walks.{IsWalk}
 use Rattle.track_rule.specs.declared.view.Walk.{Walk}
 use Rattle.track_rule.specs.References.{held_times, table_keeps}
-use Rattle.track_rule.specs.Rule.{Holds, IsKept, Ledger, first_view}
+use Rattle.track_rule.specs.Rule.{Holds, Ledger, first_view}
 use Rattle.track_rule.specs.Sums.{Each, times, total}
 
 -- each word is 0

@@ -1,33 +1,33 @@
 -- The turn of the free list: it is taken, and given back.
-use Rattle.std.proofs.Common.{◌≡◌, ◌≢◌, ℕ, ◌+◌, ◌<◌, ◌≤◌, zero, suc, eqb, true, false, Bool, Option, Some, None, List, [], ◌∷◌, length, refl, sym, ap, subst, ◌∙◌, ⊎_elim, inl, inr, arith, set, eq-eqb, ne_eqb}
-use Rattle.std.specs.Prelude.{slice_index, slice_set, min, unwrap_or}
-use Rattle.std.proofs.lemmas.Bool.{cases_Bool, cases_lt}
+use Rattle.std.proofs.Common.{◌≡◌, ◌≢◌, ℕ, ◌+◌, ◌<◌, ◌≤◌, eqb, true, false, Bool, Option, Some, None, List, [], ◌∷◌, length, refl, sym, ap, subst, ◌∙◌, ⊎_elim, inl, inr, arith, set, eq-eqb, ne_eqb}
+use Rattle.std.specs.Prelude.{slice_index, slice_set, is_some, min, unwrap_or}
+use Rattle.std.proofs.lemmas.Bool.{cases_Bool, cases_lt, false≢true}
 use Rattle.std.proofs.lemmas.List.{get_or-set_other, get_or-set_same, length-set}
 use Rattle.std.proofs.lemmas.Option.{none-some}
 use prog.Atomic.{either}
 use mathlib.Core.Option.{none, some}
 use lib.ListN.{get_elem?}
-use Rattle.atomic_table.specs.Table.{Act, Allows, State, Valid, carried_after, gives, keeps as unchanged, step, stepped, takes}
+use Rattle.atomic_table.specs.Table.{Act, Allows, Me, State, Valid, carried_after, gives, keeps as unchanged, rest, step, stepped, takes}
 use Rattle.atomic_table.proofs.Lists.{exchanged, set_else, set_here}
 use Rattle.room_list.specs.Roomed.{Roomed}
 use Rattle.history_book.specs.declared.sizes.Sizes.{Sizes}
 use Rattle.track_rule.specs.declared.slot.Slot.{Slot}
 use Rattle.track_rule.specs.declared.slot.Slot.TheVariants.{Free}
 use Rattle.track_rule.specs.declared.view.View.{View}
-use Rattle.track_rule.specs.Free.{IsHome, has_turn, is_among, known_free, owes, turn_of, unlisted}
-use Rattle.track_rule.specs.Layout.{phase_at, phase_word, refs_at, refs_word, word_count}
+use Rattle.track_rule.specs.Free.{has_turn, is_among, known_free, owes, turn_of}
+use Rattle.track_rule.specs.Layout.{phase_at, phase_word, refs_at, refs_word}
 use Rattle.track_rule.specs.Passes.{IsPass}
 use Rattle.track_rule.specs.Readings.{found, noted}
-use Rattle.track_rule.specs.References.{held_times, keeps}
+use Rattle.track_rule.specs.References.{keeps}
 use Rattle.track_rule.specs.Rule.{Holds, IsKept, Ledger}
 use Rattle.track_rule.specs.Slots.{list_in}
-use Rattle.track_rule.specs.Steps.{CanGive, GiveStep, MissedFree, TakeStep, TakesFree, TookFree, gave_free, with_turn}
+use Rattle.track_rule.specs.Steps.{CanGive, GiveStep, TakeStep, TakesFree, TookFree, gave_free, with_turn}
 use Rattle.track_rule.specs.Sums.{times, total}
 use Rattle.track_rule.proofs.Counting.{few_places}
 use Rattle.track_rule.proofs.Frames.{Quiet}
 use Rattle.track_rule.proofs.Lists.{length_unlisted, unlisted_in, unlisted_out}
 use Rattle.track_rule.proofs.Loads.{reads}
-use Rattle.track_rule.proofs.Pool.{Moves, free_moved, moved, pass_moved, references_moved}
+use Rattle.track_rule.proofs.Balance.{Moves, free_moved, moved, pass_moved, references_moved}
 use Rattle.track_rule.proofs.Sums.{total_term}
 
 -- the turn's word is no other one
@@ -196,3 +196,17 @@ giving slots id v free list c some_slots has_some has can s (l, h) sized at rang
   (record l { free = list.items }, gave l s id v h at has_some list free has can (omega (arith, some_slots, sized))),
   (refl, refl),
 )
+
+pub giving_back : (slots id : ℕ) (me : Me Slot View) → 0 < slots → 0 < me.0.passes.shares → is_some me.0.free ≡ true
+    → me.1 ≡ (0, Free (list_in me.1)) ∷ rest me.1 → CanGive me.0 (list_in me.1)
+    → Allows (Holds me.0.passes.sizes) slots id me 1 (λ _. 0) (λ _. GiveStep (step slots 1 0 0 none) me 0)
+giving_back slots id me some_slots has_some turn out can =
+    let list : Roomed ℕ = list_in me.1 in
+    let known : (free : List ℕ) × (me.0.free ≡ Some free) = known_list me.0.free turn in
+    let family : List (ℕ × Slot) → Type 0 = λ c.
+    Allows (Holds me.0.passes.sizes) slots id (me.0, c) 1 (λ _. 0) (λ _. GiveStep (step slots 1 0 0 none) (me.0, c) 0) in
+    subst family (sym out) (giving slots id me.0 known.0 list (rest me.1) some_slots has_some known.1 can)
+  where
+    known_list : (o : Option (List ℕ)) → is_some o ≡ true → (free : List ℕ) × (o ≡ Some free)
+    known_list None e = absurd (false≢true e)
+    known_list (Some free) e = (free, refl)

@@ -1,7 +1,7 @@
 -- The free list. A place on it has no reference and is owed by nobody, and its phase is FREE. Every other place has a
 -- reference, or is owed by exactly one pass. A pass holds and owes four places at most. At most one pass has the turn of the
 -- list; that one knows the list, and while none has it the list is at home.
-use Rattle.std.specs.Prelude.{◌≡◌, ℕ, ◌+◌, ◌<◌, ◌≤◌, ◌==◌, Bool, min, not, if◌then◌else◌, Option, Some, None, List, [], ◌∷◌, filter, length, slice_index, unwrap_or, is_some}
+use Rattle.std.specs.Prelude.{◌≡◌, ℕ, ◌+◌, ◌<◌, ◌≤◌, ◌==◌, Bool, min, not, if◌then◌else◌, Option, Some, None, List, [], ◌∷◌, filter, length, slice_index, unwrap_or}
 use Rattle.std.specs.List.{list_any}
 use mathlib.Core.Option.{Option as Slotted, some}
 use lib.ListN.{get_elem?}

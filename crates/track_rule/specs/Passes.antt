@@ -2,7 +2,7 @@
 -- below the passes of the sizes, and no number is a share of two. Each event of the history is an own event of one pass, or
 -- one that it gathered from passes that were joined to it: each stands once among these. A pass that was joined away has no
 -- share, and nothing else either.
-use Rattle.std.specs.Prelude.{◌≡◌, ℕ, ◌+◌, ◌*◌, ◌<◌, ◌≤◌, ◌^◌, ◌&&◌, nat_le, nat_lt, Option, None, List, [], length, AllPairs}
+use Rattle.std.specs.Prelude.{◌≡◌, ℕ, ◌+◌, ◌*◌, ◌<◌, ◌≤◌, ◌^◌, ◌&&◌, nat_le, nat_lt, None, List, [], length, AllPairs}
 use Rattle.history_book.specs.declared.event.Event.{Event}
 use Rattle.history_book.specs.declared.event.Note.{Note}
 use Rattle.history_book.specs.declared.sizes.Sizes.{Sizes}

@@ -1,7 +1,7 @@
 -- The phases of the places: 0 is FREE, 1 OWNED, 2 DEAD, and 3 plus an id is LIVE of that id. A place that is live is that
 -- of the entry of its id, and the place of a live entry is live, except in the middle of a commit: there the record was
 -- born and is not yet shown, or it dies and is shown no longer. No step stores a phase yet.
-use Rattle.std.specs.Prelude.{◌≡◌, ℕ, ◌+◌, ◌<◌, ◌==◌, ◌&&◌, Bool, List}
+use Rattle.std.specs.Prelude.{◌≡◌, ℕ, ◌+◌, ◌<◌, ◌==◌, ◌&&◌, List}
 use Rattle.history_book.specs.declared.event.Event.{Event}
 use Rattle.history_book.specs.declared.record.Record.{Record}
 use Rattle.history_book.specs.declared.sizes.Sizes.{Sizes}

@@ -1,5 +1,5 @@
 -- The readings of a pass, the oldest first: what its loads and its failed exchanges found, and what its own changes left.
-use Rattle.std.specs.Prelude.{◌≡◌, ℕ, ◌==◌, ◌&&◌, ◌||◌, not, Bool, true, false, Option, None, Some, List, [], ◌∷◌, ◌++◌, drop, filter, length}
+use Rattle.std.specs.Prelude.{◌≡◌, ℕ, ◌==◌, ◌&&◌, ◌||◌, not, Bool, true, false, None, List, [], ◌∷◌, ◌++◌, drop, filter, length}
 use Rattle.std.specs.List.{list_any}
 use Rattle.track_rule.specs.declared.view.Reading.{Reading}
 use Rattle.track_rule.specs.declared.view.View.{View}

@@ -1,6 +1,6 @@
 -- The records in their slots. At most one pass has the turn of a place's record. While none has it the slot is at home,
 -- and where the place is live the slot then has the record of its id.
-use Rattle.std.specs.Prelude.{◌≡◌, ℕ, ◌+◌, ◌-◌, ◌<◌, ◌≤◌, ◌==◌, Option, Some, None, List}
+use Rattle.std.specs.Prelude.{◌≡◌, ℕ, ◌-◌, ◌<◌, ◌≤◌, ◌==◌, Option, Some, None, List}
 use mathlib.Core.Option.{Option as Slotted, some}
 use lib.ListN.{get_elem?}
 use Rattle.history_book.specs.State.{record_of}

@@ -1,5 +1,5 @@
 -- What holds of a table between any two steps of its passes.
-use Rattle.std.specs.Prelude.{◌≡◌, ℕ, Option, None, List, [], length}
+use Rattle.std.specs.Prelude.{◌≡◌, ℕ, None, List, [], length}
 use Rattle.atomic_table.specs.Table.{State}
 use Rattle.history_book.specs.declared.event.Event.{Event}
 use Rattle.history_book.specs.declared.sizes.Sizes.{Sizes}

@@ -1,12 +1,12 @@
 -- What contracts see of a pass, and of a table.
-use Rattle.std.specs.Prelude.{◌≡◌, ◌+◌, ℕ, ◌<◌, List, []}
+use Rattle.std.specs.Prelude.{◌≡◌, ℕ, ◌<◌, List, []}
 use Rattle.atomic_table.specs.Seated.{TableId}
+use Rattle.atomic_table.specs.Table.{Me}
 use Rattle.history_book.specs.declared.sizes.Sizes.{Sizes}
 use Rattle.history_book.specs.Sizes.{AreWithinLimits}
 use Rattle.track_rule.specs.declared.slot.Slot.{Slot}
 use Rattle.track_rule.specs.declared.view.View.{View}
 use Rattle.track_rule.specs.Layout.{IsTable}
-use Rattle.track_rule.specs.Passes.{HasNothing}
 use Rattle.track_rule.specs.Rule.{first_view}
 use Rattle.track_rule.specs.Slots.{AllSuit, numbers, numbers_of}
 
@@ -31,20 +31,36 @@ pub record IsPassOf (board : BoardSight) (p : PassSight) : Type 0 where
 
 -- a pass has a share, and out of their slots what its turns let it have out
 pub record IsPassSight (p : PassSight) : Type 0 where
-  pub table : IsTable (sizes_of p) p.table
+  pub counts : IsTable (sizes_of p) p.table
   pub limits : AreWithinLimits (sizes_of p)
   pub some : 0 < p.view.passes.shares
   pub carries : numbers p.slots ≡ numbers_of p.view
   pub suit : AllSuit p.slots
+
+-- what a seat knows
+abbrev pub sight_at : TableId → Me Slot View → PassSight
+sight_at table me = record { table = table; view = me.0; slots = me.1 }
+
+-- a pass at a table whose rule is told of these sizes, which it has itself too
+pub record IsAt (table : TableId) (key sizes : Sizes) (p : PassSight) : Type 0 where
+  pub same : p.table ≡ table
+  pub key_is : sizes_of p ≡ key
+  pub sizes_are : sizes ≡ sizes_of p
+  pub right : IsPassSight p
+
+-- a pass that was left
+pub record IsLeft (sizes : Sizes) (p : PassSight) : Type 0 where
+  pub sizes_are : sizes ≡ sizes_of p
+  pub right : IsPassSight p
+
+-- a table
+pub record IsBoard (b : BoardSight) : Type 0 where
+  pub table : IsTable b.sizes b.table
+  pub limits : AreWithinLimits b.sizes
 
 -- the first pass of a table of these sizes
 pub record IsFirst (z : Sizes) (board : BoardSight) (p : PassSight) : Type 0 where
   pub table : p.table ≡ board.table
   pub sizes : board.sizes ≡ z
   pub view : p.view ≡ first_view z
-  pub slots : p.slots ≡ []
-
--- the pass has nothing of the table
-pub record IsEmpty (p : PassSight) : Type 0 where
-  pub view : HasNothing p.view
   pub slots : p.slots ≡ []

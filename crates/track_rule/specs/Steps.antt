@@ -1,6 +1,5 @@
 -- What the steps of a pass tell it: v is what it knew before, w what it knows after, n what the step found.
-use Rattle.std.specs.Prelude.{◌≡◌, ◌≢◌, ℕ, ◌+◌, ◌-◌, ◌*◌, ◌<◌, ◌≤◌, ◌==◌, ◌^◌, Bool, true, false, min, if◌then◌else◌, MatchBool, Option, Some, None, List, [], ◌∷◌, length}
-use mathlib.Core.Option.{none}
+use Rattle.std.specs.Prelude.{◌≡◌, ℕ, ◌+◌, ◌-◌, ◌*◌, ◌<◌, ◌≤◌, ◌==◌, ◌^◌, Bool, true, false, min, if◌then◌else◌, MatchBool, Option, Some, None, List, ◌∷◌, length}
 use Rattle.atomic_table.specs.Table.{Me, Step, rest}
 use Rattle.room_list.specs.Roomed.{Roomed}
 use Rattle.history_book.specs.History.{is_legal}
@@ -14,12 +13,12 @@ use Rattle.track_rule.specs.declared.view.Purpose.{Purpose}
 use Rattle.track_rule.specs.declared.view.Purpose.TheVariants.{Taken, Testing}
 use Rattle.track_rule.specs.declared.view.Reading.{Reading}
 use Rattle.track_rule.specs.declared.view.View.{View}
-use Rattle.track_rule.specs.Free.{is_among, known_free, taken_out, turn_of, unlisted}
+use Rattle.track_rule.specs.Free.{known_free, taken_out, unlisted}
 use Rattle.track_rule.specs.History.{events_in, live_in, records_after}
 use Rattle.track_rule.specs.Layout.{refs_word}
 use Rattle.track_rule.specs.Readings.{found, noted, stored}
 use Rattle.track_rule.specs.References.{held_times, keeps, without}
-use Rattle.track_rule.specs.Slots.{list_in, slot_of_free}
+use Rattle.track_rule.specs.Slots.{list_in}
 use Rattle.track_rule.specs.Sums.{times}
 
 -- a pass keeps a reference to the place

@@ -2,7 +2,7 @@
 -- is that one, and even, what was met begins the chain. Otherwise the note says nothing. It speaks of the words and of the
 -- chains alone, and of no other pass. The readings of a pass are what its steps found and left: no step of another pass
 -- takes one of them away, and they say nothing of the present words.
-use Rattle.std.specs.Prelude.{◌≡◌, ℕ, ◌<◌, ◌≤◌, ◌%◌, Bool, true, Option, Some, None, List, [], ◌∷◌}
+use Rattle.std.specs.Prelude.{◌≡◌, ℕ, ◌<◌, ◌≤◌, ◌%◌, true, Option, Some, None, List, [], ◌∷◌}
 use Rattle.history_book.specs.declared.sizes.Sizes.{Sizes}
 use Rattle.track_rule.specs.declared.view.Entry.{Entry}
 use Rattle.track_rule.specs.declared.view.Met.{Met}

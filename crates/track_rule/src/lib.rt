@@ -2,8 +2,12 @@
 //! and the steps.
 #![tactic(auto)]
 
+pub mod board;
 pub mod free_list;
 pub mod layout;
+pub mod pass;
+pub mod plays;
+pub mod pool;
 pub mod rule;
 pub mod slot;
 pub mod view;

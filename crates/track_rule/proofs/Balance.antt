@@ -1,7 +1,7 @@
 -- The parts that a step on the pool changes: the passes, the references and the free list.
 use Rattle.std.proofs.lemmas.Bool.{cases_lt}
 use Rattle.std.specs.Prelude.{◌==◌}
-use Rattle.std.proofs.Common.{◌≡◌, ◌≢◌, ℕ, ◌+◌, ◌*◌, ◌^◌, ◌<◌, ◌≤◌, ◌⊎◌, min, Option, Some, None, List, [], ◌∷◌, length, refl, sym, ap, subst, ◌∙◌, ⊎_elim, arith, set}
+use Rattle.std.proofs.Common.{◌≡◌, ℕ, ◌+◌, ◌*◌, ◌^◌, ◌<◌, ◌≤◌, ◌⊎◌, min, Some, None, List, length, sym, ap, subst, ◌∙◌, ⊎_elim, arith, set}
 use Rattle.std.specs.List.{AllPairs}
 use Rattle.std.specs.Prelude.{slice_index, nat_le, nat_lt, ◌&&◌}
 use mathlib.Core.Option.{Option as Slotted, some}
@@ -11,9 +11,8 @@ use Rattle.history_book.specs.declared.event.Event.{Event}
 use Rattle.history_book.specs.declared.event.Note.{Note}
 use Rattle.history_book.specs.declared.sizes.Sizes.{Sizes}
 use Rattle.history_book.specs.Point.{StartsWith}
-use Rattle.history_book.specs.Sight.{AreEventsOf, notes_from}
+use Rattle.history_book.specs.Sight.{AreEventsOf}
 use Rattle.track_rule.specs.declared.slot.Slot.{Slot}
-use Rattle.track_rule.specs.declared.view.Seen.{Seen}
 use Rattle.track_rule.specs.declared.view.Shares.{Shares}
 use Rattle.track_rule.specs.declared.view.View.{View}
 use Rattle.track_rule.specs.Free.{IsFreeList, IsHome, has_turn, owes, turn_of}
@@ -23,9 +22,9 @@ use Rattle.track_rule.specs.References.{AreReferences, held_times, keeps, table_
 use Rattle.track_rule.specs.Rule.{IsKept, Ledger}
 use Rattle.track_rule.specs.Sums.{Each, bit, times, total}
 use Rattle.track_rule.proofs.Carried.{carries_set}
-use Rattle.track_rule.proofs.Frames.{Leaves, Quiet, Stays, kept, no_commit, no_stand}
+use Rattle.track_rule.proofs.Frames.{Quiet, Stays, kept, no_commit, no_stand}
 use Rattle.track_rule.proofs.Lists.{total_long}
-use Rattle.track_rule.proofs.Sums.{each_other, each_put, total_le, total_same, total_set, total_term, total_times, total_two}
+use Rattle.track_rule.proofs.Sums.{each_other, each_put, total_le, total_same, total_set, total_times, total_two}
 
 -- what a step on the pool leaves of a view
 pub record Moves (v w : View) : Type 0 where

@@ -1,0 +1,116 @@
+//! The steps on the history word, on the free list, and on the references of places. Each is one atomic step, except
+//! `free_swap`, which moves what is in the slot of the free list and is none. What a step finds is added to the readings of
+//! its pass, and so is what it changes.
+
+ghost use Rattle.std.specs.Prelude.{◌≡◌, ◌+◌, ◌<◌, ◌≤◌, true, length, None, IfErr, OnOk, is_some};
+ghost use Rattle.atomic_table.specs.Table.{rest};
+ghost use Rattle.track_rule.specs.Free.{is_among, known_free};
+ghost use Rattle.track_rule.specs.References.{is_held};
+ghost use Rattle.track_rule.specs.Sights.{sizes_of};
+ghost use Rattle.track_rule.specs.Slots.{free_at, list_in, with_free};
+ghost use Rattle.track_rule.specs.Steps.{CanGive, LoadsRefs, Looks, LowersRefs, MissedRefs, Opens, RaisedRefs, TakesFree, gave_free, most_keeps};
+ghost use Rattle.track_rule.specs.Sums.{times};
+
+use crate::free_list::FreeList;
+use crate::layout::{FREE_SLOT, FREE_WORD, HISTORY_WORD, refs_word};
+use crate::pass::Pass;
+use crate::plays::{GiveFree, LoadHistory, LoadRef, LowerRef, OpenRef, RaiseRef, TakeFree};
+use crate::slot::{free_of, with_free};
+
+impl<'b> Pass<'b> {
+    /// Loads the history word: the number of events, and of live entries above its low 40 bits.
+    pub fn history_load(&mut self) -> u64
+        ensures looks { Looks self.old.view result self.new.view }
+        ensures kept { self.new ≡ record self.old { view = self.new.view } }
+    {
+        self.shared
+            .load::<LoadHistory>(&mut self.seat, HISTORY_WORD)
+    }
+
+    /// Takes the turn of the free list, if no pass has it, and the list out of its slot.
+    pub fn free_take(&mut self) -> bool
+        requires calm { self.old.view.free ≡ None }
+        ensures takes { TakesFree result self.old.view self.old.slots self.new.view self.new.slots }
+        ensures table { self.new.table ≡ self.old.table }
+    {
+        self.shared
+            .compare_exchange::<TakeFree>(&mut self.seat, FREE_WORD, 0, 1)
+            == 0
+    }
+
+    /// Puts this list, or none, in the place of the one that is out.
+    pub fn free_swap(&mut self, list: Option<FreeList>) -> Option<FreeList>
+        requires turn { is_some self.old.view.free ≡ true }
+        ensures list { result ≡ free_at self.old.slots }
+        ensures kept { self.new ≡ record self.old { slots = with_free list self.old.slots } }
+    {
+        free_of(
+            self.shared
+                .exchange(&mut self.seat, FREE_SLOT, with_free(list)),
+        )
+    }
+
+    /// Gives the turn back, and the list with it. What the pass owes and stands on the list is free again.
+    pub fn free_give(&mut self)
+        requires turn { is_some self.old.view.free ≡ true }
+        requires list { is_some (free_at self.old.slots) ≡ true }
+        requires whole { CanGive self.old.view (list_in self.old.slots) }
+        ensures { self.new ≡ record self.old {
+          view = gave_free (list_in self.old.slots).items self.old.view;
+          slots = rest self.old.slots;
+        } }
+    {
+        self.shared.store::<GiveFree>(&mut self.seat, FREE_WORD, 0);
+    }
+
+    /// Makes the first reference to a place of the free list, under its turn.
+    pub fn ref_open(&mut self, place: u32)
+        requires place { place < (sizes_of self.old).entries }
+        requires listed { is_among place (known_free self.old.view) ≡ true }
+        requires few { length self.old.view.places.held + length self.old.view.places.owed ≤ 3 }
+        ensures opens { Opens place self.old.view self.new.view }
+        ensures kept { self.new ≡ record self.old { view = self.new.view } }
+    {
+        let word = refs_word(&self.sizes, place);
+        self.shared.store::<OpenRef>(&mut self.seat, word, 1);
+    }
+
+    /// Loads the number of references to a place.
+    pub fn ref_load(&mut self, place: u32) -> u64
+        requires place { place < (sizes_of self.old).entries }
+        ensures loads { LoadsRefs place self.old.view result self.new.view }
+        ensures kept { self.new ≡ record self.old { view = self.new.view } }
+    {
+        let word = refs_word(&self.sizes, place);
+        self.shared.load::<LoadRef>(&mut self.seat, word)
+    }
+
+    /// Makes one reference more where there are so many, and not none. Else gives the other number.
+    pub fn ref_up(&mut self, place: u32, seen: u64) -> Result<(), u64>
+        requires place { place < (sizes_of self.old).entries }
+        requires some { 0 < seen }
+        requires bound { seen < most_keeps }
+        requires few { length self.old.view.places.held + length self.old.view.places.owed ≤ 3 }
+        ensures ok { OnOk result (RaisedRefs place seen self.old.view self.new.view) }
+        ensures err { IfErr result (λ n. MissedRefs place seen self.old.view n self.new.view) }
+        ensures kept { self.new ≡ record self.old { view = self.new.view } }
+    {
+        let word = refs_word(&self.sizes, place);
+        let found = self
+            .shared
+            .compare_exchange::<RaiseRef>(&mut self.seat, word, seen, seen + 1);
+        if found == seen { Ok(()) } else { Err(found) }
+    }
+
+    /// Gives up a reference to a place, and gives how many there were. A place without any is owed.
+    pub fn ref_down(&mut self, place: u32) -> u64
+        requires held { is_held place self.old.view.places.held ≡ true }
+        requires free { times place self.old.view.places.carried ≡ 0 }
+        requires place { place < (sizes_of self.old).entries }
+        ensures lowers { LowersRefs place self.old.view result self.new.view }
+        ensures kept { self.new ≡ record self.old { view = self.new.view } }
+    {
+        let word = refs_word(&self.sizes, place);
+        self.shared.fetch_sub::<LowerRef>(&mut self.seat, word, 1)
+    }
+}
