@@ -333,7 +333,7 @@ lowering slots id p v c below has_some held free_of s (l, h) sized at range =
             })),
       ),
       λ q same. subst (λ (k : ℕ). LowersRefs k v n w × (c ≡ c)) (one_place z p q same)
-          (record { view = refl; some = some_left; few = told.0; own = omega (arith, told.1); owed = not_owed }, refl),
+          (record { view = refl; some = some_left; mine = some_held; few = told.0; own = omega (arith, told.1); owed = not_owed }, refl),
     )
   where
     times_here : (p n : ℕ) (owed : List ℕ) → times p (owed_then p n owed) ≡ times p owed + bit (n == 1)

@@ -99,6 +99,7 @@ module _ (l : Ledger) (s : State Slot View) (id : ℕ) (v : View) (h : IsKept v.
         omega (arith, h.free_list.beyond q e, mine q, ap (times q) same, h.references.beyond q e, total_term (keeps q) s.views id v at))
         (cases_lt q v.passes.sizes.entries);
     below = λ q above. omega (arith, h.free_list.beyond q above, mine q, ap (times q) same);
+    clear = λ q on. (h.free_list.clear id v at q on).0;
   }
     where
       mine : (q : ℕ) → owes q v ≤ total (owes q) s.views

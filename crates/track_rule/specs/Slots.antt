@@ -30,6 +30,10 @@ free_at (s ∷ slots) = free_in s.1
 abbrev pub list_in : List (ℕ × Slot) → Roomed ℕ
 list_in slots = unwrap_or (free_at slots) no_list
 
+-- the slots that stay out where the list's is given back
+abbrev pub given_back : List (ℕ × Slot) → List (ℕ × Slot)
+given_back slots = rest slots
+
 -- with this list there, or with none
 abbrev pub with_free : Option (Roomed ℕ) → List (ℕ × Slot) → List (ℕ × Slot)
 with_free list slots = (0, slot_of_free list) ∷ rest slots

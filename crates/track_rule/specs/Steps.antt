@@ -73,6 +73,7 @@ pub record TookFree (v : View) (slots : List (ℕ × Slot)) (w : View) (slots' :
   pub fits : length (list_in slots').items + length v.places.owed ≤ v.passes.sizes.entries
   pub apart : (p : ℕ) → times p (list_in slots').items + times p v.places.owed + min (held_times p v.places.held) 1 ≤ 1
   pub below : (p : ℕ) → v.passes.sizes.entries ≤ p → times p (list_in slots').items + times p v.places.owed ≡ 0
+  pub clear : (p : ℕ) → 0 < times p v.places.clear → 0 < times p v.places.owed
 
 -- Another pass has it.
 pub record MissedFree (v : View) (slots : List (ℕ × Slot)) (w : View) (slots' : List (ℕ × Slot)) : Type 0 where
@@ -148,6 +149,7 @@ pub record LowersRefs (place : ℕ) (v : View) (n : ℕ) (w : View) : Type 0 whe
   pub view : w ≡ let_go place n v
   pub some : 0 < n
   pub few : n < most_keeps
+  pub mine : 0 < held_times place v.places.held
   pub own : held_times place v.places.held ≤ n
   pub owed : times place v.places.owed ≡ 0
 

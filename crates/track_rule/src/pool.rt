@@ -3,11 +3,10 @@
 //! its pass, and so is what it changes.
 
 ghost use Rattle.std.specs.Prelude.{◌≡◌, ◌+◌, ◌<◌, ◌≤◌, true, length, None, IfErr, OnOk, is_some};
-ghost use Rattle.atomic_table.specs.Table.{rest};
 ghost use Rattle.track_rule.specs.Free.{is_among, known_free};
 ghost use Rattle.track_rule.specs.References.{is_held};
 ghost use Rattle.track_rule.specs.Sights.{sizes_of};
-ghost use Rattle.track_rule.specs.Slots.{free_at, list_in, with_free};
+ghost use Rattle.track_rule.specs.Slots.{free_at, given_back, list_in, with_free};
 ghost use Rattle.track_rule.specs.Steps.{CanGive, LoadsRefs, Looks, LowersRefs, MissedRefs, Opens, RaisedRefs, TakesFree, gave_free, most_keeps};
 ghost use Rattle.track_rule.specs.Sums.{times};
 
@@ -57,7 +56,7 @@ impl<'b> Pass<'b> {
         requires whole { CanGive self.old.view (list_in self.old.slots) }
         ensures { self.new ≡ record self.old {
           view = gave_free (list_in self.old.slots).items self.old.view;
-          slots = rest self.old.slots;
+          slots = given_back self.old.slots;
         } }
     {
         self.shared.store::<GiveFree>(&mut self.seat, FREE_WORD, 0);

@@ -1,0 +1,63 @@
+-- A place for a new entry, and what becomes of a place that is owed.
+use Rattle.std.specs.Prelude.{◌≡◌, ℕ, ◌<◌, ◌==◌, ◌&&◌, not, Bool, true, false, Option, None, Some, List, [], ◌∷◌, length}
+use Rattle.std.specs.List.{list_any}
+use Rattle.history_book.specs.declared.outcome.TakeOutcome.{TakeOutcome}
+use Rattle.history_book.specs.declared.outcome.TakeOutcome.TheVariants.{Taken, Full}
+use Rattle.track_rule.specs.Free.{taken_out, unlisted}
+use Rattle.track_rule.specs.History.{events_in}
+use Rattle.track_rule.specs.Readings.{added, changes}
+use Rattle.track_rule.specs.References.{held_times}
+use Rattle.track_rule.specs.Sights.{PassSight, sizes_of}
+use Rattle.track_rule.specs.Steps.{AreAll, keep, saw}
+use Rattle.track_rule.specs.Sums.{times}
+use Rattle.track_rule.specs.declared.view.Purpose.TheVariants as purpose
+use Rattle.track_rule.specs.declared.view.Reading.{Reading}
+use Rattle.track_rule.specs.declared.view.View.{View}
+
+-- The place is held, for a new entry; before the call the pass neither held nor owed it. All else is as it was.
+pub record HasTaken (place : ℕ) (v w : PassSight) : Type 0 where
+  pub same : w ≡ record v { view = record v.view {
+    places = record v.view.places { held = keep place purpose.Taken ∷ v.view.places.held };
+    readings = w.view.readings;
+  } }
+  pub held : held_times place v.view.places.held ≡ 0
+  pub owed : times place v.view.places.owed ≡ 0
+
+-- a reading of the history word that says so many events, under the turn of the free list, which was empty
+abbrev pub says_empty : ℕ → Reading → Bool
+says_empty at r = r.word == 0 && not r.own && events_in r.value == at && is_zero r.free
+  where
+    is_zero : Option ℕ → Bool
+    is_zero None = false
+    is_zero (Some n) = n == 0
+
+-- The free list was empty at this point, which a reading of the call shows; the pass has seen all events up to it, and
+-- changed no references word. All else is as it was.
+pub record IsFull (at : ℕ) (v w : PassSight) : Type 0 where
+  pub same : w ≡ record v { view = record v.view {
+    seen = record v.view.seen { front = w.view.seen.front };
+    readings = w.view.readings;
+  } }
+  pub all : AreAll v.view w.view.seen.front
+  pub point : at ≡ length w.view.seen.front
+  pub empty : list_any (says_empty at) (added v.view w.view) ≡ true
+  pub own : changes (λ word. not (word == 1)) (added v.view w.view) ≡ false
+
+abbrev pub TakeSays : TakeOutcome → PassSight → PassSight → Type 0
+TakeSays (Taken place) v w = HasTaken place v w
+TakeSays (Full at) v w = IsFull at v w
+
+-- the place that was taken, or none
+abbrev pub is_below : ℕ → TakeOutcome → Type 0
+is_below entries (Taken place) = place < entries
+is_below entries (Full at) = Unit {0}
+
+-- The place is free again, and no longer owed. All else is as it was.
+pub record Recycles (place : ℕ) (v w : PassSight) : Type 0 where
+  pub same : w ≡ record v { view = record v.view {
+    places = record v.view.places {
+      owed = taken_out place v.view.places.owed;
+      clear = unlisted (place ∷ []) v.view.places.clear;
+    };
+    readings = w.view.readings;
+  } }

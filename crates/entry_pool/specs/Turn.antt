@@ -1,0 +1,50 @@
+-- A pass that has the free list, out of its slot.
+use Rattle.std.specs.Prelude.{◌≡◌, ℕ, ◌+◌, ◌<◌, ◌≤◌, ◌==◌, not, min, false, Some, List, ◌∷◌, ◌++◌, length}
+use Rattle.room_list.specs.Roomed.{Roomed}
+use Rattle.track_rule.specs.Readings.{changes}
+use Rattle.track_rule.specs.References.{held_times}
+use Rattle.track_rule.specs.Sights.{PassSight, sizes_of}
+use Rattle.track_rule.specs.Slots.{list_in}
+use Rattle.track_rule.specs.Sums.{times}
+use Rattle.track_rule.specs.declared.slot.Slot.TheVariants.{Free, Vacant}
+use Rattle.track_rule.specs.declared.view.Reading.{Reading}
+use Rattle.track_rule.specs.declared.view.View.{View}
+
+-- So many readings were added, and the pass changed no word itself but the turn of the free list.
+pub record Waits (old new : List Reading) : Type 0 where
+  pub more : List Reading
+  pub all : new ≡ old ++ more
+  pub own : changes (λ word. not (word == 1)) more ≡ false
+
+-- There is room on the list for all places. No place that the pass holds or owes is on it; it has only places below the
+-- entries, none twice, and there is room for what the pass owes, which is owed once.
+pub record IsListOf (v : PassSight) (list : Roomed ℕ) : Type 0 where
+  pub room : (sizes_of v).entries ≤ list.room
+  pub fits : length list.items + length v.view.places.owed ≤ (sizes_of v).entries
+  pub apart : (p : ℕ) → times p list.items + times p v.view.places.owed + min (held_times p v.view.places.held) 1 ≤ 1
+  pub below : (p : ℕ) → (sizes_of v).entries ≤ p → times p list.items + times p v.view.places.owed ≡ 0
+  pub clear : (p : ℕ) → 0 < times p v.view.places.clear → 0 < times p v.view.places.owed
+
+-- the pass has the turn of the free list, and knows the list
+abbrev pub with_list : List ℕ → List Reading → View → View
+with_list places readings v = record v { free = Some places; readings = readings }
+
+-- it has the list out of its slot, but not yet in hand
+pub record HasTurn (v w : PassSight) : Type 0 where
+  pub same : w ≡ record {
+    table = v.table;
+    view = with_list (list_in w.slots).items w.view.readings v.view;
+    slots = (0, Free (list_in w.slots)) ∷ v.slots;
+  }
+  pub right : IsListOf v (list_in w.slots)
+  pub waits : Waits v.view.readings w.view.readings
+
+-- it has the list in hand
+pub record HasList (v w : PassSight) (list : Roomed ℕ) : Type 0 where
+  pub same : w ≡ record {
+    table = v.table;
+    view = with_list list.items w.view.readings v.view;
+    slots = (0, Vacant) ∷ v.slots;
+  }
+  pub right : IsListOf v list
+  pub waits : Waits v.view.readings w.view.readings

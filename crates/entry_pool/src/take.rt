@@ -1,0 +1,52 @@
+//! Places for new entries.
+
+ghost use Rattle.std.specs.Prelude.{◌≡◌, ◌+◌, ◌≤◌, true, None, length};
+ghost use Rattle.entry_pool.specs.Take.{Recycles, TakeSays, is_below};
+ghost use Rattle.track_rule.specs.Free.{is_among};
+ghost use Rattle.track_rule.specs.History.{events_in};
+ghost use Rattle.track_rule.specs.Sights.{sizes_of};
+
+use crate::turn::{give_list, take_list};
+use history_book::outcome::TakeOutcome;
+use std::sync::Wait;
+use track_rule::pass::Pass;
+
+/// The number of events that the history word says.
+fn events_in(word: u64) -> u64
+    ensures { result ≡ events_in word }
+{
+    word % (1 << 40)
+}
+
+/// Takes a free place for a new entry, and holds it.
+pub fn take<R: Wait>(rt: &R, pass: &mut Pass) -> TakeOutcome
+    requires calm { pass.old.view.free ≡ None }
+    requires few { length pass.old.view.places.held + length pass.old.view.places.owed ≤ 3 }
+    ensures says { TakeSays result pass.old pass.new }
+    ensures below { is_below (sizes_of pass.old).entries result }
+{
+    let mut list = take_list(rt, pass);
+    match list.pop() {
+        Some(place) => {
+            pass.ref_open(place);
+            give_list(pass, list);
+            TakeOutcome::Taken { place }
+        }
+        None => {
+            let at = events_in(pass.history_load());
+            give_list(pass, list);
+            TakeOutcome::Full { at }
+        }
+    }
+}
+
+/// Makes a place free again that the pass owes.
+pub fn recycle<R: Wait>(rt: &R, pass: &mut Pass, place: u32)
+    requires calm { pass.old.view.free ≡ None }
+    requires owed { is_among place pass.old.view.places.owed ≡ true }
+    ensures { Recycles place pass.old pass.new }
+{
+    let mut list = take_list(rt, pass);
+    list.push(place);
+    give_list(pass, list);
+}
