@@ -11,3 +11,4 @@ pub mod Handed
 pub mod Start
 pub mod Seats
 pub mod Columns
+pub mod AllPasses

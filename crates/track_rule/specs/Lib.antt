@@ -16,3 +16,4 @@ pub mod Rule
 pub mod Sights
 pub mod Steps
 pub mod Shares
+pub mod Laws

@@ -4,6 +4,7 @@
 
 pub mod board;
 pub mod free_list;
+pub mod laws;
 pub mod layout;
 pub mod pass;
 pub mod plays;

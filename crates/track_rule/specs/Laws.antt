@@ -1,0 +1,51 @@
+-- What the rule says of the places of all passes, between any two steps.
+use Rattle.std.specs.Prelude.{◌≡◌, ◌≢◌, ℕ, ◌+◌, ◌<◌, ◌≤◌, min, true}
+use mathlib.Core.Option.{some}
+use lib.ListN.{get_elem?}
+use Rattle.atomic_table.specs.Table.{State}
+use Rattle.history_book.specs.declared.sizes.Sizes.{Sizes}
+use Rattle.track_rule.specs.declared.slot.Slot.{Slot}
+use Rattle.track_rule.specs.declared.view.View.{View}
+use Rattle.track_rule.specs.Free.{has_turn, is_among, known_free, owes}
+use Rattle.track_rule.specs.Layout.{refs_at}
+use Rattle.track_rule.specs.References.{keeps}
+use Rattle.track_rule.specs.Rule.{IsKept, Ledger}
+use Rattle.track_rule.specs.Sums.{times, total}
+
+-- Each place below the entries is on the free list once, or owed once by one pass, or has a reference, and never two of
+-- these. No other place is anywhere.
+abbrev pub PlacesHaveOneUse : Type 0
+PlacesHaveOneUse =
+    (z : Sizes) (l : Ledger) (s : State Slot View) (place : ℕ) → IsKept z l s → place < z.entries
+    → times place l.free + total (owes place) s.views + min (refs_at z s.words place) 1 ≡ 1
+
+abbrev pub NoOtherPlaces : Type 0
+NoOtherPlaces =
+    (z : Sizes) (l : Ledger) (s : State Slot View) (place : ℕ) → IsKept z l s → z.entries ≤ place
+    → times place l.free + total (owes place) s.views + total (keeps place) s.views ≡ 0
+
+-- A pass that has the turn of the free list knows the list of all free places.
+abbrev pub TheListIsKnown : Type 0
+TheListIsKnown =
+    (z : Sizes) (l : Ledger) (s : State Slot View) (i : ℕ) (v : View) → IsKept z l s → get_elem? s.views i ≡ some v
+    → has_turn v ≡ 1 → known_free v ≡ l.free
+
+-- No other pass has the turn then.
+abbrev pub OnePassHasTheList : Type 0
+OnePassHasTheList =
+    (z : Sizes) (l : Ledger) (s : State Slot View) (i j : ℕ) (v u : View) → IsKept z l s
+    → get_elem? s.views i ≡ some v → get_elem? s.views j ≡ some u → j ≢ i → has_turn v ≡ 1 → has_turn u ≡ 0
+
+-- Where a pass may make the first reference to a place, since it has the turn and the place is on the list, no pass holds
+-- the place, none owes it, and it has no reference at all. So no place is given while a pass holds it.
+abbrev pub GivenPlacesAreUnused : Type 0
+GivenPlacesAreUnused =
+    (z : Sizes) (l : Ledger) (s : State Slot View) (i place : ℕ) (v : View) → IsKept z l s → get_elem? s.views i ≡ some v
+    → is_among place (known_free v) ≡ true
+    → (refs_at z s.words place ≡ 0) × (total (keeps place) s.views ≡ 0) × (total (owes place) s.views ≡ 0)
+
+-- Where a place has one reference, and a pass holds it, no other pass does. So who gives up the last one leaves none.
+abbrev pub LastReferenceIsAlone : Type 0
+LastReferenceIsAlone =
+    (z : Sizes) (l : Ledger) (s : State Slot View) (i j place : ℕ) (v u : View) → IsKept z l s
+    → get_elem? s.views i ≡ some v → get_elem? s.views j ≡ some u → j ≢ i → refs_at z s.words place ≡ 1 → place < z.entries → 0 < keeps place v → keeps place u ≡ 0

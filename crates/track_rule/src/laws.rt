@@ -1,0 +1,25 @@
+//! What the rule says of all passes: each law is the contract of a function that does nothing.
+
+ghost use Rattle.track_rule.specs.Laws.{GivenPlacesAreUnused, LastReferenceIsAlone, NoOtherPlaces, OnePassHasTheList, PlacesHaveOneUse, TheListIsKnown};
+
+/// Between any two steps each place of the pool is free once, or owed once by one pass, or has a reference.
+pub fn places_have_one_use()
+    ensures each { PlacesHaveOneUse }
+    ensures no_others { NoOtherPlaces }
+{}
+
+/// The list that a pass has under the turn is the list of all free places, and it has the turn alone.
+pub fn one_pass_has_the_list()
+    ensures known { TheListIsKnown }
+    ensures alone { OnePassHasTheList }
+{}
+
+/// No place is given while a pass holds it.
+pub fn given_places_are_unused()
+    ensures { GivenPlacesAreUnused }
+{}
+
+/// Who gives up the last reference to a place was alone with it.
+pub fn last_reference_is_alone()
+    ensures { LastReferenceIsAlone }
+{}
