@@ -3,4 +3,6 @@
 
 pub mod hold;
 pub mod take;
+#[cfg(test)]
+mod tests;
 mod turn;

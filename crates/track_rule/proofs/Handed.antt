@@ -18,7 +18,7 @@ use Rattle.track_rule.specs.declared.view.View.{View}
 use Rattle.track_rule.specs.Free.{IsFreeList, owes, turn_of}
 use Rattle.track_rule.specs.History.{events_in, live_in, records_after}
 use Rattle.track_rule.specs.Layout.{phase_at}
-use Rattle.track_rule.specs.Passes.{ArePasses, HasNothing, IsPass, IsSpent, has_share, made_weight, shares_of}
+use Rattle.track_rule.specs.Passes.{ArePasses, HasNothing, IsPass, IsSpent, has_share, made_weight, no_places, shares_of}
 use Rattle.track_rule.specs.References.{AreReferences, held_times, keeps, table_keeps}
 use Rattle.track_rule.specs.Rule.{Holds, IsKept, Ledger}
 use Rattle.track_rule.specs.Shares.{IsLast, further, joined, shares_left, spent_view}
@@ -27,9 +27,6 @@ use Rattle.track_rule.proofs.Carried.{Carries, carries_cut, carries_join}
 use Rattle.track_rule.proofs.Frames.{Leaves, kept, no_commit, no_stand}
 use Rattle.track_rule.proofs.Loads.{few_events, word_events, word_live}
 use Rattle.track_rule.proofs.Sums.{each_more, each_put, total_append, total_only, total_same, total_set, total_term, total_two}
-
-abbrev pub no_places : Places
-no_places = record { held = []; owed = []; clear = []; carried = [] }
 
 -- the references and the free list where all views together have the same places and the same turn
 references_carry : (z : Sizes) (ws : List ℕ) (vs vs' : List View) → Carries (λ (v : View). v.places) no_places vs vs' → AreReferences z ws vs → AreReferences z ws vs'

@@ -9,6 +9,7 @@ use Rattle.history_book.specs.declared.sizes.Sizes.{Sizes}
 use Rattle.history_book.specs.Point.{StartsWith}
 use Rattle.history_book.specs.Sight.{AreEventsOf, notes_from}
 use Rattle.track_rule.specs.declared.view.Middle.TheVariants.{Calm}
+use Rattle.track_rule.specs.declared.view.Places.{Places}
 use Rattle.track_rule.specs.declared.view.View.{View}
 use Rattle.track_rule.specs.Sums.{Each, bit, total}
 
@@ -23,6 +24,10 @@ has_share n v = bit (nat_le v.passes.first n && nat_lt n (v.passes.first + v.pas
 -- what weighs the pass's own events, and those that it gathered
 abbrev pub made_weight : (Note → ℕ) → View → ℕ
 made_weight weight v = total weight v.seen.own + total weight v.seen.gathered
+
+-- no place is held or owed
+abbrev pub no_places : Places
+no_places = record { held = []; owed = []; clear = []; carried = [] }
 
 -- the pass holds and owes no place, and has no turn and no bucket
 pub record HasNothing (v : View) : Type 0 where

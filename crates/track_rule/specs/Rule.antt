@@ -9,7 +9,7 @@ use Rattle.track_rule.specs.declared.view.Entry.{Entry}
 use Rattle.track_rule.specs.declared.view.Middle.TheVariants.{Calm}
 use Rattle.track_rule.specs.declared.view.View.{View}
 use Rattle.track_rule.specs.Layout.{word_count}
-use Rattle.track_rule.specs.Passes.{ArePasses}
+use Rattle.track_rule.specs.Passes.{ArePasses, no_places}
 use Rattle.track_rule.specs.History.{IsHistory}
 use Rattle.track_rule.specs.References.{AreReferences}
 use Rattle.track_rule.specs.Free.{IsFreeList}
@@ -47,7 +47,7 @@ abbrev pub fresh_view : Sizes → ℕ → ℕ → List Event → View
 fresh_view z first shares front = record {
   passes = record { sizes = z; first = first; shares = shares; returned = 0 };
   seen = record { front = front; told = []; own = []; gathered = [] };
-  places = record { held = []; owed = []; clear = []; carried = [] };
+  places = no_places;
   free = None;
   stand = record { shut = []; hooks = [] };
   commit = record { hand = None; middle = Calm };

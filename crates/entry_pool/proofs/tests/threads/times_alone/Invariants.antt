@@ -1,0 +1,10 @@
+use Rattle.std.proofs.Common.{◌≡◌, None, ◌≤◌}
+use Rattle.track_rule.specs.Passes.{no_places}
+use Rattle.entry_pool.proofs.tests.threads.times_alone.Given as goal
+
+abbrev pub invariant-rounds : goal.invariant-rounds
+invariant-rounds g l = record {
+  free : l.pass.view.free ≡ None;
+  places : l.pass.view.places ≡ no_places;
+  few : l.alone ≤ l._round;
+}
