@@ -259,7 +259,7 @@ module _ (v u : PassSight) (list : Roomed ℕ) (h : HasList v u list) where
               (λ k. record v.view.places {
                 owed = (ap (λ xs. unlisted xs v.view.places.owed) push ∙ unlisted_push place list.items v.view.places.owed once owed) k;
                 clear = (ap (λ xs. unlisted xs v.view.places.clear) push
-                ∙ unlisted_same (list.items ++ place ∷ []) (place ∷ []) v.view.places.clear (λ p any.
-                among_push place p list.items ∙ ap (λ b. b || (place == p || false)) (off_list p (h.right.clear p any)))) k;
+                    ∙ unlisted_same (list.items ++ place ∷ []) (place ∷ []) v.view.places.clear (λ p any.
+                    among_push place p list.items ∙ ap (λ b. b || (place == p || false)) (off_list p (h.right.clear p any)))) k;
               }) v.view.free (sym calm);
         }

@@ -15,10 +15,12 @@ use Rattle.entry_pool.specs.declared.hold.TryHold.TheVariants.{Held, Zero, Moved
 
 -- The place is held once more, to look what stands there. So the pass did not owe it.
 pub record HoldsMore (place : ℕ) (v w : PassSight) : Type 0 where
-  pub same : w ≡ record v { view = record v.view {
-    places = record v.view.places { held = keep place Testing ∷ v.view.places.held };
-    readings = w.view.readings;
-  } }
+  pub same : w ≡ record v {
+    view = record v.view {
+      places = record v.view.places { held = keep place Testing ∷ v.view.places.held };
+      readings = w.view.readings;
+    };
+  }
   pub owed : times place v.view.places.owed ≡ 0
 
 -- The pass has only read: it changed no word, and all that it holds and owes is as it was.
@@ -45,15 +47,19 @@ TryHoldSays (Moved was now) place v w = ReadsTwo place was now v w
 pub record KeepsSome (place : ℕ) (v w : PassSight) : Type 0 where
   pub left : ℕ
   pub some : 0 < left
-  pub same : w ≡ record v { view = noted (stored (refs_word (sizes_of v) place) left) (record v.view {
-    places = record v.view.places { held = without place v.view.places.held };
-  }) }
+  pub same : w ≡ record v {
+    view = noted (stored (refs_word (sizes_of v) place) left) (record v.view {
+      places = record v.view.places { held = without place v.view.places.held };
+    });
+  }
 
 -- It was the last one of all: the pass held the place once, and owes it now.
 pub record KeepsNone (place : ℕ) (v w : PassSight) : Type 0 where
-  pub same : w ≡ record v { view = noted (stored (refs_word (sizes_of v) place) 0) (record v.view {
-    places = record v.view.places { held = without place v.view.places.held; owed = place ∷ v.view.places.owed };
-  }) }
+  pub same : w ≡ record v {
+    view = noted (stored (refs_word (sizes_of v) place) 0) (record v.view {
+      places = record v.view.places { held = without place v.view.places.held; owed = place ∷ v.view.places.owed };
+    });
+  }
   pub held : held_times place v.view.places.held ≡ 1
   pub owed : times place v.view.places.owed ≡ 0
 

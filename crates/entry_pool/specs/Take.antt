@@ -16,10 +16,12 @@ use Rattle.track_rule.specs.declared.view.View.{View}
 
 -- The place is held, for a new entry; before the call the pass neither held nor owed it. All else is as it was.
 pub record HasTaken (place : ℕ) (v w : PassSight) : Type 0 where
-  pub same : w ≡ record v { view = record v.view {
-    places = record v.view.places { held = keep place purpose.Taken ∷ v.view.places.held };
-    readings = w.view.readings;
-  } }
+  pub same : w ≡ record v {
+    view = record v.view {
+      places = record v.view.places { held = keep place purpose.Taken ∷ v.view.places.held };
+      readings = w.view.readings;
+    };
+  }
   pub held : held_times place v.view.places.held ≡ 0
   pub owed : times place v.view.places.owed ≡ 0
 
@@ -34,10 +36,12 @@ says_empty at r = r.word == 0 && not r.own && events_in r.value == at && is_zero
 -- The free list was empty at this point, which a reading of the call shows; the pass has seen all events up to it, and
 -- changed no references word. All else is as it was.
 pub record IsFull (at : ℕ) (v w : PassSight) : Type 0 where
-  pub same : w ≡ record v { view = record v.view {
-    seen = record v.view.seen { front = w.view.seen.front };
-    readings = w.view.readings;
-  } }
+  pub same : w ≡ record v {
+    view = record v.view {
+      seen = record v.view.seen { front = w.view.seen.front };
+      readings = w.view.readings;
+    };
+  }
   pub all : AreAll v.view w.view.seen.front
   pub point : at ≡ length w.view.seen.front
   pub empty : list_any (says_empty at) (added v.view w.view) ≡ true
@@ -54,10 +58,12 @@ is_below entries (Full at) = Unit {0}
 
 -- The place is free again, and no longer owed. All else is as it was.
 pub record Recycles (place : ℕ) (v w : PassSight) : Type 0 where
-  pub same : w ≡ record v { view = record v.view {
-    places = record v.view.places {
-      owed = taken_out place v.view.places.owed;
-      clear = unlisted (place ∷ []) v.view.places.clear;
+  pub same : w ≡ record v {
+    view = record v.view {
+      places = record v.view.places {
+        owed = taken_out place v.view.places.owed;
+        clear = unlisted (place ∷ []) v.view.places.clear;
+      };
+      readings = w.view.readings;
     };
-    readings = w.view.readings;
-  } }
+  }

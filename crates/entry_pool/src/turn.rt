@@ -41,8 +41,8 @@ pub fn give_list(pass: &mut Pass, list: FreeList)
     requires turn { is_some pass.old.view.free ≡ true }
     requires whole { CanGive pass.old.view list }
     ensures { pass.new ≡ record pass.old {
-        view = gave_free list.items pass.old.view;
-        slots = given_back pass.old.slots;
+      view = gave_free list.items pass.old.view;
+      slots = given_back pass.old.slots;
     } }
 {
     let _ = pass.free_swap(Some(list));

@@ -11,4 +11,6 @@ pub mod plays;
 pub mod pool;
 pub mod rule;
 pub mod slot;
+#[cfg(test)]
+mod tests;
 pub mod view;
