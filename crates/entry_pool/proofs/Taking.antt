@@ -1,15 +1,15 @@
 -- What a pass knows after it took a place, found none, or made one free again.
-use Rattle.std.specs.Prelude.{◌==◌, ◌&&◌, ◌||◌, not, drop, min, unwrap_or}
+use Rattle.std.specs.Prelude.{◌==◌, ◌&&◌, ◌||◌, not}
 use Rattle.std.specs.List.{list_any}
 use Rattle.std.proofs.Common.{◌≡◌, ◌≢◌, ℕ, ◌+◌, ◌<◌, ◌≤◌, Bool, true, false, Option, Some, None, List, [], ◌∷◌, ◌++◌, length, refl, sym, ap, subst, ◌∙◌, ⊎_elim, arith}
 use Rattle.std.proofs.lemmas.Bool.{cases_Bool, cases_eq, cases_lt, eq-eqb}
 use Rattle.room_list.specs.Roomed.{Roomed}
 use Rattle.track_rule.specs.Free.{is_among, known_free, taken_out, unlisted}
 use Rattle.track_rule.specs.History.{events_in}
-use Rattle.track_rule.specs.Readings.{added, changes, stored}
+use Rattle.track_rule.specs.Readings.{added, stored}
 use Rattle.track_rule.specs.Sights.{PassSight, sizes_of}
 use Rattle.track_rule.specs.Slots.{given_back}
-use Rattle.track_rule.specs.Steps.{AreAll, CanGive, Looks, Opens, found_history, gave_free, keep, length_of, opened}
+use Rattle.track_rule.specs.Steps.{AreAll, CanGive, Looks, Opens, found_history, gave_free, keep, opened}
 use Rattle.track_rule.specs.References.{held_times}
 use Rattle.track_rule.specs.Sums.{times}
 use Rattle.history_book.specs.History.{is_legal}
@@ -23,9 +23,9 @@ use Rattle.track_rule.specs.declared.view.Reading.{Reading}
 use Rattle.track_rule.specs.declared.view.Seen.{Seen}
 use Rattle.track_rule.specs.declared.view.View.{View}
 use Rattle.entry_pool.specs.Take.{HasTaken, IsFull, Recycles, says_empty}
-use Rattle.entry_pool.specs.Turn.{HasList, IsListOf, Waits}
+use Rattle.entry_pool.specs.Turn.{HasList}
 use Rattle.entry_pool.proofs.Lists.{among_push, none_of, other_bit, other_taken, same_bit, same_taken, some_of, times_push, total_none, total_some, unlisted_in, unlisted_none, unlisted_out, unlisted_push, unlisted_same}
-use Rattle.entry_pool.proofs.Waiting.{added_two, any_at, any_more}
+use Rattle.entry_pool.proofs.Waiting.{added_one, added_two, any_at, any_more}
 
 -- a pass by its parts
 made_of : (w x : PassSight) → w ≡ x → (seen : Seen) → x.view.seen ≡ seen → (places : Places) → x.view.places ≡ places
@@ -184,6 +184,7 @@ module _ (v u : PassSight) (list : Roomed ℕ) (h : HasList v u list) where
               told = subst (λ (s : Seen). StartsWith front s.told) same_seen o.all.told;
               legal = subst (λ (s : Shares). is_legal s.sizes front ≡ true) same_passes o.all.legal;
               few = omega (arith, o.all.few, ap (λ (s : Seen). length s.own) same_seen, ap (λ (s : Shares). s.sizes.passes) same_passes);
+              passes = omega (arith, o.all.passes, ap (λ (s : Shares). s.sizes.passes) same_passes);
               shares = omega (
                 arith,
                 o.all.shares,
@@ -262,4 +263,6 @@ module _ (v u : PassSight) (list : Roomed ℕ) (h : HasList v u list) where
                     ∙ unlisted_same (list.items ++ place ∷ []) (place ∷ []) v.view.places.clear (λ p any.
                     among_push place p list.items ∙ ap (λ b. b || (place == p || false)) (off_list p (h.right.clear p any)))) k;
               }) v.view.free (sym calm);
+          own = ap (list_any not_turn) (added_one v.view.readings u.view.readings w.view.readings (stored 1 0) h.waits (ap (λ (y : PassSight). y.view.readings) x))
+              ∙ any_more not_turn h.waits.more (stored 1 0) h.waits.own refl;
         }

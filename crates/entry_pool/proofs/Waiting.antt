@@ -1,8 +1,7 @@
 -- The readings that a call adds.
 use Rattle.std.specs.Prelude.{◌==◌, ◌&&◌, ◌||◌, not, drop}
 use Rattle.std.specs.List.{list_any}
-use Rattle.std.proofs.Common.{◌≡◌, ℕ, Bool, true, false, List, [], ◌∷◌, ◌++◌, length, refl, sym, ap, ◌∙◌, append-nil, append_assoc}
-use Rattle.track_rule.specs.Readings.{changes}
+use Rattle.std.proofs.Common.{◌≡◌, Bool, true, false, List, [], ◌∷◌, ◌++◌, length, refl, sym, ap, ◌∙◌, append-nil, append_assoc}
 use Rattle.track_rule.specs.declared.view.Reading.{Reading}
 use Rattle.entry_pool.specs.Turn.{Waits}
 
@@ -31,6 +30,13 @@ waits_more old new r w last = record {
 pub drop_first : {X : Type 0} (xs ys : List X) → drop (length xs) (xs ++ ys) ≡ ys
 drop_first [] ys = refl
 drop_first (x ∷ xs) ys = drop_first xs ys
+
+-- after one more
+pub added_one : (old new now : List Reading) (a : Reading) (w : Waits old new) → now ≡ new ++ a ∷ []
+    → drop (length old) now ≡ w.more ++ a ∷ []
+added_one old new now a w e =
+    let all : now ≡ old ++ (w.more ++ a ∷ []) = e ∙ ap (λ rs. rs ++ a ∷ []) w.all ∙ append_assoc old w.more (a ∷ []) in
+    ap (drop (length old)) all ∙ drop_first old (w.more ++ a ∷ [])
 
 -- after two more
 pub added_two : (old new now : List Reading) (a b : Reading) (w : Waits old new) → now ≡ (new ++ a ∷ []) ++ b ∷ []

@@ -1,5 +1,5 @@
 -- A reference more, or one less, without waiting.
-use Rattle.std.specs.Prelude.{◌≡◌, ℕ, ◌<◌, Bool, true, false, List, [], ◌∷◌}
+use Rattle.std.specs.Prelude.{◌≡◌, ℕ, ◌<◌, true, false, ◌∷◌}
 use Rattle.history_book.specs.declared.outcome.ReleaseOutcome.{ReleaseOutcome}
 use Rattle.history_book.specs.declared.outcome.ReleaseOutcome.TheVariants.{Kept, Last}
 use Rattle.track_rule.specs.Layout.{refs_word}
@@ -9,7 +9,6 @@ use Rattle.track_rule.specs.Sights.{PassSight, sizes_of}
 use Rattle.track_rule.specs.Steps.{keep}
 use Rattle.track_rule.specs.Sums.{times}
 use Rattle.track_rule.specs.declared.view.Purpose.TheVariants.{Testing}
-use Rattle.track_rule.specs.declared.view.View.{View}
 use Rattle.entry_pool.specs.declared.hold.TryHold.{TryHold}
 use Rattle.entry_pool.specs.declared.hold.TryHold.TheVariants.{Held, Zero, Moved}
 

@@ -1,5 +1,5 @@
 -- A place for a new entry, and what becomes of a place that is owed.
-use Rattle.std.specs.Prelude.{◌≡◌, ℕ, ◌<◌, ◌==◌, ◌&&◌, not, Bool, true, false, Option, None, Some, List, [], ◌∷◌, length}
+use Rattle.std.specs.Prelude.{◌≡◌, ℕ, ◌<◌, ◌==◌, ◌&&◌, not, Bool, true, false, Option, None, Some, [], ◌∷◌, length}
 use Rattle.std.specs.List.{list_any}
 use Rattle.history_book.specs.declared.outcome.TakeOutcome.{TakeOutcome}
 use Rattle.history_book.specs.declared.outcome.TakeOutcome.TheVariants.{Taken, Full}
@@ -7,12 +7,11 @@ use Rattle.track_rule.specs.Free.{taken_out, unlisted}
 use Rattle.track_rule.specs.History.{events_in}
 use Rattle.track_rule.specs.Readings.{added, changes}
 use Rattle.track_rule.specs.References.{held_times}
-use Rattle.track_rule.specs.Sights.{PassSight, sizes_of}
-use Rattle.track_rule.specs.Steps.{AreAll, keep, saw}
+use Rattle.track_rule.specs.Sights.{PassSight}
+use Rattle.track_rule.specs.Steps.{AreAll, keep}
 use Rattle.track_rule.specs.Sums.{times}
 use Rattle.track_rule.specs.declared.view.Purpose.TheVariants as purpose
 use Rattle.track_rule.specs.declared.view.Reading.{Reading}
-use Rattle.track_rule.specs.declared.view.View.{View}
 
 -- The place is held, for a new entry; before the call the pass neither held nor owed it. All else is as it was.
 pub record HasTaken (place : ℕ) (v w : PassSight) : Type 0 where
@@ -56,7 +55,8 @@ abbrev pub is_below : ℕ → TakeOutcome → Type 0
 is_below entries (Taken place) = place < entries
 is_below entries (Full at) = Unit {0}
 
--- The place is free again, and no longer owed. All else is as it was.
+-- The place is free again, and no longer owed. The pass changed no word itself but the turn of the free list. All else is as
+-- it was.
 pub record Recycles (place : ℕ) (v w : PassSight) : Type 0 where
   pub same : w ≡ record v {
     view = record v.view {
@@ -67,3 +67,4 @@ pub record Recycles (place : ℕ) (v w : PassSight) : Type 0 where
       readings = w.view.readings;
     };
   }
+  pub own : changes (λ word. not (word == 1)) (added v.view w.view) ≡ false

@@ -1,6 +1,6 @@
 -- The laws of all passes.
 use Rattle.std.specs.Prelude.{min, unwrap_or, ◌==◌}
-use Rattle.std.proofs.Common.{◌≡◌, ◌≢◌, ℕ, ◌+◌, ◌<◌, ◌≤◌, true, zero, suc, Option, Some, None, List, [], refl, sym, ap, ◌∙◌, arith}
+use Rattle.std.proofs.Common.{◌≡◌, ℕ, ◌+◌, ◌<◌, ◌≤◌, true, zero, suc, Option, Some, None, List, [], refl, ap, arith}
 use Rattle.std.proofs.lemmas.Bool.{cases_lt, false≢true}
 use Rattle.std.proofs.Common.{⊎_elim}
 use Rattle.track_rule.specs.Free.{has_turn, is_among, known_free, owes, turn_of}

@@ -121,6 +121,7 @@ looks slots id v c has_some s (l, h) long at range =
             told = p.told;
             legal = h.history.legal;
             few = few;
+            passes = h.limits.passes;
             shares = omega (arith, total_term shares_of s.views id v at, h.passes.all);
             alone = λ one. p.alone one has_some;
           };

@@ -5,11 +5,13 @@
 use Rattle.std.specs.Prelude.{◌≡◌, ℕ, ◌+◌, ◌*◌, ◌%◌, ◌<◌, ◌≤◌, ◌==◌, if◌then◌else◌, bit_xor, List, [], ◌∷◌, slice_index}
 use Rattle.tuple_core.specs.Hash.{mix}
 use Rattle.tuple_core.specs.Words.{address_word, flow_word}
+use Rattle.tuple_core.specs.declared.Tuple.{Tuple}
 use Rattle.history_book.specs.declared.event.Event.{Event}
 use Rattle.history_book.specs.declared.record.Record.{Record}
 use Rattle.history_book.specs.declared.sizes.Sizes.{Sizes}
 use Rattle.track_rule.specs.declared.view.Entry.{Entry}
 use Rattle.track_rule.specs.declared.view.Hook.{Hook}
+use Rattle.track_rule.specs.declared.view.Pair.{Pair}
 use Rattle.track_rule.specs.declared.view.Shut.{Shut}
 use Rattle.track_rule.specs.declared.view.View.{View}
 use Rattle.track_rule.specs.History.{records_after}
@@ -17,17 +19,20 @@ use Rattle.track_rule.specs.Layout.{first_word, gen_at, head_word, next_word, pl
 use Rattle.track_rule.specs.Phases.{of_place}
 use Rattle.track_rule.specs.Sums.{Each, bit, total}
 
--- the bucket of two words of a tuple
-abbrev pub bucket_of : Sizes → ℕ → ℕ → ℕ
-bucket_of z first second = mix (bit_xor (mix (bit_xor first z.seed)) second) % z.buckets
+-- the bucket of the two words of a tuple, and these words
+abbrev pub bucket_of : Sizes → Pair → ℕ
+bucket_of z p = mix (bit_xor (mix (bit_xor p.first z.seed)) p.second) % z.buckets
+
+abbrev pub pair_of : Tuple → Pair
+pair_of t = record { first = address_word t; second = flow_word t }
 
 -- the link, and its tuple, stand in the words so, and the tuple belongs to the bucket
 pub record IsLinked (z : Sizes) (words : List ℕ) (bucket : ℕ) (e : Entry) : Type 0 where
   pub some : 0 < e.link
   pub below : place_of e.link < z.entries
-  pub first : slice_index words (first_word z e.link) ≡ e.first
-  pub second : slice_index words (second_word z e.link) ≡ e.second
-  pub placed : bucket_of z e.first e.second ≡ bucket
+  pub first : slice_index words (first_word z e.link) ≡ e.pair.first
+  pub second : slice_index words (second_word z e.link) ≡ e.pair.second
+  pub placed : bucket_of z e.pair ≡ bucket
 
 -- from this link on these entries follow, to the end
 abbrev pub IsChain : Sizes → List ℕ → ℕ → ℕ → List Entry → Type 0
@@ -37,17 +42,17 @@ IsChain z words bucket link (e ∷ es) =
 
 -- the two entries of a record, and that of a hook
 abbrev pub original_of : Record → Entry
-original_of r = record { link = 1 + 2 * r.place; first = address_word r.original; second = flow_word r.original }
+original_of r = record { link = 1 + 2 * r.place; pair = pair_of r.original }
 
 abbrev pub reply_of : Record → Entry
-reply_of r = record { link = 2 + 2 * r.place; first = address_word r.reply; second = flow_word r.reply }
+reply_of r = record { link = 2 + 2 * r.place; pair = pair_of r.reply }
 
 abbrev pub entry_of : Hook → Entry
-entry_of h = record { link = h.link; first = h.first; second = h.second }
+entry_of h = record { link = h.link; pair = h.pair }
 
 -- what an entry weighs in a bucket
 abbrev pub side : Sizes → ℕ → (Entry → ℕ) → Entry → ℕ
-side z bucket weight e = (if bucket_of z e.first e.second == bucket then weight e else 0)
+side z bucket weight e = (if bucket_of z e.pair == bucket then weight e else 0)
 
 -- what a record weighs in it
 abbrev pub links_in : Sizes → ℕ → (Entry → ℕ) → Record → ℕ

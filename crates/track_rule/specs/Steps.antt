@@ -28,12 +28,13 @@ keep place purpose = record { place = place; purpose = purpose }
 -- THE HISTORY WORD
 
 -- These are all events so far; they are no fewer than the pass had seen, or was told of. The pass has room for its own
--- events among those that the word can count, and has no more shares than there are passes.
+-- events among those that the word can count. There are at most 64 passes, and the pass has no more shares than these.
 pub record AreAll (v : View) (log : List Event) : Type 0 where
   pub front : StartsWith log v.seen.front
   pub told : StartsWith log v.seen.told
   pub legal : is_legal v.passes.sizes log ≡ true
   pub few : length log + (2 ^ 30 - length v.seen.own) ≤ 2 ^ 30 * v.passes.sizes.passes
+  pub passes : v.passes.sizes.passes ≤ 64
   pub shares : v.passes.shares + v.passes.returned ≤ v.passes.sizes.passes
   pub alone : v.passes.sizes.passes ≡ 1 → v.seen.own ≡ notes_from 0 log
 

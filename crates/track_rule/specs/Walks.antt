@@ -26,7 +26,7 @@ abbrev pub Matches : List Met → List Entry → Type 0
 Matches [] [] = Unit {0}
 Matches [] (e ∷ es) = ⊥
 Matches (m ∷ ms) [] = ⊥
-Matches (m ∷ ms) (e ∷ es) = (m.link ≡ e.link) × IsRead m.first e.first × IsRead m.second e.second × Matches ms es
+Matches (m ∷ ms) (e ∷ es) = (m.link ≡ e.link) × IsRead m.first e.pair.first × IsRead m.second e.pair.second × Matches ms es
 
 -- what was met begins the chain, and is all of it where the end was met
 pub record Stands (chain : List Entry) (n : Walk) : Type 0 where

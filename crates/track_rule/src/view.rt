@@ -57,11 +57,16 @@ pub struct Places {
     pub carried: LinkedList<u32>,
 }
 
-/// A link of a chain, and the two words of its tuple.
-pub struct Entry {
-    pub link: u64,
+/// The two words of a tuple.
+pub struct Pair {
     pub first: u64,
     pub second: u64,
+}
+
+/// A link of a chain, and its tuple.
+pub struct Entry {
+    pub link: u64,
+    pub pair: Pair,
 }
 
 /// A bucket that a pass has shut, and its chain.
@@ -73,8 +78,7 @@ pub struct Shut {
 /// A link of a place that a pass has taken, or whose entry it is about to destroy.
 pub struct Hook {
     pub link: u64,
-    pub first: u64,
-    pub second: u64,
+    pub pair: Pair,
     /// What the word of the next link has, where the pass stored it.
     pub next: Option<u64>,
     /// Whether the link stands in its chain.

@@ -1,4 +1,4 @@
-use Rattle.std.proofs.Common.{◌≡◌, ◌<◌, subst, ap, sym}
+use Rattle.std.proofs.Common.{◌<◌, subst, ap, sym}
 use Rattle.track_rule.specs.Sights.{sizes_of}
 use Rattle.entry_pool.proofs.Taking.{can_give_none, can_give_taken, full_is, place_below, taken_is}
 use Rattle.entry_pool.proofs.take.take.Goals as goal

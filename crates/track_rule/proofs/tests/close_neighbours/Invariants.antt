@@ -1,4 +1,4 @@
-use Rattle.std.proofs.Common.{◌<◌, ◌≤◌, ◌+◌, ◌-◌, length}
+use Rattle.std.proofs.Common.{◌≤◌, ◌+◌, ◌-◌, length}
 use Rattle.track_rule.proofs.tests.close_neighbours.Given as goal
 
 abbrev pub invariant-places : goal.invariant-places
