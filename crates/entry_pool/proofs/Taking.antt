@@ -6,6 +6,7 @@ use Rattle.std.proofs.lemmas.Bool.{cases_Bool, cases_eq, cases_lt, eq-eqb}
 use Rattle.room_list.specs.Roomed.{Roomed}
 use Rattle.track_rule.specs.Free.{is_among, known_free, taken_out, unlisted}
 use Rattle.track_rule.specs.History.{events_in}
+use Rattle.track_rule.specs.Layout.{refs_word}
 use Rattle.track_rule.specs.Readings.{added, stored}
 use Rattle.track_rule.specs.Sights.{PassSight, sizes_of}
 use Rattle.track_rule.specs.Slots.{given_back}
@@ -25,7 +26,7 @@ use Rattle.track_rule.specs.declared.view.View.{View}
 use Rattle.entry_pool.specs.Take.{HasTaken, IsFull, Recycles, says_empty}
 use Rattle.entry_pool.specs.Turn.{HasList}
 use Rattle.entry_pool.proofs.Lists.{among_push, none_of, other_bit, other_taken, same_bit, same_taken, some_of, times_push, total_none, total_some, unlisted_in, unlisted_none, unlisted_out, unlisted_push, unlisted_same}
-use Rattle.entry_pool.proofs.Waiting.{added_one, added_two, any_at, any_more}
+use Rattle.entry_pool.proofs.Waiting.{added_one, added_two, any_at, any_more, stands_one, stands_two}
 
 -- a pass by its parts
 made_of : (w x : PassSight) → w ≡ x → (seen : Seen) → x.view.seen ≡ seen → (places : Places) → x.view.places ≡ places
@@ -127,6 +128,8 @@ module _ (v u : PassSight) (list : Roomed ℕ) (h : HasList v u list) where
                   owed = unlisted_none left.items v.view.places.owed off_left k;
                   clear = unlisted_none left.items v.view.places.clear (λ q any. off_left q (h.right.clear q any)) k;
                 }) v.view.free (sym calm);
+            stand = stands_two v.view.readings u.view.readings w.view.readings (stored (refs_word (sizes_of v) place) 1) (stored 1 0) h.waits
+                (ap (λ (y : PassSight). y.view.readings) x);
             held = ap (λ (y : PassSight). held_times place y.view.places.held) (sym h.same) ∙ o.held;
             owed = ap (λ (y : PassSight). times place y.view.places.owed) (sym h.same) ∙ o.owed;
           }
@@ -179,6 +182,8 @@ module _ (v u : PassSight) (list : Roomed ℕ) (h : HasList v u list) where
                   owed = unlisted_none left.items v.view.places.owed (λ q any. ap (is_among q) none_left) k;
                   clear = unlisted_none left.items v.view.places.clear (λ q any. ap (is_among q) none_left) k;
                 }) v.view.free (sym calm);
+            stand = stands_two v.view.readings u.view.readings w.view.readings look_reading (stored 1 0) h.waits
+                (ap (λ (y : PassSight). y.view.readings) x);
             all = subst (AreAll v.view) (sym ef) (record {
               front = subst (λ (s : Seen). StartsWith front s.front) same_seen o.all.front;
               told = subst (λ (s : Seen). StartsWith front s.told) same_seen o.all.told;
@@ -263,6 +268,7 @@ module _ (v u : PassSight) (list : Roomed ℕ) (h : HasList v u list) where
                     ∙ unlisted_same (list.items ++ place ∷ []) (place ∷ []) v.view.places.clear (λ p any.
                     among_push place p list.items ∙ ap (λ b. b || (place == p || false)) (off_list p (h.right.clear p any)))) k;
               }) v.view.free (sym calm);
+          stand = stands_one v.view.readings u.view.readings w.view.readings (stored 1 0) h.waits (ap (λ (y : PassSight). y.view.readings) x);
           own = ap (list_any not_turn) (added_one v.view.readings u.view.readings w.view.readings (stored 1 0) h.waits (ap (λ (y : PassSight). y.view.readings) x))
               ∙ any_more not_turn h.waits.more (stored 1 0) h.waits.own refl;
         }

@@ -31,6 +31,20 @@ pub drop_first : {X : Type 0} (xs ys : List X) → drop (length xs) (xs ++ ys) �
 drop_first [] ys = refl
 drop_first (x ∷ xs) ys = drop_first xs ys
 
+-- those before stand in front of what was added
+pub stands_before : {X : Type 0} (old now more : List X) → now ≡ old ++ more → now ≡ old ++ drop (length old) now
+stands_before old now more e = e ∙ ap (λ rs. old ++ rs) (sym (ap (drop (length old)) e ∙ drop_first old more))
+
+pub stands_one : (old new now : List Reading) (a : Reading) → Waits old new → now ≡ new ++ a ∷ [] → now ≡ old ++ drop (length old) now
+stands_one old new now a w e =
+    stands_before old now (w.more ++ a ∷ []) (e ∙ ap (λ rs. rs ++ a ∷ []) w.all ∙ append_assoc old w.more (a ∷ []))
+
+pub stands_two : (old new now : List Reading) (a b : Reading) → Waits old new → now ≡ (new ++ a ∷ []) ++ b ∷ [] → now ≡ old ++ drop (length old) now
+stands_two old new now a b w e =
+    stands_before old now ((w.more ++ a ∷ []) ++ b ∷ [])
+    (e ∙ ap (λ rs. (rs ++ a ∷ []) ++ b ∷ []) w.all ∙ ap (λ rs. rs ++ b ∷ []) (append_assoc old w.more (a ∷ []))
+    ∙ append_assoc old (w.more ++ a ∷ []) (b ∷ []))
+
 -- after one more
 pub added_one : (old new now : List Reading) (a : Reading) (w : Waits old new) → now ≡ new ++ a ∷ []
     → drop (length old) now ≡ w.more ++ a ∷ []

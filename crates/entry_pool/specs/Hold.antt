@@ -9,6 +9,7 @@ use Rattle.track_rule.specs.Sights.{PassSight, sizes_of}
 use Rattle.track_rule.specs.Steps.{keep}
 use Rattle.track_rule.specs.Sums.{times}
 use Rattle.track_rule.specs.declared.view.Purpose.TheVariants.{Testing}
+use Rattle.entry_pool.specs.GoesOn.{ReadingsStand}
 use Rattle.entry_pool.specs.declared.hold.TryHold.{TryHold}
 use Rattle.entry_pool.specs.declared.hold.TryHold.TheVariants.{Held, Zero, Moved}
 
@@ -20,11 +21,13 @@ pub record HoldsMore (place : ℕ) (v w : PassSight) : Type 0 where
       readings = w.view.readings;
     };
   }
+  pub stand : ReadingsStand v w
   pub owed : times place v.view.places.owed ≡ 0
 
 -- The pass has only read: it changed no word, and all that it holds and owes is as it was.
 pub record OnlyReads (v w : PassSight) : Type 0 where
   pub same : w ≡ record v { view = record v.view { readings = w.view.readings } }
+  pub stand : ReadingsStand v w
   pub own : changes (λ word. true) (added v.view w.view) ≡ false
 
 -- A reading of the references word in this call gave 0.

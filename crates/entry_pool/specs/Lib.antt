@@ -1,3 +1,4 @@
 pub mod Turn
+pub mod GoesOn
 pub mod Take
 pub mod Hold

@@ -12,6 +12,7 @@ use Rattle.track_rule.specs.Steps.{AreAll, keep}
 use Rattle.track_rule.specs.Sums.{times}
 use Rattle.track_rule.specs.declared.view.Purpose.TheVariants as purpose
 use Rattle.track_rule.specs.declared.view.Reading.{Reading}
+use Rattle.entry_pool.specs.GoesOn.{ReadingsStand}
 
 -- The place is held, for a new entry; before the call the pass neither held nor owed it. All else is as it was.
 pub record HasTaken (place : ℕ) (v w : PassSight) : Type 0 where
@@ -21,6 +22,7 @@ pub record HasTaken (place : ℕ) (v w : PassSight) : Type 0 where
       readings = w.view.readings;
     };
   }
+  pub stand : ReadingsStand v w
   pub held : held_times place v.view.places.held ≡ 0
   pub owed : times place v.view.places.owed ≡ 0
 
@@ -41,6 +43,7 @@ pub record IsFull (at : ℕ) (v w : PassSight) : Type 0 where
       readings = w.view.readings;
     };
   }
+  pub stand : ReadingsStand v w
   pub all : AreAll v.view w.view.seen.front
   pub point : at ≡ length w.view.seen.front
   pub empty : list_any (says_empty at) (added v.view w.view) ≡ true
@@ -67,4 +70,5 @@ pub record Recycles (place : ℕ) (v w : PassSight) : Type 0 where
       readings = w.view.readings;
     };
   }
+  pub stand : ReadingsStand v w
   pub own : changes (λ word. not (word == 1)) (added v.view w.view) ≡ false
