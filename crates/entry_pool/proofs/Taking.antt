@@ -39,10 +39,10 @@ made_of w x e seen es places ep free ef k = record {
     seen = (ap (λ (y : PassSight). y.view.seen) e ∙ es) k;
     places = (ap (λ (y : PassSight). y.view.places) e ∙ ep) k;
     free = (ap (λ (y : PassSight). y.view.free) e ∙ ef) k;
-    stand = ap (λ (y : PassSight). y.view.stand) e k;
+    buckets = ap (λ (y : PassSight). y.view.buckets) e k;
     commit = ap (λ (y : PassSight). y.view.commit) e k;
-    deck = ap (λ (y : PassSight). y.view.deck) e k;
-    note = ap (λ (y : PassSight). y.view.note) e k;
+    expected = ap (λ (y : PassSight). y.view.expected) e k;
+    walk = ap (λ (y : PassSight). y.view.walk) e k;
     readings = w.view.readings;
   };
   slots = ap (λ (y : PassSight). y.slots) e k;

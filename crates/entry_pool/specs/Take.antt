@@ -54,9 +54,9 @@ TakeSays (Taken place) v w = HasTaken place v w
 TakeSays (Full at) v w = IsFull at v w
 
 -- the place that was taken, or none
-abbrev pub is_below : ℕ → TakeOutcome → Type 0
-is_below entries (Taken place) = place < entries
-is_below entries (Full at) = Unit {0}
+abbrev pub IsBelow : ℕ → TakeOutcome → Type 0
+IsBelow entries (Taken place) = place < entries
+IsBelow entries (Full at) = Unit {0}
 
 -- The place is free again, and no longer owed. The pass changed no word itself but the turn of the free list. All else is as
 -- it was.

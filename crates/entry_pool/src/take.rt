@@ -1,7 +1,7 @@
 //! Places for new entries.
 
 ghost use Rattle.std.specs.Prelude.{◌≡◌, ◌+◌, ◌≤◌, true, None, length};
-ghost use Rattle.entry_pool.specs.Take.{Recycles, TakeSays, is_below};
+ghost use Rattle.entry_pool.specs.Take.{IsBelow, Recycles, TakeSays};
 ghost use Rattle.track_rule.specs.Free.{is_among};
 ghost use Rattle.track_rule.specs.History.{events_in};
 ghost use Rattle.track_rule.specs.Sights.{sizes_of};
@@ -23,7 +23,7 @@ pub fn take<R: Wait>(rt: &R, pass: &mut Pass) -> TakeOutcome
     requires calm { pass.old.view.free ≡ None }
     requires few { length pass.old.view.places.held + length pass.old.view.places.owed ≤ 3 }
     ensures says { TakeSays result pass.old pass.new }
-    ensures below { is_below (sizes_of pass.old).entries result }
+    ensures below { IsBelow (sizes_of pass.old).entries result }
 {
     let mut list = take_list(rt, pass);
     match list.pop() {

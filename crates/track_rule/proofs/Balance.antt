@@ -22,7 +22,7 @@ use Rattle.track_rule.specs.References.{AreReferences, held_times, keeps, table_
 use Rattle.track_rule.specs.Rule.{IsKept, Ledger}
 use Rattle.track_rule.specs.Sums.{Each, bit, times, total}
 use Rattle.track_rule.proofs.Carried.{carries_set}
-use Rattle.track_rule.proofs.Frames.{Quiet, Stays, kept, no_commit, no_stand}
+use Rattle.track_rule.proofs.Frames.{Quiet, Stays, kept, no_commit, no_buckets}
 use Rattle.track_rule.proofs.Lists.{total_long}
 use Rattle.track_rule.proofs.Sums.{each_other, each_put, total_le, total_same, total_set, total_times, total_two}
 
@@ -31,10 +31,10 @@ pub record Moves (v w : View) : Type 0 where
   pub passes : w.passes ≡ v.passes
   pub own : w.seen.own ≡ v.seen.own
   pub gathered : w.seen.gathered ≡ v.seen.gathered
-  pub stand : w.stand ≡ v.stand
+  pub buckets : w.buckets ≡ v.buckets
   pub commit : w.commit ≡ v.commit
-  pub deck : w.deck ≡ v.deck
-  pub note : w.note ≡ v.note
+  pub expected : w.expected ≡ v.expected
+  pub walk : w.walk ≡ v.walk
 
 -- a pass with some shares that has seen so much
 pub pass_moved : (z : Sizes) (log : List Event) (v w : View) → IsPass z log v → Moves v w → 0 < v.passes.shares
@@ -75,10 +75,10 @@ pub moved : (z : Sizes) (l : Ledger) (s : State Slot View) (id : ℕ) (v w : Vie
 moved z l s id v w ws' hs' free' h at m p quiet long homes references free_list =
     kept z l s ws' hs' (set s.views id w) free' h quiet long homes
     (record {
-      stand = carries_set (λ (u : View). u.stand) no_stand s.views id v w at m.stand;
+      buckets = carries_set (λ (u : View). u.buckets) no_buckets s.views id v w at m.buckets;
       commit = carries_set (λ (u : View). u.commit) no_commit s.views id v w at m.commit;
-      deck = carries_set (λ (u : View). u.deck) None s.views id v w at m.deck;
-      note = (carries_set (λ (u : View). u.note) None s.views id v w at m.note).each;
+      expected = carries_set (λ (u : View). u.expected) None s.views id v w at m.expected;
+      walk = (carries_set (λ (u : View). u.walk) None s.views id v w at m.walk).each;
     })
     (passes_moved z l.log s.views id v w at m p h.passes) references free_list
 

@@ -10,7 +10,7 @@ use Rattle.track_rule.specs.declared.slot.Slot.{Slot}
 use Rattle.track_rule.specs.declared.view.Commit.{Commit}
 use Rattle.track_rule.specs.declared.view.Entry.{Entry}
 use Rattle.track_rule.specs.declared.view.Middle.TheVariants.{Calm}
-use Rattle.track_rule.specs.declared.view.Stand.{Stand}
+use Rattle.track_rule.specs.declared.view.HeldBuckets.{HeldBuckets}
 use Rattle.track_rule.specs.declared.view.View.{View}
 use Rattle.track_rule.specs.declared.view.Walk.{Walk}
 use Rattle.track_rule.specs.Chains.{AreChains, IsChain, chain_in, entry_of, links_in, side}
@@ -18,7 +18,7 @@ use Rattle.history_book.specs.State.{record_of}
 use Rattle.history_book.specs.declared.record.Record.{Record}
 use Rattle.track_rule.specs.declared.view.Hook.{Hook}
 use Rattle.track_rule.specs.declared.view.Shut.{Shut}
-use Rattle.track_rule.specs.Expected.{AreExpected, deck_turn}
+use Rattle.track_rule.specs.Expected.{AreExpected, expected_turn}
 use Rattle.track_rule.specs.History.{IsHistory, records_after, state_after}
 use Rattle.track_rule.specs.Layout.{first_word, gen_at, gen_word, head_word, next_word, phase_at, phase_word, record_slot, refs_word, second_word, turn_at, turn_word}
 use Rattle.track_rule.specs.Passes.{ArePasses}
@@ -41,18 +41,18 @@ Quiet z ws ws' = (k : ℕ) → k ≢ 1 → ((p : ℕ) → k ≢ refs_word z p) �
 abbrev pub Stays : List (Slotted Slot) → List (Slotted Slot) → Type 0
 Stays hs hs' = (k : ℕ) → k ≢ 0 → get_elem? hs' k ≡ get_elem? hs k
 
-abbrev pub no_stand : Stand
-no_stand = record { shut = []; hooks = [] }
+abbrev pub no_buckets : HeldBuckets
+no_buckets = record { shut = []; hooks = [] }
 
 abbrev pub no_commit : Commit
 no_commit = record { hand = None; middle = Calm }
 
 -- what of a view the pool's steps leave
 pub record Leaves (vs vs' : List View) : Type 1 where
-  pub stand : Carries (λ (v : View). v.stand) no_stand vs vs'
+  pub buckets : Carries (λ (v : View). v.buckets) no_buckets vs vs'
   pub commit : Carries (λ (v : View). v.commit) no_commit vs vs'
-  pub deck : Carries (λ (v : View). v.deck) None vs vs'
-  pub note : (P : Option Walk → Type 0) → P None → Each (λ v. P v.note) vs → Each (λ v. P v.note) vs'
+  pub expected : Carries (λ (v : View). v.expected) None vs vs'
+  pub walk : (P : Option Walk → Type 0) → P None → Each (λ v. P v.walk) vs → Each (λ v. P v.walk) vs'
 
 module _ (z : Sizes) (ws ws' : List ℕ) (quiet : Quiet z ws ws') where
   same_phase : (p : ℕ) → phase_at z ws' p ≡ phase_at z ws p
@@ -123,21 +123,21 @@ module _ (z : Sizes) (ws ws' : List ℕ) (quiet : Quiet z ws ws') where
         (chain_stays b (slice_index ws (head_word z b)) (chains b) (h.linked b below));
     gens = λ b below.
         ap (λ (n : ℕ). n % 2) (same_gen b below) ∙ h.gens b below
-        ∙ sym (leaves.stand.sums (λ (s : Stand). total (λ (x : Shut). bit (x.bucket == b)) s.shut) refl);
+        ∙ sym (leaves.buckets.sums (λ (s : HeldBuckets). total (λ (x : Shut). bit (x.bucket == b)) s.shut) refl);
     mine = λ b below.
-        leaves.stand.each (λ (s : Stand). 0 < total (λ (x : Shut). bit (x.bucket == b)) s.shut → chain_in b s.shut ≡ chains b)
+        leaves.buckets.each (λ (s : HeldBuckets). 0 < total (λ (x : Shut). bit (x.bucket == b)) s.shut → chain_in b s.shut ≡ chains b)
         (λ some. absurd (omega (arith, some))) (h.mine b below);
     chained = λ b below weight.
         h.chained b below weight
         ∙ ap (λ (n : ℕ). total (links_in z b weight) (records_after log) + n)
-        (sym (leaves.stand.sums (λ (s : Stand). total (λ (x : Hook). (if x.up then side z b weight (entry_of x) else 0)) s.hooks) refl));
+        (sym (leaves.buckets.sums (λ (s : HeldBuckets). total (λ (x : Hook). (if x.up then side z b weight (entry_of x) else 0)) s.hooks) refl));
     lone = λ link some.
-        omega (arith, h.lone link some, leaves.stand.sums (λ (s : Stand). total (λ (x : Hook). bit (x.link == link)) s.hooks) refl);
+        omega (arith, h.lone link some, leaves.buckets.sums (λ (s : HeldBuckets). total (λ (x : Hook). bit (x.link == link)) s.hooks) refl);
   }
 
   walks_stay : (vs vs' : List View) (chains : ℕ → List Entry) → Leaves vs vs' → AreWalks z ws vs chains → AreWalks z ws' vs' chains
   walks_stay vs vs' chains leaves h = record {
-    each = leaves.note (λ (o : Option Walk). (n : Walk) → o ≡ Some n → IsWalk z ws' chains n) (λ n e. absurd (none-some n e)) (λ i v at n e. walk_stays n (h.each i v at n e));
+    each = leaves.walk (λ (o : Option Walk). (n : Walk) → o ≡ Some n → IsWalk z ws' chains n) (λ n e. absurd (none-some n e)) (λ i v at n e. walk_stays n (h.each i v at n e));
   }
     where
       walk_stays : (n : Walk) → IsWalk z ws chains n → IsWalk z ws' chains n
@@ -150,12 +150,12 @@ module _ (z : Sizes) (ws ws' : List ℕ) (quiet : Quiet z ws ws') where
   expected_stay : (log : List Event) (hs hs' : List (Slotted Slot)) (vs vs' : List View) → Stays hs hs' → Leaves vs vs'
       → AreExpected z log ws hs vs → AreExpected z log ws' hs' vs'
   expected_stay log hs hs' vs vs' homes leaves h = record {
-    turn = same_turn ∙ h.turn ∙ sym (leaves.deck.sums deck_turn refl);
+    turn = same_turn ∙ h.turn ∙ sym (leaves.expected.sums expected_turn refl);
     single = omega (arith, h.single, same_turn);
     home = λ calm.
         let r = h.home (sym same_turn ∙ calm) in
         record { table = r.table; there = homes 1 (λ e. omega (arith, e)) ∙ r.there; same = r.same; room = r.room };
-    away = leaves.deck.each (λ (o : Option (List Expectation)). (list : List Expectation) → o ≡ Some list → list ≡ (state_after log).expects)
+    away = leaves.expected.each (λ (o : Option (List Expectation)). (list : List Expectation) → o ≡ Some list → list ≡ (state_after log).expects)
         (λ list e. absurd (none-some list e)) h.away;
   }
     where

@@ -24,7 +24,7 @@ use Rattle.track_rule.specs.Rule.{Holds, IsKept, Ledger}
 use Rattle.track_rule.specs.Shares.{IsLast, further, joined, shares_left, spent_view}
 use Rattle.track_rule.specs.Sums.{bit, times, total}
 use Rattle.track_rule.proofs.Carried.{Carries, carries_cut, carries_join}
-use Rattle.track_rule.proofs.Frames.{Leaves, kept, no_commit, no_stand}
+use Rattle.track_rule.proofs.Frames.{Leaves, kept, no_commit, no_buckets}
 use Rattle.track_rule.proofs.Loads.{few_events, word_events, word_live}
 use Rattle.track_rule.proofs.Sums.{each_more, each_put, total_append, total_only, total_same, total_set, total_term, total_two}
 
@@ -132,10 +132,10 @@ splits z id shares v has_some fewer s (l, h) at =
             made = λ weight. h.passes.made weight ∙ sym (total_cut (made_weight weight) s.views id v left right at (omega arith));
           })
           (record {
-            stand = carries_cut (λ (u : View). u.stand) no_stand s.views id v left right at refl refl;
+            buckets = carries_cut (λ (u : View). u.buckets) no_buckets s.views id v left right at refl refl;
             commit = carries_cut (λ (u : View). u.commit) no_commit s.views id v left right at refl refl;
-            deck = carries_cut (λ (u : View). u.deck) None s.views id v left right at refl refl;
-            note = (carries_cut (λ (u : View). u.note) None s.views id v left right at refl refl).each;
+            expected = carries_cut (λ (u : View). u.expected) None s.views id v left right at refl refl;
+            walk = (carries_cut (λ (u : View). u.walk) None s.views id v left right at refl refl).each;
           })
           (carries_cut (λ (u : View). u.places) no_places s.views id v left right at refl refl)
           (carries_cut (λ (u : View). u.free) None s.views id v left right at refl refl),
@@ -191,7 +191,7 @@ pass_spent z log = record {
       hooks = refl;
       hand = refl;
       middle = refl;
-      deck = refl;
+      expected = refl;
     };
   };
 }
@@ -230,13 +230,13 @@ joins z id other v w has_some has_other none s (l, h) at apart at' =
                 (omega (arith, total_append weight (v.seen.gathered ++ w.seen.own) w.seen.gathered, total_append weight v.seen.gathered w.seen.own)));
           })
           (record {
-            stand = carries_join (λ (u : View). u.stand) no_stand s.views id other v w both spent_view at at' refl
+            buckets = carries_join (λ (u : View). u.buckets) no_buckets s.views id other v w both spent_view at at' refl
                 (λ k. record { shut = none.shut k; hooks = none.hooks k }) refl;
             commit = carries_join (λ (u : View). u.commit) no_commit s.views id other v w both spent_view at at' refl
                 (λ k. record { hand = none.hand k; middle = none.middle k }) refl;
-            deck = carries_join (λ (u : View). u.deck) None s.views id other v w both spent_view at at' refl none.deck refl;
-            note = λ P base all. each_put (λ (u : View). P u.note) vs other spent_view
-                (each_put (λ (u : View). P u.note) s.views id both all (all id v at)) base;
+            expected = carries_join (λ (u : View). u.expected) None s.views id other v w both spent_view at at' refl none.expected refl;
+            walk = λ P base all. each_put (λ (u : View). P u.walk) vs other spent_view
+                (each_put (λ (u : View). P u.walk) s.views id both all (all id v at)) base;
           })
           (carries_join (λ (u : View). u.places) no_places s.views id other v w both spent_view at at' refl
           (λ k. record { held = none.held k; owed = none.owed k; clear = none.clear k; carried = none.carried k }) refl)

@@ -106,7 +106,7 @@ looks slots id v c has_some s (l, h) long at range =
     let z : Sizes = v.passes.sizes in
     let w : View = noted (found_history (slice_index s.words 0) v) (saw l.log v) in
     let p : IsPass z l.log v = h.passes.each id v at in
-    let m : Moves v w = record { passes = refl; own = refl; gathered = refl; stand = refl; commit = refl; deck = refl; note = refl } in
+    let m : Moves v w = record { passes = refl; own = refl; gathered = refl; buckets = refl; commit = refl; expected = refl; walk = refl } in
     let few = few_events z l.log s.views h.passes id v at has_some in
     let low : length l.log < 2 ^ 40 = omega (arith, few, h.limits.passes) in (
       w,
@@ -153,7 +153,7 @@ loads slots id p v c below has_some s (l, h) long at range =
     let n : ℕ = slice_index s.words (refs_word z p) in
     let w : View = noted (found (refs_word z p) n) v in
     let one : IsPass z l.log v = h.passes.each id v at in
-    let m : Moves v w = record { passes = refl; own = refl; gathered = refl; stand = refl; commit = refl; deck = refl; note = refl } in
+    let m : Moves v w = record { passes = refl; own = refl; gathered = refl; buckets = refl; commit = refl; expected = refl; walk = refl } in
     let told = refs_told z l s id p v h at below in (
       w,
       unchanged,

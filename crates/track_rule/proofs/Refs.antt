@@ -139,7 +139,7 @@ opening slots id p v c below has_some on room s (l, h) sized at range =
       (
         record l { free = taken_out p (known_free v) },
         counts z l s id p 1 v w (taken_out p (known_free v)) h at has_some below (record {
-          moves = record { passes = refl; own = refl; gathered = refl; stand = refl; commit = refl; deck = refl; note = refl };
+          moves = record { passes = refl; own = refl; gathered = refl; buckets = refl; commit = refl; expected = refl; walk = refl };
           seen = refl;
           keeps_here = omega (arith, nobody, same_bit p p refl);
           keeps_else = λ q other. omega (arith, other_bit p q (λ e. other (sym e)));
@@ -203,7 +203,7 @@ module _ (slots id p seen : ℕ) (v : View) (c : List (ℕ × Slot)) (below : p 
       let not_owed : owes p v ≡ 0 =
       none_owed (times p l.free) (total (owes p) s.views) (owes p v) (refs_at v.passes.sizes s.words p) once owing (omega (arith, hit, some_seen)) in (
         counts v.passes.sizes l s id p (seen + 1) v (raised p seen v) l.free h at has_some below (record {
-          moves = record { passes = refl; own = refl; gathered = refl; stand = refl; commit = refl; deck = refl; note = refl };
+          moves = record { passes = refl; own = refl; gathered = refl; buckets = refl; commit = refl; expected = refl; walk = refl };
           seen = refl;
           keeps_here = omega (arith, hit, same_bit p p refl);
           keeps_else = λ q other. omega (arith, other_bit p q (λ e. other (sym e)));
@@ -231,7 +231,7 @@ module _ (slots id p seen : ℕ) (v : View) (c : List (ℕ × Slot)) (below : p 
   read_missed n e =
       let w : View = noted (found (refs_word v.passes.sizes p) n) v in
       let one : IsPass v.passes.sizes l.log v = h.passes.each id v at in
-      let m : Moves v w = record { passes = refl; own = refl; gathered = refl; stand = refl; commit = refl; deck = refl; note = refl } in
+      let m : Moves v w = record { passes = refl; own = refl; gathered = refl; buckets = refl; commit = refl; expected = refl; walk = refl } in
       reads v.passes.sizes l s id (refs_word v.passes.sizes p) v w h at m (pass_moved v.passes.sizes l.log v w one m has_some one.front one.told) refl refl
 
 pub raising : (slots id p seen : ℕ) (v : View) (c : List (ℕ × Slot)) → p < v.passes.sizes.entries → 0 < v.passes.shares → 0 < seen
@@ -313,7 +313,7 @@ lowering slots id p v c below has_some held free_of s (l, h) sized at range =
         l,
         subst (λ (k : ℕ). IsKept z l (record { words = slice_set s.words (refs_word z p) k; homes = s.homes; views = set s.views id w })) (sym next)
             (counts z l s id p (n - 1) v w l.free h at has_some below (record {
-              moves = record { passes = refl; own = refl; gathered = refl; stand = refl; commit = refl; deck = refl; note = refl };
+              moves = record { passes = refl; own = refl; gathered = refl; buckets = refl; commit = refl; expected = refl; walk = refl };
               seen = refl;
               keeps_here = omega (arith, some_left, less);
               keeps_else = λ q other. omega (arith, other_without p q v.places.held held (λ e. other (sym e)));

@@ -17,7 +17,7 @@ use Rattle.track_rule.specs.declared.view.View.{View}
 use Rattle.track_rule.specs.Layout.{IsTable}
 use Rattle.track_rule.specs.Passes.{HasNothing}
 use Rattle.track_rule.specs.Sights.{IsAt, PassSight, sight_at}
-use Rattle.track_rule.specs.Slots.{AllSuit, deck_number, free_at, free_in, free_number, hand_number, list_in, no_list, numbers, numbers_of, slot_of_free, suits}
+use Rattle.track_rule.specs.Slots.{AllSuit, expected_number, free_at, free_in, free_number, hand_number, list_in, no_list, numbers, numbers_of, slot_of_free, suits}
 use Rattle.track_rule.specs.Free.{is_among, known_free}
 use Rattle.track_rule.specs.Steps.{Opens, RaisesRefs}
 
@@ -61,7 +61,7 @@ first_number (n ∷ ns) = n
 -- the place of a slot that is out, where the pass has the turn of the free list
 pub free_out : (me : Me Slot View) → is_some me.0.free ≡ true → numbers me.1 ≡ numbers_of me.0 → AllSuit me.1
     → (x : Slot) × (me.1 ≡ (0, x) ∷ rest me.1) × (x ≡ slot_of_free (free_in x))
-free_out me turn carries suit = first_out me.0.free me.0.commit.hand me.0.deck me.1 turn carries suit
+free_out me turn carries suit = first_out me.0.free me.0.commit.hand me.0.expected me.1 turn carries suit
   where
     own_slot : (x : Slot) → suits 0 x ≡ true → x ≡ slot_of_free (free_in x)
     own_slot Vacant e = refl
@@ -69,12 +69,12 @@ free_out me turn carries suit = first_out me.0.free me.0.commit.hand me.0.deck m
     own_slot (Expects table) e = absurd (false≢true e)
     own_slot (Subject r) e = absurd (false≢true e)
 
-    first_out : (free : Option (List ℕ)) (hand : Option Hand) (deck : Option (List Expectation)) (slots : List (ℕ × Slot)) → is_some free ≡ true
-        → numbers slots ≡ free_number free ++ hand_number hand ++ deck_number deck → AllSuit slots
+    first_out : (free : Option (List ℕ)) (hand : Option Hand) (expected : Option (List Expectation)) (slots : List (ℕ × Slot)) → is_some free ≡ true
+        → numbers slots ≡ free_number free ++ hand_number hand ++ expected_number expected → AllSuit slots
         → (x : Slot) × (slots ≡ (0, x) ∷ rest slots) × (x ≡ slot_of_free (free_in x))
-    first_out None hand deck slots e same suit = absurd (false≢true e)
-    first_out (Some free) hand deck [] e same suit = absurd (omega (arith, ap length same))
-    first_out (Some free) hand deck (s ∷ slots) e same suit =
+    first_out None hand expected slots e same suit = absurd (false≢true e)
+    first_out (Some free) hand expected [] e same suit = absurd (omega (arith, ap length same))
+    first_out (Some free) hand expected (s ∷ slots) e same suit =
         let zero_is : s.0 ≡ 0 = ap first_number same in (
           s.1,
           (λ k. (zero_is k, s.1) ∷ slots),
@@ -86,7 +86,7 @@ pub none_out : (me : Me Slot View) → HasNothing me.0 → numbers me.1 ≡ numb
 none_out me none same = none_of me.1 (same ∙ none_number me.0 none)
   where
     none_number : (v : View) → HasNothing v → numbers_of v ≡ []
-    none_number v n = λ k. free_number (n.free k) ++ hand_number (n.hand k) ++ deck_number (n.deck k)
+    none_number v n = λ k. free_number (n.free k) ++ hand_number (n.hand k) ++ expected_number (n.expected k)
 
     none_of : (slots : List (ℕ × Slot)) → numbers slots ≡ [] → slots ≡ []
     none_of [] e = refl
@@ -97,7 +97,7 @@ pub opened_at : (place : ℕ) (v w : View) → is_among place (known_free v) ≡
     → (w.passes ≡ v.passes) × (numbers_of w ≡ numbers_of v)
 opened_at place v w on o = (
   ap (λ (x : View). x.passes) o.view,
-  ap numbers_of o.view ∙ ap (λ (ns : List ℕ). ns ++ hand_number v.commit.hand ++ deck_number v.deck) (has_list v.free on),
+  ap numbers_of o.view ∙ ap (λ (ns : List ℕ). ns ++ hand_number v.commit.hand ++ expected_number v.expected) (has_list v.free on),
 )
   where
     has_list : (free : Option (List ℕ)) → is_among place (unwrap_or free []) ≡ true → 0 ∷ [] ≡ free_number free

@@ -133,16 +133,16 @@ starts z list table limits whole nothing room =
         chains = record {
           linked = λ b below. word (head_word z b);
           gens = λ b below. ap (λ (n : ℕ). n % 2) (word (gen_word z b));
-          mine = λ b below. one_view z (λ v. 0 < shuts_of b v → chain_in b v.stand.shut ≡ []) (λ any. absurd (omega (arith, any)));
+          mine = λ b below. one_view z (λ v. 0 < shuts_of b v → chain_in b v.buckets.shut ≡ []) (λ any. absurd (omega (arith, any)));
           chained = λ b below weight. omega (arith, ap (total (links_in z b weight)) no_records);
           lone = λ link any. omega (arith, ap (total (of_place (place_of link))) no_records);
         };
-        walks = record { each = one_view z (λ v. (n : Walk) → v.note ≡ Some n → IsWalk z ws l.chains n) (λ n e. absurd (none-some n e)) };
+        walks = record { each = one_view z (λ v. (n : Walk) → v.walk ≡ Some n → IsWalk z ws l.chains n) (λ n e. absurd (none-some n e)) };
         expected = record {
           turn = word 2;
           single = omega (arith, word 2);
           home = λ calm. record { table = table; there = refl; same = nothing ∙ sym (ap (λ (t : State). t.expects) no_state); room = room };
-          away = one_view z (λ v. (places : List Expectation) → v.deck ≡ Some places → places ≡ (state_after []).expects) (λ places e. absurd (none-some places e));
+          away = one_view z (λ v. (places : List Expectation) → v.expected ≡ Some places → places ≡ (state_after []).expects) (λ places e. absurd (none-some places e));
         };
       },
     )

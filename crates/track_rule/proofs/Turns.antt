@@ -52,7 +52,7 @@ module _ (l : Ledger) (s : State Slot View) (id : ℕ) (v : View) (h : IsKept v.
   took list same calm free =
       let w : View = with_turn list.items v in
       let p : IsPass v.passes.sizes l.log v = h.passes.each id v at in
-      let m : Moves v w = record { passes = refl; own = refl; gathered = refl; stand = refl; commit = refl; deck = refl; note = refl } in
+      let m : Moves v w = record { passes = refl; own = refl; gathered = refl; buckets = refl; commit = refl; expected = refl; walk = refl } in
       let now : slice_index (slice_set s.words 1 1) 1 ≡ 1 = get_or-set_same s.words 1 1 0 long in
       let before : has_turn v ≡ 0 = ap turn_of calm in
       moved v.passes.sizes l s id v w (slice_set s.words 1 1) (slice_set s.homes 0 none) l.free h at m
@@ -111,7 +111,7 @@ module _ (l : Ledger) (s : State Slot View) (id : ℕ) (v : View) (h : IsKept v.
   missed other =
       let w : View = noted (found 1 1) v in
       let p : IsPass v.passes.sizes l.log v = h.passes.each id v at in
-      let m : Moves v w = record { passes = refl; own = refl; gathered = refl; stand = refl; commit = refl; deck = refl; note = refl } in
+      let m : Moves v w = record { passes = refl; own = refl; gathered = refl; buckets = refl; commit = refl; expected = refl; walk = refl } in
       reads v.passes.sizes l s id 1 v w h at m (pass_moved v.passes.sizes l.log v w p m has_some p.front p.told) refl refl
 
   -- giving it back with this list
@@ -121,7 +121,7 @@ module _ (l : Ledger) (s : State Slot View) (id : ℕ) (v : View) (h : IsKept v.
   gave list free has can homes =
       let w : View = gave_free list.items v in
       let p : IsPass v.passes.sizes l.log v = h.passes.each id v at in
-      let m : Moves v w = record { passes = refl; own = refl; gathered = refl; stand = refl; commit = refl; deck = refl; note = refl } in
+      let m : Moves v w = record { passes = refl; own = refl; gathered = refl; buckets = refl; commit = refl; expected = refl; walk = refl } in
       let now : slice_index (slice_set s.words 1 0) 1 ≡ 0 = get_or-set_same s.words 1 0 0 long in
       let mine : has_turn v ≡ 1 = ap turn_of has in
       let known : known_free v ≡ l.free = ap (λ (o : Option (List ℕ)). unwrap_or o []) has ∙ h.free_list.away id v at free has in

@@ -60,14 +60,14 @@ links_in z bucket weight r = side z bucket weight (original_of r) + side z bucke
 
 -- what the links of a pass weigh that stand and are not those of a live record
 abbrev pub loose_of : Sizes → ℕ → (Entry → ℕ) → View → ℕ
-loose_of z bucket weight v = total (λ (h : Hook). (if h.up then side z bucket weight (entry_of h) else 0)) v.stand.hooks
+loose_of z bucket weight v = total (λ (h : Hook). (if h.up then side z bucket weight (entry_of h) else 0)) v.buckets.hooks
 
 -- how often a pass has shut the bucket, and how many hooks it has at a link
 abbrev pub shuts_of : ℕ → View → ℕ
-shuts_of bucket v = total (λ (s : Shut). bit (s.bucket == bucket)) v.stand.shut
+shuts_of bucket v = total (λ (s : Shut). bit (s.bucket == bucket)) v.buckets.shut
 
 abbrev pub hooks_at : ℕ → View → ℕ
-hooks_at link v = total (λ (h : Hook). bit (h.link == link)) v.stand.hooks
+hooks_at link v = total (λ (h : Hook). bit (h.link == link)) v.buckets.hooks
 
 -- the chain of a bucket as the pass that shut it knows it
 abbrev pub chain_in : ℕ → List Shut → List Entry
@@ -77,6 +77,6 @@ chain_in bucket (s ∷ rest) = (if s.bucket == bucket then s.chain else chain_in
 pub record AreChains (z : Sizes) (log : List Event) (words : List ℕ) (views : List View) (chains : ℕ → List Entry) : Type 0 where
   pub linked : (b : ℕ) → b < z.buckets → IsChain z words b (slice_index words (head_word z b)) (chains b)
   pub gens : (b : ℕ) → b < z.buckets → gen_at z words b % 2 ≡ total (shuts_of b) views
-  pub mine : (b : ℕ) → b < z.buckets → Each (λ v. 0 < shuts_of b v → chain_in b v.stand.shut ≡ chains b) views
+  pub mine : (b : ℕ) → b < z.buckets → Each (λ v. 0 < shuts_of b v → chain_in b v.buckets.shut ≡ chains b) views
   pub chained : (b : ℕ) → b < z.buckets → (weight : Entry → ℕ) → total weight (chains b) ≡ total (links_in z b weight) (records_after log) + total (loose_of z b weight) views
   pub lone : (link : ℕ) → 0 < link → total (hooks_at link) views + total (of_place (place_of link)) (records_after log) ≤ 1

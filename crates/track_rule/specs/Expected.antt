@@ -14,12 +14,12 @@ use Rattle.track_rule.specs.History.{state_after}
 use Rattle.track_rule.specs.Sums.{Each, total}
 
 -- 1 while the pass has the turn of the expectations, else 0
-abbrev pub deck_turn : Option (List Expectation) → ℕ
-deck_turn None = 0
-deck_turn (Some list) = 1
+abbrev pub expected_turn : Option (List Expectation) → ℕ
+expected_turn None = 0
+expected_turn (Some list) = 1
 
-abbrev pub has_deck : View → ℕ
-has_deck v = deck_turn v.deck
+abbrev pub has_expected : View → ℕ
+has_expected v = expected_turn v.expected
 
 pub record IsExpectedHome (z : Sizes) (log : List Event) (homes : List (Slotted Slot)) : Type 0 where
   pub table : Roomed Expectation
@@ -28,7 +28,7 @@ pub record IsExpectedHome (z : Sizes) (log : List Event) (homes : List (Slotted 
   pub room : table.room ≡ z.expectations
 
 pub record AreExpected (z : Sizes) (log : List Event) (words : List ℕ) (homes : List (Slotted Slot)) (views : List View) : Type 0 where
-  pub turn : slice_index words 2 ≡ total has_deck views
+  pub turn : slice_index words 2 ≡ total has_expected views
   pub single : slice_index words 2 ≤ 1
   pub home : slice_index words 2 ≡ 0 → IsExpectedHome z log homes
-  pub away : Each (λ v. (list : List Expectation) → v.deck ≡ Some list → list ≡ (state_after log).expects) views
+  pub away : Each (λ v. (list : List Expectation) → v.expected ≡ Some list → list ≡ (state_after log).expects) views

@@ -36,11 +36,11 @@ pub record HasNothing (v : View) : Type 0 where
   pub clear : v.places.clear ≡ []
   pub carried : v.places.carried ≡ []
   pub free : v.free ≡ None
-  pub shut : v.stand.shut ≡ []
-  pub hooks : v.stand.hooks ≡ []
+  pub shut : v.buckets.shut ≡ []
+  pub hooks : v.buckets.hooks ≡ []
   pub hand : v.commit.hand ≡ None
   pub middle : v.commit.middle ≡ Calm
-  pub deck : v.deck ≡ None
+  pub expected : v.expected ≡ None
 
 -- nothing is left of a pass that was joined to another one
 pub record IsSpent (v : View) : Type 0 where

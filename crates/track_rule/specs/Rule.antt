@@ -49,10 +49,10 @@ fresh_view z first shares front = record {
   seen = record { front = front; told = []; own = []; gathered = [] };
   places = no_places;
   free = None;
-  stand = record { shut = []; hooks = [] };
+  buckets = record { shut = []; hooks = [] };
   commit = record { hand = None; middle = Calm };
-  deck = None;
-  note = None;
+  expected = None;
+  walk = None;
   readings = [];
 }
 

@@ -47,12 +47,12 @@ abbrev pub hand_number : Option Hand → List ℕ
 hand_number None = []
 hand_number (Some h) = (2 + h.place) ∷ []
 
-abbrev pub deck_number : Option (List Expectation) → List ℕ
-deck_number None = []
-deck_number (Some list) = 1 ∷ []
+abbrev pub expected_number : Option (List Expectation) → List ℕ
+expected_number None = []
+expected_number (Some list) = 1 ∷ []
 
 abbrev pub numbers_of : View → List ℕ
-numbers_of v = free_number v.free ++ hand_number v.commit.hand ++ deck_number v.deck
+numbers_of v = free_number v.free ++ hand_number v.commit.hand ++ expected_number v.expected
 
 abbrev pub numbers : List (ℕ × Slot) → List ℕ
 numbers [] = []

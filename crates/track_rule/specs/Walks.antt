@@ -42,4 +42,4 @@ pub record IsWalk (z : Sizes) (words : List ℕ) (chains : ℕ → List Entry) (
   pub stands : gen_at z words n.bucket ≡ n.generation → n.generation % 2 ≡ 0 → Stands (chains n.bucket) n
 
 pub record AreWalks (z : Sizes) (words : List ℕ) (views : List View) (chains : ℕ → List Entry) : Type 0 where
-  pub each : Each (λ v. (n : Walk) → v.note ≡ Some n → IsWalk z words chains n) views
+  pub each : Each (λ v. (n : Walk) → v.walk ≡ Some n → IsWalk z words chains n) views

@@ -86,7 +86,7 @@ pub struct Hook {
 }
 
 /// The buckets of a pass.
-pub struct Stand {
+pub struct HeldBuckets {
     pub shut: LinkedList<Shut>,
     pub hooks: LinkedList<Hook>,
 }
@@ -150,11 +150,11 @@ pub struct View {
     pub places: Places,
     /// The free list, while the pass has its turn.
     pub free: Option<LinkedList<u32>>,
-    pub stand: Stand,
+    pub buckets: HeldBuckets,
     pub commit: Commit,
     /// What is expected, while the pass has the turn of the expectations.
-    pub deck: Option<LinkedList<Expectation>>,
-    pub note: Option<Walk>,
+    pub expected: Option<LinkedList<Expectation>>,
+    pub walk: Option<Walk>,
     /// The oldest first.
     pub readings: LinkedList<Reading>,
 }
