@@ -1,3 +1,5 @@
 pub mod Lists
 pub mod Waiting
 pub mod Taking
+pub mod Hooks
+pub mod Releasing

@@ -1,48 +1,54 @@
 -- What a pass knows after it took a place, found none, or made one free again.
-use Rattle.std.specs.Prelude.{◌==◌, ◌&&◌, ◌||◌, not}
+use Rattle.std.specs.Prelude.{◌==◌, ◌&&◌, ◌||◌, not, drop, if◌then◌else◌}
 use Rattle.std.specs.List.{list_any}
-use Rattle.std.proofs.Common.{◌≡◌, ◌≢◌, ℕ, ◌+◌, ◌<◌, ◌≤◌, Bool, true, false, Option, Some, None, List, [], ◌∷◌, ◌++◌, length, refl, sym, ap, subst, ◌∙◌, ⊎_elim, arith}
-use Rattle.std.proofs.lemmas.Bool.{cases_Bool, cases_eq, cases_lt, eq-eqb}
+use Rattle.std.proofs.Common.{◌≡◌, ◌≢◌, ℕ, ◌+◌, ◌<◌, ◌≤◌, Bool, true, false, Option, Some, None, List, [], ◌∷◌, ◌++◌, length, refl, sym, ap, subst, ◌∙◌, ⊎_elim, arith, append-nil, append_assoc}
+use Rattle.std.proofs.lemmas.Bool.{cases_Bool, cases_eq, cases_lt, eq-eqb, or_from, or_parts}
 use Rattle.room_list.specs.Roomed.{Roomed}
 use Rattle.track_rule.specs.Free.{is_among, known_free, taken_out, unlisted}
 use Rattle.track_rule.specs.History.{events_in}
-use Rattle.track_rule.specs.Layout.{refs_word}
-use Rattle.track_rule.specs.Readings.{added, stored}
+use Rattle.track_rule.specs.Layout.{phase_word, refs_word}
+use Rattle.track_rule.specs.Links.{RaisesNone}
+use Rattle.track_rule.specs.PhaseSteps.{phase_stored}
+use Rattle.track_rule.specs.Readings.{added, changes, is_stored, stored}
 use Rattle.track_rule.specs.Sights.{PassSight, sizes_of}
 use Rattle.track_rule.specs.Slots.{given_back}
-use Rattle.track_rule.specs.Steps.{AreAll, CanGive, Looks, Opens, found_history, gave_free, keep, opened}
+use Rattle.track_rule.specs.Steps.{AreAll, CanGive, Looks, NewHooks, Opens, at_point, found_history, gave_free, keep, opened}
 use Rattle.track_rule.specs.References.{held_times}
-use Rattle.track_rule.specs.Sums.{times}
+use Rattle.track_rule.specs.Sums.{bit, times}
 use Rattle.history_book.specs.History.{is_legal}
 use Rattle.history_book.specs.Point.{StartsWith}
 use Rattle.history_book.specs.declared.event.Event.{Event}
 use Rattle.track_rule.specs.declared.slot.Slot.TheVariants.{Vacant}
+use Rattle.track_rule.specs.declared.view.HeldBuckets.{HeldBuckets}
+use Rattle.track_rule.specs.declared.view.Hook.{Hook}
 use Rattle.track_rule.specs.declared.view.Shares.{Shares}
 use Rattle.track_rule.specs.declared.view.Places.{Places}
 use Rattle.track_rule.specs.declared.view.Purpose.TheVariants.{Taken}
 use Rattle.track_rule.specs.declared.view.Reading.{Reading}
 use Rattle.track_rule.specs.declared.view.Seen.{Seen}
 use Rattle.track_rule.specs.declared.view.View.{View}
-use Rattle.entry_pool.specs.Take.{HasTaken, IsFull, Recycles, says_empty}
+use Rattle.track_rule.specs.declared.view.Walk.{Walk}
+use Rattle.entry_pool.specs.Take.{HasOpened, HasTaken, IsFull, IsGivenBack, Recycles, says_empty}
 use Rattle.entry_pool.specs.Turn.{HasList}
+use Rattle.entry_pool.proofs.Hooks.{up_new}
 use Rattle.entry_pool.proofs.Lists.{among_push, none_of, other_bit, other_taken, same_bit, same_taken, some_of, times_push, total_none, total_some, unlisted_in, unlisted_none, unlisted_out, unlisted_push, unlisted_same}
-use Rattle.entry_pool.proofs.Waiting.{added_one, added_two, any_at, any_more, stands_one, stands_two}
+use Rattle.entry_pool.proofs.Waiting.{added_one, added_two, any_at, any_more, drop_first, stands_before, stands_one, stands_two}
 
 -- a pass by its parts
 made_of : (w x : PassSight) → w ≡ x → (seen : Seen) → x.view.seen ≡ seen → (places : Places) → x.view.places ≡ places
-    → (free : Option (List ℕ)) → x.view.free ≡ free
-    → w ≡ record x { view = record x.view { seen = seen; places = places; free = free; readings = w.view.readings } }
-made_of w x e seen es places ep free ef k = record {
+    → (free : Option (List ℕ)) → x.view.free ≡ free → (buckets : HeldBuckets) → x.view.buckets ≡ buckets → (walk : Option Walk) → x.view.walk ≡ walk
+    → w ≡ record x { view = record x.view { seen = seen; places = places; free = free; buckets = buckets; walk = walk; readings = w.view.readings } }
+made_of w x e seen es places ep free ef buckets eb walk ew k = record {
   table = ap (λ (y : PassSight). y.table) e k;
   view = record {
     passes = ap (λ (y : PassSight). y.view.passes) e k;
     seen = (ap (λ (y : PassSight). y.view.seen) e ∙ es) k;
     places = (ap (λ (y : PassSight). y.view.places) e ∙ ep) k;
     free = (ap (λ (y : PassSight). y.view.free) e ∙ ef) k;
-    buckets = ap (λ (y : PassSight). y.view.buckets) e k;
+    buckets = (ap (λ (y : PassSight). y.view.buckets) e ∙ eb) k;
     commit = ap (λ (y : PassSight). y.view.commit) e k;
     expected = ap (λ (y : PassSight). y.view.expected) e k;
-    walk = ap (λ (y : PassSight). y.view.walk) e k;
+    walk = (ap (λ (y : PassSight). y.view.walk) e ∙ ew) k;
     readings = w.view.readings;
   };
   slots = ap (λ (y : PassSight). y.slots) e k;
@@ -100,7 +106,7 @@ module _ (v u : PassSight) (list : Roomed ℕ) (h : HasList v u list) where
           (λ (e : place ≢ p). omega (arith, other_taken place p list.items there e, ap (times p) pop, times_push place p left.items, other_bit place p e))
           (cases_eq place p)
 
-      view_is : t.view ≡ opened place u.view
+      view_is : t.view ≡ opened place t.view.buckets.hooks u.view
       view_is = o.view
 
       pub can_give_taken : left.room ≡ list.room → CanGive t.view left
@@ -110,12 +116,14 @@ module _ (v u : PassSight) (list : Roomed ℕ) (h : HasList v u list) where
             let same : unlisted left.items u.view.places.owed ≡ u.view.places.owed =
             unlisted_none left.items u.view.places.owed (λ q any. off_left q (omega (arith, any, ap (λ (x : Places). times q x.owed) owed_same))) in
             omega (arith, ap (times p) same, ap (λ xs. times p (taken_out place xs)) known, taken_left p);
+        clear = λ p. omega (arith, ap (λ xs. times p (taken_out place xs)) known, taken_left p);
       })
 
-      pub taken_is : w ≡ gave left t → HasTaken place v w
-      taken_is e =
-          let et : t ≡ record u { view = opened place u.view } = kt ∙ ap (λ (x : View). record u { view = x }) view_is in
-          let step : PassSight → PassSight = λ y. gave left (record y { view = opened place y.view }) in
+      pub opened_is : w ≡ gave left t → HasOpened place v w
+      opened_is e =
+          let hooks : List Hook = t.view.buckets.hooks in
+          let et : t ≡ record u { view = opened place hooks u.view } = kt ∙ ap (λ (x : View). record u { view = x }) view_is in
+          let step : PassSight → PassSight = λ y. gave left (record y { view = opened place hooks y.view }) in
           let x : w ≡ step (record {
             table = v.table;
             view = record v.view { free = Some list.items; readings = u.view.readings };
@@ -127,7 +135,13 @@ module _ (v u : PassSight) (list : Roomed ℕ) (h : HasList v u list) where
                   held = keep place Taken ∷ v.view.places.held;
                   owed = unlisted_none left.items v.view.places.owed off_left k;
                   clear = unlisted_none left.items v.view.places.clear (λ q any. off_left q (h.right.clear q any)) k;
-                }) v.view.free (sym calm);
+                }) v.view.free (sym calm) (record v.view.buckets { hooks = w.view.buckets.hooks })
+                (λ k. record v.view.buckets { hooks = sym (ap (λ (y : PassSight). y.view.buckets.hooks) x) k }) v.view.walk refl;
+            hooks = subst (λ (new : List Hook). NewHooks place v.view.buckets.hooks new) (sym (ap (λ (y : PassSight). y.view.buckets.hooks) x))
+                (subst (λ (old : List Hook). NewHooks place old hooks) (ap (λ (y : PassSight). y.view.buckets.hooks) h.same) o.hooks);
+            down = up_new place v.view.buckets.hooks w.view.buckets.hooks
+                (subst (λ (new : List Hook). NewHooks place v.view.buckets.hooks new) (sym (ap (λ (y : PassSight). y.view.buckets.hooks) x))
+                (subst (λ (old : List Hook). NewHooks place old hooks) (ap (λ (y : PassSight). y.view.buckets.hooks) h.same) o.hooks));
             stand = stands_two v.view.readings u.view.readings w.view.readings (stored (refs_word (sizes_of v) place) 1) (stored 1 0) h.waits
                 (ap (λ (y : PassSight). y.view.readings) x);
             held = ap (λ (y : PassSight). held_times place y.view.places.held) (sym h.same) ∙ o.held;
@@ -144,6 +158,7 @@ module _ (v u : PassSight) (list : Roomed ℕ) (h : HasList v u list) where
             let same : unlisted left.items u.view.places.owed ≡ u.view.places.owed =
             unlisted_none left.items u.view.places.owed (λ q any. ap (is_among q) none_left) in
             omega (arith, ap (times p) same, ap (times p) known, ap (times p) none, ap (times p) none_left);
+        clear = λ p. omega (arith, ap (times p) none_left);
       })
 
       abbrev look_reading : Reading
@@ -154,6 +169,7 @@ module _ (v u : PassSight) (list : Roomed ℕ) (h : HasList v u list) where
         view = record v.view {
           seen = record v.view.seen { front = front };
           free = Some list.items;
+          walk = at_point (length front) v.view.walk;
           readings = u.view.readings ++ look_reading ∷ [];
         };
         slots = (0, Vacant) ∷ v.slots;
@@ -164,7 +180,7 @@ module _ (v u : PassSight) (list : Roomed ℕ) (h : HasList v u list) where
       pub full_is : at ≡ events_in word → w ≡ gave left t → IsFull at v w
       full_is point e =
           let front = t.view.seen.front in
-          let look : View → View = λ y. record y { seen = record y.seen { front = front }; readings = y.readings ++ found_history word y ∷ [] } in
+          let look : View → View = λ y. record y { seen = record y.seen { front = front }; walk = at_point (length front) y.walk; readings = y.readings ++ found_history word y ∷ [] } in
           let et : t ≡ record u { view = look u.view } = kt ∙ ap (λ (x : View). record u { view = x }) o.same in
           let step : PassSight → PassSight = λ y. gave left (record y { view = look y.view }) in
           let x : w ≡ step (record {
@@ -181,7 +197,7 @@ module _ (v u : PassSight) (list : Roomed ℕ) (h : HasList v u list) where
                 (λ k. record v.view.places {
                   owed = unlisted_none left.items v.view.places.owed (λ q any. ap (is_among q) none_left) k;
                   clear = unlisted_none left.items v.view.places.clear (λ q any. ap (is_among q) none_left) k;
-                }) v.view.free (sym calm);
+                }) v.view.free (sym calm) v.view.buckets refl w.view.walk (sym (ap (λ (y : PassSight). y.view.walk) x));
             stand = stands_two v.view.readings u.view.readings w.view.readings look_reading (stored 1 0) h.waits
                 (ap (λ (y : PassSight). y.view.readings) x);
             all = subst (AreAll v.view) (sym ef) (record {
@@ -211,7 +227,7 @@ module _ (v u : PassSight) (list : Roomed ℕ) (h : HasList v u list) where
 
   -- a place that was owed stands at the end of the list
   module _ (more : Roomed ℕ) (place : ℕ) (w : PassSight) (calm : v.view.free ≡ None) (push : more.items ≡ list.items ++ place ∷ [])
-      (owed : is_among place v.view.places.owed ≡ true) where
+      (owed : is_among place v.view.places.owed ≡ true) (clear : is_among place v.view.places.clear ≡ true) where
     once : (p : ℕ) → times p list.items + times p v.view.places.owed ≤ 1
     once p = omega (arith, h.right.apart p)
 
@@ -247,10 +263,25 @@ module _ (v u : PassSight) (list : Roomed ℕ) (h : HasList v u list) where
         ap (times p) known,
         balance p,
       );
+      clear = λ p. omega (
+        arith,
+        ap (times p) push,
+        times_push place p list.items,
+        ap (times p) known,
+        ap (λ (x : Places). times p x.clear) owed_same,
+        some_clear p,
+      );
     }
+      where
+        some_clear : (p : ℕ) → bit (place == p) ≤ times p v.view.places.clear
+        some_clear p =
+            ⊎_elim
+            (λ (e : place ≡ p). subst (λ (x : ℕ). bit (place == x) ≤ times x v.view.places.clear) e
+            (omega (arith, total_some (λ x. x == place) v.view.places.clear clear, same_bit place place refl)))
+            (λ (e : place ≢ p). omega (arith, other_bit place p e)) (cases_eq place p)
 
-    pub recycled_is : w ≡ gave more u → Recycles place v w
-    recycled_is e =
+    pub given_back_is : w ≡ gave more u → IsGivenBack place v w
+    given_back_is e =
         let x : w ≡ gave more (record {
           table = v.table;
           view = record v.view { free = Some list.items; readings = u.view.readings };
@@ -267,8 +298,109 @@ module _ (v u : PassSight) (list : Roomed ℕ) (h : HasList v u list) where
                 clear = (ap (λ xs. unlisted xs v.view.places.clear) push
                     ∙ unlisted_same (list.items ++ place ∷ []) (place ∷ []) v.view.places.clear (λ p any.
                     among_push place p list.items ∙ ap (λ b. b || (place == p || false)) (off_list p (h.right.clear p any)))) k;
-              }) v.view.free (sym calm);
+              }) v.view.free (sym calm) v.view.buckets refl v.view.walk refl;
           stand = stands_one v.view.readings u.view.readings w.view.readings (stored 1 0) h.waits (ap (λ (y : PassSight). y.view.readings) x);
           own = ap (list_any not_turn) (added_one v.view.readings u.view.readings w.view.readings (stored 1 0) h.waits (ap (λ (y : PassSight). y.view.readings) x))
               ∙ any_more not_turn h.waits.more (stored 1 0) h.waits.own refl;
         }
+
+-- the phase was stored after the first reference was made
+pub taken_is : (place : ℕ) (v u w : PassSight) → HasOpened place v u → w ≡ record u { view = phase_stored place 1 u.view } → HasTaken place v w
+taken_is place v u w o e =
+    let r : Reading = stored (phase_word (sizes_of u) place) 1 in
+    let x : w ≡ record v {
+      view = record v.view {
+        places = record v.view.places { held = keep place Taken ∷ v.view.places.held };
+        buckets = record v.view.buckets { hooks = u.view.buckets.hooks };
+        readings = u.view.readings ++ stored (phase_word (sizes_of v) place) 1 ∷ [];
+      };
+    } = e ∙ ap (λ (y : PassSight). record y { view = phase_stored place 1 y.view }) o.same in
+    let hooks : w.view.buckets.hooks ≡ u.view.buckets.hooks = ap (λ (y : PassSight). y.view.buckets.hooks) e in
+    let all : w.view.readings ≡ v.view.readings ++ (added v.view u.view ++ stored (phase_word (sizes_of v) place) 1 ∷ []) =
+    ap (λ (y : PassSight). y.view.readings) x ∙ ap (λ rs. rs ++ stored (phase_word (sizes_of v) place) 1 ∷ []) o.stand
+    ∙ append_assoc v.view.readings (added v.view u.view) (stored (phase_word (sizes_of v) place) 1 ∷ []) in
+    let more : added v.view w.view ≡ added v.view u.view ++ stored (phase_word (sizes_of v) place) 1 ∷ [] =
+    ap (drop (length v.view.readings)) all ∙ drop_first v.view.readings (added v.view u.view ++ stored (phase_word (sizes_of v) place) 1 ∷ []) in
+    record {
+      opened = record {
+        same = made_of w _ x v.view.seen refl (record v.view.places { held = keep place Taken ∷ v.view.places.held }) refl v.view.free refl
+            (record v.view.buckets { hooks = w.view.buckets.hooks }) (λ k. record v.view.buckets { hooks = sym hooks k }) v.view.walk refl;
+        hooks = subst (NewHooks place v.view.buckets.hooks) (sym hooks) o.hooks;
+        down = subst (RaisesNone v.view.buckets.hooks) (sym hooks) o.down;
+        stand = stands_before v.view.readings w.view.readings (added v.view u.view ++ stored (phase_word (sizes_of v) place) 1 ∷ []) all;
+        held = o.held;
+        owed = o.owed;
+      };
+      phase = ap (is_stored (phase_word (sizes_of v) place) 1) more
+          ∙ ap (is_stored (phase_word (sizes_of v) place) 1) (sym (append-nil (added v.view u.view ++ stored (phase_word (sizes_of v) place) 1 ∷ [])))
+          ∙ any_at (λ (y : Reading). y.word == phase_word (sizes_of v) place && y.value == 1 && y.own) (added v.view u.view)
+          (stored (phase_word (sizes_of v) place) 1) [] (word_there (phase_word (sizes_of v) place));
+    }
+  where
+    word_there : (n : ℕ) → (n == n && 1 == 1 && true) ≡ true
+    word_there n = ap (λ (b : Bool). b && true && true) (eq-eqb n n refl)
+
+-- it was stored before the place was given back
+pub recycled_is : (place : ℕ) (v u w : PassSight) → u ≡ record v { view = phase_stored place 0 v.view } → IsGivenBack place u w → Recycles place v w
+recycled_is place v u w e g =
+    let r : Reading = stored (phase_word (sizes_of v) place) 0 in
+    let readings : u.view.readings ≡ v.view.readings ++ r ∷ [] = ap (λ (y : PassSight). y.view.readings) e in
+    let x : w ≡ record v {
+      view = record v.view {
+        places = record v.view.places {
+          owed = taken_out place v.view.places.owed;
+          clear = unlisted (place ∷ []) (place ∷ v.view.places.clear);
+        };
+        readings = w.view.readings;
+      };
+    } = g.same ∙ ap (λ (y : PassSight). record y {
+      view = record y.view {
+        places = record y.view.places {
+          owed = taken_out place y.view.places.owed;
+          clear = unlisted (place ∷ []) y.view.places.clear;
+        };
+        readings = w.view.readings;
+      };
+    }) e in
+    let all : w.view.readings ≡ v.view.readings ++ (r ∷ added u.view w.view) =
+    g.stand ∙ ap (λ rs. rs ++ added u.view w.view) readings ∙ append_assoc v.view.readings (r ∷ []) (added u.view w.view) in
+    let more : added v.view w.view ≡ r ∷ added u.view w.view =
+    ap (drop (length v.view.readings)) all ∙ drop_first v.view.readings (r ∷ added u.view w.view) in
+    record {
+      same = made_of w _ x v.view.seen refl
+          (record v.view.places { owed = taken_out place v.view.places.owed; clear = unlisted (place ∷ []) v.view.places.clear })
+          (λ k. record v.view.places { owed = taken_out place v.view.places.owed; clear = first_listed place v.view.places.clear k })
+          v.view.free refl v.view.buckets refl v.view.walk refl;
+      stand = stands_before v.view.readings w.view.readings (r ∷ added u.view w.view) all;
+      phase = ap (is_stored (phase_word (sizes_of v) place) 0) more ∙ first_stored (phase_word (sizes_of v) place) (added u.view w.view);
+      own = ap (changes (λ word. not (word == 1 || word == phase_word (sizes_of v) place))) more
+          ∙ first_own (phase_word (sizes_of v) place) (added u.view w.view) g.own;
+    }
+  where
+    first_listed : (p : ℕ) (clear : List ℕ) → unlisted (p ∷ []) (p ∷ clear) ≡ unlisted (p ∷ []) clear
+    first_listed p clear = ap (λ (b : Bool). if not (b || false) then p ∷ unlisted (p ∷ []) clear else unlisted (p ∷ []) clear) (eq-eqb p p refl)
+
+    first_stored : (n : ℕ) (rs : List Reading) → is_stored n 0 (stored n 0 ∷ rs) ≡ true
+    first_stored n rs = ap (λ (b : Bool). (b && true && true) || is_stored n 0 rs) (eq-eqb n n refl)
+
+    fewer : (n : ℕ) (rs : List Reading) → changes (λ word. not (word == 1)) rs ≡ false → changes (λ word. not (word == 1 || word == n)) rs ≡ false
+    fewer n [] none = refl
+    fewer n (y ∷ ys) none =
+        let parts = or_parts (y.own && not (y.word == 1)) (changes (λ word. not (word == 1)) ys) none in
+        or_from (y.own && not (y.word == 1 || y.word == n)) (changes (λ word. not (word == 1 || word == n)) ys)
+        (one y.own (y.word == 1) (y.word == n) parts.0) (fewer n ys parts.1)
+      where
+        one : (a b c : Bool) → (a && not b) ≡ false → (a && not (b || c)) ≡ false
+        one true true c e = refl
+        one true false c e = cc
+        one false b c e = refl
+
+    first_own : (n : ℕ) (rs : List Reading) → changes (λ word. not (word == 1)) rs ≡ false
+        → changes (λ word. not (word == 1 || word == n)) (stored n 0 ∷ rs) ≡ false
+    first_own n rs none =
+        ap (λ (b : Bool). (true && not ((n == 1) || b)) || changes (λ word. not (word == 1 || word == n)) rs) (eq-eqb n n refl)
+        ∙ ap (λ (b : Bool). b || changes (λ word. not (word == 1 || word == n)) rs) (or_right (n == 1)) ∙ fewer n rs none
+      where
+        or_right : (b : Bool) → not (b || true) ≡ false
+        or_right true = refl
+        or_right false = refl

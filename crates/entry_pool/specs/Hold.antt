@@ -3,21 +3,23 @@ use Rattle.std.specs.Prelude.{◌≡◌, ℕ, ◌<◌, true, false, ◌∷◌}
 use Rattle.history_book.specs.declared.outcome.ReleaseOutcome.{ReleaseOutcome}
 use Rattle.history_book.specs.declared.outcome.ReleaseOutcome.TheVariants.{Kept, Last}
 use Rattle.track_rule.specs.Layout.{refs_word}
+use Rattle.track_rule.specs.Links.{RaisesNone}
 use Rattle.track_rule.specs.Readings.{Gave, added, changes, is_found, noted, stored}
 use Rattle.track_rule.specs.References.{held_times, without}
 use Rattle.track_rule.specs.Sights.{PassSight, sizes_of}
-use Rattle.track_rule.specs.Steps.{keep}
+use Rattle.track_rule.specs.Steps.{hooks_then, is_second, one_more}
 use Rattle.track_rule.specs.Sums.{times}
-use Rattle.track_rule.specs.declared.view.Purpose.TheVariants.{Testing}
+use Rattle.track_rule.specs.declared.view.View.{View}
 use Rattle.entry_pool.specs.GoesOn.{ReadingsStand}
 use Rattle.entry_pool.specs.declared.hold.TryHold.{TryHold}
 use Rattle.entry_pool.specs.declared.hold.TryHold.TheVariants.{Held, Zero, Moved}
 
--- The place is held once more, to look what stands there. So the pass did not owe it.
+-- There is one reference more: the place is held once more, to look what stands there; or, where the pass has the turn of the
+-- record of a place that it took, the reference is the table's, which the pass carries. So the pass did not owe the place.
 pub record HoldsMore (place : ℕ) (v w : PassSight) : Type 0 where
   pub same : w ≡ record v {
     view = record v.view {
-      places = record v.view.places { held = keep place Testing ∷ v.view.places.held };
+      places = one_more (is_second place v.view) place v.view.places;
       readings = w.view.readings;
     };
   }
@@ -45,23 +47,30 @@ TryHoldSays Held place v w = HoldsMore place v w
 TryHoldSays Zero place v w = ReadsZero place v w
 TryHoldSays (Moved was now) place v w = ReadsTwo place was now v w
 
+-- The pass gave up its newest reference to the place, and with its last one both its links; no link came into a chain.
+abbrev pub gave_up : ℕ → PassSight → View
+gave_up place v = record v.view {
+  places = record v.view.places { held = without place v.view.places.held };
+  buckets = record v.view.buckets { hooks = hooks_then place v.view.places.held v.view.buckets.hooks };
+}
+
 -- One reference less, and so many are left, which are others' too or the pass's own.
 pub record KeepsSome (place : ℕ) (v w : PassSight) : Type 0 where
   pub left : ℕ
   pub some : 0 < left
   pub same : w ≡ record v {
-    view = noted (stored (refs_word (sizes_of v) place) left) (record v.view {
-      places = record v.view.places { held = without place v.view.places.held };
-    });
+    view = noted (stored (refs_word (sizes_of v) place) left) (gave_up place v);
   }
+  pub down : RaisesNone v.view.buckets.hooks w.view.buckets.hooks
 
 -- It was the last one of all: the pass held the place once, and owes it now.
 pub record KeepsNone (place : ℕ) (v w : PassSight) : Type 0 where
   pub same : w ≡ record v {
-    view = noted (stored (refs_word (sizes_of v) place) 0) (record v.view {
-      places = record v.view.places { held = without place v.view.places.held; owed = place ∷ v.view.places.owed };
+    view = noted (stored (refs_word (sizes_of v) place) 0) (record (gave_up place v) {
+      places = record (gave_up place v).places { owed = place ∷ v.view.places.owed };
     });
   }
+  pub down : RaisesNone v.view.buckets.hooks w.view.buckets.hooks
   pub held : held_times place v.view.places.held ≡ 1
   pub owed : times place v.view.places.owed ≡ 0
 

@@ -1,30 +1,42 @@
 -- A place for a new entry, and what becomes of a place that is owed.
-use Rattle.std.specs.Prelude.{◌≡◌, ℕ, ◌<◌, ◌==◌, ◌&&◌, not, Bool, true, false, Option, None, Some, [], ◌∷◌, length}
+use Rattle.std.specs.Prelude.{◌≡◌, ℕ, ◌<◌, ◌==◌, ◌&&◌, ◌||◌, not, Bool, true, false, Option, None, Some, [], ◌∷◌, length}
 use Rattle.std.specs.List.{list_any}
 use Rattle.history_book.specs.declared.outcome.TakeOutcome.{TakeOutcome}
 use Rattle.history_book.specs.declared.outcome.TakeOutcome.TheVariants.{Taken, Full}
 use Rattle.track_rule.specs.Free.{taken_out, unlisted}
 use Rattle.track_rule.specs.History.{events_in}
-use Rattle.track_rule.specs.Readings.{added, changes}
+use Rattle.track_rule.specs.Layout.{phase_word}
+use Rattle.track_rule.specs.Links.{RaisesNone}
+use Rattle.track_rule.specs.PhaseSteps.{phase_free, phase_owned}
+use Rattle.track_rule.specs.Readings.{added, changes, is_stored}
 use Rattle.track_rule.specs.References.{held_times}
-use Rattle.track_rule.specs.Sights.{PassSight}
-use Rattle.track_rule.specs.Steps.{AreAll, keep}
+use Rattle.track_rule.specs.Sights.{PassSight, sizes_of}
+use Rattle.track_rule.specs.Steps.{AreAll, NewHooks, keep}
 use Rattle.track_rule.specs.Sums.{times}
 use Rattle.track_rule.specs.declared.view.Purpose.TheVariants as purpose
 use Rattle.track_rule.specs.declared.view.Reading.{Reading}
 use Rattle.entry_pool.specs.GoesOn.{ReadingsStand}
 
--- The place is held, for a new entry; before the call the pass neither held nor owed it. All else is as it was.
-pub record HasTaken (place : ℕ) (v w : PassSight) : Type 0 where
+-- The place is held, for a new entry, and the pass has both its links, which are in no chain; before the call the pass neither
+-- held nor owed the place. All else is as it was.
+pub record HasOpened (place : ℕ) (v w : PassSight) : Type 0 where
   pub same : w ≡ record v {
     view = record v.view {
       places = record v.view.places { held = keep place purpose.Taken ∷ v.view.places.held };
+      buckets = record v.view.buckets { hooks = w.view.buckets.hooks };
       readings = w.view.readings;
     };
   }
+  pub hooks : NewHooks place v.view.buckets.hooks w.view.buckets.hooks
+  pub down : RaisesNone v.view.buckets.hooks w.view.buckets.hooks
   pub stand : ReadingsStand v w
   pub held : held_times place v.view.places.held ≡ 0
   pub owed : times place v.view.places.owed ≡ 0
+
+-- Besides, its phase is OWNED, as a reading of the call shows.
+pub record HasTaken (place : ℕ) (v w : PassSight) : Type 0 where
+  pub opened : HasOpened place v w
+  pub phase : is_stored (phase_word (sizes_of v) place) phase_owned (added v.view w.view) ≡ true
 
 -- a reading of the history word that says so many events, under the turn of the free list, which was empty
 abbrev pub says_empty : ℕ → Reading → Bool
@@ -40,6 +52,7 @@ pub record IsFull (at : ℕ) (v w : PassSight) : Type 0 where
   pub same : w ≡ record v {
     view = record v.view {
       seen = record v.view.seen { front = w.view.seen.front };
+      walk = w.view.walk;
       readings = w.view.readings;
     };
   }
@@ -48,6 +61,10 @@ pub record IsFull (at : ℕ) (v w : PassSight) : Type 0 where
   pub point : at ≡ length w.view.seen.front
   pub empty : list_any (says_empty at) (added v.view w.view) ≡ true
   pub own : changes (λ word. not (word == 1)) (added v.view w.view) ≡ false
+
+abbrev pub OpenSays : TakeOutcome → PassSight → PassSight → Type 0
+OpenSays (Taken place) v w = HasOpened place v w
+OpenSays (Full at) v w = IsFull at v w
 
 abbrev pub TakeSays : TakeOutcome → PassSight → PassSight → Type 0
 TakeSays (Taken place) v w = HasTaken place v w
@@ -58,9 +75,9 @@ abbrev pub IsBelow : ℕ → TakeOutcome → Type 0
 IsBelow entries (Taken place) = place < entries
 IsBelow entries (Full at) = Unit {0}
 
--- The place is free again, and no longer owed. The pass changed no word itself but the turn of the free list. All else is as
+-- The place is on the free list, and no longer owed. The pass changed no word itself but the turn of the list. All else is as
 -- it was.
-pub record Recycles (place : ℕ) (v w : PassSight) : Type 0 where
+pub record IsGivenBack (place : ℕ) (v w : PassSight) : Type 0 where
   pub same : w ≡ record v {
     view = record v.view {
       places = record v.view.places {
@@ -72,3 +89,19 @@ pub record Recycles (place : ℕ) (v w : PassSight) : Type 0 where
   }
   pub stand : ReadingsStand v w
   pub own : changes (λ word. not (word == 1)) (added v.view w.view) ≡ false
+
+-- The place is free again: its phase was made FREE, and then it was put on the free list. The pass changed no other word itself
+-- than these two, and no longer owes the place. All else is as it was.
+pub record Recycles (place : ℕ) (v w : PassSight) : Type 0 where
+  pub same : w ≡ record v {
+    view = record v.view {
+      places = record v.view.places {
+        owed = taken_out place v.view.places.owed;
+        clear = unlisted (place ∷ []) v.view.places.clear;
+      };
+      readings = w.view.readings;
+    };
+  }
+  pub stand : ReadingsStand v w
+  pub phase : is_stored (phase_word (sizes_of v) place) phase_free (added v.view w.view) ≡ true
+  pub own : changes (λ word. not (word == 1 || word == phase_word (sizes_of v) place)) (added v.view w.view) ≡ false

@@ -1,10 +1,11 @@
 //! References to places. No call waits for another pass.
 
-ghost use Rattle.std.specs.Prelude.{◌≡◌, ◌+◌, ◌<◌, ◌≤◌, true, length};
+ghost use Rattle.std.specs.Prelude.{◌≡◌, ◌+◌, ◌<◌, ◌≤◌, true, false, length};
 ghost use Rattle.entry_pool.specs.Hold.{ReleaseSays, TryHoldSays};
+ghost use Rattle.track_rule.specs.Free.{is_among};
+ghost use Rattle.track_rule.specs.Links.{is_up};
 ghost use Rattle.track_rule.specs.References.{is_held};
 ghost use Rattle.track_rule.specs.Sights.{sizes_of};
-ghost use Rattle.track_rule.specs.Sums.{times};
 
 use history_book::outcome::ReleaseOutcome;
 use track_rule::pass::Pass;
@@ -38,9 +39,9 @@ pub fn try_hold(pass: &mut Pass, place: u32) -> TryHold
 
 /// Gives up a reference to a place. Where that was the last one of all passes, the place is owed.
 pub fn release(pass: &mut Pass, place: u32) -> ReleaseOutcome
-    requires place { place < (sizes_of pass.old).entries }
     requires held { is_held place pass.old.view.places.held ≡ true }
-    requires free { times place pass.old.view.places.carried ≡ 0 }
+    requires carried { is_among place pass.old.view.places.carried ≡ false }
+    requires down { is_up place pass.old.view.buckets.hooks ≡ false }
     ensures { ReleaseSays result place pass.old pass.new }
 {
     if pass.ref_down(place) == 1 {

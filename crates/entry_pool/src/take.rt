@@ -1,7 +1,7 @@
 //! Places for new entries.
 
 ghost use Rattle.std.specs.Prelude.{◌≡◌, ◌+◌, ◌≤◌, true, None, length};
-ghost use Rattle.entry_pool.specs.Take.{IsBelow, Recycles, TakeSays};
+ghost use Rattle.entry_pool.specs.Take.{IsBelow, IsGivenBack, OpenSays, Recycles, TakeSays};
 ghost use Rattle.track_rule.specs.Free.{is_among};
 ghost use Rattle.track_rule.specs.History.{events_in};
 ghost use Rattle.track_rule.specs.Sights.{sizes_of};
@@ -10,6 +10,7 @@ use crate::turn::{give_list, take_list};
 use history_book::outcome::TakeOutcome;
 use std::sync::Wait;
 use track_rule::pass::Pass;
+use track_rule::place_phase::{FREE, OWNED};
 
 /// The number of events that the history word says.
 fn events_in(word: u64) -> u64
@@ -18,11 +19,11 @@ fn events_in(word: u64) -> u64
     word % (1 << 40)
 }
 
-/// Takes a free place for a new entry, and holds it.
-pub fn take<R: Wait>(rt: &R, pass: &mut Pass) -> TakeOutcome
+/// Makes the first reference to a free place.
+fn open_place<R: Wait>(rt: &R, pass: &mut Pass) -> TakeOutcome
     requires calm { pass.old.view.free ≡ None }
     requires few { length pass.old.view.places.held + length pass.old.view.places.owed ≤ 3 }
-    ensures says { TakeSays result pass.old pass.new }
+    ensures says { OpenSays result pass.old pass.new }
     ensures below { IsBelow (sizes_of pass.old).entries result }
 {
     let mut list = take_list(rt, pass);
@@ -40,13 +41,40 @@ pub fn take<R: Wait>(rt: &R, pass: &mut Pass) -> TakeOutcome
     }
 }
 
+/// Takes a free place for a new entry, holds it, and makes its phase `OWNED`.
+pub fn take<R: Wait>(rt: &R, pass: &mut Pass) -> TakeOutcome
+    requires calm { pass.old.view.free ≡ None }
+    requires few { length pass.old.view.places.held + length pass.old.view.places.owed ≤ 3 }
+    ensures says { TakeSays result pass.old pass.new }
+    ensures below { IsBelow (sizes_of pass.old).entries result }
+{
+    match open_place(rt, pass) {
+        TakeOutcome::Taken { place } => {
+            pass.phase_store(place, OWNED);
+            TakeOutcome::Taken { place }
+        }
+        TakeOutcome::Full { at } => TakeOutcome::Full { at },
+    }
+}
+
+/// Puts a place back on the free list whose phase the pass has made `FREE`.
+fn give_place<R: Wait>(rt: &R, pass: &mut Pass, place: u32)
+    requires calm { pass.old.view.free ≡ None }
+    requires owed { is_among place pass.old.view.places.owed ≡ true }
+    requires clear { is_among place pass.old.view.places.clear ≡ true }
+    ensures { IsGivenBack place pass.old pass.new }
+{
+    let mut list = take_list(rt, pass);
+    list.push(place);
+    give_list(pass, list);
+}
+
 /// Makes a place free again that the pass owes.
 pub fn recycle<R: Wait>(rt: &R, pass: &mut Pass, place: u32)
     requires calm { pass.old.view.free ≡ None }
     requires owed { is_among place pass.old.view.places.owed ≡ true }
     ensures { Recycles place pass.old pass.new }
 {
-    let mut list = take_list(rt, pass);
-    list.push(place);
-    give_list(pass, list);
+    pass.phase_store(place, FREE);
+    give_place(rt, pass, place);
 }

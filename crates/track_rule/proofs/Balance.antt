@@ -1,7 +1,7 @@
 -- The parts that a step on the pool changes: the passes, the references and the free list.
 use Rattle.std.proofs.lemmas.Bool.{cases_lt}
-use Rattle.std.specs.Prelude.{◌==◌}
-use Rattle.std.proofs.Common.{◌≡◌, ℕ, ◌+◌, ◌*◌, ◌^◌, ◌<◌, ◌≤◌, ◌⊎◌, min, Some, None, List, length, sym, ap, subst, ◌∙◌, ⊎_elim, arith, set}
+use Rattle.std.specs.Prelude.{◌==◌, if◌then◌else◌}
+use Rattle.std.proofs.Common.{◌≡◌, ℕ, ◌+◌, ◌*◌, ◌^◌, ◌<◌, ◌≤◌, ◌⊎◌, min, Option, Some, None, List, [], length, sym, ap, subst, ◌∙◌, ⊎_elim, arith, set}
 use Rattle.std.specs.List.{AllPairs}
 use Rattle.std.specs.Prelude.{slice_index, nat_le, nat_lt, ◌&&◌}
 use mathlib.Core.Option.{Option as Slotted, some}
@@ -13,16 +13,26 @@ use Rattle.history_book.specs.declared.sizes.Sizes.{Sizes}
 use Rattle.history_book.specs.Point.{StartsWith}
 use Rattle.history_book.specs.Sight.{AreEventsOf}
 use Rattle.track_rule.specs.declared.slot.Slot.{Slot}
+use Rattle.track_rule.specs.declared.view.Entry.{Entry}
+use Rattle.track_rule.specs.declared.view.Hook.{Hook}
+use Rattle.track_rule.specs.declared.view.Keep.{Keep}
 use Rattle.track_rule.specs.declared.view.Shares.{Shares}
+use Rattle.track_rule.specs.declared.view.HeldBuckets.{HeldBuckets}
 use Rattle.track_rule.specs.declared.view.View.{View}
+use Rattle.track_rule.specs.declared.view.Walk.{Walk}
+use Rattle.track_rule.specs.Chains.{entry_of, hooks_at, loose_of, side}
 use Rattle.track_rule.specs.Free.{IsFreeList, IsHome, has_turn, owes, turn_of}
-use Rattle.track_rule.specs.Layout.{phase_at, refs_at}
+use Rattle.track_rule.specs.History.{records_after}
+use Rattle.track_rule.specs.Layout.{phase_at, place_of, refs_at}
+use Rattle.track_rule.specs.Links.{HasHooks, hooks_of}
+use Rattle.track_rule.specs.Phases.{of_place, table_keeps}
 use Rattle.track_rule.specs.Passes.{ArePasses, IsPass, has_share, made_weight, shares_of}
-use Rattle.track_rule.specs.References.{AreReferences, held_times, keeps, table_keeps}
+use Rattle.track_rule.specs.References.{AreKept, AreReferences, held_times, is_at, is_for_new, keeps, takes}
 use Rattle.track_rule.specs.Rule.{IsKept, Ledger}
 use Rattle.track_rule.specs.Sums.{Each, bit, times, total}
+use Rattle.track_rule.specs.Walks.{IsWalk}
 use Rattle.track_rule.proofs.Carried.{carries_set}
-use Rattle.track_rule.proofs.Frames.{Quiet, Stays, kept, no_commit, no_buckets}
+use Rattle.track_rule.proofs.Frames.{Quiet, SameChains, Stays, chains_stay, hooks_stay, kept, links_stay, no_commit, quiet_chains, quiet_still, walk_stays}
 use Rattle.track_rule.proofs.Lists.{total_long}
 use Rattle.track_rule.proofs.Sums.{each_other, each_put, total_le, total_same, total_set, total_times, total_two}
 
@@ -31,10 +41,46 @@ pub record Moves (v w : View) : Type 0 where
   pub passes : w.passes ≡ v.passes
   pub own : w.seen.own ≡ v.seen.own
   pub gathered : w.seen.gathered ≡ v.seen.gathered
-  pub buckets : w.buckets ≡ v.buckets
   pub commit : w.commit ≡ v.commit
   pub expected : w.expected ≡ v.expected
-  pub walk : w.walk ≡ v.walk
+
+-- and what it says of the links of the pass and of its walk, which other words show
+pub record Lines (z : Sizes) (l : Ledger) (s : State Slot View) (id : ℕ) (v w : View) : Type 0 where
+  pub shut : w.buckets.shut ≡ v.buckets.shut
+  pub loose : (b : ℕ) (weight : Entry → ℕ) → loose_of z b weight w ≡ loose_of z b weight v
+  pub lone : (link : ℕ) → 0 < link → total (hooks_at link) (set s.views id w) + total (of_place (place_of link)) (records_after l.log) ≤ 1
+  pub hooks : HasHooks z s.words w.places.held w.buckets.hooks
+  pub walk : (n : Walk) → w.walk ≡ Some n → IsWalk z s.words l.chains w.seen.front n
+
+-- where its links are as they were, and it holds no fewer places
+pub bucket_lines : (z : Sizes) (l : Ledger) (s : State Slot View) (id : ℕ) (v w : View) → IsKept z l s → get_elem? s.views id ≡ some v
+    → w.buckets ≡ v.buckets → ((q : ℕ) → held_times q v.places.held ≤ held_times q w.places.held)
+    → ((n : Walk) → w.walk ≡ Some n → IsWalk z s.words l.chains w.seen.front n) → Lines z l s id v w
+bucket_lines z l s id v w h at buckets more walk =
+    let hooks = h.links.hooks id v at in
+    record {
+      shut = ap (λ (x : HeldBuckets). x.shut) buckets;
+      loose = λ b weight. ap (λ (x : HeldBuckets). total (λ (y : Hook). (if y.up then side z b weight (entry_of y) else 0)) x.hooks) buckets;
+      lone = λ link some. omega (
+        arith,
+        h.chains.lone link some,
+        total_same (hooks_at link) s.views id v w at (ap (λ (x : HeldBuckets). hooks_of link x.hooks) buckets),
+      );
+      hooks = subst (λ (x : HeldBuckets). HasHooks z s.words w.places.held x.hooks) (sym buckets) (record {
+        each = hooks.each;
+        owned = λ link some. omega (arith, hooks.owned link some, more (place_of link));
+      });
+      walk = walk;
+    }
+
+-- and its walk too
+pub same_lines : (z : Sizes) (l : Ledger) (s : State Slot View) (id : ℕ) (v w : View) → IsKept z l s → get_elem? s.views id ≡ some v
+    → w.buckets ≡ v.buckets → ((q : ℕ) → held_times q v.places.held ≤ held_times q w.places.held) → w.walk ≡ v.walk → w.seen.front ≡ v.seen.front
+    → Lines z l s id v w
+same_lines z l s id v w h at buckets more walk front =
+    bucket_lines z l s id v w h at buckets more
+    (subst (λ (o : Option Walk). (n : Walk) → o ≡ Some n → IsWalk z s.words l.chains w.seen.front n) (sym walk)
+    (subst (λ (f : List Event). (n : Walk) → v.walk ≡ Some n → IsWalk z s.words l.chains f n) (sym front) (h.walks.each id v at)))
 
 -- a pass with some shares that has seen so much
 pub pass_moved : (z : Sizes) (log : List Event) (v w : View) → IsPass z log v → Moves v w → 0 < v.passes.shares
@@ -52,7 +98,7 @@ pass_moved z log v w p m has_some front told = record {
   spent = λ none_left. absurd (omega (arith, none_left, has_some, ap (λ (s : Shares). s.shares) m.passes));
 }
 
-passes_moved : (z : Sizes) (log : List Event) (vs : List View) (i : ℕ) (v w : View) → get_elem? vs i ≡ some v → Moves v w → IsPass z log w
+pub passes_moved : (z : Sizes) (log : List Event) (vs : List View) (i : ℕ) (v w : View) → get_elem? vs i ≡ some v → Moves v w → IsPass z log w
     → ArePasses z log vs → ArePasses z log (set vs i w)
 passes_moved z log vs i v w at m p h = record {
   each = each_put (IsPass z log) vs i w h.each p;
@@ -70,33 +116,63 @@ passes_moved z log vs i v w at m p h = record {
 pub moved : (z : Sizes) (l : Ledger) (s : State Slot View) (id : ℕ) (v w : View) (ws' : List ℕ) (hs' : List (Slotted Slot)) (free' : List ℕ)
     → IsKept z l s → get_elem? s.views id ≡ some v → Moves v w → IsPass z l.log w
     → Quiet z s.words ws' → length ws' ≡ length s.words → Stays s.homes hs'
-    → AreReferences z ws' (set s.views id w) → IsFreeList z ws' hs' (set s.views id w) free'
+    → AreReferences z l.log ws' (set s.views id w) → IsFreeList z ws' hs' (set s.views id w) free' → Lines z l s id v w
     → IsKept z (record l { free = free' }) (record { words = ws'; homes = hs'; views = set s.views id w })
-moved z l s id v w ws' hs' free' h at m p quiet long homes references free_list =
-    kept z l s ws' hs' (set s.views id w) free' h quiet long homes
+moved z l s id v w ws' hs' free' h at m p quiet long homes references free_list lines =
+    let same : SameChains z s.words ws' = quiet_chains z s.words ws' quiet in
+    kept z l s ws' hs' (set s.views id w) free' l.chains h (quiet_still z s.words ws' quiet) long homes
     (record {
-      buckets = carries_set (λ (u : View). u.buckets) no_buckets s.views id v w at m.buckets;
       commit = carries_set (λ (u : View). u.commit) no_commit s.views id v w at m.commit;
       expected = carries_set (λ (u : View). u.expected) None s.views id v w at m.expected;
-      walk = (carries_set (λ (u : View). u.walk) None s.views id v w at m.walk).each;
     })
     (passes_moved z l.log s.views id v w at m p h.passes) references free_list
+    (chains_stay z s.words ws' same l.log s.views (set s.views id w) l.chains
+    (carries_set (λ (u : View). u.buckets.shut) [] s.views id v w at lines.shut)
+    (λ b weight. total_same (loose_of z b weight) s.views id v w at (lines.loose b weight)) lines.lone h.chains)
+    (links_stay z s.words ws' same s.views (set s.views id w)
+    (each_put (λ (u : View). HasHooks z ws' u.places.held u.buckets.hooks) s.views id w
+    (λ i u at'. hooks_stay z s.words ws' same.links u.places.held u.buckets.hooks (h.links.hooks i u at'))
+    (hooks_stay z s.words ws' same.links w.places.held w.buckets.hooks lines.hooks)) h.links)
+    (record {
+      each = each_put (λ (u : View). (n : Walk) → u.walk ≡ Some n → IsWalk z ws' l.chains u.seen.front n) s.views id w
+          (λ i u at' n e. walk_stays z s.words ws' same l.chains u.seen.front n (h.walks.each i u at' n e))
+          (λ n e. walk_stays z s.words ws' same l.chains w.seen.front n (lines.walk n e));
+    })
 
 -- what a step does to the references: a balance for each place
-pub record RefsStep (z : Sizes) (ws ws' : List ℕ) (v w : View) : Type 0 where
+pub record RefsStep (z : Sizes) (log : List Event) (ws ws' : List ℕ) (vs : List View) (v w : View) : Type 0 where
   pub count : (p : ℕ) → p < z.entries → refs_at z ws' p + keeps p v ≡ refs_at z ws p + keeps p w
   pub beyond : (p : ℕ) → z.entries ≤ p → keeps p w ≡ keeps p v
   pub phases : (p : ℕ) → phase_at z ws' p ≡ phase_at z ws p
   pub carried : (p : ℕ) → times p w.places.carried ≤ held_times p w.places.held
+  pub taken : (p : ℕ) → total (takes p) vs + total (of_place p) (records_after log) + takes p w ≤ 1 + takes p v
+  pub purposes : AreKept log w.places.held
 
-pub references_moved : (z : Sizes) (ws ws' : List ℕ) (vs : List View) (i : ℕ) (v w : View) → get_elem? vs i ≡ some v → RefsStep z ws ws' v w
-    → AreReferences z ws vs → AreReferences z ws' (set vs i w)
-references_moved z ws ws' vs i v w at t h = record {
+pub references_moved : (z : Sizes) (log : List Event) (ws ws' : List ℕ) (vs : List View) (i : ℕ) (v w : View) → get_elem? vs i ≡ some v
+    → RefsStep z log ws ws' vs v w → AreReferences z log ws vs → AreReferences z log ws' (set vs i w)
+references_moved z log ws ws' vs i v w at t h = record {
   counted = λ p below.
       omega (arith, h.counted p below, t.count p below, total_set (keeps p) vs i v w at, ap table_keeps (t.phases p));
   beyond = λ p above. omega (arith, h.beyond p above, t.beyond p above, total_set (keeps p) vs i v w at);
   carried = each_put (λ u. (p : ℕ) → times p u.places.carried ≤ held_times p u.places.held) vs i w h.carried t.carried;
+  taken = λ p. omega (arith, t.taken p, total_set (takes p) vs i v w at);
+  purposes = each_put (λ u. AreKept log u.places.held) vs i w h.purposes t.purposes;
 }
+
+-- a step that leaves all references
+pub references_left : (z : Sizes) (log : List Event) (ws ws' : List ℕ) (vs : List View) (i : ℕ) (v w : View) → get_elem? vs i ≡ some v
+    → w.places.held ≡ v.places.held → w.places.carried ≡ v.places.carried → ((p : ℕ) → refs_at z ws' p ≡ refs_at z ws p)
+    → ((p : ℕ) → phase_at z ws' p ≡ phase_at z ws p) → AreReferences z log ws vs → AreReferences z log ws' (set vs i w)
+references_left z log ws ws' vs i v w at held carried refs phases h =
+    let keep : (p : ℕ) → keeps p w ≡ keeps p v = λ p k. held_times p (held k) + times p (carried k) in
+    references_moved z log ws ws' vs i v w at (record {
+      count = λ p below. omega (arith, refs p, keep p);
+      beyond = λ p above. keep p;
+      phases = phases;
+      carried = λ p. omega (arith, h.carried i v at p, ap (held_times p) held, ap (times p) carried);
+      taken = λ p. omega (arith, h.taken p, ap (λ (ks : List Keep). total (λ k. bit (is_at p k && is_for_new k.purpose)) ks) held);
+      purposes = subst (AreKept log) (sym held) (h.purposes i v at);
+    }) h
 
 -- and to the free list
 pub record FreeStep (z : Sizes) (ws ws' : List ℕ) (hs' : List (Slotted Slot)) (vs : List View) (v w : View) (free free' : List ℕ) : Type 0 where

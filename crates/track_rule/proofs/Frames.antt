@@ -13,21 +13,23 @@ use Rattle.track_rule.specs.declared.view.Middle.TheVariants.{Calm}
 use Rattle.track_rule.specs.declared.view.HeldBuckets.{HeldBuckets}
 use Rattle.track_rule.specs.declared.view.View.{View}
 use Rattle.track_rule.specs.declared.view.Walk.{Walk}
-use Rattle.track_rule.specs.Chains.{AreChains, IsChain, chain_in, entry_of, links_in, side}
+use Rattle.track_rule.specs.Chains.{AreChains, IsChain, chain_in, hooks_at, links_in, loose_of}
 use Rattle.history_book.specs.State.{record_of}
 use Rattle.history_book.specs.declared.record.Record.{Record}
 use Rattle.track_rule.specs.declared.view.Hook.{Hook}
+use Rattle.track_rule.specs.declared.view.Keep.{Keep}
 use Rattle.track_rule.specs.declared.view.Shut.{Shut}
 use Rattle.track_rule.specs.Expected.{AreExpected, expected_turn}
 use Rattle.track_rule.specs.History.{IsHistory, records_after, state_after}
-use Rattle.track_rule.specs.Layout.{first_word, gen_at, gen_word, head_word, next_word, phase_at, phase_word, record_slot, refs_word, second_word, turn_at, turn_word}
+use Rattle.track_rule.specs.Layout.{first_word, gen_at, gen_word, head_word, next_word, phase_at, phase_word, place_of, record_slot, refs_word, second_word, turn_at, turn_word}
 use Rattle.track_rule.specs.Passes.{ArePasses}
-use Rattle.track_rule.specs.Phases.{ArePhases, middle_of, middle_weight, of_both, of_place, shows}
+use Rattle.track_rule.specs.Phases.{ArePhases, middle_of, middle_weight, of_both, of_place, shows, table_keeps}
 use Rattle.track_rule.specs.Records.{AreRecords, has_hand, is_hand_of, record_in}
-use Rattle.track_rule.specs.References.{AreReferences, table_keeps}
+use Rattle.track_rule.specs.References.{AreReferences}
 use Rattle.track_rule.specs.Free.{IsFreeList}
 use Rattle.track_rule.specs.Rule.{IsKept, Ledger}
 use Rattle.track_rule.specs.Sums.{Each, bit, total}
+use Rattle.track_rule.specs.Links.{AreLinks, HasHooks}
 use Rattle.track_rule.specs.Walks.{AreWalks, IsWalk}
 use Rattle.std.proofs.lemmas.Option.{none-some}
 use Rattle.track_rule.proofs.Carried.{Carries}
@@ -49,38 +51,65 @@ no_commit = record { hand = None; middle = Calm }
 
 -- what of a view the pool's steps leave
 pub record Leaves (vs vs' : List View) : Type 1 where
-  pub buckets : Carries (λ (v : View). v.buckets) no_buckets vs vs'
   pub commit : Carries (λ (v : View). v.commit) no_commit vs vs'
   pub expected : Carries (λ (v : View). v.expected) None vs vs'
-  pub walk : (P : Option Walk → Type 0) → P None → Each (λ v. P v.walk) vs → Each (λ v. P v.walk) vs'
+
+-- the words of the history, of the phases, of the records' turns and of the expectations' turn
+pub record Still (z : Sizes) (ws ws' : List ℕ) : Type 0 where
+  pub history : slice_index ws' 0 ≡ slice_index ws 0
+  pub expected : slice_index ws' 2 ≡ slice_index ws 2
+  pub phases : (p : ℕ) → phase_at z ws' p ≡ phase_at z ws p
+  pub turns : (p : ℕ) → turn_at z ws' p ≡ turn_at z ws p
+
+-- the words of the heads and of the links, and besides the generations
+pub record SameLinks (z : Sizes) (ws ws' : List ℕ) : Type 0 where
+  pub heads : (b : ℕ) → b < z.buckets → slice_index ws' (head_word z b) ≡ slice_index ws (head_word z b)
+  pub firsts : (x : ℕ) → slice_index ws' (first_word z x) ≡ slice_index ws (first_word z x)
+  pub seconds : (x : ℕ) → slice_index ws' (second_word z x) ≡ slice_index ws (second_word z x)
+  pub nexts : (x : ℕ) → slice_index ws' (next_word z x) ≡ slice_index ws (next_word z x)
+
+pub record SameChains (z : Sizes) (ws ws' : List ℕ) : Type 0 where
+  pub gens : (b : ℕ) → b < z.buckets → gen_at z ws' b ≡ gen_at z ws b
+  pub links : SameLinks z ws ws'
 
 module _ (z : Sizes) (ws ws' : List ℕ) (quiet : Quiet z ws ws') where
-  same_phase : (p : ℕ) → phase_at z ws' p ≡ phase_at z ws p
-  same_phase p = quiet (phase_word z p) (λ e. omega (arith, e)) (λ q e. omega (arith, e))
+  pub quiet_still : Still z ws ws'
+  quiet_still = record {
+    history = quiet 0 (λ e. omega (arith, e)) (λ q e. omega (arith, e));
+    expected = quiet 2 (λ e. omega (arith, e)) (λ q e. omega (arith, e));
+    phases = λ p. quiet (phase_word z p) (λ e. omega (arith, e)) (λ q e. omega (arith, e));
+    turns = λ p. quiet (turn_word z p) (λ e. omega (arith, e)) (λ q e. omega (arith, e));
+  }
 
-  same_gen : (b : ℕ) → b < z.buckets → gen_at z ws' b ≡ gen_at z ws b
-  same_gen b below = quiet (gen_word z b) (λ e. omega (arith, e)) (λ q e. omega (arith, e, below))
+  pub quiet_chains : SameChains z ws ws'
+  quiet_chains = record {
+    gens = λ b below. quiet (gen_word z b) (λ e. omega (arith, e)) (λ q e. omega (arith, e, below));
+    links = record {
+      heads = λ b below. quiet (head_word z b) (λ e. omega (arith, e)) (λ q e. omega (arith, e, below));
+      firsts = λ x. quiet (first_word z x) (λ e. omega (arith, e)) (λ q e. omega (arith, e));
+      seconds = λ x. quiet (second_word z x) (λ e. omega (arith, e)) (λ q e. omega (arith, e));
+      nexts = λ x. quiet (next_word z x) (λ e. omega (arith, e)) (λ q e. omega (arith, e));
+    };
+  }
 
+module _ (z : Sizes) (ws ws' : List ℕ) (still : Still z ws ws') where
   history_stays : (log : List Event) → IsHistory z log ws → IsHistory z log ws'
-  history_stays log h = record { legal = h.legal; word = quiet 0 (λ e. omega (arith, e)) (λ q e. omega (arith, e)) ∙ h.word }
+  history_stays log h = record { legal = h.legal; word = still.history ∙ h.word }
 
   records_stay : (log : List Event) (hs hs' : List (Slotted Slot)) (vs vs' : List View) → Stays hs hs' → Leaves vs vs'
       → AreRecords z log ws hs vs → AreRecords z log ws' hs' vs'
   records_stay log hs hs' vs vs' homes leaves h = record {
-    turn = λ p below. same_turn p ∙ h.turn p below ∙ sym (hands p);
+    turn = λ p below. still.turns p ∙ h.turn p below ∙ sym (hands p);
     single = λ p. omega (arith, h.single p, hands p);
     home = λ p below calm.
-        let r = h.home p below (sym (same_turn p) ∙ calm) in
+        let r = h.home p below (sym (still.turns p) ∙ calm) in
         record {
           slot = r.slot;
           there = homes (record_slot p) (λ e. omega (arith, e)) ∙ r.there;
-          live = subst (λ (ph : ℕ). 3 ≤ ph → record_in r.slot ≡ record_of (ph - 3) (state_after log)) (sym (same_phase p)) r.live;
+          live = subst (λ (ph : ℕ). 3 ≤ ph → record_in r.slot ≡ record_of (ph - 3) (state_after log)) (sym (still.phases p)) r.live;
         };
   }
     where
-      same_turn : (p : ℕ) → turn_at z ws' p ≡ turn_at z ws p
-      same_turn p = quiet (turn_word z p) (λ e. omega (arith, e)) (λ q e. omega (arith, e))
-
       hands : (p : ℕ) → total (has_hand p) vs' ≡ total (has_hand p) vs
       hands p = leaves.commit.sums (λ (c : Commit). is_hand_of p c.hand) refl
 
@@ -88,95 +117,118 @@ module _ (z : Sizes) (ws ws' : List ℕ) (quiet : Quiet z ws ws') where
   phases_stay log vs vs' leaves h = record {
     shown = λ p id below.
         h.shown p id below
-        ∙ ap (λ (ph : ℕ). shows ph id + total (middle_of (of_both p id)) vs) (sym (same_phase p))
+        ∙ ap (λ (ph : ℕ). shows ph id + total (middle_of (of_both p id)) vs) (sym (still.phases p))
         ∙ ap (λ (n : ℕ). shows (phase_at z ws' p) id + n) (sym (middles (of_both p id)));
     used = λ p below.
         h.used p below
-        ∙ ap (λ (ph : ℕ). table_keeps ph + total (middle_of (of_place p)) vs) (sym (same_phase p))
+        ∙ ap (λ (ph : ℕ). table_keeps ph + total (middle_of (of_place p)) vs) (sym (still.phases p))
         ∙ ap (λ (n : ℕ). table_keeps (phase_at z ws' p) + n) (sym (middles (of_place p)));
-    none_stored = λ p below. same_phase p ∙ h.none_stored p below;
+    low = λ p below. omega (arith, h.low p below, still.phases p);
+    calm = leaves.commit.each (λ (c : Commit). c.middle ≡ Calm) refl h.calm;
   }
     where
       middles : (weight : Record → ℕ) → total (middle_of weight) vs' ≡ total (middle_of weight) vs
       middles weight = leaves.commit.sums (λ (c : Commit). middle_weight weight c.middle) refl
 
-  chain_stays : (b link : ℕ) (es : List Entry) → IsChain z ws b link es → IsChain z ws' b link es
+  expected_stay : (log : List Event) (hs hs' : List (Slotted Slot)) (vs vs' : List View) → Stays hs hs' → Leaves vs vs'
+      → AreExpected z log ws hs vs → AreExpected z log ws' hs' vs'
+  expected_stay log hs hs' vs vs' homes leaves h = record {
+    turn = still.expected ∙ h.turn ∙ sym (leaves.expected.sums expected_turn refl);
+    single = omega (arith, h.single, still.expected);
+    home = λ calm.
+        let r = h.home (sym still.expected ∙ calm) in
+        record { table = r.table; there = homes 1 (λ e. omega (arith, e)) ∙ r.there; same = r.same; room = r.room };
+    away = leaves.expected.each (λ (o : Option (List Expectation)). (list : List Expectation) → o ≡ Some list → list ≡ (state_after log).expects)
+        (λ list e. absurd (none-some list e)) h.away;
+  }
+
+module _ (z : Sizes) (ws ws' : List ℕ) (same : SameLinks z ws ws') where
+  pub chain_stays : (b link : ℕ) (es : List Entry) → IsChain z ws b link es → IsChain z ws' b link es
   chain_stays b link [] h = h
   chain_stays b link (e ∷ es) h = (
     h.0,
     record {
       some = h.1.some;
       below = h.1.below;
-      first = quiet (first_word z e.link) (λ x. omega (arith, x)) (λ q x. omega (arith, x)) ∙ h.1.first;
-      second = quiet (second_word z e.link) (λ x. omega (arith, x)) (λ q x. omega (arith, x)) ∙ h.1.second;
+      first = same.firsts e.link ∙ h.1.first;
+      second = same.seconds e.link ∙ h.1.second;
       placed = h.1.placed;
     },
-    subst (λ (n : ℕ). IsChain z ws' b n es) (sym (quiet (next_word z e.link) (λ x. omega (arith, x)) (λ q x. omega (arith, x))))
-        (chain_stays b (slice_index ws (next_word z e.link)) es h.2),
+    subst (λ (n : ℕ). IsChain z ws' b n es) (sym (same.nexts e.link)) (chain_stays b (slice_index ws (next_word z e.link)) es h.2),
   )
 
-  chains_stay : (log : List Event) (vs vs' : List View) (chains : ℕ → List Entry) → Leaves vs vs'
+  pub hooks_stay : (held : List Keep) (hooks : List Hook) → HasHooks z ws held hooks → HasHooks z ws' held hooks
+  hooks_stay held hooks h = record {
+    each = λ i x at.
+        let k = h.each i x at in
+        record {
+          some = k.some;
+          below = k.below;
+          first = same.firsts x.link ∙ k.first;
+          second = same.seconds x.link ∙ k.second;
+          next = λ n down e. same.nexts x.link ∙ k.next n down e;
+        };
+    owned = h.owned;
+  }
+
+module _ (z : Sizes) (ws ws' : List ℕ) (same : SameChains z ws ws') where
+  -- the chains, where all views together have shut the same, and as much of links that no record has
+  pub chains_stay : (log : List Event) (vs vs' : List View) (chains : ℕ → List Entry) → Carries (λ (v : View). v.buckets.shut) [] vs vs'
+      → ((b : ℕ) (weight : Entry → ℕ) → total (loose_of z b weight) vs' ≡ total (loose_of z b weight) vs)
+      → ((link : ℕ) → 0 < link → total (hooks_at link) vs' + total (of_place (place_of link)) (records_after log) ≤ 1)
       → AreChains z log ws vs chains → AreChains z log ws' vs' chains
-  chains_stay log vs vs' chains leaves h = record {
+  chains_stay log vs vs' chains shut loose lone h = record {
     linked = λ b below.
-        subst (λ (n : ℕ). IsChain z ws' b n (chains b)) (sym (quiet (head_word z b) (λ e. omega (arith, e)) (λ q e. omega (arith, e, below))))
-        (chain_stays b (slice_index ws (head_word z b)) (chains b) (h.linked b below));
+        subst (λ (n : ℕ). IsChain z ws' b n (chains b)) (sym (same.links.heads b below))
+        (chain_stays z ws ws' same.links b (slice_index ws (head_word z b)) (chains b) (h.linked b below));
+    ordered = h.ordered;
     gens = λ b below.
-        ap (λ (n : ℕ). n % 2) (same_gen b below) ∙ h.gens b below
-        ∙ sym (leaves.buckets.sums (λ (s : HeldBuckets). total (λ (x : Shut). bit (x.bucket == b)) s.shut) refl);
+        ap (λ (n : ℕ). n % 2) (same.gens b below) ∙ h.gens b below
+        ∙ sym (shut.sums (λ (xs : List Shut). total (λ (x : Shut). bit (x.bucket == b)) xs) refl);
     mine = λ b below.
-        leaves.buckets.each (λ (s : HeldBuckets). 0 < total (λ (x : Shut). bit (x.bucket == b)) s.shut → chain_in b s.shut ≡ chains b)
+        shut.each (λ (xs : List Shut). 0 < total (λ (x : Shut). bit (x.bucket == b)) xs → chain_in b xs ≡ chains b)
         (λ some. absurd (omega (arith, some))) (h.mine b below);
     chained = λ b below weight.
-        h.chained b below weight
-        ∙ ap (λ (n : ℕ). total (links_in z b weight) (records_after log) + n)
-        (sym (leaves.buckets.sums (λ (s : HeldBuckets). total (λ (x : Hook). (if x.up then side z b weight (entry_of x) else 0)) s.hooks) refl));
-    lone = λ link some.
-        omega (arith, h.lone link some, leaves.buckets.sums (λ (s : HeldBuckets). total (λ (x : Hook). bit (x.link == link)) s.hooks) refl);
+        h.chained b below weight ∙ ap (λ (n : ℕ). total (links_in z b weight) (records_after log) + n) (sym (loose b weight));
+    lone = lone;
   }
 
-  walks_stay : (vs vs' : List View) (chains : ℕ → List Entry) → Leaves vs vs' → AreWalks z ws vs chains → AreWalks z ws' vs' chains
-  walks_stay vs vs' chains leaves h = record {
-    each = leaves.walk (λ (o : Option Walk). (n : Walk) → o ≡ Some n → IsWalk z ws' chains n) (λ n e. absurd (none-some n e)) (λ i v at n e. walk_stays n (h.each i v at n e));
+  pub walk_stays : (chains : ℕ → List Entry) (front : List Event) (n : Walk) → IsWalk z ws chains front n → IsWalk z ws' chains front n
+  walk_stays chains front n w = record {
+    bucket = w.bucket;
+    least = omega (arith, w.least, same.gens n.bucket w.bucket);
+    stands = λ here even. w.stands (sym (same.gens n.bucket w.bucket) ∙ here) even;
+    known = λ point at.
+        let k = w.known point at in
+        record { seen = k.seen; live = λ here even. k.live (sym (same.gens n.bucket w.bucket) ∙ here) even };
+    gone = λ passed even. omega (arith, w.gone passed even, same.gens n.bucket w.bucket);
   }
-    where
-      walk_stays : (n : Walk) → IsWalk z ws chains n → IsWalk z ws' chains n
-      walk_stays n w = record {
-        bucket = w.bucket;
-        least = omega (arith, w.least, same_gen n.bucket w.bucket);
-        stands = λ here even. w.stands (sym (same_gen n.bucket w.bucket) ∙ here) even;
-      }
 
-  expected_stay : (log : List Event) (hs hs' : List (Slotted Slot)) (vs vs' : List View) → Stays hs hs' → Leaves vs vs'
-      → AreExpected z log ws hs vs → AreExpected z log ws' hs' vs'
-  expected_stay log hs hs' vs vs' homes leaves h = record {
-    turn = same_turn ∙ h.turn ∙ sym (leaves.expected.sums expected_turn refl);
-    single = omega (arith, h.single, same_turn);
-    home = λ calm.
-        let r = h.home (sym same_turn ∙ calm) in
-        record { table = r.table; there = homes 1 (λ e. omega (arith, e)) ∙ r.there; same = r.same; room = r.room };
-    away = leaves.expected.each (λ (o : Option (List Expectation)). (list : List Expectation) → o ≡ Some list → list ≡ (state_after log).expects)
-        (λ list e. absurd (none-some list e)) h.away;
+  pub links_stay : (vs vs' : List View) → Each (λ v. HasHooks z ws' v.places.held v.buckets.hooks) vs' → AreLinks z ws vs → AreLinks z ws' vs'
+  links_stay vs vs' hooks h = record {
+    heads = λ b below. omega (arith, h.heads b below, same.links.heads b below);
+    nexts = λ x some below. omega (arith, h.nexts x some below, same.links.nexts x);
+    gens = λ b below. omega (arith, h.gens b below, same.gens b below);
+    hooks = hooks;
   }
-    where
-      same_turn : slice_index ws' 2 ≡ slice_index ws 2
-      same_turn = quiet 2 (λ e. omega (arith, e)) (λ q e. omega (arith, e))
 
--- A step on the pool: what the three parts say that it may change, and that it leaves the rest.
-pub kept : (z : Sizes) (l : Ledger) (s : State Slot View) (ws' : List ℕ) (hs' : List (Slotted Slot)) (vs' : List View) (free' : List ℕ)
-    → IsKept z l s → Quiet z s.words ws' → length ws' ≡ length s.words → Stays s.homes hs' → Leaves s.views vs'
-    → ArePasses z l.log vs' → AreReferences z ws' vs' → IsFreeList z ws' hs' vs' free'
-    → IsKept z (record l { free = free' }) (record { words = ws'; homes = hs'; views = vs' })
-kept z l s ws' hs' vs' free' h quiet long homes leaves passes references free_list = record {
+-- A step that leaves the history, the phases, the turns of records and of the expectations: what the other parts say.
+pub kept : (z : Sizes) (l : Ledger) (s : State Slot View) (ws' : List ℕ) (hs' : List (Slotted Slot)) (vs' : List View) (free' : List ℕ) (chains' : ℕ → List Entry)
+    → IsKept z l s → Still z s.words ws' → length ws' ≡ length s.words → Stays s.homes hs' → Leaves s.views vs'
+    → ArePasses z l.log vs' → AreReferences z l.log ws' vs' → IsFreeList z ws' hs' vs' free'
+    → AreChains z l.log ws' vs' chains' → AreLinks z ws' vs' → AreWalks z ws' vs' chains'
+    → IsKept z (record l { free = free'; chains = chains' }) (record { words = ws'; homes = hs'; views = vs' })
+kept z l s ws' hs' vs' free' chains' h still long homes leaves passes references free_list chains links walks = record {
   limits = h.limits;
   count = long ∙ h.count;
   passes = passes;
-  history = history_stays z s.words ws' quiet l.log h.history;
+  history = history_stays z s.words ws' still l.log h.history;
   references = references;
   free_list = free_list;
-  records = records_stay z s.words ws' quiet l.log s.homes hs' s.views vs' homes leaves h.records;
-  phases = phases_stay z s.words ws' quiet l.log s.views vs' leaves h.phases;
-  chains = chains_stay z s.words ws' quiet l.log s.views vs' l.chains leaves h.chains;
-  walks = walks_stay z s.words ws' quiet s.views vs' l.chains leaves h.walks;
-  expected = expected_stay z s.words ws' quiet l.log s.homes hs' s.views vs' homes leaves h.expected;
+  records = records_stay z s.words ws' still l.log s.homes hs' s.views vs' homes leaves h.records;
+  phases = phases_stay z s.words ws' still l.log s.views vs' leaves h.phases;
+  chains = chains;
+  links = links;
+  walks = walks;
+  expected = expected_stay z s.words ws' still l.log s.homes hs' s.views vs' homes leaves h.expected;
 }

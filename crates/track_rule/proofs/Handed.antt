@@ -1,5 +1,5 @@
 -- Shares are handed over, a pass takes in another one, the first pass begins, and the last one ends.
-use Rattle.std.specs.Prelude.{slice_get, slice_index, nat_le, nat_lt, ◌&&◌}
+use Rattle.std.specs.Prelude.{slice_get, slice_index, nat_le, nat_lt, ◌&&◌, if◌then◌else◌}
 use Rattle.std.proofs.Common.{◌≡◌, ℕ, ◌+◌, ◌-◌, ◌^◌, ◌<◌, ◌≤◌, true, Option, Some, None, List, [], ◌∷◌, ◌++◌, length, refl, sym, ap, subst, ◌∙◌, arith, set, length-append}
 use Rattle.std.proofs.lemmas.Bool.Decides.{nat_tests}
 use Rattle.history_book.specs.History.{is_legal}
@@ -14,26 +14,36 @@ use Rattle.history_book.specs.declared.event.Note.{Note}
 use Rattle.history_book.specs.declared.sizes.Sizes.{Sizes}
 use Rattle.track_rule.specs.declared.slot.Slot.{Slot}
 use Rattle.track_rule.specs.declared.view.Places.{Places}
+use Rattle.track_rule.specs.declared.view.Hook.{Hook}
+use Rattle.track_rule.specs.declared.view.HeldBuckets.{HeldBuckets}
 use Rattle.track_rule.specs.declared.view.View.{View}
+use Rattle.track_rule.specs.declared.view.Walk.{Walk}
+use Rattle.track_rule.specs.Chains.{entry_of, side}
 use Rattle.track_rule.specs.Free.{IsFreeList, owes, turn_of}
 use Rattle.track_rule.specs.History.{events_in, live_in, records_after}
 use Rattle.track_rule.specs.Layout.{phase_at}
+use Rattle.track_rule.specs.Links.{HasHooks, hooks_of}
 use Rattle.track_rule.specs.Passes.{ArePasses, HasNothing, IsPass, IsSpent, has_share, made_weight, no_places, shares_of}
-use Rattle.track_rule.specs.References.{AreReferences, held_times, keeps, table_keeps}
+use Rattle.track_rule.specs.References.{AreKept, AreReferences, held_times, is_at, is_for_new, keeps}
+use Rattle.track_rule.specs.Phases.{table_keeps}
 use Rattle.track_rule.specs.Rule.{Holds, IsKept, Ledger}
 use Rattle.track_rule.specs.Shares.{IsLast, further, joined, shares_left, spent_view}
-use Rattle.track_rule.specs.Sums.{bit, times, total}
+use Rattle.track_rule.specs.Sums.{Each, bit, times, total}
+use Rattle.track_rule.specs.Walks.{IsWalk}
 use Rattle.track_rule.proofs.Carried.{Carries, carries_cut, carries_join}
-use Rattle.track_rule.proofs.Frames.{Leaves, kept, no_commit, no_buckets}
+use Rattle.track_rule.proofs.Frames.{Leaves, Quiet, SameChains, chains_stay, kept, links_stay, no_commit, no_buckets, quiet_chains, quiet_still}
 use Rattle.track_rule.proofs.Loads.{few_events, word_events, word_live}
 use Rattle.track_rule.proofs.Sums.{each_more, each_put, total_append, total_only, total_same, total_set, total_term, total_two}
 
 -- the references and the free list where all views together have the same places and the same turn
-references_carry : (z : Sizes) (ws : List ℕ) (vs vs' : List View) → Carries (λ (v : View). v.places) no_places vs vs' → AreReferences z ws vs → AreReferences z ws vs'
-references_carry z ws vs vs' c h = record {
+references_carry : (z : Sizes) (log : List Event) (ws : List ℕ) (vs vs' : List View) → Carries (λ (v : View). v.places) no_places vs vs'
+    → AreReferences z log ws vs → AreReferences z log ws vs'
+references_carry z log ws vs vs' c h = record {
   counted = λ p below. h.counted p below ∙ ap (λ (n : ℕ). n + table_keeps (phase_at z ws p)) (sym (kept_by p));
   beyond = λ p above. kept_by p ∙ h.beyond p above;
   carried = c.each (λ (x : Places). (p : ℕ) → times p x.carried ≤ held_times p x.held) (λ p. omega arith) h.carried;
+  taken = λ p. omega (arith, h.taken p, c.sums (λ (x : Places). total (λ k. bit (is_at p k && is_for_new k.purpose)) x.held) refl);
+  purposes = c.each (λ (x : Places). AreKept log x.held) tt h.purposes;
 }
   where
     kept_by : (p : ℕ) → total (keeps p) vs' ≡ total (keeps p) vs
@@ -59,11 +69,28 @@ free_carry z ws hs vs vs' free c t h = record {
 -- other passes, which together have the same of everything
 handed : (z : Sizes) (l : Ledger) (s : State Slot View) (vs' : List View) → IsKept z l s → ArePasses z l.log vs' → Leaves s.views vs'
     → Carries (λ (v : View). v.places) no_places s.views vs' → Carries (λ (v : View). v.free) None s.views vs'
+    → Carries {X = Places × HeldBuckets} (λ (v : View). (v.places, v.buckets)) (no_places, no_buckets) s.views vs'
+    → ((P : List Event → Option Walk → Type 0) → ((front : List Event) → P front None) → Each (λ v. P v.seen.front v.walk) s.views → Each (λ v. P v.seen.front v.walk) vs')
     → IsKept z l (record { words = s.words; homes = s.homes; views = vs' })
-handed z l s vs' h passes leaves places free =
-    kept z l s s.words s.homes vs' l.free h (λ k a b. refl) refl (λ k a. refl) leaves passes
-    (references_carry z s.words s.views vs' places h.references)
+handed z l s vs' h passes leaves places free buckets walk =
+    let quiet : Quiet z s.words s.words = λ k a b. refl in
+    let same : SameChains z s.words s.words = quiet_chains z s.words s.words quiet in
+    let shut : Carries (λ (v : View). v.buckets.shut) [] s.views vs' = record {
+      sums = λ f none. buckets.sums (λ (x : Places × HeldBuckets). f x.1.shut) none;
+      each = λ P base all. buckets.each (λ (x : Places × HeldBuckets). P x.1.shut) base all;
+    } in
+    kept z l s s.words s.homes vs' l.free l.chains h (quiet_still z s.words s.words quiet) refl (λ k a. refl) leaves passes
+    (references_carry z l.log s.words s.views vs' places h.references)
     (free_carry z s.words s.homes s.views vs' l.free places free h.free_list)
+    (chains_stay z s.words s.words same l.log s.views vs' l.chains shut
+    (λ b weight. buckets.sums (λ (x : Places × HeldBuckets). total (λ (y : Hook). (if y.up then side z b weight (entry_of y) else 0)) x.1.hooks) refl)
+    (λ link some. omega (arith, h.chains.lone link some, buckets.sums (λ (x : Places × HeldBuckets). hooks_of link x.1.hooks) refl)) h.chains)
+    (links_stay z s.words s.words same s.views vs'
+    (buckets.each (λ (x : Places × HeldBuckets). HasHooks z s.words x.0.held x.1.hooks) (no_hooks z s.words) h.links.hooks) h.links)
+    (record { each = walk (λ front o. (n : Walk) → o ≡ Some n → IsWalk z s.words l.chains front n) (λ front n e. absurd (none-some n e)) h.walks.each })
+  where
+    no_hooks : (z : Sizes) (ws : List ℕ) → HasHooks z ws [] []
+    no_hooks z ws = record { each = λ i h at. absurd (some-ne-none h (sym at)); owned = λ link any. absurd (omega (arith, any)) }
 
 -- numbers below a place, and those from it on
 abbrev in_range : ℕ → ℕ → ℕ → ℕ
@@ -132,13 +159,14 @@ splits z id shares v has_some fewer s (l, h) at =
             made = λ weight. h.passes.made weight ∙ sym (total_cut (made_weight weight) s.views id v left right at (omega arith));
           })
           (record {
-            buckets = carries_cut (λ (u : View). u.buckets) no_buckets s.views id v left right at refl refl;
             commit = carries_cut (λ (u : View). u.commit) no_commit s.views id v left right at refl refl;
             expected = carries_cut (λ (u : View). u.expected) None s.views id v left right at refl refl;
-            walk = (carries_cut (λ (u : View). u.walk) None s.views id v left right at refl refl).each;
           })
           (carries_cut (λ (u : View). u.places) no_places s.views id v left right at refl refl)
-          (carries_cut (λ (u : View). u.free) None s.views id v left right at refl refl),
+          (carries_cut (λ (u : View). u.free) None s.views id v left right at refl refl)
+          (carries_cut {X = Places × HeldBuckets} (λ (u : View). (u.places, u.buckets)) (no_places, no_buckets) s.views id v left right at refl refl)
+          (λ P base all. each_more (λ (u : View). P u.seen.front u.walk) (set s.views id left) right
+          (each_put (λ (u : View). P u.seen.front u.walk) s.views id left all (all id v at)) (base v.seen.front)),
     )
 
 -- a pass that took in another one
@@ -230,17 +258,17 @@ joins z id other v w has_some has_other none s (l, h) at apart at' =
                 (omega (arith, total_append weight (v.seen.gathered ++ w.seen.own) w.seen.gathered, total_append weight v.seen.gathered w.seen.own)));
           })
           (record {
-            buckets = carries_join (λ (u : View). u.buckets) no_buckets s.views id other v w both spent_view at at' refl
-                (λ k. record { shut = none.shut k; hooks = none.hooks k }) refl;
             commit = carries_join (λ (u : View). u.commit) no_commit s.views id other v w both spent_view at at' refl
                 (λ k. record { hand = none.hand k; middle = none.middle k }) refl;
             expected = carries_join (λ (u : View). u.expected) None s.views id other v w both spent_view at at' refl none.expected refl;
-            walk = λ P base all. each_put (λ (u : View). P u.walk) vs other spent_view
-                (each_put (λ (u : View). P u.walk) s.views id both all (all id v at)) base;
           })
           (carries_join (λ (u : View). u.places) no_places s.views id other v w both spent_view at at' refl
           (λ k. record { held = none.held k; owed = none.owed k; clear = none.clear k; carried = none.carried k }) refl)
-          (carries_join (λ (u : View). u.free) None s.views id other v w both spent_view at at' refl none.free refl),
+          (carries_join (λ (u : View). u.free) None s.views id other v w both spent_view at at' refl none.free refl)
+          (carries_join {X = Places × HeldBuckets} (λ (u : View). (u.places, u.buckets)) (no_places, no_buckets) s.views id other v w both spent_view at at' refl
+          (λ k. (record { held = none.held k; owed = none.owed k; clear = none.clear k; carried = none.carried k }, record { shut = none.shut k; hooks = none.hooks k })) refl)
+          (λ P base all. each_put (λ (u : View). P u.seen.front u.walk) vs other spent_view
+          (each_put (λ (u : View). P u.seen.front u.walk) s.views id both all (all id v at)) (base [])),
     )
   where
     range_none : (n : ℕ) → in_range 0 0 n ≡ 0

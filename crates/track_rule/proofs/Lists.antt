@@ -1,11 +1,12 @@
 -- How often a place stands in a list, and among references.
 use Rattle.std.proofs.Common.{◌≡◌, ◌≢◌, ℕ, ◌+◌, ◌<◌, ◌≤◌, suc, Bool, true, false, cond, List, [], ◌∷◌, ◌++◌, length, refl, sym, ap, ◌∙◌, arith, ⊎_elim}
 use Rattle.std.specs.List.{list_any}
-use Rattle.std.specs.Prelude.{◌==◌, ◌||◌, not}
+use Rattle.std.specs.Prelude.{◌==◌, ◌&&◌, ◌||◌, not}
 use Rattle.std.proofs.lemmas.Bool.{cases_Bool, cases_eq, cond_both, eq-eqb, eqb-true, ne_eqb}
+use Rattle.history_book.specs.declared.event.Event.{Event}
 use Rattle.track_rule.specs.declared.view.Keep.{Keep}
 use Rattle.track_rule.specs.Free.{is_among, taken_out, unlisted}
-use Rattle.track_rule.specs.References.{held_times, is_at, is_held, without}
+use Rattle.track_rule.specs.References.{AreKept, held_times, is_at, is_for_new, is_held, without}
 use Rattle.track_rule.specs.Sums.{bit, times, total}
 use Rattle.track_rule.proofs.Sums.{total_append}
 
@@ -88,6 +89,40 @@ other_without a p held h e =
 
 pub length_without : (a : ℕ) (held : List Keep) → is_held a held ≡ true → length (without a held) + 1 ≡ length held
 length_without a held h = length_rest (is_at a) (without a) (λ x xs. refl) held h
+
+-- what is taken is held
+pub takes_held : (a : ℕ) (held : List Keep) → total (λ k. bit (is_at a k && is_for_new k.purpose)) held ≤ held_times a held
+takes_held a [] = omega arith
+takes_held a (k ∷ ks) = omega (arith, both_low (is_at a k) (is_for_new k.purpose), takes_held a ks)
+  where
+    both_low : (b c : Bool) → bit (b && c) ≤ bit b
+    both_low true c = bit_low c
+    both_low false c = omega arith
+
+-- a reference that is not for a new entry is no taking, and one of another place is none here
+pub takes_testing : (a p : ℕ) → bit (p == a && false) ≡ 0
+takes_testing a p = neither (p == a)
+  where
+    neither : (b : Bool) → bit (b && false) ≡ 0
+    neither true = refl
+    neither false = refl
+
+pub takes_other : (a p : ℕ) (c : Bool) → p ≢ a → bit (p == a && c) ≡ 0
+takes_other a p c other = ap (λ (b : Bool). bit (b && c)) (ne_eqb p a other)
+
+-- without a reference no more is taken
+pub takes_without : (a p : ℕ) (held : List Keep)
+    → total (λ k. bit (is_at a k && is_for_new k.purpose)) (without p held) ≤ total (λ k. bit (is_at a k && is_for_new k.purpose)) held
+takes_without a p [] = omega arith
+takes_without a p (k ∷ ks) =
+    cond_both (is_at p k) ks (k ∷ without p ks)
+    (λ ys. total (λ x. bit (is_at a x && is_for_new x.purpose)) ys ≤ bit (is_at a k && is_for_new k.purpose) + total (λ x. bit (is_at a x && is_for_new x.purpose)) ks)
+    (λ e. omega arith) (λ e. omega (arith, takes_without a p ks))
+
+-- and the others are for what they were
+pub kept_without : (log : List Event) (p : ℕ) (held : List Keep) → AreKept log held → AreKept log (without p held)
+kept_without log p [] h = tt
+kept_without log p (k ∷ ks) h = cond_both (is_at p k) ks (k ∷ without p ks) (AreKept log) (λ e. h.1) (λ e. (h.0, kept_without log p ks h.1))
 
 -- a place that was taken out of a list
 pub same_taken : (a : ℕ) (list : List ℕ) → is_among a list ≡ true → times a (taken_out a list) + 1 ≡ times a list

@@ -1,10 +1,11 @@
 -- Steps that change no word: a load, and an exchange that fails. What a load tells of the history and of the references.
 use Rattle.std.specs.Prelude.{min, nat_lt}
 use Rattle.track_rule.proofs.Lists.{bit_low}
-use Rattle.std.proofs.Common.{◌≡◌, ℕ, ◌+◌, ◌-◌, ◌*◌, ◌/◌, ◌%◌, ◌^◌, ◌<◌, ◌≤◌, suc, List, [], ◌∷◌, length, refl, sym, ap, subst, ◌∙◌, ⊎_elim, inl, arith, set, append-nil}
+use Rattle.std.proofs.Common.{◌≡◌, ℕ, ◌+◌, ◌-◌, ◌*◌, ◌/◌, ◌%◌, ◌^◌, ◌<◌, ◌≤◌, suc, Option, Some, None, List, [], ◌∷◌, length, refl, sym, ap, subst, ◌∙◌, ⊎_elim, inl, arith, set, append-nil}
 use Rattle.std.specs.Prelude.{slice_index, slice_set}
 use Rattle.std.proofs.lemmas.Bool.{cases_lt}
 use Rattle.std.proofs.lemmas.List.{set-get_or}
+use Rattle.std.proofs.lemmas.Option.{none-some}
 use mathlib.Core.Option.{none, some}
 use lib.ListN.{get_elem?}
 use Rattle.atomic_table.specs.Table.{Allows, State, keeps as unchanged, step}
@@ -15,31 +16,30 @@ use Rattle.history_book.specs.Sight.{notes_from}
 use Rattle.track_rule.specs.declared.slot.Slot.{Slot}
 use Rattle.track_rule.specs.declared.view.Places.{Places}
 use Rattle.track_rule.specs.declared.view.View.{View}
+use Rattle.track_rule.specs.declared.view.Walk.{Walk}
+use Rattle.track_rule.specs.Walks.{IsWalk}
 use Rattle.track_rule.specs.Free.{turn_of}
 use Rattle.track_rule.specs.History.{events_in, live_in, records_after}
 use Rattle.track_rule.specs.Layout.{phase_at, refs_at, refs_word}
-use Rattle.track_rule.specs.Passes.{ArePasses, IsPass, made_weight, shares_of}
+use Rattle.track_rule.specs.Passes.{ArePasses, HasNothing, IsPass, made_weight, shares_of}
+use Rattle.track_rule.specs.Phases.{middle_of, middle_weight, of_place}
 use Rattle.track_rule.specs.Readings.{found, noted}
 use Rattle.track_rule.specs.References.{held_times, keeps}
 use Rattle.track_rule.specs.Rule.{Holds, IsKept, Ledger}
-use Rattle.track_rule.specs.Steps.{LoadStep, LoadsRefs, LookStep, found_history, most_keeps, saw}
-use Rattle.track_rule.specs.Sums.{Each, times}
-use Rattle.track_rule.proofs.Balance.{Moves, few_references, free_moved, moved, pass_moved, references_moved}
-use Rattle.track_rule.proofs.Sums.{length_total, total_gap, total_term, total_times}
+use Rattle.track_rule.specs.Steps.{AreAll, IsCount, LoadStep, LoadsRefs, LookStep, at_point, found_history, saw}
+use Rattle.track_rule.specs.Sums.{Each, times, total}
+use Rattle.track_rule.proofs.Balance.{Lines, Moves, few_references, free_moved, moved, pass_moved, references_left, same_lines, bucket_lines}
+use Rattle.track_rule.proofs.Sums.{length_total, total_gap, total_only, total_term, total_times}
 
 -- a view in which at most the readings and what was seen differ keeps the rule
 pub reads : (z : Sizes) (l : Ledger) (s : State Slot View) (id i : ℕ) (v w : View) → IsKept z l s → get_elem? s.views id ≡ some v
-    → Moves v w → IsPass z l.log w → w.places ≡ v.places → w.free ≡ v.free
+    → Moves v w → IsPass z l.log w → w.places ≡ v.places → w.free ≡ v.free → Lines z l s id v w
     → IsKept z l (record { words = slice_set s.words i (slice_index s.words i); homes = s.homes; views = set s.views id w })
-reads z l s id i v w h at m p places free =
+reads z l s id i v w h at m p places free lines =
     subst (λ (ws : List ℕ). IsKept z l (record { words = ws; homes = s.homes; views = set s.views id w })) (sym (set-get_or s.words i 0))
     (moved z l s id v w s.words s.homes l.free h at m p (λ k a b. refl) refl (λ k a. refl)
-    (references_moved z s.words s.words s.views id v w at (record {
-      count = λ p below. ap (λ (x : Places). refs_at z s.words p + (held_times p x.held + times p x.carried)) (sym places);
-      beyond = λ p above. ap (λ (x : Places). held_times p x.held + times p x.carried) places;
-      phases = λ p. refl;
-      carried = subst (λ (x : Places). (p : ℕ) → times p x.carried ≤ held_times p x.held) (sym places) (h.references.carried id v at);
-    }) h.references)
+    (references_left z l.log s.words s.words s.views id v w at (ap (λ (x : Places). x.held) places) (ap (λ (x : Places). x.carried) places) (λ p. refl)
+    (λ p. refl) h.references)
     (free_moved z s.words s.words s.homes s.homes s.views id v w l.free l.free at (record {
       once = λ p below. ap (λ (x : Places). times p l.free + times p x.owed + min (refs_at z s.words p) 1) places;
       beyond = λ p above. ap (λ (x : Places). times p l.free + times p x.owed) places;
@@ -53,7 +53,7 @@ reads z l s id i v w h at m p places free =
       few = omega (arith, h.free_list.few id v at, ap (λ (x : Places). length x.held + length x.owed) places);
       clear = subst (λ (x : Places). (p : ℕ) → 0 < times p x.clear → (0 < times p x.owed) × (phase_at z s.words p ≡ 0)) (sym places)
           (h.free_list.clear id v at);
-    }) h.free_list))
+    }) h.free_list) lines)
 
 -- as many notes as events
 pub length-notes : (k : ℕ) (es : List Event) → length (notes_from k es) ≡ length es
@@ -99,6 +99,61 @@ word_events e r few = omega arith
 pub word_live : (e r : ℕ) → e < 2 ^ 40 → (e + 2 ^ 40 * r) / 2 ^ 40 ≡ r
 word_live e r few = omega arith
 
+-- the note of the walk has the point, at which the chain has what is live
+look_note : (z : Sizes) (l : Ledger) (s : State Slot View) (id : ℕ) (v : View) → IsKept z l s → get_elem? s.views id ≡ some v
+    → (n : Walk) → at_point (length l.log) v.walk ≡ Some n → IsWalk z s.words l.chains l.log n
+look_note z l s id v h at = with_note v.walk (h.walks.each id v at)
+  where
+    with_note : (o : Option Walk) → ((n : Walk) → o ≡ Some n → IsWalk z s.words l.chains v.seen.front n) → (n : Walk)
+        → at_point (length l.log) o ≡ Some n → IsWalk z s.words l.chains l.log n
+    with_note None k n e = absurd (none-some n e)
+    with_note (Some m) k n e =
+        let w = k m refl in
+        let there : record m { at = Some (length l.log) } ≡ n = cc in
+        subst (λ (x : Walk). IsWalk z s.words l.chains l.log x) there (record {
+          bucket = w.bucket;
+          least = w.least;
+          stands = λ here even. let t = w.stands here even in record { passed = t.passed; rest = t.rest; all = t.all; matches = t.matches; ended = t.ended };
+          known = λ point same. record {
+            seen = same_number point same;
+            live = λ here even weight. omega (arith, h.chains.chained m.bucket w.bucket weight);
+          };
+          gone = w.gone;
+        })
+      where
+        same_number : (point : ℕ) → Some (length l.log) ≡ Some point → point ≡ length l.log
+        same_number point e = cc
+
+-- where no other pass has a share, all have what this one has; and where all have more, there is another
+module _ (z : Sizes) (l : Ledger) (s : State Slot View) (id : ℕ) (v : View) (h : IsKept z l s) (at : get_elem? s.views id ≡ some v)
+    (f : View → ℕ) (none : (u : View) → HasNothing u → f u ≡ 0) where
+  pub alone_total : shares_of v ≡ z.passes → total f s.views ≡ f v
+  alone_total alone =
+      total_only f shares_of s.views id v at (h.passes.all ∙ sym alone)
+      (λ i u at' zero. none u ((h.passes.each i u at').spent (omega (arith, zero))).nothing)
+
+  pub others_there : f v < total f s.views → shares_of v < z.passes
+  others_there more =
+      ⊎_elim (λ (e : shares_of v < z.passes). e)
+      (λ (e : z.passes ≤ shares_of v).
+      absurd (omega (arith, more, alone_total (omega (arith, e, h.passes.all, total_term shares_of s.views id v at)))))
+      (cases_lt (shares_of v) z.passes)
+
+-- all events, as a pass knows them
+all_events : (l : Ledger) (s : State Slot View) (id : ℕ) (v : View) → IsKept v.passes.sizes l s → get_elem? s.views id ≡ some v → 0 < v.passes.shares
+    → AreAll v l.log
+all_events l s id v h at has_some =
+    let p : IsPass v.passes.sizes l.log v = h.passes.each id v at in
+    record {
+      front = p.front;
+      told = p.told;
+      legal = h.history.legal;
+      few = few_events v.passes.sizes l.log s.views h.passes id v at has_some;
+      passes = h.limits.passes;
+      shares = omega (arith, total_term shares_of s.views id v at, h.passes.all);
+      alone = λ one. p.alone one has_some;
+    }
+
 -- a load of the history word keeps the rule, and shows the whole history
 pub looks : (slots id : ℕ) (v : View) (c : List (ℕ × Slot)) → 0 < v.passes.shares
     → Allows (Holds v.passes.sizes) slots id (v, c) 0 (λ n. n) (LookStep (step slots 0 0 0 none) (v, c))
@@ -106,25 +161,21 @@ looks slots id v c has_some s (l, h) long at range =
     let z : Sizes = v.passes.sizes in
     let w : View = noted (found_history (slice_index s.words 0) v) (saw l.log v) in
     let p : IsPass z l.log v = h.passes.each id v at in
-    let m : Moves v w = record { passes = refl; own = refl; gathered = refl; buckets = refl; commit = refl; expected = refl; walk = refl } in
+    let m : Moves v w = record { passes = refl; own = refl; gathered = refl; commit = refl; expected = refl } in
     let few = few_events z l.log s.views h.passes id v at has_some in
     let low : length l.log < 2 ^ 40 = omega (arith, few, h.limits.passes) in (
       w,
       unchanged,
       tt,
-      (l, reads z l s id 0 v w h at m (pass_moved z l.log v w p m has_some ([], sym (append-nil l.log)) p.told) refl refl),
+      (
+        l,
+        reads z l s id 0 v w h at m (pass_moved z l.log v w p m has_some ([], sym (append-nil l.log)) p.told) refl refl
+            (bucket_lines z l s id v w h at refl (λ q. omega arith) (look_note z l s id v h at)),
+      ),
       (
         record {
           same = refl;
-          all = record {
-            front = p.front;
-            told = p.told;
-            legal = h.history.legal;
-            few = few;
-            passes = h.limits.passes;
-            shares = omega (arith, total_term shares_of s.views id v at, h.passes.all);
-            alone = λ one. p.alone one has_some;
-          };
+          all = all_events l s id v h at has_some;
           events = ap events_in h.history.word ∙ word_events (length l.log) (length (records_after l.log)) low;
           live = ap live_in h.history.word ∙ word_live (length l.log) (length (records_after l.log)) low;
         },
@@ -132,13 +183,26 @@ looks slots id v c has_some s (l, h) long at range =
       ),
     )
 
--- what every load of a references word tells
-pub refs_told : (z : Sizes) (l : Ledger) (s : State Slot View) (id p : ℕ) (v : View) → IsKept z l s → get_elem? s.views id ≡ some v → p < z.entries
-    → (slice_index s.words (refs_word z p) < most_keeps) × (keeps p v ≤ slice_index s.words (refs_word z p))
-refs_told z l s id p v h at below = (
-  omega (arith, h.references.counted p below, few_references z l s h p, bit_low (nat_lt 2 (phase_at z s.words p))),
-  omega (arith, h.references.counted p below, total_term (keeps p) s.views id v at),
-)
+-- what every step on a references word tells
+pub refs_told : (l : Ledger) (s : State Slot View) (id p : ℕ) (v : View) → IsKept v.passes.sizes l s → get_elem? s.views id ≡ some v
+    → p < v.passes.sizes.entries → 0 < v.passes.shares → IsCount p (slice_index s.words (refs_word v.passes.sizes p)) v
+refs_told l s id p v h at below has_some =
+    let z : Sizes = v.passes.sizes in
+    record {
+      few = omega (arith, h.references.counted p below, few_references z l s h p, bit_low (nat_lt 2 (phase_at z s.words p)));
+      own = omega (arith, h.references.counted p below, total_term (keeps p) s.views id v at);
+      alone = λ alone. record {
+        log = l.log;
+        all = all_events l s id v h at has_some;
+        exact = omega (
+          arith,
+          h.references.counted p below,
+          h.phases.used p below,
+          alone_total z l s id v h at (keeps p) (λ u n. omega (arith, ap (held_times p) n.held, ap (times p) n.carried)) alone,
+          alone_total z l s id v h at (middle_of (of_place p)) (λ u n. ap (middle_weight (of_place p)) n.middle) alone,
+        );
+      };
+    }
 
 -- two places have two words
 pub one_place : (z : Sizes) (p q : ℕ) → refs_word z p ≡ refs_word z q → p ≡ q
@@ -153,11 +217,15 @@ loads slots id p v c below has_some s (l, h) long at range =
     let n : ℕ = slice_index s.words (refs_word z p) in
     let w : View = noted (found (refs_word z p) n) v in
     let one : IsPass z l.log v = h.passes.each id v at in
-    let m : Moves v w = record { passes = refl; own = refl; gathered = refl; buckets = refl; commit = refl; expected = refl; walk = refl } in
-    let told = refs_told z l s id p v h at below in (
+    let m : Moves v w = record { passes = refl; own = refl; gathered = refl; commit = refl; expected = refl } in
+    let told : IsCount p n v = refs_told l s id p v h at below has_some in (
       w,
       unchanged,
       tt,
-      (l, reads z l s id (refs_word z p) v w h at m (pass_moved z l.log v w one m has_some one.front one.told) refl refl),
-      λ q same. subst (λ (k : ℕ). LoadsRefs k v n w × (c ≡ c)) (one_place z p q same) (record { view = refl; few = told.0; own = told.1 }, refl),
+      (
+        l,
+        reads z l s id (refs_word z p) v w h at m (pass_moved z l.log v w one m has_some one.front one.told) refl refl
+            (same_lines z l s id v w h at refl (λ q. omega arith) refl refl),
+      ),
+      λ q same. subst (λ (k : ℕ). LoadsRefs k v n w × (c ≡ c)) (one_place z p q same) (record { view = refl; count = told }, refl),
     )

@@ -1,12 +1,12 @@
 -- The references of a place: the first one, one more, and one less.
-use Rattle.std.specs.Prelude.{if◌then◌else◌, ◌&&◌}
+use Rattle.std.specs.Prelude.{if◌then◌else◌, ◌&&◌, not}
 use Rattle.std.proofs.lemmas.Bool.{false≢true}
 use Rattle.history_book.specs.Point.{StartsWith}
 use Rattle.track_rule.specs.declared.view.Seen.{Seen}
-use Rattle.track_rule.specs.declared.view.Purpose.TheVariants.{Testing}
+use Rattle.track_rule.specs.declared.view.Purpose.TheVariants.{Taken, Testing}
 use Rattle.std.proofs.Common.{◌⊎◌, ◌≡◌, ◌≢◌, ℕ, ◌+◌, ◌-◌, ◌%◌, ◌^◌, ◌<◌, ◌≤◌, zero, suc, eqb, true, false, Bool, Option, Some, None, List, [], ◌∷◌, length, refl, sym, ap, subst, ◌∙◌, ⊎_elim, inl, inr, arith, set, eq-eqb, ne_eqb}
 use Rattle.std.specs.Prelude.{slice_index, slice_set, min, unwrap_or, ◌==◌}
-use Rattle.std.proofs.lemmas.Bool.{cases_eq}
+use Rattle.std.proofs.lemmas.Bool.{and_parts, cases_eq, not-true}
 use Rattle.std.proofs.lemmas.List.{get_or-set_other, get_or-set_same, length-set}
 use prog.Atomic.{either}
 use mathlib.Core.Option.{none, some}
@@ -20,15 +20,20 @@ use Rattle.track_rule.specs.Free.{IsHome, has_turn, is_among, known_free, owes, 
 use Rattle.track_rule.specs.Layout.{phase_at, phase_word, refs_at, refs_word}
 use Rattle.track_rule.specs.Passes.{IsPass}
 use Rattle.track_rule.specs.Readings.{found, noted, stored}
-use Rattle.track_rule.specs.References.{held_times, is_at, is_held, keeps, without}
+use Rattle.track_rule.specs.History.{records_after}
+use Rattle.track_rule.specs.Phases.{of_place}
+use Rattle.track_rule.specs.Records.{has_hand}
+use Rattle.track_rule.specs.References.{AreKept, held_times, is_at, is_for_new, is_held, is_taken, keeps, takes, without}
 use Rattle.track_rule.specs.Rule.{Holds, IsKept, Ledger}
-use Rattle.track_rule.specs.Steps.{LowerStep, LowersRefs, OpenStep, Opens, RaiseStep, RaisedRefs, RaisesRefs, keep, let_go, opened, owed_then}
+use Rattle.track_rule.specs.Steps.{IsCount, LowerStep, LowersRefs, OpenStep, Opens, RaiseStep, RaisedRefs, RaisesRefs, is_second, keep, let_go, let_go_of, opened, owed_then, raised}
 use Rattle.track_rule.specs.Sums.{bit, times, total}
 use Rattle.track_rule.proofs.Frames.{Quiet}
-use Rattle.track_rule.proofs.Lists.{length_without, other_bit, other_taken, other_without, same_bit, same_taken, same_without, total_some}
+use Rattle.track_rule.proofs.Lists.{bit_low, kept_without, length_without, other_bit, other_taken, other_without, same_bit, same_taken, same_without, takes_held, takes_other, takes_testing, takes_without, total_none, total_some}
 use Rattle.track_rule.proofs.Loads.{one_place, reads, refs_told}
-use Rattle.track_rule.proofs.Balance.{Moves, free_moved, moved, pass_moved, references_moved}
-use Rattle.track_rule.proofs.Sums.{total_term}
+use Rattle.track_rule.proofs.Balance.{Lines, Moves, free_moved, moved, pass_moved, references_moved, same_lines}
+use Rattle.track_rule.proofs.Hooks.{hooks_new, lowered_lines, new_hooks, no_record_there, opened_lines}
+use Rattle.track_rule.specs.Links.{is_up}
+use Rattle.track_rule.proofs.Sums.{total_le, total_term}
 
 -- the references word of one place
 module _ (z : Sizes) (ws : List ℕ) (p n : ℕ) where
@@ -66,9 +71,10 @@ pub record RefsMove (v w : View) (p n : ℕ) (free free' : List ℕ) (before : �
 
 -- a references word becomes n, and the view changes so
 pub counts : (z : Sizes) (l : Ledger) (s : State Slot View) (id p n : ℕ) (v w : View) (free' : List ℕ) → IsKept z l s → get_elem? s.views id ≡ some v
-    → 0 < v.passes.shares → p < z.entries → RefsMove v w p n l.free free' (refs_at z s.words p)
+    → 0 < v.passes.shares → p < z.entries → RefsMove v w p n l.free free' (refs_at z s.words p) → Lines z l s id v w
+    → ((q : ℕ) → total (takes q) s.views + total (of_place q) (records_after l.log) + takes q w ≤ 1 + takes q v) → AreKept l.log w.places.held
     → IsKept z (record l { free = free' }) (record { words = slice_set s.words (refs_word z p) n; homes = s.homes; views = set s.views id w })
-counts z l s id p n v w free' h at has_some below t =
+counts z l s id p n v w free' h at has_some below t lines taken purposes =
     let one : IsPass z l.log v = h.passes.each id v at in
     let ws : List ℕ = s.words in
     let now : refs_at z (slice_set ws (refs_word z p) n) p ≡ n = refs_here z ws p n (omega (arith, h.count, below)) in
@@ -76,7 +82,7 @@ counts z l s id p n v w free' h at has_some below t =
     (pass_moved z l.log v w one t.moves has_some (subst (λ (x : Seen). StartsWith l.log x.front) (sym t.seen) one.front)
     (subst (λ (x : Seen). StartsWith l.log x.told) (sym t.seen) one.told))
     (refs_quiet z ws p n) (length-set ws (refs_word z p) n) (λ k other. refl)
-    (references_moved z ws (slice_set ws (refs_word z p) n) s.views id v w at (record {
+    (references_moved z l.log ws (slice_set ws (refs_word z p) n) s.views id v w at (record {
       count = λ q low.
           ⊎_elim
           (λ (e : q ≡ p). subst (λ (x : ℕ). refs_at z (slice_set ws (refs_word z p) n) x + keeps x v ≡ refs_at z ws x + keeps x w) (sym e)
@@ -85,6 +91,8 @@ counts z l s id p n v w free' h at has_some below t =
       beyond = λ q above. t.keeps_else q (λ e. omega (arith, e, above, below));
       phases = refs_phase z ws p n;
       carried = t.carried;
+      taken = taken;
+      purposes = purposes;
     }) h.references)
     (free_moved z ws (slice_set ws (refs_word z p) n) s.homes s.homes s.views id v w l.free free' at (record {
       once = λ q low.
@@ -112,7 +120,7 @@ counts z l s id p n v w free' h at has_some below t =
       clear = λ q on.
           let c = h.free_list.clear id v at q (omega (arith, on, ap (times q) t.clear)) in
           (t.owed q c.0, refs_phase z ws p n q ∙ c.1);
-    }) h.free_list)
+    }) h.free_list) lines
 
 -- the first reference to a place from the free list
 pub opening : (slots id p : ℕ) (v : View) (c : List (ℕ × Slot)) → p < v.passes.sizes.entries → 0 < v.passes.shares
@@ -121,7 +129,7 @@ pub opening : (slots id p : ℕ) (v : View) (c : List (ℕ × Slot)) → p < v.p
     (λ _. OpenStep (step slots (refs_word v.passes.sizes p) 1 0 none) (v, c) 1)
 opening slots id p v c below has_some on room s (l, h) sized at range =
     let z : Sizes = v.passes.sizes in
-    let w : View = opened p v in
+    let w : View = opened p (new_hooks v.passes.sizes s.words p v.buckets.hooks) v in
     let turn : has_turn v ≡ 1 = has_list v.free p on in
     let known : known_free v ≡ l.free = of_turn v l.free turn (h.free_list.away id v at) in
     let there : is_among p l.free ≡ true = sym (ap (is_among p) known) ∙ on in
@@ -139,7 +147,7 @@ opening slots id p v c below has_some on room s (l, h) sized at range =
       (
         record l { free = taken_out p (known_free v) },
         counts z l s id p 1 v w (taken_out p (known_free v)) h at has_some below (record {
-          moves = record { passes = refl; own = refl; gathered = refl; buckets = refl; commit = refl; expected = refl; walk = refl };
+          moves = record { passes = refl; own = refl; gathered = refl; commit = refl; expected = refl };
           seen = refl;
           keeps_here = omega (arith, nobody, same_bit p p refl);
           keeps_else = λ q other. omega (arith, other_bit p q (λ e. other (sym e)));
@@ -155,9 +163,22 @@ opening slots id p v c below has_some on room s (l, h) sized at range =
           few = omega (arith, room);
           clear = refl;
           owed = λ q any. any;
-        }),
+        }) (opened_lines z l s h id v at p below nobody)
+            (λ q.
+            ⊎_elim
+            (λ (e : p ≡ q). subst (λ (k : ℕ). total (takes k) s.views + total (of_place k) (records_after l.log) + takes k w ≤ 1 + takes k v) e (omega (
+              arith,
+              no_record_there z l s h id v at p below nobody,
+              takes_low p s.views,
+              h.references.counted p below,
+              nobody,
+              bit_low (is_at p (keep p Taken) && is_for_new Taken),
+            )))
+            (λ (e : p ≢ q). omega (arith, h.references.taken q, takes_other q p true e)) (cases_eq p q))
+            (tt, h.references.purposes id v at),
       ),
-      λ q same. subst (λ (k : ℕ). Opens k v w × (c ≡ c)) (one_place z p q same) (record { view = refl; held = omega (arith, not_held); owed = not_owed }, refl),
+      λ q same. subst (λ (k : ℕ). Opens k v w × (c ≡ c)) (one_place z p q same)
+          (record { view = refl; hooks = hooks_new z s.words p v.buckets.hooks; held = omega (arith, not_held); owed = not_owed }, refl),
     )
   where
     has_list : (o : Option (List ℕ)) (p : ℕ) → is_among p (unwrap_or o []) ≡ true → turn_of o ≡ 1
@@ -178,6 +199,9 @@ opening slots id p v c below has_some on room s (l, h) sized at range =
     some_injective_list : (a b : List ℕ) → Some a ≡ Some b → b ≡ a
     some_injective_list a b e = cc
 
+    takes_low : (p : ℕ) (vs : List View) → total (takes p) vs ≤ total (keeps p) vs
+    takes_low p vs = total_le (takes p) (keeps p) vs (λ i u at. omega (arith, takes_held p u.places.held))
+
 -- one of three that add up to one, of which the last counts once at most
 none_owed : (f o d n : ℕ) → f + o + min n 1 ≡ 1 → d ≤ o → 0 < n → d ≡ 0
 none_owed f o d zero all low any = absurd (omega (arith, any))
@@ -188,39 +212,74 @@ both_some zero n a b = absurd (omega (arith, a))
 both_some (suc m) zero a b = absurd (omega (arith, b))
 both_some (suc m) (suc n) a b = omega arith
 
--- one reference more where there are so many
-abbrev raised : ℕ → ℕ → View → View
-raised p seen v = noted (stored (refs_word v.passes.sizes p) (seen + 1)) (record v { places = record v.places { held = keep p Testing ∷ v.places.held } })
-
 module _ (slots id p seen : ℕ) (v : View) (c : List (ℕ × Slot)) (below : p < v.passes.sizes.entries) (has_some : 0 < v.passes.shares)
     (some_seen : 0 < seen) (s : State Slot View) (l : Ledger) (h : IsKept v.passes.sizes l s) (at : get_elem? s.views id ≡ some v) where
-  raised_hit : length v.places.held + length v.places.owed ≤ 3 → refs_at v.passes.sizes s.words p ≡ seen
-      → IsKept v.passes.sizes l (record { words = slice_set s.words (refs_word v.passes.sizes p) (seen + 1); homes = s.homes; views = set s.views id (raised p seen v) })
-      × RaisedRefs p seen v (raised p seen v)
-  raised_hit room hit =
-      let once = h.free_list.once p below in
-      let owing : owes p v ≤ total (owes p) s.views = total_term (owes p) s.views id v at in
-      let not_owed : owes p v ≡ 0 =
-      none_owed (times p l.free) (total (owes p) s.views) (owes p v) (refs_at v.passes.sizes s.words p) once owing (omega (arith, hit, some_seen)) in (
-        counts v.passes.sizes l s id p (seen + 1) v (raised p seen v) l.free h at has_some below (record {
-          moves = record { passes = refl; own = refl; gathered = refl; buckets = refl; commit = refl; expected = refl; walk = refl };
-          seen = refl;
-          keeps_here = omega (arith, hit, same_bit p p refl);
-          keeps_else = λ q other. omega (arith, other_bit p q (λ e. other (sym e)));
-          once_here = ap (λ (k : ℕ). times p l.free + owes p v + k)
-              (both_some (seen + 1) (refs_at v.passes.sizes s.words p) (omega arith) (omega (arith, hit, some_seen)));
-          once_else = λ q other. refl;
-          fewer = λ q. omega arith;
-          carried = λ q. omega (arith, h.references.carried id v at q);
-          turn = refl;
-          holder = inl refl;
-          away = h.free_list.away id v at;
-          few = omega (arith, room);
-          clear = refl;
-          owed = λ q any. any;
-        }),
-        record { view = refl; owed = not_owed },
-      )
+  -- the second reference of a commit, or one to look what stands there
+  raised_hit : (second : Bool) → is_second p v ≡ second → (second ≡ false → length v.places.held + length v.places.owed ≤ 3)
+      → refs_at v.passes.sizes s.words p ≡ seen
+      → IsKept v.passes.sizes l (record {
+        words = slice_set s.words (refs_word v.passes.sizes p) (seen + 1);
+        homes = s.homes;
+        views = set s.views id (raised second p seen v);
+      })
+  raised_hit true is room hit =
+      let parts = and_parts (is_taken p v.places.held && has_hand p v == 1) (not (is_among p v.places.carried)) is in
+      let mine : 1 ≤ held_times p v.places.held =
+      omega (
+        arith,
+        takes_held p v.places.held,
+        total_some (λ k. is_at p k && is_for_new k.purpose) v.places.held
+            (and_parts (is_taken p v.places.held) (has_hand p v == 1) parts.0).0,
+      ) in
+      let none : times p v.places.carried ≡ 0 = total_none (λ q. q == p) v.places.carried (not-true (is_among p v.places.carried) parts.1) in
+      counts v.passes.sizes l s id p (seen + 1) v (raised true p seen v) l.free h at has_some below (record {
+        moves = record { passes = refl; own = refl; gathered = refl; commit = refl; expected = refl };
+        seen = refl;
+        keeps_here = omega (arith, hit, same_bit p p refl);
+        keeps_else = λ q other. omega (arith, other_bit p q (λ e. other (sym e)));
+        once_here = ap (λ (k : ℕ). times p l.free + owes p v + k)
+            (both_some (seen + 1) (refs_at v.passes.sizes s.words p) (omega arith) (omega (arith, hit, some_seen)));
+        once_else = λ q other. refl;
+        fewer = λ q. omega arith;
+        carried = λ q.
+            ⊎_elim
+            (λ (e : p ≡ q). subst (λ (k : ℕ). times k (p ∷ v.places.carried) ≤ held_times k v.places.held) e (omega (arith, none, mine, same_bit p p refl)))
+            (λ (e : p ≢ q). omega (arith, other_bit p q e, h.references.carried id v at q)) (cases_eq p q);
+        turn = refl;
+        holder = inl refl;
+        away = h.free_list.away id v at;
+        few = h.free_list.few id v at;
+        clear = refl;
+        owed = λ q any. any;
+      }) (same_lines v.passes.sizes l s id v (raised true p seen v) h at refl (λ q. omega arith) refl refl)
+      (λ q. omega (arith, h.references.taken q)) (h.references.purposes id v at)
+  raised_hit false is room hit =
+      counts v.passes.sizes l s id p (seen + 1) v (raised false p seen v) l.free h at has_some below (record {
+        moves = record { passes = refl; own = refl; gathered = refl; commit = refl; expected = refl };
+        seen = refl;
+        keeps_here = omega (arith, hit, same_bit p p refl);
+        keeps_else = λ q other. omega (arith, other_bit p q (λ e. other (sym e)));
+        once_here = ap (λ (k : ℕ). times p l.free + owes p v + k)
+            (both_some (seen + 1) (refs_at v.passes.sizes s.words p) (omega arith) (omega (arith, hit, some_seen)));
+        once_else = λ q other. refl;
+        fewer = λ q. omega arith;
+        carried = λ q. omega (arith, h.references.carried id v at q);
+        turn = refl;
+        holder = inl refl;
+        away = h.free_list.away id v at;
+        few = omega (arith, room refl);
+        clear = refl;
+        owed = λ q any. any;
+      }) (same_lines v.passes.sizes l s id v (raised false p seen v) h at refl (λ q. omega arith) refl refl)
+      (λ q. omega (arith, h.references.taken q, takes_testing q p)) (tt, h.references.purposes id v at)
+
+  raised_tells : refs_at v.passes.sizes s.words p ≡ seen → RaisedRefs p seen v (raised (is_second p v) p seen v)
+  raised_tells hit = record {
+    view = refl;
+    count = subst (λ (n : ℕ). IsCount p n v) hit (refs_told l s id p v h at below has_some);
+    owed = none_owed (times p l.free) (total (owes p) s.views) (owes p v) (refs_at v.passes.sizes s.words p) (h.free_list.once p below)
+        (total_term (owes p) s.views id v at) (omega (arith, hit, some_seen));
+  }
 
   read_missed : (n : ℕ) → slice_index s.words (refs_word v.passes.sizes p) ≡ n
       → IsKept v.passes.sizes l (record {
@@ -231,11 +290,12 @@ module _ (slots id p seen : ℕ) (v : View) (c : List (ℕ × Slot)) (below : p 
   read_missed n e =
       let w : View = noted (found (refs_word v.passes.sizes p) n) v in
       let one : IsPass v.passes.sizes l.log v = h.passes.each id v at in
-      let m : Moves v w = record { passes = refl; own = refl; gathered = refl; buckets = refl; commit = refl; expected = refl; walk = refl } in
+      let m : Moves v w = record { passes = refl; own = refl; gathered = refl; commit = refl; expected = refl } in
       reads v.passes.sizes l s id (refs_word v.passes.sizes p) v w h at m (pass_moved v.passes.sizes l.log v w one m has_some one.front one.told) refl refl
+      (same_lines v.passes.sizes l s id v w h at refl (λ q. omega arith) refl refl)
 
 pub raising : (slots id p seen : ℕ) (v : View) (c : List (ℕ × Slot)) → p < v.passes.sizes.entries → 0 < v.passes.shares → 0 < seen
-    → length v.places.held + length v.places.owed ≤ 3
+    → (is_second p v ≡ false → length v.places.held + length v.places.owed ≤ 3)
     → Allows (Holds v.passes.sizes) slots id (v, c) (refs_word v.passes.sizes p) (λ n. either (eqb n seen) (seen + 1) n)
     (RaiseStep (step slots (refs_word v.passes.sizes p) seen (seen + 1) none) (v, c))
 raising slots id p seen v c below has_some some_seen room s (l, h) sized at range =
@@ -246,25 +306,25 @@ raising slots id p seen v c below has_some some_seen room s (l, h) sized at rang
     (λ (m : ℕ). (w : View) × (a : Act Slot) × Valid s.homes c a × Holds v.passes.sizes (stepped s (refs_word v.passes.sizes p) m id c w a)
     × RaiseStep (step slots (refs_word v.passes.sizes p) seen (seen + 1) none) (v, c) (slice_index s.words (refs_word v.passes.sizes p)) (w, carried_after c a))
     (λ (hit : slice_index s.words (refs_word v.passes.sizes p) ≡ seen).
-    let w : View = raised p seen v in
-    let r = raised_hit slots id p seen v c below has_some some_seen s l h at room hit in (
+    let w : View = raised (is_second p v) p seen v in
+    let told : RaisedRefs p seen v w = raised_tells slots id p seen v c below has_some some_seen s l h at hit in (
       w,
       unchanged,
       tt,
-      (l, r.0),
+      (l, raised_hit slots id p seen v c below has_some some_seen s l h at (is_second p v) refl room hit),
       λ q same. subst (λ (k : ℕ). RaisesRefs (n == seen) k seen v n w × (c ≡ c)) (one_place z p q same)
-          (subst (λ (b : Bool). RaisesRefs b p seen v n w × (c ≡ c)) (sym (eq-eqb n seen hit)) (r.1, refl)),
+          (subst (λ (b : Bool). RaisesRefs b p seen v n w × (c ≡ c)) (sym (eq-eqb n seen hit)) (told, refl)),
     ))
     (λ (miss : slice_index s.words (refs_word v.passes.sizes p) ≢ seen).
     let w : View = noted (found word n) v in
-    let told = refs_told z l s id p v h at below in (
+    let told : IsCount p n v = refs_told l s id p v h at below has_some in (
       w,
       unchanged,
       tt,
       (l, read_missed slots id p seen v c below has_some some_seen s l h at n refl),
       λ q same. subst (λ (k : ℕ). RaisesRefs (n == seen) k seen v n w × (c ≡ c)) (one_place z p q same)
           (subst (λ (b : Bool). RaisesRefs b p seen v n w × (c ≡ c)) (sym (ne_eqb n seen miss))
-          (record { view = refl; other = ne_eqb n seen miss; few = told.0 }, refl)),
+          (record { view = refl; other = ne_eqb n seen miss; count = told }, refl)),
     ))
 
 -- one reference less
@@ -291,20 +351,94 @@ last_balance f d zero has_some = absurd (omega (arith, has_some))
 last_balance f d (suc zero) has_some = omega arith
 last_balance f d (suc (suc n)) has_some = omega (arith, other_bit (suc (suc n)) 1 (λ e. omega (arith, e)))
 
+module _ (id p : ℕ) (v : View) (below : p < v.passes.sizes.entries) (has_some : 0 < v.passes.shares) (held : is_held p v.places.held ≡ true)
+    (down : is_up p v.buckets.hooks ≡ false) (s : State Slot View) (l : Ledger) (h : IsKept v.passes.sizes l s) (at : get_elem? s.views id ≡ some v)
+    (some_left : 0 < refs_at v.passes.sizes s.words p) where
+  -- the table's reference, or one of the pass's own
+  lowered : (carries : Bool) → is_among p v.places.carried ≡ carries → IsKept v.passes.sizes l (record {
+    words = slice_set s.words (refs_word v.passes.sizes p) (refs_at v.passes.sizes s.words p - 1);
+    homes = s.homes;
+    views = set s.views id (let_go_of carries p (refs_at v.passes.sizes s.words p) v);
+  })
+  lowered true is =
+      let n : ℕ = refs_at v.passes.sizes s.words p in
+      let some_carried : 1 ≤ times p v.places.carried = total_some (λ q. q == p) v.places.carried is in
+      let two : 2 ≤ n =
+      omega (arith, h.references.counted p below, total_term (keeps p) s.views id v at, some_carried, h.references.carried id v at p) in
+      counts v.passes.sizes l s id p (n - 1) v (let_go_of true p n v) l.free h at has_some below (record {
+        moves = record { passes = refl; own = refl; gathered = refl; commit = refl; expected = refl };
+        seen = refl;
+        keeps_here = omega (arith, some_left, same_taken p v.places.carried is);
+        keeps_else = λ q other. omega (arith, other_taken p q v.places.carried is (λ e. other (sym e)));
+        once_here = ap (λ (k : ℕ). times p l.free + owes p v + k) (both_some (n - 1) n (omega (arith, two)) some_left);
+        once_else = λ q other. refl;
+        fewer = λ q. omega arith;
+        carried = λ q.
+            ⊎_elim
+            (λ (e : p ≡ q). subst (λ (k : ℕ). times k (taken_out p v.places.carried) ≤ held_times k v.places.held) e
+            (omega (arith, h.references.carried id v at p, same_taken p v.places.carried is)))
+            (λ (e : p ≢ q). omega (arith, h.references.carried id v at q, other_taken p q v.places.carried is e)) (cases_eq p q);
+        turn = refl;
+        holder = inl refl;
+        away = h.free_list.away id v at;
+        few = h.free_list.few id v at;
+        clear = refl;
+        owed = λ q any. any;
+      }) (same_lines v.passes.sizes l s id v (let_go_of true p n v) h at refl (λ q. omega arith) refl refl)
+      (λ q. omega (arith, h.references.taken q)) (h.references.purposes id v at)
+  lowered false is =
+      let n : ℕ = refs_at v.passes.sizes s.words p in
+      let some_held : 1 ≤ held_times p v.places.held = total_some (is_at p) v.places.held held in
+      let none : times p v.places.carried ≡ 0 = total_none (λ q. q == p) v.places.carried is in
+      let less : held_times p (without p v.places.held) + 1 ≡ held_times p v.places.held = same_without p v.places.held held in
+      counts v.passes.sizes l s id p (n - 1) v (let_go_of false p n v) l.free h at has_some below (record {
+        moves = record { passes = refl; own = refl; gathered = refl; commit = refl; expected = refl };
+        seen = refl;
+        keeps_here = omega (arith, some_left, less);
+        keeps_else = λ q other. omega (arith, other_without p q v.places.held held (λ e. other (sym e)));
+        once_here = omega (arith, times_here p n v.places.owed, last_balance (times p l.free) (owes p v) n some_left);
+        once_else = λ q other. omega (arith, times_else p q n v.places.owed other);
+        fewer = λ q. omega arith;
+        carried = λ q.
+            ⊎_elim
+            (λ (e : p ≡ q). subst (λ (k : ℕ). times k v.places.carried ≤ held_times k (without p v.places.held)) e (omega (arith, none)))
+            (λ (e : p ≢ q). omega (arith, h.references.carried id v at q, other_without p q v.places.held held e)) (cases_eq p q);
+        turn = refl;
+        holder = inl refl;
+        away = h.free_list.away id v at;
+        few = omega (arith, h.free_list.few id v at, length_without p v.places.held held, length_then p n v.places.owed);
+        clear = refl;
+        owed = λ q any. omega (arith, any, times_then p q n v.places.owed);
+      }) (lowered_lines v.passes.sizes l s id p n v h at some_held less (λ q other. other_without p q v.places.held held (λ e. other (sym e))) down)
+      (λ q. omega (arith, h.references.taken q, takes_without q p v.places.held)) (kept_without l.log p v.places.held (h.references.purposes id v at))
+    where
+      times_here : (p n : ℕ) (owed : List ℕ) → times p (owed_then p n owed) ≡ times p owed + bit (n == 1)
+      times_here p n owed = times_then p p n owed ∙ ap (λ (b : Bool). times p owed + bit (n == 1 && b)) (eq-eqb p p refl) ∙ both (n == 1)
+        where
+          both : (b : Bool) → times p owed + bit (b && true) ≡ times p owed + bit b
+          both true = refl
+          both false = refl
+
+      times_else : (p q n : ℕ) (owed : List ℕ) → q ≢ p → times q (owed_then p n owed) ≡ times q owed
+      times_else p q n owed other = times_then p q n owed ∙ ap (λ (b : Bool). times q owed + bit (n == 1 && b)) (ne_eqb p q (λ e. other (sym e))) ∙ neither (n == 1)
+        where
+          neither : (b : Bool) → times q owed + bit (b && false) ≡ times q owed
+          neither true = omega arith
+          neither false = omega arith
+
 pub lowering : (slots id p : ℕ) (v : View) (c : List (ℕ × Slot)) → p < v.passes.sizes.entries → 0 < v.passes.shares
-    → is_held p v.places.held ≡ true → times p v.places.carried ≡ 0
+    → is_held p v.places.held ≡ true → is_up p v.buckets.hooks ≡ false
     → Allows (Holds v.passes.sizes) slots id (v, c) (refs_word v.passes.sizes p) (λ n. (n + (2 ^ 64 - 1)) % 2 ^ 64)
     (LowerStep (step slots (refs_word v.passes.sizes p) 1 0 none) (v, c))
-lowering slots id p v c below has_some held free_of s (l, h) sized at range =
+lowering slots id p v c below has_some held down s (l, h) sized at range =
     let z : Sizes = v.passes.sizes in
     let n : ℕ = slice_index s.words (refs_word z p) in
     let w : View = let_go p n v in
-    let told = refs_told z l s id p v h at below in
+    let told : IsCount p n v = refs_told l s id p v h at below has_some in
     let some_held : 1 ≤ held_times p v.places.held = total_some (is_at p) v.places.held held in
-    let some_left : 0 < n = omega (arith, told.1, some_held) in
+    let some_left : 0 < n = omega (arith, told.own, some_held) in
     let owing : owes p v ≤ total (owes p) s.views = total_term (owes p) s.views id v at in
     let not_owed : owes p v ≡ 0 = none_owed (times p l.free) (total (owes p) s.views) (owes p v) n (h.free_list.once p below) owing some_left in
-    let less : held_times p (without p v.places.held) + 1 ≡ held_times p v.places.held = same_without p v.places.held held in
     let next : (n + (2 ^ 64 - 1)) % 2 ^ 64 ≡ n - 1 = lowered_word n some_left range in (
       w,
       unchanged,
@@ -312,40 +446,8 @@ lowering slots id p v c below has_some held free_of s (l, h) sized at range =
       (
         l,
         subst (λ (k : ℕ). IsKept z l (record { words = slice_set s.words (refs_word z p) k; homes = s.homes; views = set s.views id w })) (sym next)
-            (counts z l s id p (n - 1) v w l.free h at has_some below (record {
-              moves = record { passes = refl; own = refl; gathered = refl; buckets = refl; commit = refl; expected = refl; walk = refl };
-              seen = refl;
-              keeps_here = omega (arith, some_left, less);
-              keeps_else = λ q other. omega (arith, other_without p q v.places.held held (λ e. other (sym e)));
-              once_here = omega (arith, times_here p n v.places.owed, last_balance (times p l.free) (owes p v) n some_left);
-              once_else = λ q other. omega (arith, times_else p q n v.places.owed other);
-              fewer = λ q. omega arith;
-              carried = λ q.
-                  ⊎_elim
-                  (λ (e : p ≡ q). subst (λ (k : ℕ). times k v.places.carried ≤ held_times k (without p v.places.held)) e (omega (arith, free_of)))
-                  (λ (e : p ≢ q). omega (arith, h.references.carried id v at q, other_without p q v.places.held held e)) (cases_eq p q);
-              turn = refl;
-              holder = inl refl;
-              away = h.free_list.away id v at;
-              few = omega (arith, h.free_list.few id v at, length_without p v.places.held held, length_then p n v.places.owed);
-              clear = refl;
-              owed = λ q any. omega (arith, any, times_then p q n v.places.owed);
-            })),
+            (lowered id p v below has_some held down s l h at some_left (is_among p v.places.carried) refl),
       ),
       λ q same. subst (λ (k : ℕ). LowersRefs k v n w × (c ≡ c)) (one_place z p q same)
-          (record { view = refl; some = some_left; mine = some_held; few = told.0; own = omega (arith, told.1); owed = not_owed }, refl),
+          (record { view = refl; some = some_left; count = told; mine = some_held; owed = not_owed }, refl),
     )
-  where
-    times_here : (p n : ℕ) (owed : List ℕ) → times p (owed_then p n owed) ≡ times p owed + bit (n == 1)
-    times_here p n owed = times_then p p n owed ∙ ap (λ (b : Bool). times p owed + bit (n == 1 && b)) (eq-eqb p p refl) ∙ both (n == 1)
-      where
-        both : (b : Bool) → times p owed + bit (b && true) ≡ times p owed + bit b
-        both true = refl
-        both false = refl
-
-    times_else : (p q n : ℕ) (owed : List ℕ) → q ≢ p → times q (owed_then p n owed) ≡ times q owed
-    times_else p q n owed other = times_then p q n owed ∙ ap (λ (b : Bool). times q owed + bit (n == 1 && b)) (ne_eqb p q (λ e. other (sym e))) ∙ neither (n == 1)
-      where
-        neither : (b : Bool) → times q owed + bit (b && false) ≡ times q owed
-        neither true = omega arith
-        neither false = omega arith

@@ -1,7 +1,7 @@
 -- A pass stays one at its table.
-use Rattle.std.specs.Prelude.{is_some, unwrap_or}
-use Rattle.std.proofs.Common.{Bool, false, ◌≡◌, ℕ, true, Option, Some, None, List, [], ◌∷◌, ◌++◌, length, refl, sym, ap, subst, ◌∙◌, arith}
-use Rattle.std.proofs.lemmas.Bool.{false≢true}
+use Rattle.std.specs.Prelude.{◌==◌, ◌||◌, not, if◌then◌else◌, is_some, unwrap_or}
+use Rattle.std.proofs.Common.{Bool, false, ◌≡◌, ℕ, ◌<◌, ⊎_elim, true, Option, Some, None, List, [], ◌∷◌, ◌++◌, length, refl, sym, ap, subst, ◌∙◌, arith}
+use Rattle.std.proofs.lemmas.Bool.{cases_Bool, cond_both, eqb-true, false≢true}
 use Rattle.atomic_table.specs.Seated.{TableId}
 use Rattle.atomic_table.specs.Table.{Allows, Me, rest}
 use Rattle.track_rule.specs.Rule.{Holds}
@@ -12,20 +12,29 @@ use Rattle.history_book.specs.Sizes.{AreWithinLimits}
 use Rattle.track_rule.specs.declared.slot.Slot.{Slot}
 use Rattle.track_rule.specs.declared.slot.Slot.TheVariants.{Vacant, Free, Expects, Subject}
 use Rattle.track_rule.specs.declared.view.Hand.{Hand}
+use Rattle.track_rule.specs.declared.view.Keep.{Keep}
+use Rattle.track_rule.specs.declared.view.Places.{Places}
 use Rattle.track_rule.specs.declared.view.Shares.{Shares}
 use Rattle.track_rule.specs.declared.view.View.{View}
 use Rattle.track_rule.specs.Layout.{IsTable}
 use Rattle.track_rule.specs.Passes.{HasNothing}
-use Rattle.track_rule.specs.Sights.{IsAt, PassSight, sight_at}
+use Rattle.track_rule.specs.Sights.{AreHeldBelow, AreOfPool, AreOwedBelow, IsAt, PassSight, sight_at}
 use Rattle.track_rule.specs.Slots.{AllSuit, expected_number, free_at, free_in, free_number, hand_number, list_in, no_list, numbers, numbers_of, slot_of_free, suits}
-use Rattle.track_rule.specs.Free.{is_among, known_free}
-use Rattle.track_rule.specs.Steps.{Opens, RaisesRefs}
+use Rattle.track_rule.specs.Free.{is_among, known_free, unlisted}
+use Rattle.track_rule.specs.References.{is_at, is_held, without}
+use Rattle.track_rule.specs.Steps.{Opens, RaisesRefs, is_second, let_go_of, one_more}
+
+-- what most steps leave of a view: the shares and the turns; and each place that is held is one of the pool
+pub record StaysAt (v w : View) : Type 0 where
+  pub passes : w.passes ≡ v.passes
+  pub same : numbers_of w ≡ numbers_of v
+  pub pool : AreOfPool v.passes.sizes.entries v.places → AreOfPool v.passes.sizes.entries w.places
 
 -- a seat that knows more, with the same slots out
 pub stays_at : (table key-table : TableId) (key sizes : Sizes) (table' : TableId) (me me' : Me Slot View) → IsAt key-table key sizes (sight_at table me)
-    → table' ≡ table → me'.0.passes ≡ me.0.passes → numbers_of me'.0 ≡ numbers_of me.0 → me'.1 ≡ me.1 → IsAt key-table key sizes (sight_at table' me')
-stays_at table key-table key sizes table' me me' h there passes same slots =
-    let z : me'.0.passes.sizes ≡ me.0.passes.sizes = ap (λ (s : Shares). s.sizes) passes in
+    → table' ≡ table → StaysAt me.0 me'.0 → me'.1 ≡ me.1 → IsAt key-table key sizes (sight_at table' me')
+stays_at table key-table key sizes table' me me' h there stays slots =
+    let z : me'.0.passes.sizes ≡ me.0.passes.sizes = ap (λ (s : Shares). s.sizes) stays.passes in
     record {
       same = there ∙ h.same;
       key_is = z ∙ h.key_is;
@@ -33,8 +42,9 @@ stays_at table key-table key sizes table' me me' h there passes same slots =
       right = record {
         counts = subst (λ (y : Sizes). IsTable y table') (sym z) (subst (IsTable me.0.passes.sizes) (sym there) h.right.counts);
         limits = subst AreWithinLimits (sym z) h.right.limits;
-        some = omega (arith, h.right.some, ap (λ (s : Shares). s.shares) passes);
-        carries = ap numbers slots ∙ h.right.carries ∙ sym same;
+        some = omega (arith, h.right.some, ap (λ (s : Shares). s.shares) stays.passes);
+        carries = ap numbers slots ∙ h.right.carries ∙ sym stays.same;
+        pool = subst (λ (y : Sizes). AreOfPool y.entries me'.0.places) (sym z) (stays.pool h.right.pool);
         suit = subst AllSuit (sym slots) h.right.suit;
       };
     }
@@ -49,10 +59,10 @@ kept_at old table table' me me' was there slots k = record {
 }
 
 -- what a step asks, at the sizes of the rule and at the word as it was reckoned
-pub allowed : (z key : Sizes) (slots id : ℕ) (me : Me Slot View) (word word' : ℕ) (f : ℕ → ℕ) (then : ℕ → ℕ → Me Slot View → Type 0)
-    → z ≡ key → word' ≡ word → Allows (Holds z) slots id me word f (then word) → Allows (Holds key) slots id me word' f (then word')
-allowed z key slots id me word word' f then same there h =
-    subst (λ (w : ℕ). Allows (Holds key) slots id me w f (then w)) (sym there) (subst (λ (y : Sizes). Allows (Holds y) slots id me word f (then word)) same h)
+pub allowed : (z key : Sizes) (slots id : ℕ) (me : Me Slot View) (word word' : ℕ) (f : ℕ → ℕ) (tells : ℕ → ℕ → Me Slot View → Type 0)
+    → z ≡ key → word' ≡ word → Allows (Holds z) slots id me word f (tells word) → Allows (Holds key) slots id me word' f (tells word')
+allowed z key slots id me word word' f tells same there h =
+    subst (λ (w : ℕ). Allows (Holds key) slots id me w f (tells w)) (sym there) (subst (λ (y : Sizes). Allows (Holds y) slots id me word f (tells word)) same h)
 
 abbrev first_number : List ℕ → ℕ
 first_number [] = 0
@@ -93,23 +103,72 @@ none_out me none same = none_of me.1 (same ∙ none_number me.0 none)
     none_of (s ∷ slots) e = absurd (omega (arith, ap length e))
 
 -- the view after each step has the same shares and the same turns
-pub opened_at : (place : ℕ) (v w : View) → is_among place (known_free v) ≡ true → Opens place v w
-    → (w.passes ≡ v.passes) × (numbers_of w ≡ numbers_of v)
-opened_at place v w on o = (
-  ap (λ (x : View). x.passes) o.view,
-  ap numbers_of o.view ∙ ap (λ (ns : List ℕ). ns ++ hand_number v.commit.hand ++ expected_number v.expected) (has_list v.free on),
-)
+pub opened_at : (place : ℕ) (v w : View) → place < v.passes.sizes.entries → is_among place (known_free v) ≡ true → Opens place v w → StaysAt v w
+opened_at place v w below on o = record {
+  passes = ap (λ (x : View). x.passes) o.view;
+  same = ap numbers_of o.view ∙ ap (λ (ns : List ℕ). ns ++ hand_number v.commit.hand ++ expected_number v.expected) (has_list v.free on);
+  pool = λ k. subst (λ (x : View). AreOfPool v.passes.sizes.entries x.places) (sym o.view) (record { held = (below, k.held); owed = k.owed });
+}
   where
     has_list : (free : Option (List ℕ)) → is_among place (unwrap_or free []) ≡ true → 0 ∷ [] ≡ free_number free
     has_list None e = absurd (false≢true e)
     has_list (Some list) e = refl
 
-pub same_at : (v w u : View) → w ≡ u → (u.passes ≡ v.passes) × (numbers_of u ≡ numbers_of v) → (w.passes ≡ v.passes) × (numbers_of w ≡ numbers_of v)
-same_at v w u e h = (ap (λ (x : View). x.passes) e ∙ h.0, ap numbers_of e ∙ h.1)
+pub same_at : (v w u : View) → w ≡ u → StaysAt v u → StaysAt v w
+same_at v w u e h = record {
+  passes = ap (λ (x : View). x.passes) e ∙ h.passes;
+  same = ap numbers_of e ∙ h.same;
+  pool = λ k. subst (λ (x : View). AreOfPool v.passes.sizes.entries x.places) (sym e) (h.pool k);
+}
 
-pub raised_at : (same : Bool) (place seen n : ℕ) (v w : View) → RaisesRefs same place seen v n w → (w.passes ≡ v.passes) × (numbers_of w ≡ numbers_of v)
-raised_at true place seen n v w h = (ap (λ (x : View). x.passes) h.view, ap numbers_of h.view)
-raised_at false place seen n v w h = (ap (λ (x : View). x.passes) h.view, ap numbers_of h.view)
+-- where a further place is held, or one place less, or not
+pub pool_more : (second : Bool) (n place : ℕ) (places : Places) → place < n → AreOfPool n places → AreOfPool n (one_more second place places)
+pool_more true n place places below h = record { held = h.held; owed = h.owed }
+pool_more false n place places below h = record { held = (below, h.held); owed = h.owed }
+
+pub pool_less : (carries : Bool) (n place k : ℕ) (v : View) → place < n → AreOfPool n v.places → AreOfPool n (let_go_of carries place k v).places
+pool_less true n place k v below h = record { held = h.held; owed = h.owed }
+pool_less false n place k v below h = record { held = below_without v.places.held h.held; owed = below_then (k == 1) v.places.owed h.owed }
+  where
+    below_without : (held : List Keep) → AreHeldBelow n held → AreHeldBelow n (without place held)
+    below_without [] h = tt
+    below_without (k ∷ ks) h = cond_both (is_at place k) ks (k ∷ without place ks) (AreHeldBelow n) (λ e. h.1) (λ e. (h.0, below_without ks h.1))
+
+    below_then : (b : Bool) (owed : List ℕ) → AreOwedBelow n owed → AreOwedBelow n (if b then place ∷ owed else owed)
+    below_then true owed h = (below, h)
+    below_then false owed h = h
+
+pub pool_listed : (n : ℕ) (list owed : List ℕ) → AreOwedBelow n owed → AreOwedBelow n (unlisted list owed)
+pool_listed n list [] h = tt
+pool_listed n list (p ∷ ps) h =
+    cond_both (not (is_among p list)) (p ∷ unlisted list ps) (unlisted list ps) (AreOwedBelow n) (λ e. (h.0, pool_listed n list ps h.1))
+    (λ e. pool_listed n list ps h.1)
+
+-- a place that is held, or owed, is one of the pool
+pub held_below : (n place : ℕ) (held : List Keep) → AreHeldBelow n held → is_held place held ≡ true → place < n
+held_below n place [] h e = absurd (false≢true e)
+held_below n place (k ∷ ks) h e =
+    ⊎_elim
+    (λ (t : is_at place k ≡ true). subst (λ (p : ℕ). p < n) (eqb-true k.place place t) h.0)
+    (λ (t : is_at place k ≡ false). held_below n place ks h.1 (sym (ap (λ (b : Bool). b || is_held place ks) t) ∙ e))
+    (cases_Bool (is_at place k))
+
+pub owed_below : (n place : ℕ) (owed : List ℕ) → AreOwedBelow n owed → is_among place owed ≡ true → place < n
+owed_below n place [] h e = absurd (false≢true e)
+owed_below n place (p ∷ ps) h e =
+    ⊎_elim
+    (λ (t : (p == place) ≡ true). subst (λ (x : ℕ). x < n) (eqb-true p place t) h.0)
+    (λ (t : (p == place) ≡ false). owed_below n place ps h.1 (sym (ap (λ (b : Bool). b || is_among place ps) t) ∙ e))
+    (cases_Bool (p == place))
+
+pub raised_at : (same : Bool) (place seen n : ℕ) (v w : View) → place < v.passes.sizes.entries → RaisesRefs same place seen v n w → StaysAt v w
+raised_at true place seen n v w below h =
+    same_at v w _ h.view (record {
+      passes = refl;
+      same = refl;
+      pool = pool_more (is_second place v) v.passes.sizes.entries place v.places below;
+    })
+raised_at false place seen n v w below h = same_at v w _ h.view (record { passes = refl; same = refl; pool = λ k. k })
 
 -- the list itself, where it is out
 pub list_out : (me : Me Slot View) → is_some me.0.free ≡ true → is_some (free_at me.1) ≡ true → numbers me.1 ≡ numbers_of me.0 → AllSuit me.1

@@ -18,14 +18,16 @@ use Rattle.room_list.specs.Roomed.{Roomed}
 use Rattle.track_rule.specs.declared.slot.Slot.{Slot}
 use Rattle.track_rule.specs.declared.slot.Slot.TheVariants.{Vacant, Free, Expects}
 use Rattle.track_rule.specs.declared.view.View.{View}
-use Rattle.track_rule.specs.Layout.{gen_word, head_word, phase_at, phase_word, place_of, refs_word, turn_word, word_count}
+use Rattle.track_rule.specs.Layout.{gen_word, head_word, next_word, phase_at, phase_word, place_of, refs_word, turn_word, word_count}
 use Rattle.track_rule.specs.Opening.{IsWhole, first_slots}
 use Rattle.track_rule.specs.Passes.{IsPass, has_share}
 use Rattle.track_rule.specs.Chains.{chain_in, links_in, shuts_of}
-use Rattle.track_rule.specs.Phases.{of_both, of_place, shows}
+use Rattle.track_rule.specs.Phases.{of_both, of_place, shows, table_keeps}
+use Rattle.track_rule.specs.Links.{HasHooks}
 use Rattle.track_rule.specs.Walks.{IsWalk}
+use Rattle.track_rule.specs.declared.view.Middle.TheVariants.{Calm}
 use Rattle.track_rule.specs.declared.view.Walk.{Walk}
-use Rattle.track_rule.specs.References.{held_times, table_keeps}
+use Rattle.track_rule.specs.References.{AreKept, held_times}
 use Rattle.track_rule.specs.Rule.{Holds, Ledger, first_view}
 use Rattle.track_rule.specs.Sums.{Each, times, total}
 
@@ -103,6 +105,8 @@ starts z list table limits whole nothing room =
           counted = λ p below. omega (arith, word (refs_word z p), ap table_keeps (word (phase_word z p)));
           beyond = λ p above. omega arith;
           carried = one_view z (λ v. (p : ℕ) → times p v.places.carried ≤ held_times p v.places.held) (λ p. omega arith);
+          taken = λ p. omega (arith, ap (total (of_place p)) no_records);
+          purposes = one_view z (λ v. AreKept [] v.places.held) tt;
         };
         free_list = record {
           once = λ p below. omega (arith, whole.once p below, word (refs_word z p));
@@ -128,16 +132,24 @@ starts z list table limits whole nothing room =
         phases = record {
           shown = λ p id below. omega (arith, ap (total (of_both p id)) no_records, ap (λ (ph : ℕ). shows ph id) (word (phase_word z p)), no_show id);
           used = λ p below. omega (arith, ap (total (of_place p)) no_records, ap table_keeps (word (phase_word z p)));
-          none_stored = λ p below. word (phase_word z p);
+          low = λ p below. omega (arith, word (phase_word z p));
+          calm = one_view z (λ v. v.commit.middle ≡ Calm) refl;
         };
         chains = record {
           linked = λ b below. word (head_word z b);
+          ordered = λ b below. tt;
           gens = λ b below. ap (λ (n : ℕ). n % 2) (word (gen_word z b));
           mine = λ b below. one_view z (λ v. 0 < shuts_of b v → chain_in b v.buckets.shut ≡ []) (λ any. absurd (omega (arith, any)));
           chained = λ b below weight. omega (arith, ap (total (links_in z b weight)) no_records);
           lone = λ link any. omega (arith, ap (total (of_place (place_of link))) no_records);
         };
-        walks = record { each = one_view z (λ v. (n : Walk) → v.walk ≡ Some n → IsWalk z ws l.chains n) (λ n e. absurd (none-some n e)) };
+        links = record {
+          heads = λ b below. omega (arith, word (head_word z b));
+          nexts = λ x any below. omega (arith, word (next_word z x));
+          gens = λ b below. omega (arith, word (gen_word z b));
+          hooks = one_view z (λ v. HasHooks z ws v.places.held v.buckets.hooks) (no_hooks z ws);
+        };
+        walks = record { each = one_view z (λ v. (n : Walk) → v.walk ≡ Some n → IsWalk z ws l.chains v.seen.front n) (λ n e. absurd (none-some n e)) };
         expected = record {
           turn = word 2;
           single = omega (arith, word 2);
@@ -147,5 +159,8 @@ starts z list table limits whole nothing room =
       },
     )
   where
+    no_hooks : (z : Sizes) (ws : List ℕ) → HasHooks z ws [] []
+    no_hooks z ws = record { each = λ i h at. absurd (some-ne-none h (sym at)); owned = λ link any. absurd (omega (arith, any)) }
+
     no_show : (id : ℕ) → shows 0 id ≡ 0
     no_show id = grind (arith, nat_tests)

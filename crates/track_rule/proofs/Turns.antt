@@ -26,8 +26,8 @@ use Rattle.track_rule.specs.Sums.{times, total}
 use Rattle.track_rule.proofs.Counting.{few_places}
 use Rattle.track_rule.proofs.Frames.{Quiet}
 use Rattle.track_rule.proofs.Lists.{length_unlisted, unlisted_in, unlisted_out}
-use Rattle.track_rule.proofs.Loads.{reads}
-use Rattle.track_rule.proofs.Balance.{Moves, free_moved, moved, pass_moved, references_moved}
+use Rattle.track_rule.proofs.Loads.{others_there, reads}
+use Rattle.track_rule.proofs.Balance.{Moves, free_moved, moved, pass_moved, references_left, same_lines}
 use Rattle.track_rule.proofs.Sums.{total_term}
 
 -- the turn's word is no other one
@@ -52,18 +52,14 @@ module _ (l : Ledger) (s : State Slot View) (id : ℕ) (v : View) (h : IsKept v.
   took list same calm free =
       let w : View = with_turn list.items v in
       let p : IsPass v.passes.sizes l.log v = h.passes.each id v at in
-      let m : Moves v w = record { passes = refl; own = refl; gathered = refl; buckets = refl; commit = refl; expected = refl; walk = refl } in
+      let m : Moves v w = record { passes = refl; own = refl; gathered = refl; commit = refl; expected = refl } in
       let now : slice_index (slice_set s.words 1 1) 1 ≡ 1 = get_or-set_same s.words 1 1 0 long in
       let before : has_turn v ≡ 0 = ap turn_of calm in
       moved v.passes.sizes l s id v w (slice_set s.words 1 1) (slice_set s.homes 0 none) l.free h at m
       (pass_moved v.passes.sizes l.log v w p m has_some p.front p.told) (turn_quiet v.passes.sizes s.words 1) (length-set s.words 1 1)
       (λ k other. set_else s.homes 0 k none other)
-      (references_moved v.passes.sizes s.words (slice_set s.words 1 1) s.views id v w at (record {
-        count = λ q below. ap (λ (n : ℕ). n + keeps q v) (turn_refs v.passes.sizes s.words 1 q);
-        beyond = λ q above. refl;
-        phases = turn_phase v.passes.sizes s.words 1;
-        carried = h.references.carried id v at;
-      }) h.references)
+      (references_left v.passes.sizes l.log s.words (slice_set s.words 1 1) s.views id v w at refl refl (turn_refs v.passes.sizes s.words 1)
+      (turn_phase v.passes.sizes s.words 1) h.references)
       (free_moved v.passes.sizes s.words (slice_set s.words 1 1) s.homes (slice_set s.homes 0 none) s.views id v w l.free l.free at (record {
         once = λ q below. ap (λ (n : ℕ). times q l.free + owes q v + min n 1) (turn_refs v.passes.sizes s.words 1 q);
         beyond = λ q above. refl;
@@ -76,7 +72,7 @@ module _ (l : Ledger) (s : State Slot View) (id : ℕ) (v : View) (h : IsKept v.
         away = λ other e. let shown : Some list.items ≡ Some other = e in some_same list.items other l.free shown same;
         few = h.free_list.few id v at;
         clear = λ q on. let c = h.free_list.clear id v at q on in (c.0, turn_phase v.passes.sizes s.words 1 q ∙ c.1);
-      }) h.free_list)
+      }) h.free_list) (same_lines v.passes.sizes l s id v w h at refl (λ q. omega arith) refl refl)
     where
       some_same : (a b f : List ℕ) → Some a ≡ Some b → a ≡ f → b ≡ f
       some_same a b f e x = cc
@@ -111,8 +107,9 @@ module _ (l : Ledger) (s : State Slot View) (id : ℕ) (v : View) (h : IsKept v.
   missed other =
       let w : View = noted (found 1 1) v in
       let p : IsPass v.passes.sizes l.log v = h.passes.each id v at in
-      let m : Moves v w = record { passes = refl; own = refl; gathered = refl; buckets = refl; commit = refl; expected = refl; walk = refl } in
+      let m : Moves v w = record { passes = refl; own = refl; gathered = refl; commit = refl; expected = refl } in
       reads v.passes.sizes l s id 1 v w h at m (pass_moved v.passes.sizes l.log v w p m has_some p.front p.told) refl refl
+      (same_lines v.passes.sizes l s id v w h at refl (λ q. omega arith) refl refl)
 
   -- giving it back with this list
   gave : (list : Roomed ℕ) → (free : List ℕ) → v.free ≡ Some free → CanGive v list → 0 < length s.homes
@@ -121,28 +118,23 @@ module _ (l : Ledger) (s : State Slot View) (id : ℕ) (v : View) (h : IsKept v.
   gave list free has can homes =
       let w : View = gave_free list.items v in
       let p : IsPass v.passes.sizes l.log v = h.passes.each id v at in
-      let m : Moves v w = record { passes = refl; own = refl; gathered = refl; buckets = refl; commit = refl; expected = refl; walk = refl } in
+      let m : Moves v w = record { passes = refl; own = refl; gathered = refl; commit = refl; expected = refl } in
       let now : slice_index (slice_set s.words 1 0) 1 ≡ 0 = get_or-set_same s.words 1 0 0 long in
       let mine : has_turn v ≡ 1 = ap turn_of has in
       let known : known_free v ≡ l.free = ap (λ (o : Option (List ℕ)). unwrap_or o []) has ∙ h.free_list.away id v at free has in
       moved v.passes.sizes l s id v w (slice_set s.words 1 0) (slice_set s.homes 0 (some (Free list))) list.items h at m
       (pass_moved v.passes.sizes l.log v w p m has_some p.front p.told) (turn_quiet v.passes.sizes s.words 0) (length-set s.words 1 0)
       (λ k other. set_else s.homes 0 k (some (Free list)) other)
-      (references_moved v.passes.sizes s.words (slice_set s.words 1 0) s.views id v w at (record {
-        count = λ q below. ap (λ (n : ℕ). n + keeps q v) (turn_refs v.passes.sizes s.words 0 q);
-        beyond = λ q above. refl;
-        phases = turn_phase v.passes.sizes s.words 0;
-        carried = h.references.carried id v at;
-      }) h.references)
+      (references_left v.passes.sizes l.log s.words (slice_set s.words 1 0) s.views id v w at refl refl (turn_refs v.passes.sizes s.words 0)
+      (turn_phase v.passes.sizes s.words 0) h.references)
       (free_moved v.passes.sizes s.words (slice_set s.words 1 0) s.homes (slice_set s.homes 0 (some (Free list))) s.views id v w l.free list.items at (record {
         once = λ q below. omega (arith, can.whole q, ap (times q) known, turn_refs v.passes.sizes s.words 0 q);
         beyond = λ q above. omega (arith, can.whole q, ap (times q) known);
-        idle = λ q on.
+        idle = λ q on. turn_phase v.passes.sizes s.words 0 q ∙
             ⊎_elim
-            (λ (e : q < v.passes.sizes.entries). turn_phase v.passes.sizes s.words 0 q ∙ h.phases.none_stored q e)
-            (λ (e : v.passes.sizes.entries ≤ q).
-            absurd (omega (arith, on, can.whole q, ap (times q) known, h.free_list.beyond q e, total_term (owes q) s.views id v at)))
-            (cases_lt q v.passes.sizes.entries);
+            (λ (e : 0 < times q v.places.clear). (h.free_list.clear id v at q e).1)
+            (λ (e : times q v.places.clear ≤ 0). h.free_list.idle q (omega (arith, on, can.clear q, ap (times q) known, e)))
+            (cases_lt 0 (times q v.places.clear));
         phases = turn_phase v.passes.sizes s.words 0;
         turn = omega (arith, now, mine, h.free_list.turn, h.free_list.single, total_term has_turn s.views id v at);
         single = omega (arith, now);
@@ -157,7 +149,7 @@ module _ (l : Ledger) (s : State Slot View) (id : ℕ) (v : View) (h : IsKept v.
             let c = h.free_list.clear id v at q (omega (arith, on, unlisted_out list.items q v.places.clear e)) in
             (omega (arith, c.0, unlisted_out list.items q v.places.owed e), turn_phase v.passes.sizes s.words 0 q ∙ c.1))
             (cases_Bool (is_among q list.items));
-      }) h.free_list)
+      }) h.free_list) (same_lines v.passes.sizes l s id v w h at refl (λ q. omega arith) refl refl)
 
 -- taking the turn keeps the rule
 pub taking : (slots id : ℕ) (v : View) (c : List (ℕ × Slot)) → 0 < v.passes.shares → v.free ≡ None
@@ -183,7 +175,11 @@ taking slots id v c has_some calm s (l, h) sized at range =
       unchanged,
       tt,
       (l, missed l s id v h at has_some miss),
-      subst (λ (b : Bool). TakesFree b v c w c) (sym (ne_eqb (slice_index s.words 1) 0 miss)) (record { view = refl; out = refl }),
+      subst (λ (b : Bool). TakesFree b v c w c) (sym (ne_eqb (slice_index s.words 1) 0 miss)) (record {
+        view = refl;
+        out = refl;
+        others = others_there v.passes.sizes l s id v h at has_turn (λ u n. ap turn_of n.free) (omega (arith, miss, ap turn_of calm, h.free_list.turn));
+      }),
     ))
 
 -- giving it back keeps the rule

@@ -1,8 +1,9 @@
 -- The chains of the buckets. A chain is a list of links, each of a place below the entries and each with the two words of
 -- its tuple, which belongs to the bucket. While a generation is odd, one pass has the bucket, and knows its chain. However
 -- tuples are weighed, the chain of a bucket weighs what the live records weigh in it, and the tuples of places that a pass
--- has linked and not yet confirmed, or not yet unlinked. So it has each of these once, and no other.
-use Rattle.std.specs.Prelude.{◌≡◌, ℕ, ◌+◌, ◌*◌, ◌%◌, ◌<◌, ◌≤◌, ◌==◌, if◌then◌else◌, bit_xor, List, [], ◌∷◌, slice_index}
+-- has linked and not yet confirmed, or not yet unlinked. So it has each of these once, and no other. Where both links of a
+-- place are in one chain, that of its original tuple comes first.
+use Rattle.std.specs.Prelude.{◌≡◌, ℕ, ◌+◌, ◌-◌, ◌*◌, ◌%◌, ◌<◌, ◌≤◌, ◌==◌, if◌then◌else◌, bit_xor, List, [], ◌∷◌, slice_index}
 use Rattle.tuple_core.specs.Hash.{mix}
 use Rattle.tuple_core.specs.Words.{address_word, flow_word}
 use Rattle.tuple_core.specs.declared.Tuple.{Tuple}
@@ -15,7 +16,7 @@ use Rattle.track_rule.specs.declared.view.Pair.{Pair}
 use Rattle.track_rule.specs.declared.view.Shut.{Shut}
 use Rattle.track_rule.specs.declared.view.View.{View}
 use Rattle.track_rule.specs.History.{records_after}
-use Rattle.track_rule.specs.Layout.{first_word, gen_at, head_word, next_word, place_of, second_word}
+use Rattle.track_rule.specs.Layout.{first_word, gen_at, head_word, next_word, place_of, second_word, side_of}
 use Rattle.track_rule.specs.Phases.{of_place}
 use Rattle.track_rule.specs.Sums.{Each, bit, total}
 
@@ -33,6 +34,15 @@ pub record IsLinked (z : Sizes) (words : List ℕ) (bucket : ℕ) (e : Entry) : 
   pub first : slice_index words (first_word z e.link) ≡ e.pair.first
   pub second : slice_index words (second_word z e.link) ≡ e.pair.second
   pub placed : bucket_of z e.pair ≡ bucket
+
+-- 1 where it is the entry of this link
+abbrev pub is_at_link : ℕ → Entry → ℕ
+is_at_link link e = bit (e.link == link)
+
+-- no original link stands behind the reply link of its place
+abbrev pub IsOrdered : List Entry → Type 0
+IsOrdered [] = Unit {0}
+IsOrdered (e ∷ es) = (side_of e.link ≡ 1 → total (is_at_link (e.link - 1)) es ≡ 0) × IsOrdered es
 
 -- from this link on these entries follow, to the end
 abbrev pub IsChain : Sizes → List ℕ → ℕ → ℕ → List Entry → Type 0
@@ -76,6 +86,7 @@ chain_in bucket (s ∷ rest) = (if s.bucket == bucket then s.chain else chain_in
 
 pub record AreChains (z : Sizes) (log : List Event) (words : List ℕ) (views : List View) (chains : ℕ → List Entry) : Type 0 where
   pub linked : (b : ℕ) → b < z.buckets → IsChain z words b (slice_index words (head_word z b)) (chains b)
+  pub ordered : (b : ℕ) → b < z.buckets → IsOrdered (chains b)
   pub gens : (b : ℕ) → b < z.buckets → gen_at z words b % 2 ≡ total (shuts_of b) views
   pub mine : (b : ℕ) → b < z.buckets → Each (λ v. 0 < shuts_of b v → chain_in b v.buckets.shut ≡ chains b) views
   pub chained : (b : ℕ) → b < z.buckets → (weight : Entry → ℕ) → total weight (chains b) ≡ total (links_in z b weight) (records_after log) + total (loose_of z b weight) views

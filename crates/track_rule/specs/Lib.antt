@@ -9,6 +9,7 @@ pub mod Free
 pub mod Records
 pub mod Phases
 pub mod Chains
+pub mod Links
 pub mod Walks
 pub mod Expected
 pub mod Opening
@@ -16,4 +17,7 @@ pub mod Rule
 pub mod Sights
 pub mod Steps
 pub mod Shares
+pub mod PhaseSteps
+pub mod Notes
+pub mod BucketSteps
 pub mod Laws

@@ -24,6 +24,10 @@ added v w = drop (length v.readings) w.readings
 abbrev pub is_found : ℕ → ℕ → List Reading → Bool
 is_found word value readings = list_any (λ r. r.word == word && r.value == value && not r.own) readings
 
+-- one of them is the pass's own change of this word to this value
+abbrev pub is_stored : ℕ → ℕ → List Reading → Bool
+is_stored word value readings = list_any (λ r. r.word == word && r.value == value && r.own) readings
+
 abbrev pub of_word : ℕ → List Reading → List Reading
 of_word word readings = filter (λ r. r.word == word) readings
 

@@ -1,12 +1,20 @@
 -- References. The references word of a place is the number of references that passes keep to it, those of the table that
 -- they carry in the middle of a commit among them, and one more while the place is live. A pass that carries the table's
--- reference to a place also holds that place. No other place is held.
-use Rattle.std.specs.Prelude.{◌≡◌, ℕ, ◌+◌, ◌<◌, ◌≤◌, ◌==◌, Bool, nat_lt, if◌then◌else◌, List, [], ◌∷◌}
+-- reference to a place also holds that place. No other place is held. A place is taken for a new entry by one pass at most,
+-- and then no live entry has it. A place that a pass holds for an id is that of the entry of this id.
+use Rattle.std.specs.Prelude.{◌≡◌, ℕ, ◌+◌, ◌<◌, ◌≤◌, ◌==◌, ◌&&◌, Bool, true, false, nat_lt, if◌then◌else◌, Some, List, [], ◌∷◌, slice_get}
 use Rattle.std.specs.List.{list_any}
+use Rattle.history_book.specs.declared.event.Event.{Event}
+use Rattle.history_book.specs.declared.event.Event.TheVariants.{Confirm}
+use Rattle.history_book.specs.declared.record.Record.{Record}
 use Rattle.history_book.specs.declared.sizes.Sizes.{Sizes}
 use Rattle.track_rule.specs.declared.view.Keep.{Keep}
+use Rattle.track_rule.specs.declared.view.Purpose.{Purpose}
+use Rattle.track_rule.specs.declared.view.Purpose.TheVariants.{Taken, Testing, Shown, For}
 use Rattle.track_rule.specs.declared.view.View.{View}
+use Rattle.track_rule.specs.History.{records_after}
 use Rattle.track_rule.specs.Layout.{phase_at, refs_at}
+use Rattle.track_rule.specs.Phases.{of_place, table_keeps}
 use Rattle.track_rule.specs.Sums.{Each, bit, times, total}
 
 abbrev pub is_at : ℕ → Keep → Bool
@@ -29,11 +37,41 @@ without place (k ∷ ks) = (if is_at place k then ks else k ∷ without place ks
 abbrev pub keeps : ℕ → View → ℕ
 keeps place v = held_times place v.places.held + times place v.places.carried
 
--- how many the table has: one while the phase is LIVE of some id
-abbrev pub table_keeps : ℕ → ℕ
-table_keeps phase = bit (nat_lt 2 phase)
+-- a place is held for a new entry
+abbrev pub is_for_new : Purpose → Bool
+is_for_new Taken = true
+is_for_new Testing = false
+is_for_new (Shown id) = false
+is_for_new (For id) = false
 
-pub record AreReferences (z : Sizes) (words : List ℕ) (views : List View) : Type 0 where
+-- the pass took the place for a new entry
+abbrev pub is_taken : ℕ → List Keep → Bool
+is_taken place held = list_any (λ k. is_at place k && is_for_new k.purpose) held
+
+-- how often it did
+abbrev pub takes : ℕ → View → ℕ
+takes place v = total (λ k. bit (is_at place k && is_for_new k.purpose)) v.places.held
+
+-- the entry of this id was confirmed at this place
+pub record WasConfirmed (log : List Event) (id place : ℕ) : Type 0 where
+  pub subject : Record
+  pub event : slice_get log id ≡ Some (Confirm subject)
+  pub its_place : subject.place ≡ place
+
+-- a place is held for this id, or for none
+abbrev pub IsKeptFor : List Event → ℕ → Purpose → Type 0
+IsKeptFor log place Taken = Unit {0}
+IsKeptFor log place Testing = Unit {0}
+IsKeptFor log place (Shown id) = WasConfirmed log id place
+IsKeptFor log place (For id) = WasConfirmed log id place
+
+abbrev pub AreKept : List Event → List Keep → Type 0
+AreKept log [] = Unit {0}
+AreKept log (k ∷ ks) = IsKeptFor log k.place k.purpose × AreKept log ks
+
+pub record AreReferences (z : Sizes) (log : List Event) (words : List ℕ) (views : List View) : Type 0 where
   pub counted : (p : ℕ) → p < z.entries → refs_at z words p ≡ total (keeps p) views + table_keeps (phase_at z words p)
   pub beyond : (p : ℕ) → z.entries ≤ p → total (keeps p) views ≡ 0
   pub carried : Each (λ v. (p : ℕ) → times p v.places.carried ≤ held_times p v.places.held) views
+  pub taken : (p : ℕ) → total (takes p) views + total (of_place p) (records_after log) ≤ 1
+  pub purposes : Each (λ v. AreKept log v.places.held) views

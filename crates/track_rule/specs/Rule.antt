@@ -16,6 +16,7 @@ use Rattle.track_rule.specs.Free.{IsFreeList}
 use Rattle.track_rule.specs.Records.{AreRecords}
 use Rattle.track_rule.specs.Phases.{ArePhases}
 use Rattle.track_rule.specs.Chains.{AreChains}
+use Rattle.track_rule.specs.Links.{AreLinks}
 use Rattle.track_rule.specs.Walks.{AreWalks}
 use Rattle.track_rule.specs.Expected.{AreExpected}
 
@@ -25,17 +26,18 @@ pub record Ledger : Type 0 where
   pub free : List ℕ
   pub chains : ℕ → List Entry
 
--- the nine parts of the rule
+-- The nine parts of the rule. What it says of chains is in two parts here: of the chains, and of the words of links.
 pub record IsKept (z : Sizes) (l : Ledger) (s : State Slot View) : Type 0 where
   pub limits : AreWithinLimits z
   pub count : length s.words ≡ word_count z
   pub passes : ArePasses z l.log s.views
   pub history : IsHistory z l.log s.words
-  pub references : AreReferences z s.words s.views
+  pub references : AreReferences z l.log s.words s.views
   pub free_list : IsFreeList z s.words s.homes s.views l.free
   pub records : AreRecords z l.log s.words s.homes s.views
   pub phases : ArePhases z l.log s.words s.views
   pub chains : AreChains z l.log s.words s.views l.chains
+  pub links : AreLinks z s.words s.views
   pub walks : AreWalks z s.words s.views l.chains
   pub expected : AreExpected z l.log s.words s.homes s.views
 

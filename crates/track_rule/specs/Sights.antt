@@ -1,10 +1,12 @@
 -- What contracts see of a pass, and of a table.
-use Rattle.std.specs.Prelude.{◌≡◌, ℕ, ◌<◌, List, []}
+use Rattle.std.specs.Prelude.{◌≡◌, ℕ, ◌<◌, List, [], ◌∷◌}
 use Rattle.atomic_table.specs.Seated.{TableId}
 use Rattle.atomic_table.specs.Table.{Me}
 use Rattle.history_book.specs.declared.sizes.Sizes.{Sizes}
 use Rattle.history_book.specs.Sizes.{AreWithinLimits}
 use Rattle.track_rule.specs.declared.slot.Slot.{Slot}
+use Rattle.track_rule.specs.declared.view.Keep.{Keep}
+use Rattle.track_rule.specs.declared.view.Places.{Places}
 use Rattle.track_rule.specs.declared.view.View.{View}
 use Rattle.track_rule.specs.Layout.{IsTable}
 use Rattle.track_rule.specs.Rule.{first_view}
@@ -29,12 +31,26 @@ pub record IsPassOf (board : BoardSight) (p : PassSight) : Type 0 where
   pub table : p.table ≡ board.table
   pub sizes : sizes_of p ≡ board.sizes
 
--- a pass has a share, and out of their slots what its turns let it have out
+-- all places that are held, or owed, are below the entries
+abbrev pub AreHeldBelow : ℕ → List Keep → Type 0
+AreHeldBelow entries [] = Unit {0}
+AreHeldBelow entries (k ∷ ks) = (k.place < entries) × AreHeldBelow entries ks
+
+abbrev pub AreOwedBelow : ℕ → List ℕ → Type 0
+AreOwedBelow entries [] = Unit {0}
+AreOwedBelow entries (p ∷ ps) = (p < entries) × AreOwedBelow entries ps
+
+pub record AreOfPool (entries : ℕ) (places : Places) : Type 0 where
+  pub held : AreHeldBelow entries places.held
+  pub owed : AreOwedBelow entries places.owed
+
+-- a pass has a share, holds and owes places of the pool alone, and has out of their slots what its turns let it have out
 pub record IsPassSight (p : PassSight) : Type 0 where
   pub counts : IsTable (sizes_of p) p.table
   pub limits : AreWithinLimits (sizes_of p)
   pub some : 0 < p.view.passes.shares
   pub carries : numbers p.slots ≡ numbers_of p.view
+  pub pool : AreOfPool (sizes_of p).entries p.view.places
   pub suit : AllSuit p.slots
 
 -- what a seat knows

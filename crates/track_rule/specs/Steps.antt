@@ -1,5 +1,5 @@
 -- What the steps of a pass tell it: v is what it knew before, w what it knows after, n what the step found.
-use Rattle.std.specs.Prelude.{◌≡◌, ℕ, ◌+◌, ◌-◌, ◌*◌, ◌<◌, ◌≤◌, ◌==◌, ◌^◌, Bool, true, false, min, if◌then◌else◌, MatchBool, Option, Some, None, List, ◌∷◌, length}
+use Rattle.std.specs.Prelude.{◌≡◌, ℕ, ◌+◌, ◌-◌, ◌*◌, ◌<◌, ◌≤◌, ◌==◌, ◌&&◌, ◌^◌, Bool, true, false, min, not, if◌then◌else◌, MatchBool, Option, Some, None, List, ◌∷◌, filter, length}
 use Rattle.atomic_table.specs.Table.{Me, Step, rest}
 use Rattle.room_list.specs.Roomed.{Roomed}
 use Rattle.history_book.specs.History.{is_legal}
@@ -8,18 +8,23 @@ use Rattle.history_book.specs.Sight.{notes_from}
 use Rattle.history_book.specs.declared.event.Event.{Event}
 use Rattle.track_rule.specs.declared.slot.Slot.{Slot}
 use Rattle.track_rule.specs.declared.slot.Slot.TheVariants.{Free}
+use Rattle.track_rule.specs.declared.view.Hook.{Hook}
 use Rattle.track_rule.specs.declared.view.Keep.{Keep}
+use Rattle.track_rule.specs.declared.view.Places.{Places}
 use Rattle.track_rule.specs.declared.view.Purpose.{Purpose}
 use Rattle.track_rule.specs.declared.view.Purpose.TheVariants.{Taken, Testing}
 use Rattle.track_rule.specs.declared.view.Reading.{Reading}
 use Rattle.track_rule.specs.declared.view.View.{View}
-use Rattle.track_rule.specs.Free.{known_free, taken_out, unlisted}
+use Rattle.track_rule.specs.declared.view.Walk.{Walk}
+use Rattle.track_rule.specs.Free.{is_among, known_free, taken_out, unlisted}
 use Rattle.track_rule.specs.History.{events_in, live_in, records_after}
-use Rattle.track_rule.specs.Layout.{refs_word}
+use Rattle.track_rule.specs.Layout.{place_of, refs_word}
 use Rattle.track_rule.specs.Readings.{found, noted, stored}
-use Rattle.track_rule.specs.References.{held_times, keeps, without}
+use Rattle.track_rule.specs.Phases.{middle_of, of_place}
+use Rattle.track_rule.specs.Records.{has_hand}
+use Rattle.track_rule.specs.References.{held_times, is_taken, keeps, without}
 use Rattle.track_rule.specs.Slots.{list_in}
-use Rattle.track_rule.specs.Sums.{times}
+use Rattle.track_rule.specs.Sums.{times, total}
 
 -- a pass keeps a reference to the place
 abbrev pub keep : ℕ → Purpose → Keep
@@ -38,6 +43,14 @@ pub record AreAll (v : View) (log : List Event) : Type 0 where
   pub shares : v.passes.shares + v.passes.returned ≤ v.passes.sizes.passes
   pub alone : v.passes.sizes.passes ≡ 1 → v.seen.own ≡ notes_from 0 log
 
+-- some other pass has a share
+abbrev pub HasOthers : View → Type 0
+HasOthers v = v.passes.shares + v.passes.returned < v.passes.sizes.passes
+
+-- no other pass has one
+abbrev pub IsAlone : View → Type 0
+IsAlone v = v.passes.shares + v.passes.returned ≡ v.passes.sizes.passes
+
 -- how long the free list is, if the pass knows it
 abbrev pub length_of : Option (List ℕ) → Option ℕ
 length_of None = None
@@ -47,9 +60,14 @@ length_of (Some list) = Some (length list)
 abbrev pub found_history : ℕ → View → Reading
 found_history word v = record { word = 0; value = word; own = false; free = length_of v.free }
 
+-- the note of a walk names this point
+abbrev pub at_point : ℕ → Option Walk → Option Walk
+at_point point None = None
+at_point point (Some n) = Some (record n { at = Some point })
+
 -- the pass has seen these events
 abbrev pub saw : List Event → View → View
-saw log v = record v { seen = record v.seen { front = log } }
+saw log v = record v { seen = record v.seen { front = log }; walk = at_point (length log) v.walk }
 
 -- A load: the pass has seen all events, and the word is theirs.
 pub record Looks (v : View) (word : ℕ) (w : View) : Type 0 where
@@ -76,19 +94,21 @@ pub record TookFree (v : View) (slots : List (ℕ × Slot)) (w : View) (slots' :
   pub below : (p : ℕ) → v.passes.sizes.entries ≤ p → times p (list_in slots').items + times p v.places.owed ≡ 0
   pub clear : (p : ℕ) → 0 < times p v.places.clear → 0 < times p v.places.owed
 
--- Another pass has it.
+-- Another pass has it: so there is one, with a share.
 pub record MissedFree (v : View) (slots : List (ℕ × Slot)) (w : View) (slots' : List (ℕ × Slot)) : Type 0 where
   pub view : w ≡ noted (found 1 1) v
   pub out : slots' ≡ slots
+  pub others : HasOthers v
 
 abbrev pub TakesFree : Bool → View → List (ℕ × Slot) → View → List (ℕ × Slot) → Type 0
 TakesFree took v slots w slots' = MatchBool took (TookFree v slots w slots') (MissedFree v slots w slots')
 
--- What is owed and stands on this list is given up to it. There is room for all places, and no place is lost or put there
--- twice: each that was on the list or owed still is.
+-- What is owed and stands on this list is given up to it, where its phase was set to FREE. There is room for all places, and
+-- no place is lost or put there twice: each that was on the list or owed still is.
 pub record CanGive (v : View) (list : Roomed ℕ) : Type 0 where
   pub room : v.passes.sizes.entries ≤ list.room
   pub whole : (p : ℕ) → times p list.items + times p (unlisted list.items v.places.owed) ≡ times p (known_free v) + times p v.places.owed
+  pub clear : (p : ℕ) → times p list.items ≤ times p (known_free v) + times p v.places.clear
 
 -- the pass has given the list back
 abbrev pub gave_free : List ℕ → View → View
@@ -103,35 +123,73 @@ gave_free list v = noted (stored 1 0) (record v {
 abbrev pub most_keeps : ℕ
 most_keeps = 2 ^ 16
 
--- A place from the free list has a reference now, the pass's own.
-abbrev pub opened : ℕ → View → View
-opened place v = noted (stored (refs_word v.passes.sizes place) 1) (record v {
+-- Two hooks more, one for either link of the place; neither is in a chain.
+pub record NewHooks (place : ℕ) (old new : List Hook) : Type 0 where
+  pub original : Hook
+  pub reply : Hook
+  pub all : new ≡ original ∷ reply ∷ old
+  pub links : (original.link ≡ 1 + 2 * place) × (reply.link ≡ 2 + 2 * place)
+  pub down : (original.up ≡ false) × (reply.up ≡ false)
+
+-- A place from the free list has a reference now, the pass's own, and the pass has these hooks.
+abbrev pub opened : ℕ → List Hook → View → View
+opened place hooks v = noted (stored (refs_word v.passes.sizes place) 1) (record v {
   free = Some (taken_out place (known_free v));
   places = record v.places { held = keep place Taken ∷ v.places.held };
+  buckets = record v.buckets { hooks = hooks };
 })
 
 -- So it did not hold the place, nor owe it.
 pub record Opens (place : ℕ) (v w : View) : Type 0 where
-  pub view : w ≡ opened place v
+  pub view : w ≡ opened place w.buckets.hooks v
+  pub hooks : NewHooks place v.buckets.hooks w.buckets.hooks
   pub held : held_times place v.places.held ≡ 0
   pub owed : times place v.places.owed ≡ 0
 
--- A load of the references: there are at least those that the pass keeps itself.
-pub record LoadsRefs (place : ℕ) (v : View) (n : ℕ) (w : View) : Type 0 where
-  pub view : w ≡ noted (found (refs_word v.passes.sizes place) n) v
+-- All references to a place are those that the only pass keeps, and the table's one while an entry is live there. In the
+-- middle of a commit the pass keeps that one itself.
+pub record AreOwn (place n : ℕ) (v : View) : Type 0 where
+  pub log : List Event
+  pub all : AreAll v log
+  pub exact : n + middle_of (of_place place) v ≡ keeps place v + total (of_place place) (records_after log)
+
+-- There were so many references to the place. They are few, and at least those that the pass keeps itself.
+pub record IsCount (place n : ℕ) (v : View) : Type 0 where
   pub few : n < most_keeps
   pub own : keeps place v ≤ n
+  pub alone : IsAlone v → AreOwn place n v
+
+-- A load of the references.
+pub record LoadsRefs (place : ℕ) (v : View) (n : ℕ) (w : View) : Type 0 where
+  pub view : w ≡ noted (found (refs_word v.passes.sizes place) n) v
+  pub count : IsCount place n v
+
+-- A pass that has the turn of the record of a place that it took makes the second reference of a commit, once, which becomes
+-- the table's.
+abbrev pub is_second : ℕ → View → Bool
+is_second place v = is_taken place v.places.held && has_hand place v == 1 && not (is_among place v.places.carried)
+
+-- The further reference is the table's, which the pass carries, or one to look what stands there.
+abbrev pub one_more : Bool → ℕ → Places → Places
+one_more second place places = record places {
+  held = (if second then places.held else keep place Testing ∷ places.held);
+  carried = (if second then place ∷ places.carried else places.carried);
+}
+
+abbrev pub raised : Bool → ℕ → ℕ → View → View
+raised second place seen v = noted (stored (refs_word v.passes.sizes place) (seen + 1)) (record v { places = one_more second place v.places })
 
 -- One reference more where there were so many. A place with references is owed by nobody.
 pub record RaisedRefs (place seen : ℕ) (v w : View) : Type 0 where
-  pub view : w ≡ noted (stored (refs_word v.passes.sizes place) (seen + 1)) (record v { places = record v.places { held = keep place Testing ∷ v.places.held } })
+  pub view : w ≡ raised (is_second place v) place seen v
+  pub count : IsCount place seen v
   pub owed : times place v.places.owed ≡ 0
 
 -- There were others.
 pub record MissedRefs (place seen : ℕ) (v : View) (n : ℕ) (w : View) : Type 0 where
   pub view : w ≡ noted (found (refs_word v.passes.sizes place) n) v
   pub other : (n == seen) ≡ false
-  pub few : n < most_keeps
+  pub count : IsCount place n v
 
 abbrev pub RaisesRefs : Bool → ℕ → ℕ → View → ℕ → View → Type 0
 RaisesRefs same place seen v n w = MatchBool same (RaisedRefs place seen v w) (MissedRefs place seen v n w)
@@ -140,18 +198,30 @@ RaisesRefs same place seen v n w = MatchBool same (RaisedRefs place seen v w) (M
 abbrev pub owed_then : ℕ → ℕ → List ℕ → List ℕ
 owed_then place n owed = (if n == 1 then place ∷ owed else owed)
 
-abbrev pub let_go : ℕ → ℕ → View → View
-let_go place n v = noted (stored (refs_word v.passes.sizes place) (n - 1)) (record v {
-  places = record v.places { held = without place v.places.held; owed = owed_then place n v.places.owed };
+-- A pass that gave up its last reference to a place has no hooks of it.
+abbrev pub hooks_then : ℕ → List Keep → List Hook → List Hook
+hooks_then place held hooks = (if held_times place held == 1 then filter (λ (h : Hook). not (place_of h.link == place)) hooks else hooks)
+
+-- The pass gave up the table's reference, which it carried, or one of its own, the newest one to the place.
+abbrev pub let_go_of : Bool → ℕ → ℕ → View → View
+let_go_of carries place n v = noted (stored (refs_word v.passes.sizes place) (n - 1)) (record v {
+  places = record v.places {
+    held = (if carries then v.places.held else without place v.places.held);
+    owed = (if carries then v.places.owed else owed_then place n v.places.owed);
+    carried = (if carries then taken_out place v.places.carried else v.places.carried);
+  };
+  buckets = record v.buckets { hooks = (if carries then v.buckets.hooks else hooks_then place v.places.held v.buckets.hooks) };
 })
+
+abbrev pub let_go : ℕ → ℕ → View → View
+let_go place n v = let_go_of (is_among place v.places.carried) place n v
 
 -- One reference less, of so many. The last one was the only one that the pass kept.
 pub record LowersRefs (place : ℕ) (v : View) (n : ℕ) (w : View) : Type 0 where
   pub view : w ≡ let_go place n v
   pub some : 0 < n
-  pub few : n < most_keeps
+  pub count : IsCount place n v
   pub mine : 0 < held_times place v.places.held
-  pub own : held_times place v.places.held ≤ n
   pub owed : times place v.places.owed ≡ 0
 
 -- WHAT THE STEPS ARE ON THE TABLE

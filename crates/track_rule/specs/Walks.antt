@@ -1,15 +1,19 @@
 -- What a pass noted on a walk along a chain without a lock. A noted generation is at most the present one. Where it still
--- is that one, and even, what was met begins the chain. Otherwise the note says nothing. It speaks of the words and of the
--- chains alone, and of no other pass. The readings of a pass are what its steps found and left: no step of another pass
+-- is that one, and even, what was met begins the chain, and the chain has the tuples of this bucket of all entries that were
+-- live at the noted point. Otherwise the note says nothing. Where something was met that shows that the generation has
+-- passed, it has. A note speaks of the words, of the history and of the chains alone, and of no other pass. The readings of a pass are what its steps found and left: no step of another pass
 -- takes one of them away, and they say nothing of the present words.
-use Rattle.std.specs.Prelude.{◌≡◌, ℕ, ◌<◌, ◌≤◌, ◌%◌, true, Option, Some, None, List, [], ◌∷◌}
+use Rattle.std.specs.Prelude.{◌≡◌, ℕ, ◌<◌, ◌≤◌, ◌%◌, true, Option, Some, None, List, [], ◌∷◌, length}
+use Rattle.history_book.specs.declared.event.Event.{Event}
 use Rattle.history_book.specs.declared.sizes.Sizes.{Sizes}
 use Rattle.track_rule.specs.declared.view.Entry.{Entry}
 use Rattle.track_rule.specs.declared.view.Met.{Met}
 use Rattle.track_rule.specs.declared.view.View.{View}
 use Rattle.track_rule.specs.declared.view.Walk.{Walk}
+use Rattle.track_rule.specs.Chains.{links_in}
+use Rattle.track_rule.specs.History.{records_after}
 use Rattle.track_rule.specs.Layout.{gen_at}
-use Rattle.track_rule.specs.Sums.{Each}
+use Rattle.track_rule.specs.Sums.{Each, total}
 
 -- entries that were passed, the newest first, and those after them
 abbrev pub rev_onto : List Entry → List Entry → List Entry
@@ -36,10 +40,21 @@ pub record Stands (chain : List Entry) (n : Walk) : Type 0 where
   pub matches : Matches n.met passed
   pub ended : n.ended ≡ true → rest ≡ []
 
-pub record IsWalk (z : Sizes) (words : List ℕ) (chains : ℕ → List Entry) (n : Walk) : Type 0 where
+-- the chain has a link for each tuple of the bucket that an entry has which was live after these events
+abbrev pub HasLive : Sizes → ℕ → List Event → List Entry → Type 0
+HasLive z bucket front chain = (weight : Entry → ℕ) → total (links_in z bucket weight) (records_after front) ≤ total weight chain
+
+-- the pass has seen the events up to the noted point, and the chain has what was live there
+pub record IsKnown (z : Sizes) (words : List ℕ) (chain : List Entry) (front : List Event) (n : Walk) (point : ℕ) : Type 0 where
+  pub seen : point ≡ length front
+  pub live : gen_at z words n.bucket ≡ n.generation → n.generation % 2 ≡ 0 → HasLive z n.bucket front chain
+
+pub record IsWalk (z : Sizes) (words : List ℕ) (chains : ℕ → List Entry) (front : List Event) (n : Walk) : Type 0 where
   pub bucket : n.bucket < z.buckets
   pub least : n.generation ≤ gen_at z words n.bucket
   pub stands : gen_at z words n.bucket ≡ n.generation → n.generation % 2 ≡ 0 → Stands (chains n.bucket) n
+  pub known : (point : ℕ) → n.at ≡ Some point → IsKnown z words (chains n.bucket) front n point
+  pub gone : n.passed ≡ true → n.generation % 2 ≡ 0 → n.generation < gen_at z words n.bucket
 
 pub record AreWalks (z : Sizes) (words : List ℕ) (views : List View) (chains : ℕ → List Entry) : Type 0 where
-  pub each : Each (λ v. (n : Walk) → v.walk ≡ Some n → IsWalk z words chains n) views
+  pub each : Each (λ v. (n : Walk) → v.walk ≡ Some n → IsWalk z words chains v.seen.front n) views

@@ -3,10 +3,13 @@
 #![tactic(auto)]
 
 pub mod board;
+pub mod bucket_steps;
+pub mod chain_stores;
 pub mod free_list;
 pub mod laws;
 pub mod layout;
 pub mod pass;
+pub mod place_phase;
 pub mod plays;
 pub mod pool;
 pub mod rule;
@@ -14,3 +17,4 @@ pub mod slot;
 #[cfg(test)]
 mod tests;
 pub mod view;
+pub mod word_places;

@@ -1,6 +1,7 @@
 //! A table and its passes.
 
 ghost use Rattle.std.specs.Prelude.{◌≡◌, ◌<◌, ◌≤◌, []};
+ghost use Rattle.history_book.specs.Sizes.{AreWithinLimits};
 ghost use Rattle.track_rule.specs.Passes.{HasNothing};
 ghost use Rattle.track_rule.specs.Shares.{further, joined, shares_left};
 ghost use Rattle.track_rule.specs.Sights.{IsPassOf, sizes_of};
@@ -79,7 +80,8 @@ impl Board {
 impl<'b> Pass<'b> {
     /// The sizes of the table. No step.
     pub fn sizes(&self) -> Sizes
-        ensures { result ≡ sizes_of self.now }
+        ensures sizes { result ≡ sizes_of self.now }
+        ensures limits { AreWithinLimits result }
     {
         self.sizes
     }

@@ -2,13 +2,14 @@
 //! `free_swap`, which moves what is in the slot of the free list and is none. What a step finds is added to the readings of
 //! its pass, and so is what it changes.
 
-ghost use Rattle.std.specs.Prelude.{◌≡◌, ◌+◌, ◌<◌, ◌≤◌, true, length, None, IfErr, OnOk, is_some};
+ghost use Rattle.std.specs.Prelude.{◌≡◌, ◌+◌, ◌<◌, ◌≤◌, true, false, length, None, IfErr, OnOk, is_some};
+ghost use Rattle.atomic_table.specs.Table.{rest};
 ghost use Rattle.track_rule.specs.Free.{is_among, known_free};
+ghost use Rattle.track_rule.specs.Links.{is_up};
 ghost use Rattle.track_rule.specs.References.{is_held};
 ghost use Rattle.track_rule.specs.Sights.{sizes_of};
 ghost use Rattle.track_rule.specs.Slots.{free_at, given_back, list_in, with_free};
-ghost use Rattle.track_rule.specs.Steps.{CanGive, LoadsRefs, Looks, LowersRefs, MissedRefs, Opens, RaisedRefs, TakesFree, gave_free, most_keeps};
-ghost use Rattle.track_rule.specs.Sums.{times};
+ghost use Rattle.track_rule.specs.Steps.{CanGive, LoadsRefs, Looks, LowersRefs, MissedRefs, Opens, RaisedRefs, TakesFree, gave_free, is_second, most_keeps};
 
 use crate::free_list::FreeList;
 use crate::layout::{FREE_SLOT, FREE_WORD, HISTORY_WORD, refs_word};
@@ -84,12 +85,13 @@ impl<'b> Pass<'b> {
         self.shared.load::<LoadRef>(&mut self.seat, word)
     }
 
-    /// Makes one reference more where there are so many, and not none. Else gives the other number.
+    /// Makes one reference more where there are so many, and not none. Else gives the other number. A pass that has the
+    /// turn of the record of a place that it took makes the table's reference, and carries it.
     pub fn ref_up(&mut self, place: u32, seen: u64) -> Result<(), u64>
         requires place { place < (sizes_of self.old).entries }
         requires some { 0 < seen }
         requires bound { seen < most_keeps }
-        requires few { length self.old.view.places.held + length self.old.view.places.owed ≤ 3 }
+        requires few { is_second place self.old.view ≡ false → length self.old.view.places.held + length self.old.view.places.owed ≤ 3 }
         ensures ok { OnOk result (RaisedRefs place seen self.old.view self.new.view) }
         ensures err { IfErr result (λ n. MissedRefs place seen self.old.view n self.new.view) }
         ensures kept { self.new ≡ record self.old { view = self.new.view } }
@@ -101,11 +103,11 @@ impl<'b> Pass<'b> {
         if found == seen { Ok(()) } else { Err(found) }
     }
 
-    /// Gives up a reference to a place, and gives how many there were. A place without any is owed.
+    /// Gives up a reference to a place, the table's first if the pass carries it, and gives how many there were. A place
+    /// without any is owed.
     pub fn ref_down(&mut self, place: u32) -> u64
         requires held { is_held place self.old.view.places.held ≡ true }
-        requires free { times place self.old.view.places.carried ≡ 0 }
-        requires place { place < (sizes_of self.old).entries }
+        requires down { is_up place self.old.view.buckets.hooks ≡ false }
         ensures lowers { LowersRefs place self.old.view result self.new.view }
         ensures kept { self.new ≡ record self.old { view = self.new.view } }
     {

@@ -1,6 +1,7 @@
 //! Two passes on two threads never hold one place at once.
 
-ghost use Rattle.std.specs.Prelude.{◌≡◌, None};
+ghost use Rattle.std.specs.Prelude.{◌≡◌, None, []};
+ghost use Rattle.track_rule.specs.Links.{RaisesNone};
 ghost use Rattle.track_rule.specs.Passes.{no_places};
 
 use super::sizes;
@@ -39,8 +40,10 @@ impl Owners {
 fn is_alone<R: Wait>(rt: &R, pass: &mut Pass, owners: &Owners, number: u64) -> bool
     requires free { pass.old.view.free ≡ None }
     requires places { pass.old.view.places ≡ no_places }
+    requires links { RaisesNone [] pass.old.view.buckets.hooks }
     ensures free { pass.new.view.free ≡ None }
     ensures places { pass.new.view.places ≡ no_places }
+    ensures links { RaisesNone [] pass.new.view.buckets.hooks }
 {
     let TakeOutcome::Taken { place } = take(rt, pass) else {
         return false;
@@ -59,6 +62,7 @@ fn is_alone<R: Wait>(rt: &R, pass: &mut Pass, owners: &Owners, number: u64) -> b
 fn times_alone<R: Wait>(rt: &R, pass: &mut Pass, owners: &Owners, number: u64) -> u32
     requires free { pass.old.view.free ≡ None }
     requires places { pass.old.view.places ≡ no_places }
+    requires links { RaisesNone [] pass.old.view.buckets.hooks }
 {
     let mut alone = 0;
     'rounds: for _round in 0..ROUNDS {
@@ -78,14 +82,15 @@ fn both_alone<R: Threads + Wait + Sync>(
 ) -> (u32, u32)
     requires free { (one.old.view.free ≡ None) × (two.old.view.free ≡ None) }
     requires places { (one.old.view.places ≡ no_places) × (two.old.view.places ≡ no_places) }
+    requires links { RaisesNone [] one.old.view.buckets.hooks × RaisesNone [] two.old.view.buckets.hooks }
 {
     join_mut(
         rt,
         &mut ||
-            requires { (one.now.view.free ≡ None) × (one.now.view.places ≡ no_places) }
+            requires { (one.now.view.free ≡ None) × (one.now.view.places ≡ no_places) × RaisesNone [] one.now.view.buckets.hooks }
         { times_alone(rt, one, owners, 1) },
         &mut ||
-            requires { (two.now.view.free ≡ None) × (two.now.view.places ≡ no_places) }
+            requires { (two.now.view.free ≡ None) × (two.now.view.places ≡ no_places) × RaisesNone [] two.now.view.buckets.hooks }
         { times_alone(rt, two, owners, 2) },
     )
 }

@@ -1,12 +1,5 @@
-use Rattle.entry_pool.proofs.Taking.{can_give_back, recycled_is}
+use Rattle.entry_pool.proofs.Taking.{recycled_is}
 use Rattle.entry_pool.proofs.take.recycle.Goals as goal
 
-pub give_list-requires-clause-whole : goal.give_list-requires-clause-whole
-give_list-requires-clause-whole g c =
-    can_give_back c.args.pass.now c.take_list-list.new.pass c.take_list-list.result c.take_list-list.ensures c.push.new.self c.args.place c.take_list-list.new.pass
-    c.requires.calm c.push.ensures.items c.requires.owed c.push.ensures.room
-
 pub returns : goal.returns
-returns g c =
-    recycled_is c.args.pass.now c.take_list-list.new.pass c.take_list-list.result c.take_list-list.ensures c.push.new.self c.args.place c.give_list.new.pass
-    c.requires.calm c.push.ensures.items c.requires.owed c.give_list.ensures
+returns g c = recycled_is c.args.place c.args.pass.now c.phase_store.new.self c.give_place.new.pass c.phase_store.ensures c.give_place.ensures

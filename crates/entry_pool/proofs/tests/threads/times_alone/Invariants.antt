@@ -1,4 +1,5 @@
-use Rattle.std.proofs.Common.{◌≡◌, None, ◌≤◌}
+use Rattle.std.proofs.Common.{◌≡◌, None, [], ◌≤◌}
+use Rattle.track_rule.specs.Links.{RaisesNone}
 use Rattle.track_rule.specs.Passes.{no_places}
 use Rattle.entry_pool.proofs.tests.threads.times_alone.Given as goal
 
@@ -6,5 +7,6 @@ abbrev pub invariant-rounds : goal.invariant-rounds
 invariant-rounds g l = record {
   free : l.pass.view.free ≡ None;
   places : l.pass.view.places ≡ no_places;
+  links : RaisesNone [] l.pass.view.buckets.hooks;
   few : l.alone ≤ l._round;
 }

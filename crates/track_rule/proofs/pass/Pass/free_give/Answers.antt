@@ -1,13 +1,14 @@
-use Rattle.std.proofs.Common.{◌≡◌, true, ap, arith, subst, sym}
+use Rattle.std.proofs.Common.{◌≡◌, true, ap, rules, arith, subst, sym}
 use Rattle.std.specs.Prelude.{is_some}
 use Rattle.atomic_table.specs.Table.{Allows, step}
 use mathlib.Core.Option.{none}
 use Rattle.history_book.specs.declared.sizes.Sizes.{Sizes}
+use Rattle.track_rule.specs.declared.view.View.{View}
 use Rattle.track_rule.specs.Rule.{Holds}
-use Rattle.track_rule.specs.Sights.{PassSight}
+use Rattle.track_rule.specs.Sights.{AreOfPool, PassSight}
 use Rattle.track_rule.specs.Slots.{free_at, list_in}
-use Rattle.track_rule.specs.Steps.{CanGive, GiveStep}
-use Rattle.track_rule.proofs.Seats.{list_out}
+use Rattle.track_rule.specs.Steps.{CanGive, GiveStep, gave_free}
+use Rattle.track_rule.proofs.Seats.{list_out, pool_listed}
 use Rattle.track_rule.proofs.Turns.{giving_back}
 use Rattle.track_rule.proofs.pass.Pass.free_give.Goals as goal
 
@@ -25,3 +26,25 @@ store-requires c =
           h.key_is (giving_back slots p.seat.id p.seat.me (omega (arith, h.right.counts.slots, ap (λ t. t.slots) h.same)) h.right.some turn
           (list_out p.seat.me turn there h.right.carries h.right.suit) whole),
     )
+
+pub invariant_of-self : goal.invariant_of-self
+invariant_of-self c =
+    let p = c.self.inside in
+    let h = c.self.invariant in
+    let told : c.store.new.seat.me.0 ≡ gave_free (list_in p.seat.me.1).items p.seat.me.0 = c.store.ensures.2.0 in
+    record {
+      same = search rules;
+      key_is = search rules;
+      sizes_are = search rules;
+      right = record {
+        counts = search rules;
+        limits = search rules;
+        some = search rules;
+        carries = search rules;
+        pool = subst (λ (x : View). AreOfPool x.passes.sizes.entries x.places) (sym told) (record {
+          held = h.right.pool.held;
+          owed = pool_listed p.seat.me.0.passes.sizes.entries (list_in p.seat.me.1).items p.seat.me.0.places.owed h.right.pool.owed;
+        });
+        suit = search rules;
+      };
+    }

@@ -1,13 +1,14 @@
-use Rattle.std.proofs.Common.{◌≡◌, ℕ, ◌+◌, ◌-◌, ◌%◌, ◌^◌, ◌<◌, true, ap, arith, subst, sym, ◌∙◌}
+use Rattle.std.proofs.Common.{◌≡◌, ℕ, ◌+◌, ◌-◌, ◌%◌, ◌^◌, ◌<◌, true, false, ap, arith, subst, sym, ◌∙◌}
 use Rattle.atomic_table.specs.Table.{step}
 use mathlib.Core.Option.{none}
 use Rattle.history_book.specs.declared.sizes.Sizes.{Sizes}
 use Rattle.track_rule.specs.Layout.{refs_word}
+use Rattle.track_rule.specs.Free.{is_among}
+use Rattle.track_rule.specs.Links.{is_up}
 use Rattle.track_rule.specs.References.{is_held}
 use Rattle.track_rule.specs.Sights.{PassSight, sizes_of}
 use Rattle.track_rule.specs.Steps.{LowerStep, LowersRefs}
-use Rattle.track_rule.specs.Sums.{times}
-use Rattle.track_rule.proofs.Seats.{allowed, kept_at, same_at, stays_at}
+use Rattle.track_rule.proofs.Seats.{StaysAt, allowed, held_below, kept_at, pool_less, same_at, stays_at}
 use Rattle.std.proofs.Common.{refl}
 use Rattle.track_rule.proofs.Refs.{lowering}
 use Rattle.track_rule.specs.Slots.{numbers_of}
@@ -21,15 +22,23 @@ fetch_sub-requires c =
     let z : Sizes = p.seat.me.0.passes.sizes in
     let slots = p.shared.now.table_id.slots in
     let word : c.refs_word-word.result ≡ refs_word z place = c.refs_word-word.ensures.word ∙ ap (λ (y : Sizes). refs_word y place) h.sizes_are in
-    let below : place < z.entries = subst (λ (x : PassSight). place < (sizes_of x).entries) (sym c.self.view_is) c.requires.place in
     let held : is_held place p.seat.me.0.places.held ≡ true = subst (λ (x : PassSight). is_held place x.view.places.held ≡ true) (sym c.self.view_is) c.requires.held in
-    let free_of : times place p.seat.me.0.places.carried ≡ 0 = subst (λ (x : PassSight). times place x.view.places.carried ≡ 0) (sym c.self.view_is) c.requires.free in (
+    let below : place < z.entries = held_below z.entries place p.seat.me.0.places.held h.right.pool.held held in
+    let down : is_up place p.seat.me.0.buckets.hooks ≡ false = subst (λ (x : PassSight). is_up place x.view.buckets.hooks ≡ false) (sym c.self.view_is) c.requires.down in (
       h.same,
       omega (arith, h.right.counts.words, ap (λ t. t.words) h.same, word, below),
       allowed z p.shared.now.key slots p.seat.id p.seat.me (refs_word z place) c.refs_word-word.result (λ n. (n + (2 ^ 64 - 1)) % 2 ^ 64)
           (λ w. LowerStep (step slots w 1 0 none) p.seat.me) h.key_is word
-          (lowering slots p.seat.id place p.seat.me.0 p.seat.me.1 below h.right.some held free_of),
+          (lowering slots p.seat.id place p.seat.me.0 p.seat.me.1 below h.right.some held down),
     )
+
+pub refs_word-word-requires-clause-place : goal.refs_word-word-requires-clause-place
+refs_word-word-requires-clause-place c =
+    let p = c.self.inside in
+    let h = c.self.invariant in
+    let held : is_held c.args.place p.seat.me.0.places.held ≡ true =
+    subst (λ (x : PassSight). is_held c.args.place x.view.places.held ≡ true) (sym c.self.view_is) c.requires.held in
+    subst (λ (z : Sizes). c.args.place < z.entries) (sym h.sizes_are) (held_below p.seat.me.0.passes.sizes.entries c.args.place p.seat.me.0.places.held h.right.pool.held held)
 
 pub invariant_of-self : goal.invariant_of-self
 invariant_of-self c =
@@ -38,9 +47,12 @@ invariant_of-self c =
     let word : c.refs_word-word.result ≡ refs_word p.seat.me.0.passes.sizes c.args.place =
     c.refs_word-word.ensures.word ∙ ap (λ (y : Sizes). refs_word y c.args.place) h.sizes_are in
     let told : LowersRefs c.args.place p.seat.me.0 c.fetch_sub.result c.fetch_sub.new.seat.me.0 × (c.fetch_sub.new.seat.me.1 ≡ p.seat.me.1) = c.fetch_sub.ensures.2 c.args.place word in
-    let same : (c.fetch_sub.new.seat.me.0.passes ≡ p.seat.me.0.passes) × (numbers_of c.fetch_sub.new.seat.me.0 ≡ numbers_of p.seat.me.0) = same_at p.seat.me.0 c.fetch_sub.new.seat.me.0 _ told.0.view (refl, refl) in
+    let below : c.args.place < p.seat.me.0.passes.sizes.entries =
+    held_below p.seat.me.0.passes.sizes.entries c.args.place p.seat.me.0.places.held h.right.pool.held
+    (subst (λ (x : PassSight). is_held c.args.place x.view.places.held ≡ true) (sym c.self.view_is) c.requires.held) in
+    let same : StaysAt p.seat.me.0 c.fetch_sub.new.seat.me.0 = same_at p.seat.me.0 c.fetch_sub.new.seat.me.0 _ told.0.view (record { passes = refl; same = refl; pool = pool_less (is_among c.args.place p.seat.me.0.places.carried) p.seat.me.0.passes.sizes.entries c.args.place c.fetch_sub.result p.seat.me.0 below }) in
     stays_at p.seat.table_id p.shared.now.table_id p.shared.now.key p.sizes c.fetch_sub.new.seat.table_id p.seat.me c.fetch_sub.new.seat.me h
-    c.fetch_sub.ensures.0 same.0 same.1 told.1
+    c.fetch_sub.ensures.0 same told.1
 
 pub returns-clause-kept : goal.returns-clause-kept
 returns-clause-kept c =

@@ -5,7 +5,7 @@ use Rattle.history_book.specs.declared.sizes.Sizes.{Sizes}
 use Rattle.track_rule.specs.Layout.{refs_word}
 use Rattle.track_rule.specs.Sights.{PassSight, sizes_of}
 use Rattle.track_rule.specs.Steps.{LoadStep, LoadsRefs}
-use Rattle.track_rule.proofs.Seats.{allowed, kept_at, same_at, stays_at}
+use Rattle.track_rule.proofs.Seats.{StaysAt, allowed, kept_at, same_at, stays_at}
 use Rattle.std.proofs.Common.{refl}
 use Rattle.track_rule.proofs.Loads.{loads}
 use Rattle.track_rule.specs.Slots.{numbers_of}
@@ -34,9 +34,9 @@ invariant_of-self c =
     let word : c.refs_word-word.result ≡ refs_word p.seat.me.0.passes.sizes c.args.place =
     c.refs_word-word.ensures.word ∙ ap (λ (y : Sizes). refs_word y c.args.place) h.sizes_are in
     let told : LoadsRefs c.args.place p.seat.me.0 c.load.result c.load.new.seat.me.0 × (c.load.new.seat.me.1 ≡ p.seat.me.1) = c.load.ensures.2 c.args.place word in
-    let same : (c.load.new.seat.me.0.passes ≡ p.seat.me.0.passes) × (numbers_of c.load.new.seat.me.0 ≡ numbers_of p.seat.me.0) = same_at p.seat.me.0 c.load.new.seat.me.0 _ told.0.view (refl, refl) in
+    let same : StaysAt p.seat.me.0 c.load.new.seat.me.0 = same_at p.seat.me.0 c.load.new.seat.me.0 _ told.0.view (record { passes = refl; same = refl; pool = λ k. k }) in
     stays_at p.seat.table_id p.shared.now.table_id p.shared.now.key p.sizes c.load.new.seat.table_id p.seat.me c.load.new.seat.me h
-    c.load.ensures.0 same.0 same.1 told.1
+    c.load.ensures.0 same told.1
 
 pub returns-clause-kept : goal.returns-clause-kept
 returns-clause-kept c =

@@ -6,7 +6,7 @@ use Rattle.track_rule.specs.Free.{is_among, known_free}
 use Rattle.track_rule.specs.Layout.{refs_word}
 use Rattle.track_rule.specs.Sights.{PassSight, sizes_of}
 use Rattle.track_rule.specs.Steps.{OpenStep, Opens}
-use Rattle.track_rule.proofs.Seats.{allowed, kept_at, opened_at, stays_at}
+use Rattle.track_rule.proofs.Seats.{StaysAt, allowed, kept_at, opened_at, stays_at}
 use Rattle.track_rule.proofs.Refs.{opening}
 use Rattle.track_rule.specs.Slots.{numbers_of}
 use Rattle.track_rule.proofs.pass.Pass.ref_open.Goals as goal
@@ -37,9 +37,9 @@ invariant_of-self c =
     let word : c.refs_word-word.result ≡ refs_word p.seat.me.0.passes.sizes c.args.place =
     c.refs_word-word.ensures.word ∙ ap (λ (y : Sizes). refs_word y c.args.place) h.sizes_are in
     let told : Opens c.args.place p.seat.me.0 c.store.new.seat.me.0 × (c.store.new.seat.me.1 ≡ p.seat.me.1) = c.store.ensures.2 c.args.place word in
-    let same : (c.store.new.seat.me.0.passes ≡ p.seat.me.0.passes) × (numbers_of c.store.new.seat.me.0 ≡ numbers_of p.seat.me.0) = opened_at c.args.place p.seat.me.0 c.store.new.seat.me.0 (subst (λ (x : PassSight). is_among c.args.place (known_free x.view) ≡ true) (sym c.self.view_is) c.requires.listed) told.0 in
+    let same : StaysAt p.seat.me.0 c.store.new.seat.me.0 = opened_at c.args.place p.seat.me.0 c.store.new.seat.me.0 (subst (λ (x : PassSight). c.args.place < (sizes_of x).entries) (sym c.self.view_is) c.requires.place) (subst (λ (x : PassSight). is_among c.args.place (known_free x.view) ≡ true) (sym c.self.view_is) c.requires.listed) told.0 in
     stays_at p.seat.table_id p.shared.now.table_id p.shared.now.key p.sizes c.store.new.seat.table_id p.seat.me c.store.new.seat.me h
-    c.store.ensures.0 same.0 same.1 told.1
+    c.store.ensures.0 same told.1
 
 pub returns-clause-kept : goal.returns-clause-kept
 returns-clause-kept c =

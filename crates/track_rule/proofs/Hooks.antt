@@ -1,0 +1,257 @@
+-- The hooks of a pass: those of a place that it takes, and those that it gives up with its last reference.
+use Rattle.std.proofs.Common.{◌≡◌, ◌≢◌, ℕ, zero, suc, ◌+◌, ◌*◌, ◌<◌, ◌≤◌, Bool, true, false, cond, Option, Some, None, List, [], ◌∷◌, filter, refl, sym, ap, subst, ◌∙◌, ⊎_elim, arith, set}
+use Rattle.std.specs.Prelude.{slice_index, ◌==◌, ◌&&◌, ◌||◌, not, if◌then◌else◌}
+use Rattle.std.proofs.lemmas.Bool.{and_cases, cases_Bool, cases_eq, cond_both, eq-eqb, eqb-true, false≢true, not_from_false, or_parts}
+use Rattle.std.proofs.lemmas.Option.{none-some}
+use mathlib.Core.Option.{some, some-injective, some-ne-none}
+use lib.ListN.{get_elem?}
+use Rattle.atomic_table.specs.Table.{State}
+use Rattle.history_book.specs.declared.record.Record.{Record}
+use Rattle.history_book.specs.declared.sizes.Sizes.{Sizes}
+use Rattle.track_rule.specs.declared.slot.Slot.{Slot}
+use Rattle.track_rule.specs.declared.view.Entry.{Entry}
+use Rattle.track_rule.specs.declared.view.Hook.{Hook}
+use Rattle.track_rule.specs.declared.view.Keep.{Keep}
+use Rattle.track_rule.specs.declared.view.Middle.{Middle}
+use Rattle.track_rule.specs.declared.view.View.{View}
+use Rattle.track_rule.specs.Chains.{entry_of, hooks_at, loose_of, side}
+use Rattle.track_rule.specs.History.{records_after}
+use Rattle.track_rule.specs.Layout.{first_word, place_of, refs_at, second_word}
+use Rattle.track_rule.specs.Links.{HasHooks, IsHook, hooks_of, is_up, last_link}
+use Rattle.track_rule.specs.Phases.{middle_of, middle_weight, of_place}
+use Rattle.track_rule.specs.References.{held_times, keeps}
+use Rattle.track_rule.specs.Rule.{IsKept, Ledger}
+use Rattle.track_rule.specs.Steps.{NewHooks, hooks_then, let_go_of, opened}
+use Rattle.track_rule.specs.Sums.{Each, bit, total}
+use Rattle.track_rule.proofs.Balance.{Lines}
+use Rattle.track_rule.proofs.Lists.{other_bit, other_without, same_bit, same_without}
+use Rattle.track_rule.proofs.Sums.{total_only, total_set, total_term}
+
+-- a link of a place that is not in a chain, with what stands in its words
+abbrev pub new_hook : Sizes → List ℕ → ℕ → Hook
+new_hook z ws link = record {
+  link = link;
+  pair = record { first = slice_index ws (first_word z link); second = slice_index ws (second_word z link) };
+  next = None;
+  up = false;
+}
+
+abbrev pub new_hooks : Sizes → List ℕ → ℕ → List Hook → List Hook
+new_hooks z ws p hooks = new_hook z ws (1 + 2 * p) ∷ new_hook z ws (2 + 2 * p) ∷ hooks
+
+pub hooks_new : (z : Sizes) (ws : List ℕ) (p : ℕ) (hooks : List Hook) → NewHooks p hooks (new_hooks z ws p hooks)
+hooks_new z ws p hooks = record {
+  original = new_hook z ws (1 + 2 * p);
+  reply = new_hook z ws (2 + 2 * p);
+  all = refl;
+  links = (refl, refl);
+  down = (refl, refl);
+}
+
+-- nobody has a hook of a place without references, nor is an entry live there
+module _ (z : Sizes) (l : Ledger) (s : State Slot View) (h : IsKept z l s) (id : ℕ) (v : View) (at : get_elem? s.views id ≡ some v)
+    (p : ℕ) (below : p < z.entries) (nobody : refs_at z s.words p ≡ 0) where
+  none_keeps : total (keeps p) s.views ≡ keeps p v
+  none_keeps = omega (arith, h.references.counted p below, nobody, total_term (keeps p) s.views id v at)
+
+  mine_none : keeps p v ≡ 0
+  mine_none = omega (arith, h.references.counted p below, nobody, total_term (keeps p) s.views id v at)
+
+  unhooked : (v : View) → HasHooks z s.words v.places.held v.buckets.hooks → (link : ℕ) → place_of link ≡ p → keeps p v ≡ 0 → hooks_at link v ≡ 0
+  unhooked v k link here none =
+      ⊎_elim
+      (λ (e : hooks_at link v ≡ 0). e)
+      (λ (e : hooks_at link v ≢ 0).
+      absurd (omega (arith, none, ap (λ (x : ℕ). held_times x v.places.held) here, k.owned link (omega (arith, e)))))
+      (cases_eq (hooks_at link v) 0)
+
+  no_hooks_there : (link : ℕ) → place_of link ≡ p → total (hooks_at link) s.views ≡ 0
+  no_hooks_there link here =
+      total_only (hooks_at link) (keeps p) s.views id v at none_keeps (λ i u at' none. unhooked u (h.links.hooks i u at') link here none)
+      ∙ unhooked v (h.links.hooks id v at) link here mine_none
+
+  pub no_record_there : total (of_place p) (records_after l.log) ≡ 0
+  no_record_there =
+      let calm = total_only (middle_of (of_place p)) (keeps p) s.views id v at none_keeps
+      (λ i u at' none. ap (middle_weight (of_place p)) (h.phases.calm i u at')) in
+      omega (arith, h.phases.used p below, h.references.counted p below, nobody, calm, ap (middle_weight (of_place p)) (h.phases.calm id v at))
+
+  no_hook : (v : View) → HasHooks z s.words v.places.held v.buckets.hooks → keeps p v ≡ 0
+      → HasHooks z s.words (opened p (new_hooks z s.words p v.buckets.hooks) v).places.held (new_hooks z s.words p v.buckets.hooks)
+  no_hook v k none = record {
+    each = with_two (new_hook z s.words (1 + 2 * p)) (new_hook z s.words (2 + 2 * p)) (fresh (1 + 2 * p) (omega arith) (omega (arith, below)))
+        (fresh (2 + 2 * p) (omega arith) (omega (arith, below))) k.each;
+    owned = λ link any.
+        ⊎_elim
+        (λ (e : p ≡ place_of link). omega (arith, same_bit p (place_of link) e))
+        (λ (e : p ≢ place_of link).
+        omega (
+          arith,
+          any,
+          other_bit (1 + 2 * p) link (λ x. e (omega (arith, x))),
+          other_bit (2 + 2 * p) link (λ x. e (omega (arith, x))),
+          k.owned link (omega (
+            arith,
+            any,
+            other_bit (1 + 2 * p) link (λ x. e (omega (arith, x))),
+            other_bit (2 + 2 * p) link (λ x. e (omega (arith, x))),
+          )),
+        ))
+        (cases_eq p (place_of link));
+  }
+    where
+      fresh : (link : ℕ) → 0 < link → link ≤ last_link z → IsHook z s.words (new_hook z s.words link)
+      fresh link any low = record { some = any; below = low; first = refl; second = refl; next = λ n down e. absurd (none-some n e) }
+
+      with_two : (a b : Hook) → IsHook z s.words a → IsHook z s.words b → Each (IsHook z s.words) v.buckets.hooks → Each (IsHook z s.words) (a ∷ b ∷ v.buckets.hooks)
+      with_two a b f g e zero x at' = subst (IsHook z s.words) (some-injective a x at') f
+      with_two a b f g e (suc zero) x at' = subst (IsHook z s.words) (some-injective b x at') g
+      with_two a b f g e (suc (suc i)) x at' = e i x at'
+
+  pub opened_lines : Lines z l s id v (opened p (new_hooks z s.words p v.buckets.hooks) v)
+  opened_lines =
+      let w : View = opened p (new_hooks z s.words p v.buckets.hooks) v in
+      record {
+        shut = refl;
+        loose = λ b weight. omega arith;
+        lone = λ link any.
+            ⊎_elim
+            (λ (e : place_of link ≡ p).
+            omega (
+              arith,
+              no_hooks_there link e,
+              total_set (hooks_at link) s.views id v w at,
+              ap (λ (x : ℕ). total (of_place x) (records_after l.log)) e,
+              no_record_there,
+              one_of_two p link,
+            ))
+            (λ (e : place_of link ≢ p).
+            omega (
+              arith,
+              h.chains.lone link any,
+              total_set (hooks_at link) s.views id v w at,
+              other_bit (1 + 2 * p) link (λ x. e (omega (arith, x))),
+              other_bit (2 + 2 * p) link (λ x. e (omega (arith, x))),
+            ))
+            (cases_eq (place_of link) p);
+        hooks = no_hook v (h.links.hooks id v at) mine_none;
+        walk = h.walks.each id v at;
+      }
+    where
+      one_of_two : (p link : ℕ) → bit (1 + 2 * p == link) + bit (2 + 2 * p == link) ≤ 1
+      one_of_two p link =
+          ⊎_elim
+          (λ (e : 1 + 2 * p ≡ link). omega (arith, same_bit (1 + 2 * p) link e, other_bit (2 + 2 * p) link (λ x. omega (arith, x, e))))
+          (λ (e : 1 + 2 * p ≢ link). omega (arith, other_bit (1 + 2 * p) link e, bit_one (2 + 2 * p == link)))
+          (cases_eq (1 + 2 * p) link)
+        where
+          bit_one : (b : Bool) → bit b ≤ 1
+          bit_one true = omega arith
+          bit_one false = omega arith
+
+-- hooks that are not in a chain weigh nothing, and are given up
+module _ (p : ℕ) where
+  off : Hook → Bool
+  off h = not (place_of h.link == p)
+
+  -- what hooks in chains weigh stays
+  loose_kept : (g : Hook → ℕ) (hooks : List Hook) → is_up p hooks ≡ false
+      → total (λ (h : Hook). (if h.up then g h else 0)) (filter (λ (h : Hook). not (place_of h.link == p)) hooks)
+      ≡ total (λ (h : Hook). (if h.up then g h else 0)) hooks
+  loose_kept g [] e = refl
+  loose_kept g (h ∷ hs) e =
+      let parts = or_parts (place_of h.link == p && h.up) (is_up p hs) e in
+      let rest = loose_kept g hs parts.1 in
+      cond_both (not (place_of h.link == p)) (h ∷ filter (λ (h : Hook). not (place_of h.link == p)) hs) (filter (λ (h : Hook). not (place_of h.link == p)) hs)
+      (λ xs. total (λ (h : Hook). (if h.up then g h else 0)) xs ≡ (if h.up then g h else 0) + total (λ (h : Hook). (if h.up then g h else 0)) hs)
+      (λ t. omega (arith, rest))
+      (λ t.
+      let here : (place_of h.link == p) ≡ true = was_true (place_of h.link == p) t in
+      let down : h.up ≡ false = sym (ap (λ b. b && h.up) here) ∙ parts.0 in
+      omega (arith, rest, ap (λ b. cond b (g h) 0) down))
+    where
+      was_true : (b : Bool) → not b ≡ false → b ≡ true
+      was_true true e = refl
+      was_true false e = absurd (false≢true (sym e))
+
+  -- no link has more of them
+  fewer : (link : ℕ) (hooks : List Hook) → hooks_of link (filter (λ (h : Hook). not (place_of h.link == p)) hooks) ≤ hooks_of link hooks
+  fewer link [] = omega arith
+  fewer link (h ∷ hs) =
+      cond_both (not (place_of h.link == p)) (h ∷ filter (λ (h : Hook). not (place_of h.link == p)) hs) (filter (λ (h : Hook). not (place_of h.link == p)) hs)
+      (λ xs. hooks_of link xs ≤ bit (h.link == link) + hooks_of link hs)
+      (λ t. omega (arith, fewer link hs)) (λ t. omega (arith, fewer link hs))
+
+  -- none of the place is left
+  none_left : (link : ℕ) → place_of link ≡ p → (hooks : List Hook) → hooks_of link (filter (λ (h : Hook). not (place_of h.link == p)) hooks) ≡ 0
+  none_left link here [] = refl
+  none_left link here (h ∷ hs) =
+      cond_both (not (place_of h.link == p)) (h ∷ filter (λ (h : Hook). not (place_of h.link == p)) hs) (filter (λ (h : Hook). not (place_of h.link == p)) hs)
+      (λ xs. hooks_of link xs ≡ 0)
+      (λ t.
+      omega (
+        arith,
+        none_left link here hs,
+        other_bit h.link link (λ e. false≢true (sym (ap not (eq-eqb (place_of h.link) p (ap place_of e ∙ here))) ∙ t)),
+      ))
+      (λ t. none_left link here hs)
+
+  each_left : (F : Hook → Type 0) (hooks : List Hook) → Each F hooks → Each F (filter (λ (h : Hook). not (place_of h.link == p)) hooks)
+  each_left F [] e = e
+  each_left F (h ∷ hs) e =
+      cond_both (not (place_of h.link == p)) (h ∷ filter (λ (h : Hook). not (place_of h.link == p)) hs) (filter (λ (h : Hook). not (place_of h.link == p)) hs)
+      (λ xs. Each F xs)
+      (λ t. more (filter (λ (h : Hook). not (place_of h.link == p)) hs) (e 0 h refl) (each_left F hs (λ i x at. e (suc i) x at)))
+      (λ t. each_left F hs (λ i x at. e (suc i) x at))
+    where
+      more : (xs : List Hook) → F h → Each F xs → Each F (h ∷ xs)
+      more xs f r zero x at = subst F (some-injective h x at) f
+      more xs f r (suc i) x at = r i x at
+
+-- a reference is given up, and where it was the last of the pass, the hooks with it
+pub lowered_lines : (z : Sizes) (l : Ledger) (s : State Slot View) (id p n : ℕ) (v : View) → IsKept z l s → get_elem? s.views id ≡ some v
+    → (1 ≤ held_times p v.places.held) → held_times p (let_go_of false p n v).places.held + 1 ≡ held_times p v.places.held
+    → ((q : ℕ) → q ≢ p → held_times q (let_go_of false p n v).places.held ≡ held_times q v.places.held) → is_up p v.buckets.hooks ≡ false
+    → Lines z l s id v (let_go_of false p n v)
+lowered_lines z l s id p n v h at any less others down =
+    let hooks = h.links.hooks id v at in
+    record {
+      shut = refl;
+      loose = λ b weight. cond_both (held_times p v.places.held == 1) (filter (λ (h : Hook). not (place_of h.link == p)) v.buckets.hooks) v.buckets.hooks
+          (λ xs. total (λ (h : Hook). (if h.up then side z b weight (entry_of h) else 0)) xs ≡ loose_of z b weight v)
+          (λ t. loose_kept p (λ (h : Hook). side z b weight (entry_of h)) v.buckets.hooks down) (λ t. refl);
+      lone = λ link some_link. omega (
+        arith,
+        h.chains.lone link some_link,
+        total_set (hooks_at link) s.views id v (let_go_of false p n v) at,
+        cond_both (held_times p v.places.held == 1) (filter (λ (h : Hook). not (place_of h.link == p)) v.buckets.hooks) v.buckets.hooks
+            (λ xs. hooks_of link xs ≤ hooks_of link v.buckets.hooks) (λ t. fewer p link v.buckets.hooks) (λ t. omega arith),
+      );
+      hooks = cond_both (held_times p v.places.held == 1) (filter (λ (h : Hook). not (place_of h.link == p)) v.buckets.hooks) v.buckets.hooks
+          (HasHooks z s.words (let_go_of false p n v).places.held)
+          (λ t. record {
+            each = each_left p (IsHook z s.words) v.buckets.hooks hooks.each;
+            owned = λ link some_hook.
+                ⊎_elim
+                (λ (e : place_of link ≡ p). absurd (omega (arith, some_hook, none_left p link e v.buckets.hooks)))
+                (λ (e : place_of link ≢ p). omega (arith, others (place_of link) e, hooks.owned link (omega (arith, some_hook, fewer p link v.buckets.hooks))))
+                (cases_eq (place_of link) p);
+          })
+          (λ t. record {
+            each = hooks.each;
+            owned = λ link some_hook.
+                ⊎_elim
+                (λ (e : place_of link ≡ p).
+                subst (λ (x : ℕ). 0 < held_times x (let_go_of false p n v).places.held) (sym e) (two_held (held_times p v.places.held) (held_times p (let_go_of false p n v).places.held) any less t))
+                (λ (e : place_of link ≢ p). omega (arith, others (place_of link) e, hooks.owned link some_hook))
+                (cases_eq (place_of link) p);
+          });
+      walk = h.walks.each id v at;
+    }
+  where
+    two_held : (m k : ℕ) → 1 ≤ m → k + 1 ≡ m → (m == 1) ≡ false → 0 < k
+    two_held m k any less other =
+        ⊎_elim
+        (λ (e : m ≡ 1). absurd (false≢true (sym other ∙ eq-eqb m 1 e)))
+        (λ (e : m ≢ 1). omega (arith, any, less, e))
+        (cases_eq m 1)

@@ -1,0 +1,328 @@
+-- A pass stores in the words of a link of its own that is in no chain: a word of the tuple, or the next link.
+use Rattle.std.proofs.Common.{◌⊎◌, ◌≡◌, ◌≢◌, ℕ, zero, suc, ◌+◌, ◌-◌, ◌*◌, ◌%◌, ◌<◌, ◌≤◌, Bool, true, false, cond, Option, Some, None, List, [], ◌∷◌, map, length, refl, sym, ap, subst, ◌∙◌, ⊎_elim, inl, inr, arith, set}
+use Rattle.std.specs.Prelude.{slice_index, slice_set, ◌==◌, ◌&&◌, ◌||◌, not, if◌then◌else◌}
+use Rattle.std.specs.List.{list_any}
+use Rattle.std.proofs.lemmas.Bool.{and_parts, cases_Bool, cases_eq, cond_both, eq-eqb, eqb-true, false≢true, ne_eqb}
+use Rattle.std.proofs.lemmas.List.{length-set}
+use mathlib.Core.Option.{none, some}
+use lib.ListN.{get_elem?}
+use Rattle.atomic_table.specs.Table.{Allows, State, keeps as unchanged, step}
+use Rattle.history_book.specs.declared.event.Event.{Event}
+use Rattle.history_book.specs.declared.sizes.Sizes.{Sizes}
+use Rattle.track_rule.specs.declared.slot.Slot.{Slot}
+use Rattle.track_rule.specs.declared.view.Entry.{Entry}
+use Rattle.track_rule.specs.declared.view.Hook.{Hook}
+use Rattle.track_rule.specs.declared.view.Keep.{Keep}
+use Rattle.track_rule.specs.declared.view.View.{View}
+use Rattle.track_rule.specs.declared.view.Walk.{Walk}
+use Rattle.track_rule.specs.BucketSteps.{StoreTupleStep, aim, aimed, is_own_tuple, strung, tuple_in, tuple_stored}
+use Rattle.track_rule.specs.Chains.{IsChain, IsLinked, chain_in, entry_of, hooks_at, links_in, loose_of, shuts_of, side}
+use Rattle.track_rule.specs.History.{records_after}
+use Rattle.track_rule.specs.Layout.{first_word, gen_at, head_word, next_word, place_of, second_word, word_count}
+use Rattle.track_rule.specs.Links.{HasHooks, IsHook, hook_of, hooks_of, is_down, last_link}
+use Rattle.track_rule.specs.Readings.{noted, stored}
+use Rattle.track_rule.specs.References.{held_times}
+use Rattle.track_rule.specs.Rule.{Holds, IsKept, Ledger}
+use Rattle.track_rule.specs.Sums.{Each, bit, total}
+use Rattle.track_rule.specs.Walks.{IsWalk}
+use Rattle.track_rule.proofs.BucketMoves.{bucket_moved}
+use Rattle.track_rule.proofs.ChainLists.{chain_each, unlinked}
+use Rattle.track_rule.proofs.ChainWords.{IsString, SameAt, chain_local, each_other_link, first_head, first_next, first_second, next_head, one_first, one_next, one_second, second_head, second_next, string_first, string_gens, string_next, string_rest, string_second, word_else, word_here}
+use Rattle.track_rule.proofs.HookLists.{each_change, hook_test, hook_there, links_kept, some_hook, total_change}
+use Rattle.track_rule.proofs.Sums.{each_other, each_put, total_same, total_term, total_two}
+
+-- a note stays true where no generation changes, and no chain
+pub walk_gens : (z : Sizes) (ws ws' : List ℕ) (chains : ℕ → List Entry) (front : List Event) (m : Walk)
+    → ((b : ℕ) → b < z.buckets → gen_at z ws' b ≡ gen_at z ws b) → IsWalk z ws chains front m → IsWalk z ws' chains front m
+walk_gens z ws ws' chains front m same w = record {
+  bucket = w.bucket;
+  least = omega (arith, w.least, same m.bucket w.bucket);
+  stands = λ here even. w.stands (sym (same m.bucket w.bucket) ∙ here) even;
+  known = λ point at. let k = w.known point at in record { seen = k.seen; live = λ here even. k.live (sym (same m.bucket w.bucket) ∙ here) even };
+  gone = λ passed even. omega (arith, w.gone passed even, same m.bucket w.bucket);
+}
+
+-- the word is one of this link alone
+pub record IsOf (z : Sizes) (word x : ℕ) : Type 0 where
+  pub string : IsString z word
+  pub heads : (b : ℕ) → b < z.buckets → head_word z b ≢ word
+  pub others : (y : ℕ) → 0 < y → y ≢ x → (first_word z y ≢ word) × (second_word z y ≢ word) × (next_word z y ≢ word)
+
+pub of_next : (z : Sizes) (x : ℕ) → 0 < x → IsOf z (next_word z x) x
+of_next z x any = record {
+  string = string_next z x;
+  heads = λ b below e. next_head z x b below (sym e);
+  others = λ y some_y other. (first_next z y x, second_next z y x, λ e. other (one_next z y x some_y any e));
+}
+
+of_first : (z : Sizes) (x : ℕ) → 0 < x → IsOf z (first_word z x) x
+of_first z x any = record {
+  string = string_first z x;
+  heads = λ b below e. first_head z x b below (sym e);
+  others = λ y some_y other. ((λ e. other (one_first z y x some_y any e)), (λ e. first_second z x y (sym e)), λ e. first_next z x y (sym e));
+}
+
+of_second : (z : Sizes) (x : ℕ) → 0 < x → IsOf z (second_word z x) x
+of_second z x any = record {
+  string = string_second z x;
+  heads = λ b below e. second_head z x b below (sym e);
+  others = λ y some_y other. (first_second z y x, (λ e. other (one_second z y x some_y any e)), λ e. second_next z x y (sym e));
+}
+
+-- the words of another link are as they were
+pub other_at : (z : Sizes) (ws : List ℕ) (word to x : ℕ) → IsOf z word x → (y : ℕ) → 0 < y → y ≢ x → SameAt z ws (slice_set ws word to) y
+other_at z ws word to x of y any other =
+    let t = of.others y any other in
+    record { first = word_else z ws word to (first_word z y) t.0; second = word_else z ws word to (second_word z y) t.1; next = word_else z ws word to (next_word z y) t.2 }
+
+-- a hook at another link stays one
+pub hook_stays : (z : Sizes) (ws ws' : List ℕ) (h : Hook) → SameAt z ws ws' h.link → IsHook z ws h → IsHook z ws' h
+hook_stays z ws ws' h same k = record {
+  some = k.some;
+  below = k.below;
+  first = same.first ∙ k.first;
+  second = same.second ∙ k.second;
+  next = λ n down e. same.next ∙ k.next n down e;
+}
+
+-- hooks at other links
+pub hooks_elsewhere : (x : ℕ) (hooks : List Hook) → hooks_of x hooks ≡ 0 → Each (λ h. h.link ≢ x) hooks
+hooks_elsewhere x hooks zero_x i h at = λ e. omega (arith, zero_x, total_term (λ (k : Hook). bit (k.link == x)) hooks i h at, ap (λ (k : ℕ). bit (k == x)) e, ap bit (eq-eqb x x refl))
+
+-- where one hook at the link changes, and is in no chain before and after
+module _ (l : Ledger) (s : State Slot View) (id : ℕ) (v : View) (h : IsKept v.passes.sizes l s) (at : get_elem? s.views id ≡ some v)
+    (has_some : 0 < v.passes.shares) (x : ℕ) (down : is_down x v.buckets.hooks ≡ true) where
+  pub own_link : (0 < x) × (x ≤ last_link v.passes.sizes) × (0 < hooks_of x v.buckets.hooks) × (hooks_of x v.buckets.hooks ≤ 1) × ((hook_of x v.buckets.hooks).up ≡ false)
+  own_link =
+      let any : 0 < hooks_of x v.buckets.hooks = some_hook x (λ (k : Hook). not k.up) v.buckets.hooks down in
+      let there = hook_there x (IsHook v.passes.sizes s.words) v.buckets.hooks any (h.links.hooks id v at).each in
+      let some_x : 0 < x = omega (arith, there.0.some, there.1) in
+      let one : hooks_of x v.buckets.hooks ≤ 1 = omega (arith, h.chains.lone x some_x, total_term (hooks_at x) s.views id v at) in
+      (some_x, omega (arith, there.0.below, there.1), any, one, was_false (hook_of x v.buckets.hooks).up (hook_test x (λ (k : Hook). not k.up) v.buckets.hooks one down))
+    where
+      was_false : (b : Bool) → not b ≡ true → b ≡ false
+      was_false true e = absurd (false≢true e)
+      was_false false e = refl
+
+  pub own_moved : (word to : ℕ) (f : Hook → Hook) → IsOf v.passes.sizes word x
+      → Each (λ k. k.link ≢ x → f k ≡ k) v.buckets.hooks → ((k : Hook) → ((f k).link ≡ k.link) × ((f k).up ≡ k.up))
+      → ((k : Hook) → IsHook v.passes.sizes s.words k → IsHook v.passes.sizes (slice_set s.words word to) (f k))
+      → ((y : ℕ) → 0 < y → y ≤ last_link v.passes.sizes → slice_index (slice_set s.words word to) (next_word v.passes.sizes y) ≤ last_link v.passes.sizes)
+      → IsKept v.passes.sizes l (record {
+        words = slice_set s.words word to;
+        homes = s.homes;
+        views = set s.views id (strung word to (record v.buckets { hooks = map f v.buckets.hooks }) v);
+      })
+  own_moved word to f of others keeps_link hook nexts =
+      let z : Sizes = v.passes.sizes in
+      let new : List ℕ = slice_set s.words word to in
+      let w : View = strung word to (record v.buckets { hooks = map f v.buckets.hooks }) v in
+      let own = own_link in
+      bucket_moved z l s id v w new l.chains h at (record { passes = refl; own = refl; gathered = refl; commit = refl; expected = refl }) has_some refl refl refl
+      (string_rest z s.words word to of.string) (length-set s.words word to)
+      (record {
+        linked = λ b below.
+            subst (λ (k : ℕ). IsChain z new b k (l.chains b)) (sym (word_else z s.words word to (head_word z b) (of.heads b below)))
+            (chain_local z s.words new b (slice_index s.words (head_word z b)) (l.chains b) (h.chains.linked b below)
+            (λ i e at'.
+            other_at z s.words word to x of e.link (chain_each z s.words b (slice_index s.words (head_word z b)) (l.chains b) (h.chains.linked b below) i e at').some
+            (each_other_link x (l.chains b) (unlinked z l.log s.words s.views l.chains h.chains b below x id v at own.0 down) i e at')));
+        ordered = h.chains.ordered;
+        gens = λ b below.
+            ap (λ (k : ℕ). k % 2) (string_gens z s.words word to of.string b below) ∙ h.chains.gens b below ∙ sym (total_same (shuts_of b) s.views id v w at refl);
+        mine = λ b below. each_put (λ u. 0 < shuts_of b u → chain_in b u.buckets.shut ≡ l.chains b) s.views id w (h.chains.mine b below) (h.chains.mine b below id v at);
+        chained = λ b below weight.
+            h.chains.chained b below weight
+            ∙ ap (λ (k : ℕ). total (links_in z b weight) (records_after l.log) + k) (sym (total_same (loose_of z b weight) s.views id v w at (loose_stays b weight)));
+        lone = λ link any. omega (
+          arith,
+          h.chains.lone link any,
+          total_same (hooks_at link) s.views id v w at (links_kept link f (λ k. (keeps_link k).0) v.buckets.hooks),
+        );
+      })
+      (record {
+        heads = λ b below. omega (arith, h.links.heads b below, word_else z s.words word to (head_word z b) (of.heads b below));
+        nexts = nexts;
+        gens = λ b below. omega (arith, h.links.gens b below, string_gens z s.words word to of.string b below);
+        hooks = each_other (λ u. HasHooks z new u.places.held u.buckets.hooks) s.views id w
+            (λ j u apart at'.
+            let k = h.links.hooks j u at' in
+            let elsewhere : hooks_of x u.buckets.hooks ≡ 0 = omega (arith, h.chains.lone x own.0, total_two (hooks_at x) s.views id j v u at at' apart, own.2) in
+            record {
+              each = λ i y there. hook_stays z s.words new y (other_at z s.words word to x of y.link (k.each i y there).some (hooks_elsewhere x u.buckets.hooks elsewhere i y there)) (k.each i y there);
+              owned = k.owned;
+            })
+            (let k = h.links.hooks id v at in
+            record {
+              each = each_change (IsHook z s.words) (IsHook z new) f v.buckets.hooks k.each hook;
+              owned = λ link any. k.owned link (omega (arith, any, links_kept link f (λ y. (keeps_link y).0) v.buckets.hooks));
+            });
+      })
+      (record {
+        each = each_put (λ (u : View). (m : Walk) → u.walk ≡ Some m → IsWalk z new l.chains u.seen.front m) s.views id w
+            (λ i u at' m e. walk_gens z s.words new l.chains u.seen.front m (string_gens z s.words word to of.string) (h.walks.each i u at' m e))
+            (λ m e. walk_gens z s.words new l.chains v.seen.front m (string_gens z s.words word to of.string) (h.walks.each id v at m e));
+      })
+    where
+      loose_stays : (b : ℕ) (weight : Entry → ℕ)
+          → total (λ (k : Hook). (if k.up then side v.passes.sizes b weight (entry_of k) else 0)) (map f v.buckets.hooks)
+          ≡ total (λ (k : Hook). (if k.up then side v.passes.sizes b weight (entry_of k) else 0)) v.buckets.hooks
+      loose_stays b weight =
+          let own = own_link in
+          let k : Hook = hook_of x v.buckets.hooks in
+          let F : Hook → ℕ = λ (k : Hook). (if k.up then side v.passes.sizes b weight (entry_of k) else 0) in
+          omega (
+            arith,
+            total_change x f (λ (k : Hook). (if k.up then side v.passes.sizes b weight (entry_of k) else 0)) v.buckets.hooks others own.2 own.3,
+            ap (λ (u : Bool). if u then side v.passes.sizes b weight (entry_of k) else 0) own.4,
+            ap (λ (u : Bool). if u then side v.passes.sizes b weight (entry_of (f k)) else 0) ((keeps_link k).1 ∙ own.4),
+          )
+
+-- the next link of a link in no chain
+pub aims_kept : (l : Ledger) (s : State Slot View) (id : ℕ) (v : View) (x to : ℕ) (h : IsKept v.passes.sizes l s) → get_elem? s.views id ≡ some v
+    → 0 < v.passes.shares → is_down x v.buckets.hooks ≡ true → to ≤ last_link v.passes.sizes
+    → IsKept v.passes.sizes l (record {
+      words = slice_set s.words (next_word v.passes.sizes x) to;
+      homes = s.homes;
+      views = set s.views id (strung (next_word v.passes.sizes x) to (aimed x to v.buckets) v);
+    })
+aims_kept l s id v x to h at has_some down low =
+    let z : Sizes = v.passes.sizes in
+    let own = own_link l s id v h at has_some x down in
+    let here : slice_index (slice_set s.words (next_word z x) to) (next_word z x) ≡ to = word_here z s.words (next_word z x) to (omega (arith, h.count, own.0, own.1)) in
+    own_moved l s id v h at has_some x down (next_word z x) to (aim x to) (of_next z x own.0)
+    (λ i k there other. ap (λ (t : Bool). if t then record k { next = Some to } else k) (ne_eqb k.link x other))
+    (λ k. cond_both (k.link == x) (record k { next = Some to }) k (λ y. (y.link ≡ k.link) × (y.up ≡ k.up)) (λ e. (refl, refl)) (λ e. (refl, refl)))
+    (λ k is.
+    cond_both (k.link == x) (record k { next = Some to }) k (IsHook z (slice_set s.words (next_word z x) to))
+    (λ e.
+    let same : k.link ≡ x = eqb-true k.link x e in
+    record {
+      some = is.some;
+      below = is.below;
+      first = word_else z s.words (next_word z x) to (first_word z k.link) (first_next z k.link x) ∙ is.first;
+      second = word_else z s.words (next_word z x) to (second_word z k.link) (second_next z k.link x) ∙ is.second;
+      next = λ n off eq. ap (λ (y : ℕ). slice_index (slice_set s.words (next_word z x) to) (next_word z y)) same ∙ here ∙ some_same to n eq;
+    })
+    (λ e.
+    let other : k.link ≢ x = λ same. false≢true (sym e ∙ eq-eqb k.link x same) in
+    hook_stays z s.words (slice_set s.words (next_word z x) to) k (other_at z s.words (next_word z x) to x (of_next z x own.0) k.link is.some other) is))
+    (λ y any under.
+    ⊎_elim
+    (λ (e : y ≡ x). omega (arith, ap (λ (k : ℕ). slice_index (slice_set s.words (next_word z x) to) (next_word z k)) e, here, low))
+    (λ (e : y ≢ x). omega (arith, (other_at z s.words (next_word z x) to x (of_next z x own.0) y any e).next, h.links.nexts y any under))
+    (cases_eq y x))
+  where
+    some_same : (a b : ℕ) → Some a ≡ Some b → a ≡ b
+    some_same a b e = cc
+
+-- a word of the tuple of such a link
+tuple_hook : (z : Sizes) (ws : List ℕ) (word to : ℕ) → word < length ws → ((y : ℕ) → next_word z y ≢ word) → (k : Hook) → IsHook z ws k → IsHook z (slice_set ws word to) (tuple_in z word to k)
+tuple_hook z ws word to low apart k is =
+    cond_both (first_word z k.link == word) (record k { pair = record k.pair { first = to } }) (cond (second_word z k.link == word) (record k { pair = record k.pair { second = to } }) k) (IsHook z (slice_set ws word to))
+    (λ e.
+    let here : first_word z k.link ≡ word = eqb-true (first_word z k.link) word e in
+    record {
+      some = is.some;
+      below = is.below;
+      first = ap (slice_index (slice_set ws word to)) here ∙ word_here z ws word to low;
+      second = word_else z ws word to (second_word z k.link) (λ t. first_second z k.link k.link (here ∙ sym t)) ∙ is.second;
+      next = λ n off eq. word_else z ws word to (next_word z k.link) (λ t. first_next z k.link k.link (here ∙ sym t)) ∙ is.next n off eq;
+    })
+    (λ e.
+    let not_first : first_word z k.link ≢ word = λ t. false≢true (sym e ∙ eq-eqb (first_word z k.link) word t) in
+    cond_both (second_word z k.link == word) (record k { pair = record k.pair { second = to } }) k (IsHook z (slice_set ws word to))
+    (λ f.
+    let here : second_word z k.link ≡ word = eqb-true (second_word z k.link) word f in
+    record {
+      some = is.some;
+      below = is.below;
+      first = word_else z ws word to (first_word z k.link) not_first ∙ is.first;
+      second = ap (slice_index (slice_set ws word to)) here ∙ word_here z ws word to low;
+      next = λ n off eq. word_else z ws word to (next_word z k.link) (λ t. second_next z k.link k.link (here ∙ sym t)) ∙ is.next n off eq;
+    })
+    (λ f. record {
+      some = is.some;
+      below = is.below;
+      first = word_else z ws word to (first_word z k.link) not_first ∙ is.first;
+      second = word_else z ws word to (second_word z k.link) (λ t. false≢true (sym f ∙ eq-eqb (second_word z k.link) word t)) ∙ is.second;
+      next = λ n off eq. word_else z ws word to (next_word z k.link) (apart k.link) ∙ is.next n off eq;
+    }))
+
+-- the link of such a word
+own_tuple : (z : Sizes) (ws : List ℕ) (word : ℕ) (hooks : List Hook) → is_own_tuple z word hooks ≡ true
+    → (x : ℕ) × (is_down x hooks ≡ true) × ((word ≡ first_word z x) ⊎ (word ≡ second_word z x))
+own_tuple z ws word [] e = absurd (false≢true e)
+own_tuple z ws word (k ∷ ks) e =
+    ⊎_elim
+    (λ (t : (not k.up && (first_word z k.link == word || second_word z k.link == word)) ≡ true).
+    let parts = and_parts (not k.up) (first_word z k.link == word || second_word z k.link == word) t in (
+      k.link,
+      ap (λ (b : Bool). (k.link == k.link && b) || is_down k.link ks) parts.0 ∙ ap (λ (b : Bool). (b && true) || is_down k.link ks) (eq-eqb k.link k.link refl),
+      either_word (first_word z k.link) (second_word z k.link) word parts.1,
+    ))
+    (λ (t : (not k.up && (first_word z k.link == word || second_word z k.link == word)) ≡ false).
+    let rest = own_tuple z ws word ks (sym (ap (λ (b : Bool). b || is_own_tuple z word ks) t) ∙ e) in
+    (rest.0, down_more rest.0 k.link (not k.up) ks rest.1, rest.2))
+    (cases_Bool (not k.up && (first_word z k.link == word || second_word z k.link == word)))
+  where
+    either_word : (a b w : ℕ) → (a == w || b == w) ≡ true → (w ≡ a) ⊎ (w ≡ b)
+    either_word a b w e =
+        ⊎_elim (λ (t : (a == w) ≡ true). inl (sym (eqb-true a w t)))
+        (λ (t : (a == w) ≡ false). inr (sym (eqb-true b w (sym (ap (λ (k : Bool). k || b == w) t) ∙ e)))) (cases_Bool (a == w))
+
+    down_more : (x y : ℕ) (b : Bool) (hooks : List Hook) → is_down x hooks ≡ true → ((y == x && b) || is_down x hooks) ≡ true
+    down_more x y b hooks e = ap (λ (k : Bool). (y == x && b) || k) e ∙ or_true (y == x && b)
+      where
+        or_true : (a : Bool) → (a || true) ≡ true
+        or_true true = refl
+        or_true false = refl
+
+tuples_kept : (l : Ledger) (s : State Slot View) (id : ℕ) (v : View) (x word to : ℕ) (h : IsKept v.passes.sizes l s) → get_elem? s.views id ≡ some v
+    → 0 < v.passes.shares → is_down x v.buckets.hooks ≡ true → IsOf v.passes.sizes word x → word < length s.words
+    → ((y : ℕ) → next_word v.passes.sizes y ≢ word)
+    → IsKept v.passes.sizes l (record {
+      words = slice_set s.words word to;
+      homes = s.homes;
+      views = set s.views id (tuple_stored word to v);
+    })
+tuples_kept l s id v x word to h at has_some down of low apart =
+    let z : Sizes = v.passes.sizes in
+    let own = own_link l s id v h at has_some x down in
+    own_moved l s id v h at has_some x down word to (tuple_in z word to) of
+    (λ i k there other.
+    let t = of.others k.link ((h.links.hooks id v at).each i k there).some other in
+    ap (λ (b : Bool). if b then record k { pair = record k.pair { first = to } } else (if second_word z k.link == word then record k { pair = record k.pair { second = to } } else k)) (ne_eqb (first_word z k.link) word t.0)
+    ∙ ap (λ (b : Bool). if b then record k { pair = record k.pair { second = to } } else k) (ne_eqb (second_word z k.link) word t.1))
+    (λ k.
+    cond_both (first_word z k.link == word) (record k { pair = record k.pair { first = to } }) (cond (second_word z k.link == word) (record k { pair = record k.pair { second = to } }) k)
+    (λ y. (y.link ≡ k.link) × (y.up ≡ k.up)) (λ e. (refl, refl))
+    (λ e. cond_both (second_word z k.link == word) (record k { pair = record k.pair { second = to } }) k (λ y. (y.link ≡ k.link) × (y.up ≡ k.up)) (λ f. (refl, refl)) (λ f. (refl, refl))))
+    (tuple_hook z s.words word to low apart)
+    (λ y any under. omega (arith, word_else z s.words word to (next_word z y) (apart y), h.links.nexts y any under))
+
+-- storing a word of the tuple of a link in no chain keeps the rule
+pub stores_tuple : (slots id word to : ℕ) (v : View) (c : List (ℕ × Slot)) → is_own_tuple v.passes.sizes word v.buckets.hooks ≡ true → 0 < v.passes.shares
+    → Allows (Holds v.passes.sizes) slots id (v, c) word (λ _. to) (λ _. StoreTupleStep (step slots word to 0 none) (v, c) to)
+stores_tuple slots id word to v c own has_some s (l, h) long at range = (
+  tuple_stored word to v,
+  unchanged,
+  tt,
+  (l, of_word (own_tuple v.passes.sizes s.words word v.buckets.hooks own)),
+  (refl, refl),
+)
+  where
+    of_word : ((x : ℕ) × (is_down x v.buckets.hooks ≡ true) × ((word ≡ first_word v.passes.sizes x) ⊎ (word ≡ second_word v.passes.sizes x)))
+        → IsKept v.passes.sizes l (record { words = slice_set s.words word to; homes = s.homes; views = set s.views id (tuple_stored word to v) })
+    of_word t =
+        let z : Sizes = v.passes.sizes in
+        let x : ℕ = t.0 in
+        let own = own_link l s id v h at has_some t.0 t.1 in
+        ⊎_elim
+        (λ (e : word ≡ first_word z t.0).
+        tuples_kept l s id v t.0 word to h at has_some t.1 (subst (λ (k : ℕ). IsOf z k t.0) (sym e) (of_first z t.0 own.0))
+        (omega (arith, e, h.count, own.0, own.1)) (λ y k. first_next z t.0 y (sym e ∙ sym k)))
+        (λ (e : word ≡ second_word z t.0).
+        tuples_kept l s id v t.0 word to h at has_some t.1 (subst (λ (k : ℕ). IsOf z k t.0) (sym e) (of_second z t.0 own.0))
+        (omega (arith, e, h.count, own.0, own.1)) (λ y k. second_next z t.0 y (sym e ∙ sym k)))
+        t.2

@@ -1,0 +1,349 @@
+-- The phase of a place: it is loaded, and FREE and OWNED are stored.
+use Rattle.std.proofs.Common.{◌⊎◌, ◌≡◌, ◌≢◌, ℕ, zero, suc, ◌+◌, ◌-◌, ◌*◌, ◌<◌, ◌≤◌, Bool, true, false, cond, min, Option, Some, None, List, [], ◌∷◌, length, refl, sym, ap, subst, ◌∙◌, ⊎_elim, inl, inr, arith, set}
+use Rattle.std.specs.Prelude.{slice_index, slice_set, ◌==◌, ◌&&◌, ◌||◌, if◌then◌else◌, nat_lt}
+use Rattle.std.specs.List.{list_any}
+use Rattle.std.proofs.lemmas.Bool.{and_parts, cases_Bool, cases_eq, cases_lt, eq-eqb, eqb-true, ne_eqb}
+use Rattle.std.proofs.lemmas.Bool.Decides.{nat_tests}
+use Rattle.std.proofs.lemmas.List.{get_or-set_other, get_or-set_same, length-set}
+use mathlib.Core.Option.{Option as Slotted, none, some}
+use lib.ListN.{get_elem?}
+use Rattle.atomic_table.specs.Table.{Allows, State, keeps as unchanged, step}
+use Rattle.history_book.specs.State.{record_of}
+use Rattle.history_book.specs.declared.event.Event.{Event}
+use Rattle.history_book.specs.declared.sizes.Sizes.{Sizes}
+use Rattle.track_rule.specs.declared.slot.Slot.{Slot}
+use Rattle.track_rule.specs.declared.view.Commit.{Commit}
+use Rattle.track_rule.specs.declared.view.Keep.{Keep}
+use Rattle.track_rule.specs.declared.view.Middle.TheVariants.{Calm}
+use Rattle.track_rule.specs.declared.view.View.{View}
+use Rattle.track_rule.specs.declared.view.Walk.{Walk}
+use Rattle.track_rule.specs.Chains.{hooks_at, loose_of}
+use Rattle.expect_table.specs.declared.expectation.Expectation.{Expectation}
+use Rattle.track_rule.specs.Expected.{has_expected}
+use Rattle.track_rule.specs.Free.{IsFreeList, has_turn, is_among, known_free, owes}
+use Rattle.track_rule.specs.History.{IsHistory, state_after}
+use Rattle.track_rule.specs.Layout.{first_word, gen_at, gen_word, head_word, next_word, phase_at, phase_word, refs_at, refs_word, second_word, turn_at, turn_word}
+use Rattle.track_rule.specs.Links.{HasHooks}
+use Rattle.track_rule.specs.Passes.{IsPass}
+use Rattle.track_rule.specs.PhaseSteps.{LoadPhaseStep, LoadsPhase, StorePhaseStep, may_store, phase_stored}
+use Rattle.track_rule.specs.Phases.{ArePhases, middle_of, of_both, of_place, shows, table_keeps}
+use Rattle.track_rule.specs.Readings.{found, noted}
+use Rattle.track_rule.specs.Records.{AreRecords, has_hand, record_in}
+use Rattle.track_rule.specs.References.{AreKept, AreReferences, held_times, is_at, is_for_new, is_taken, keeps, takes}
+use Rattle.track_rule.specs.Rule.{Holds, IsKept, Ledger}
+use Rattle.track_rule.specs.Sights.{AreOfPool}
+use Rattle.track_rule.specs.Sums.{Each, bit, times, total}
+use Rattle.track_rule.specs.Walks.{IsWalk}
+use Rattle.track_rule.proofs.Balance.{Lines, Moves, free_moved, pass_moved, passes_moved, references_moved, same_lines}
+use Rattle.track_rule.proofs.Carried.{carries_set}
+use Rattle.track_rule.proofs.Frames.{SameChains, Stays, chains_stay, hooks_stay, links_stay, no_commit, walk_stays}
+use Rattle.track_rule.proofs.Lists.{other_bit, same_bit, total_some, some_of}
+use Rattle.track_rule.proofs.Seats.{held_below, owed_below}
+use Rattle.track_rule.proofs.Loads.{reads}
+use Rattle.track_rule.proofs.Sums.{each_put, total_same, total_term}
+
+-- two places have two phases
+pub one_phase : (z : Sizes) (p q : ℕ) → phase_word z p ≡ phase_word z q → p ≡ q
+one_phase z p q e = omega (arith, e)
+
+-- a load of a phase
+pub loads_phase : (slots id p : ℕ) (v : View) (c : List (ℕ × Slot)) → p < v.passes.sizes.entries → 0 < v.passes.shares
+    → Allows (Holds v.passes.sizes) slots id (v, c) (phase_word v.passes.sizes p) (λ n. n)
+    (LoadPhaseStep (step slots (phase_word v.passes.sizes p) 0 0 none) (v, c))
+loads_phase slots id p v c below has_some s (l, h) long at range =
+    let z : Sizes = v.passes.sizes in
+    let n : ℕ = slice_index s.words (phase_word z p) in
+    let w : View = noted (found (phase_word z p) n) v in
+    let one : IsPass z l.log v = h.passes.each id v at in
+    let m : Moves v w = record { passes = refl; own = refl; gathered = refl; commit = refl; expected = refl } in
+    let told : LoadsPhase p v n w = record { view = refl; idle = idle z l s id v h at } in (
+      w,
+      unchanged,
+      tt,
+      (
+        l,
+        reads z l s id (phase_word z p) v w h at m (pass_moved z l.log v w one m has_some one.front one.told) refl refl
+            (same_lines z l s id v w h at refl (λ q. omega arith) refl refl),
+      ),
+      λ q same. subst (λ (k : ℕ). LoadsPhase k v n w × (c ≡ c)) (one_phase z p q same) (told, refl),
+    )
+  where
+    idle : (z : Sizes) (l : Ledger) (s : State Slot View) (id : ℕ) (v : View) → IsKept z l s → get_elem? s.views id ≡ some v
+        → 0 < times p (known_free v) + times p v.places.clear → slice_index s.words (phase_word z p) ≡ 0
+    idle z l s id v h at any =
+        ⊎_elim
+        (λ (e : 0 < times p v.places.clear). (h.free_list.clear id v at p e).1)
+        (λ (e : times p v.places.clear ≤ 0). h.free_list.idle p (on_list v.free l.free (h.free_list.away id v at) (omega (arith, any, e))))
+        (cases_lt 0 (times p v.places.clear))
+      where
+        on_list : (o : Option (List ℕ)) (free : List ℕ) → ((list : List ℕ) → o ≡ Some list → list ≡ free) → 0 < times p (known_free (record v { free = o }))
+            → 0 < times p free
+        on_list None free away any = absurd (omega (arith, any))
+        on_list (Some list) free away any = omega (arith, any, ap (times p) (away list refl))
+
+-- the phase of one place
+module _ (z : Sizes) (ws : List ℕ) (p n : ℕ) where
+  phase_else : (q : ℕ) → q ≢ p → phase_at z (slice_set ws (phase_word z p) n) q ≡ phase_at z ws q
+  phase_else q other = get_or-set_other ws (phase_word z p) (phase_word z q) n 0 (λ e. other (one_phase z q p e))
+
+  phase_same : SameChains z ws (slice_set ws (phase_word z p) n)
+  phase_same = record {
+    gens = λ b below. get_or-set_other ws (phase_word z p) (gen_word z b) n 0 (λ e. omega (arith, e, below));
+    links = record {
+      heads = λ b below. get_or-set_other ws (phase_word z p) (head_word z b) n 0 (λ e. omega (arith, e, below));
+      firsts = λ x. get_or-set_other ws (phase_word z p) (first_word z x) n 0 (λ e. omega (arith, e));
+      seconds = λ x. get_or-set_other ws (phase_word z p) (second_word z x) n 0 (λ e. omega (arith, e));
+      nexts = λ x. get_or-set_other ws (phase_word z p) (next_word z x) n 0 (λ e. omega (arith, e));
+    };
+  }
+
+  phase_refs : (q : ℕ) → refs_at z (slice_set ws (phase_word z p) n) q ≡ refs_at z ws q
+  phase_refs q = get_or-set_other ws (phase_word z p) (refs_word z q) n 0 (λ e. omega (arith, e))
+
+  phase_turn : (q : ℕ) → turn_at z (slice_set ws (phase_word z p) n) q ≡ turn_at z ws q
+  phase_turn q = get_or-set_other ws (phase_word z p) (turn_word z q) n 0 (λ e. omega (arith, e))
+
+  phase_first : (k : ℕ) → k < 3 → slice_index (slice_set ws (phase_word z p) n) k ≡ slice_index ws k
+  phase_first k low = get_or-set_other ws (phase_word z p) k n 0 (λ e. omega (arith, e, low))
+
+-- a low phase is of no live entry
+low_keeps : (n : ℕ) → n < 2 → table_keeps n ≡ 0
+low_keeps n low = grind (arith, nat_tests)
+
+low_shows : (n id : ℕ) → n < 2 → shows n id ≡ 0
+low_shows n id low = other_bit n (3 + id) (λ e. omega (arith, e, low))
+
+-- what a pass may store: of a place that it owes, or holds
+MayStore : ℕ → ℕ → View → Type 0
+MayStore p to v = ((to ≡ 0) × (0 < owes p v)) ⊎ ((to ≡ 1) × (0 < held_times p v.places.held))
+
+taken_held : (p : ℕ) (held : List Keep) → is_taken p held ≡ true → 1 ≤ held_times p held
+taken_held p [] e = cc
+taken_held p (k ∷ ks) e =
+    ⊎_elim
+    (λ (here : is_at p k ≡ true). omega (arith, ap bit here))
+    (λ (other : is_at p k ≡ false). omega (arith, taken_held p ks (sym (ap (λ (b : Bool). (b && is_for_new k.purpose) || is_taken p ks) other) ∙ e)))
+    (cases_Bool (is_at p k))
+
+storing : (p to : ℕ) (v : View) → may_store p to v ≡ true → MayStore p to v
+unfolding MayStore
+storing p to v e =
+    ⊎_elim
+    (λ (t : (to == 0 && is_among p v.places.owed) ≡ true).
+    let parts = and_parts (to == 0) (is_among p v.places.owed) t in
+    inl (eqb-true to 0 parts.0, total_some (λ q. q == p) v.places.owed parts.1))
+    (λ (t : (to == 0 && is_among p v.places.owed) ≡ false).
+    let rest : (to == 1 && is_taken p v.places.held) ≡ true = sym (ap (λ (b : Bool). b || (to == 1 && is_taken p v.places.held)) t) ∙ e in
+    let parts = and_parts (to == 1) (is_taken p v.places.held) rest in
+    inr (eqb-true to 1 parts.0, taken_held p v.places.held parts.1))
+    (cases_Bool (to == 0 && is_among p v.places.owed))
+
+-- that place is one of the pool
+pub may_below : (n p to : ℕ) (v : View) → AreOfPool n v.places → may_store p to v ≡ true → p < n
+may_below n p to v pool e =
+    ⊎_elim
+    (λ (t : (to == 0 && is_among p v.places.owed) ≡ true). owed_below n p v.places.owed pool.owed (and_parts (to == 0) (is_among p v.places.owed) t).1)
+    (λ (t : (to == 0 && is_among p v.places.owed) ≡ false).
+    let rest : (to == 1 && is_taken p v.places.held) ≡ true = sym (ap (λ (b : Bool). b || (to == 1 && is_taken p v.places.held)) t) ∙ e in
+    held_below n p v.places.held pool.held
+    (some_of (is_at p) v.places.held (taken_held p v.places.held (and_parts (to == 1) (is_taken p v.places.held) rest).1)))
+    (cases_Bool (to == 0 && is_among p v.places.owed))
+
+module _ (l : Ledger) (s : State Slot View) (id p to : ℕ) (v : View) (h : IsKept v.passes.sizes l s) (at : get_elem? s.views id ≡ some v)
+    (has_some : 0 < v.passes.shares) (below : p < v.passes.sizes.entries) (may : MayStore p to v) where
+  -- one of three that add up to one
+  none_listed : (f o d n k : ℕ) → f + o + min n 1 ≡ 1 → d ≤ o → k ≤ n → (0 < d) ⊎ (0 < k) → f ≡ 0
+  none_listed f o d zero k all low small any = ⊎_elim (λ (e : 0 < d). omega (arith, all, low, e)) (λ (e : 0 < k). absurd (omega (arith, e, small))) any
+  none_listed f o d (suc n) k all low small any = omega (arith, all)
+
+  none_owed : (f o d n k : ℕ) → f + o + min n 1 ≡ 1 → d ≤ o → k ≤ n → 0 < k → d ≡ 0
+  none_owed f o d zero k all low small any = absurd (omega (arith, small, any))
+  none_owed f o d (suc n) k all low small any = omega (arith, all, low)
+
+  mine : keeps p v ≤ refs_at v.passes.sizes s.words p
+  mine = omega (arith, h.references.counted p below, total_term (keeps p) s.views id v at)
+
+  unlisted : times p l.free ≡ 0
+  unfolding MayStore
+  unlisted =
+      let any : (0 < owes p v) ⊎ (0 < keeps p v) =
+      ⊎_elim (λ (t : (to ≡ 0) × (0 < owes p v)). inl t.1) (λ (t : (to ≡ 1) × (0 < held_times p v.places.held)). inr (omega (arith, t.1))) may in
+      none_listed (times p l.free) (total (owes p) s.views) (owes p v) (refs_at v.passes.sizes s.words p) (keeps p v) (h.free_list.once p below)
+      (total_term (owes p) s.views id v at) mine any
+
+  -- a pass that has set the phase of the place to FREE owes it, so FREE is stored
+  cleared : (i : ℕ) (u : View) → get_elem? s.views i ≡ some u → 0 < owes p u → to ≡ 0
+  unfolding MayStore
+  cleared i u at' owed =
+      ⊎_elim (λ (t : (to ≡ 0) × (0 < owes p v)). t.0)
+      (λ (t : (to ≡ 1) × (0 < held_times p v.places.held)).
+      absurd (omega (
+        arith,
+        owed,
+        none_owed (times p l.free) (total (owes p) s.views) (owes p u) (refs_at v.passes.sizes s.words p) (keeps p v) (h.free_list.once p below)
+            (total_term (owes p) s.views i u at') mine (omega (arith, t.1)),
+      )))
+      may
+
+  low : to < 2
+  unfolding MayStore
+  low = ⊎_elim (λ (t : (to ≡ 0) × (0 < owes p v)). omega (arith, t.0)) (λ (t : (to ≡ 1) × (0 < held_times p v.places.held)). omega (arith, t.0)) may
+
+  here : phase_at v.passes.sizes (slice_set s.words (phase_word v.passes.sizes p) to) p ≡ to
+  here = get_or-set_same s.words (phase_word v.passes.sizes p) to 0 (omega (arith, h.count, below))
+
+  low_phase : (q : ℕ) → q < v.passes.sizes.entries → phase_at v.passes.sizes (slice_set s.words (phase_word v.passes.sizes p) to) q < 2
+  low_phase q under =
+      ⊎_elim (λ (e : q ≡ p). omega (arith, low, here, ap (phase_at v.passes.sizes (slice_set s.words (phase_word v.passes.sizes p) to)) e))
+      (λ (e : q ≢ p). omega (arith, phase_else v.passes.sizes s.words p to q e, h.phases.low q under)) (cases_eq q p)
+
+  stored_references : AreReferences v.passes.sizes l.log (slice_set s.words (phase_word v.passes.sizes p) to) (set s.views id (phase_stored p to v))
+  stored_references = record {
+    counted = λ q under. omega (
+      arith,
+      h.references.counted q under,
+      phase_refs v.passes.sizes s.words p to q,
+      total_same (keeps q) s.views id v (phase_stored p to v) at refl,
+      low_keeps (phase_at v.passes.sizes s.words q) (h.phases.low q under),
+      low_keeps (phase_at v.passes.sizes (slice_set s.words (phase_word v.passes.sizes p) to) q) (low_phase q under),
+    );
+    beyond = λ q above. omega (arith, h.references.beyond q above, total_same (keeps q) s.views id v (phase_stored p to v) at refl);
+    carried = each_put (λ u. (q : ℕ) → times q u.places.carried ≤ held_times q u.places.held) s.views id (phase_stored p to v) h.references.carried
+        (h.references.carried id v at);
+    taken = λ q. omega (arith, h.references.taken q, total_same (takes q) s.views id v (phase_stored p to v) at refl);
+    purposes = each_put (λ u. AreKept l.log u.places.held) s.views id (phase_stored p to v) h.references.purposes (h.references.purposes id v at);
+  }
+
+  -- FREE where the pass has cleared it
+  clear_then : (b : Bool) → (q : ℕ) → 0 < times q (if b then p ∷ v.places.clear else v.places.clear) → (b ≡ true → 0 < owes p v)
+      → (0 < times q v.places.clear) ⊎ ((q ≡ p) × (0 < owes p v))
+  clear_then false q any owed = inl any
+  clear_then true q any owed =
+      ⊎_elim (λ (e : p ≡ q). inr (sym e, owed refl)) (λ (e : p ≢ q). inl (omega (arith, any, other_bit p q e))) (cases_eq p q)
+
+  is_owed : (to == 0) ≡ true → 0 < owes p v
+  unfolding MayStore
+  is_owed e = ⊎_elim (λ (t : (to ≡ 0) × (0 < owes p v)). t.1) (λ (t : (to ≡ 1) × (0 < held_times p v.places.held)). absurd (omega (arith, t.0, eqb-true to 0 e))) may
+
+  still_clear : (i : ℕ) (u : View) → get_elem? s.views i ≡ some u → (q : ℕ) → 0 < times q u.places.clear
+      → (0 < times q u.places.owed) × (phase_at v.passes.sizes (slice_set s.words (phase_word v.passes.sizes p) to) q ≡ 0)
+  still_clear i u at' q on =
+      let c = h.free_list.clear i u at' q on in (
+        c.0,
+        ⊎_elim
+            (λ (e : q ≡ p).
+            ap (phase_at v.passes.sizes (slice_set s.words (phase_word v.passes.sizes p) to)) e ∙ here
+            ∙ cleared i u at' (subst (λ (x : ℕ). 0 < times x u.places.owed) e c.0))
+            (λ (e : q ≢ p). phase_else v.passes.sizes s.words p to q e ∙ c.1) (cases_eq q p),
+      )
+
+  stored_free : IsFreeList v.passes.sizes (slice_set s.words (phase_word v.passes.sizes p) to) s.homes (set s.views id (phase_stored p to v)) l.free
+  stored_free =
+      let z : Sizes = v.passes.sizes in
+      let w : View = phase_stored p to v in
+      let new : List ℕ = slice_set s.words (phase_word v.passes.sizes p) to in
+      let turn : slice_index new 1 ≡ slice_index s.words 1 = phase_first z s.words p to 1 (omega arith) in
+      record {
+        once = λ q under. omega (arith, h.free_list.once q under, ap (λ (k : ℕ). min k 1) (phase_refs z s.words p to q), total_same (owes q) s.views id v w at refl);
+        beyond = λ q above. omega (arith, h.free_list.beyond q above, total_same (owes q) s.views id v w at refl);
+        idle = λ q on. phase_else z s.words p to q (λ e. omega (arith, on, ap (λ (x : ℕ). times x l.free) e, unlisted)) ∙ h.free_list.idle q on;
+        turn = turn ∙ h.free_list.turn ∙ sym (total_same has_turn s.views id v w at refl);
+        single = omega (arith, turn, h.free_list.single);
+        home = λ calm. h.free_list.home (sym turn ∙ calm);
+        away = each_put (λ u. (list : List ℕ) → u.free ≡ Some list → list ≡ l.free) s.views id w h.free_list.away (h.free_list.away id v at);
+        few = each_put (λ u. length u.places.held + length u.places.owed ≤ 4) s.views id w h.free_list.few (h.free_list.few id v at);
+        clear = each_put (λ u. (q : ℕ) → 0 < times q u.places.clear → (0 < times q u.places.owed) × (phase_at z new q ≡ 0)) s.views id w still_clear
+            (λ q on.
+            ⊎_elim (λ (t : 0 < times q v.places.clear). still_clear id v at q t)
+            (λ (t : (q ≡ p) × (0 < owes p v)). (
+              subst (λ (x : ℕ). 0 < times x v.places.owed) (sym t.0) t.1,
+              ap (phase_at z new) t.0 ∙ here ∙ cleared id v at t.1,
+            ))
+            (clear_then (to == 0) q on is_owed));
+      }
+
+  stored_records : AreRecords v.passes.sizes l.log (slice_set s.words (phase_word v.passes.sizes p) to) s.homes (set s.views id (phase_stored p to v))
+  stored_records =
+      let z : Sizes = v.passes.sizes in
+      let w : View = phase_stored p to v in
+      record {
+        turn = λ q under. phase_turn z s.words p to q ∙ h.records.turn q under ∙ sym (total_same (has_hand q) s.views id v w at refl);
+        single = λ q. omega (arith, h.records.single q, total_same (has_hand q) s.views id v w at refl);
+        home = λ q under calm.
+            let r = h.records.home q under (sym (phase_turn z s.words p to q) ∙ calm) in
+            record { slot = r.slot; there = r.there; live = λ live. absurd (omega (arith, live, low_phase q under)) };
+      }
+
+  stored_phases : ArePhases v.passes.sizes l.log (slice_set s.words (phase_word v.passes.sizes p) to) (set s.views id (phase_stored p to v))
+  stored_phases =
+      let z : Sizes = v.passes.sizes in
+      let w : View = phase_stored p to v in
+      record {
+        shown = λ q i under. omega (
+          arith,
+          h.phases.shown q i under,
+          total_same (middle_of (of_both q i)) s.views id v w at refl,
+          low_shows (phase_at z s.words q) i (h.phases.low q under),
+          low_shows (phase_at z (slice_set s.words (phase_word v.passes.sizes p) to) q) i (low_phase q under),
+        );
+        used = λ q under. omega (
+          arith,
+          h.phases.used q under,
+          total_same (middle_of (of_place q)) s.views id v w at refl,
+          low_keeps (phase_at z s.words q) (h.phases.low q under),
+          low_keeps (phase_at z (slice_set s.words (phase_word v.passes.sizes p) to) q) (low_phase q under),
+        );
+        low = low_phase;
+        calm = each_put (λ u. u.commit.middle ≡ Calm) s.views id w h.phases.calm (h.phases.calm id v at);
+      }
+
+  phase_kept : IsKept v.passes.sizes l (record { words = slice_set s.words (phase_word v.passes.sizes p) to; homes = s.homes; views = set s.views id (phase_stored p to v) })
+  phase_kept =
+      let z : Sizes = v.passes.sizes in
+      let w : View = phase_stored p to v in
+      let new : List ℕ = slice_set s.words (phase_word v.passes.sizes p) to in
+      let one : IsPass z l.log v = h.passes.each id v at in
+      let m : Moves v w = record { passes = refl; own = refl; gathered = refl; commit = refl; expected = refl } in
+      let same : SameChains z s.words new = phase_same z s.words p to in
+      let expected : slice_index new 2 ≡ slice_index s.words 2 = phase_first z s.words p to 2 (omega arith) in
+      record {
+        limits = h.limits;
+        count = length-set s.words (phase_word v.passes.sizes p) to ∙ h.count;
+        passes = passes_moved z l.log s.views id v w at m (pass_moved z l.log v w one m has_some one.front one.told) h.passes;
+        history = record { legal = h.history.legal; word = phase_first z s.words p to 0 (omega arith) ∙ h.history.word };
+        references = stored_references;
+        free_list = stored_free;
+        records = stored_records;
+        phases = stored_phases;
+        chains = chains_stay z s.words new same l.log s.views (set s.views id w) l.chains (carries_set (λ (u : View). u.buckets.shut) [] s.views id v w at refl)
+            (λ b weight. total_same (loose_of z b weight) s.views id v w at refl)
+            (λ link any. omega (arith, h.chains.lone link any, total_same (hooks_at link) s.views id v w at refl)) h.chains;
+        links = links_stay z s.words new same s.views (set s.views id w)
+            (each_put (λ u. HasHooks z new u.places.held u.buckets.hooks) s.views id w
+            (λ i u at'. hooks_stay z s.words new same.links u.places.held u.buckets.hooks (h.links.hooks i u at'))
+            (hooks_stay z s.words new same.links v.places.held v.buckets.hooks (h.links.hooks id v at))) h.links;
+        walks = record {
+          each = each_put (λ (u : View). (n : Walk) → u.walk ≡ Some n → IsWalk z new l.chains u.seen.front n) s.views id w
+              (λ i u at' n e. walk_stays z s.words new same l.chains u.seen.front n (h.walks.each i u at' n e))
+              (λ n e. walk_stays z s.words new same l.chains v.seen.front n (h.walks.each id v at n e));
+        };
+        expected = record {
+          turn = expected ∙ h.expected.turn ∙ sym (total_same has_expected s.views id v w at refl);
+          single = omega (arith, expected, h.expected.single);
+          home = λ calm. h.expected.home (sym expected ∙ calm);
+          away = each_put (λ (u : View). (list : List Expectation) → u.expected ≡ Some list → list ≡ (state_after l.log).expects) s.views id w h.expected.away
+              (h.expected.away id v at);
+        };
+      }
+
+-- FREE, or OWNED, is stored
+pub stores_phase : (slots id p to : ℕ) (v : View) (c : List (ℕ × Slot)) → p < v.passes.sizes.entries → 0 < v.passes.shares → may_store p to v ≡ true
+    → Allows (Holds v.passes.sizes) slots id (v, c) (phase_word v.passes.sizes p) (λ _. to)
+    (λ _. StorePhaseStep (step slots (phase_word v.passes.sizes p) to 0 none) (v, c) to)
+stores_phase slots id p to v c below has_some may s (l, h) long at range = (
+  phase_stored p to v,
+  unchanged,
+  tt,
+  (l, phase_kept l s id p to v h at has_some below (storing p to v may)),
+  λ q same. subst (λ (k : ℕ). (phase_stored p to v ≡ phase_stored k to v) × (c ≡ c)) (one_phase v.passes.sizes p q same) (refl, refl),
+)

@@ -1,0 +1,42 @@
+-- What the steps on a phase tell a pass: v is what it knew before, w what it knows after.
+use Rattle.std.specs.Prelude.{◌≡◌, ℕ, ◌+◌, ◌<◌, ◌==◌, ◌&&◌, ◌||◌, Bool, if◌then◌else◌, ◌∷◌}
+use Rattle.atomic_table.specs.Table.{Me, Step}
+use Rattle.track_rule.specs.declared.slot.Slot.{Slot}
+use Rattle.track_rule.specs.declared.view.View.{View}
+use Rattle.track_rule.specs.Free.{is_among, known_free}
+use Rattle.track_rule.specs.Layout.{phase_word}
+use Rattle.track_rule.specs.Readings.{found, noted, stored}
+use Rattle.track_rule.specs.References.{is_taken}
+use Rattle.track_rule.specs.Sums.{times}
+
+-- the numbers of the phases that a place has while no entry is live there
+abbrev pub phase_free : ℕ
+phase_free = 0
+
+abbrev pub phase_owned : ℕ
+phase_owned = 1
+
+-- A pass stores FREE of a place that it owes, and OWNED of one that it has taken.
+abbrev pub may_store : ℕ → ℕ → View → Bool
+may_store place to v = (to == phase_free && is_among place v.places.owed) || (to == phase_owned && is_taken place v.places.held)
+
+-- A load: a place of the free list under the pass's own turn is FREE, and so is one whose phase the pass has set to that.
+pub record LoadsPhase (place : ℕ) (v : View) (n : ℕ) (w : View) : Type 0 where
+  pub view : w ≡ noted (found (phase_word v.passes.sizes place) n) v
+  pub idle : 0 < times place (known_free v) + times place v.places.clear → n ≡ phase_free
+
+-- the pass has stored it, and where it is FREE the place may be given to the free list
+abbrev pub phase_stored : ℕ → ℕ → View → View
+phase_stored place to v = noted (stored (phase_word v.passes.sizes place) to) (record v {
+  places = record v.places { clear = (if to == phase_free then place ∷ v.places.clear else v.places.clear) };
+})
+
+-- the word of the step is the phase of this place
+abbrev pub IsPhaseWord : Step Slot → View → ℕ → Type 0
+IsPhaseWord step v place = step.word ≡ phase_word v.passes.sizes place
+
+abbrev pub LoadPhaseStep : Step Slot → Me Slot View → ℕ → Me Slot View → Type 0
+LoadPhaseStep step me n me' = (p : ℕ) → IsPhaseWord step me.0 p → LoadsPhase p me.0 n me'.0 × (me'.1 ≡ me.1)
+
+abbrev pub StorePhaseStep : Step Slot → Me Slot View → ℕ → Me Slot View → Type 0
+StorePhaseStep step me n me' = (p : ℕ) → IsPhaseWord step me.0 p → (me'.0 ≡ phase_stored p n me.0) × (me'.1 ≡ me.1)
