@@ -1,0 +1,6 @@
+pub mod Looking
+pub mod Searching
+pub mod Following
+pub mod Stringing
+pub mod Passing
+pub mod Pairs

@@ -1,0 +1,136 @@
+-- What the loads of a walk leave in its note.
+use Rattle.std.proofs.Common.{◌≡◌, ◌≢◌, ℕ, ◌+◌, ◌*◌, ◌/◌, ◌%◌, ◌-◌, ◌<◌, ◌≤◌, Bool, true, false, cond, Option, Some, None, List, [], ◌∷◌, ◌++◌, length, refl, sym, ap, subst, ◌∙◌, ⊎_elim, arith, append_assoc}
+use Rattle.std.specs.Prelude.{◌==◌, ◌&&◌, ◌||◌, not, if◌then◌else◌, nat_le}
+use Rattle.std.specs.List.{list_all}
+use Rattle.std.proofs.lemmas.Bool.{and_from, and_parts, cases_Bool, eq-eqb, eqb-true, false≢true, ne_eqb, le-leb}
+use Rattle.history_book.specs.declared.sizes.Sizes.{Sizes}
+use Rattle.track_rule.specs.BucketSteps.{LoadsTuple}
+use Rattle.track_rule.specs.Layout.{first_word, place_of, second_word}
+use Rattle.track_rule.specs.Links.{last_link}
+use Rattle.track_rule.specs.Notes.{just_met, tuple_note, tuple_noted}
+use Rattle.track_rule.specs.Readings.{found, noted}
+use Rattle.track_rule.specs.Sights.{PassSight, sizes_of}
+use Rattle.track_rule.specs.declared.view.Met.{Met}
+use Rattle.track_rule.specs.declared.view.Reading.{Reading}
+use Rattle.track_rule.specs.declared.view.View.{View}
+use Rattle.track_rule.specs.declared.view.Walk.{Walk}
+use Rattle.bucket_table.specs.Following.{Compares, Walks, is_another, is_of_walk, met_with, walk_on}
+use Rattle.bucket_table.specs.declared.lookup.Goal.{Goal}
+
+-- a link of which the first word was read
+abbrev half_met : ℕ → ℕ → Met
+half_met link n = record { link = link; first = Some n; second = None }
+
+abbrev whole_met : ℕ → ℕ → ℕ → Met
+whole_met link n m = record { link = link; first = Some n; second = Some m }
+
+module _ (z : Sizes) (g : Goal) (link : ℕ) (before : List Met) where
+  read_first : (n : ℕ) → tuple_noted z (first_word z link) n (walk_on g (just_met link ∷ before)) ≡ walk_on g (half_met link n ∷ before)
+  read_first n =
+      let here : (first_word z link == first_word z link) ≡ true = eq-eqb (first_word z link) (first_word z link) refl in
+      let other : (second_word z link == first_word z link) ≡ false = ne_eqb (second_word z link) (first_word z link) (λ e. omega (arith, e)) in
+      let after : Bool → Bool → Walk = λ a b. record {
+        bucket = g.bucket;
+        generation = g.generation;
+        met = (if a then half_met link n else (if b then record (just_met link) { second = Some n } else just_met link)) ∷ before;
+        ended = false;
+        at = None;
+        passed = (a && false) || (b && false);
+      } in
+      (λ i. after (here i) (other i))
+
+  read_second : (n m : ℕ) → tuple_noted z (second_word z link) m (walk_on g (half_met link n ∷ before)) ≡ walk_on g (whole_met link n m ∷ before)
+  read_second n m =
+      let other : (first_word z link == second_word z link) ≡ false = ne_eqb (first_word z link) (second_word z link) (λ e. omega (arith, e)) in
+      let here : (second_word z link == second_word z link) ≡ true = eq-eqb (second_word z link) (second_word z link) refl in
+      let after : Bool → Bool → Walk = λ a b. record {
+        bucket = g.bucket;
+        generation = g.generation;
+        met = (if a then half_met link n else (if b then whole_met link n m else half_met link n)) ∷ before;
+        ended = false;
+        at = None;
+        passed = (a && not (n == m)) || (b && false);
+      } in
+      (λ i. after (other i) (here i))
+
+-- one load of such a word
+pub one_walk : (v w : PassSight) (word n : ℕ) (walk : Option Walk) → w ≡ record v { view = w.view }
+    → w.view ≡ noted (found word n) (record v.view { walk = walk }) → 3 + (sizes_of v).buckets ≤ word → Walks v w
+one_walk v w word n noted_is kept view high = record {
+  more = found word n ∷ [];
+  same = kept ∙ ap (λ (x : View). record v { view = x }) (view_is v.view w.view word n noted_is view);
+  quiet = and_from (nat_le (3 + (sizes_of v).buckets) word && not false) true (and_from (nat_le (3 + (sizes_of v).buckets) word) (not false) (le-leb (3 + (sizes_of v).buckets) word high) refl) refl;
+}
+  where
+    view_is : (v w : View) (word n : ℕ) (walk : Option Walk) → w ≡ noted (found word n) (record v { walk = walk })
+        → w ≡ record v { walk = w.walk; readings = v.readings ++ found word n ∷ [] }
+    view_is v w word n noted_is e = e ∙ ap (λ (o : Option Walk). record v { walk = o; readings = v.readings ++ found word n ∷ [] }) (sym (ap (λ (x : View). x.walk) e))
+
+-- two walks one after the other
+pub walks_on : (u v w : PassSight) → Walks u v → Walks v w → Walks u w
+walks_on u v w a b = record {
+  more = a.more ++ b.more;
+  same = b.same ∙ joined u v w a.more b.more a.same;
+  quiet = all_append (is_of_walk (sizes_of u)) a.more b.more a.quiet (subst (λ (z : Sizes). list_all (is_of_walk z) b.more ≡ true) (ap sizes_of a.same) b.quiet);
+}
+  where
+    joined : (u v w : PassSight) (xs ys : List Reading) → v ≡ record u { view = record u.view { walk = v.view.walk; readings = u.view.readings ++ xs } }
+        → record v { view = record v.view { walk = w.view.walk; readings = v.view.readings ++ ys } }
+        ≡ record u { view = record u.view { walk = w.view.walk; readings = u.view.readings ++ (xs ++ ys) } }
+    joined u v w xs ys e =
+        ap (λ (x : PassSight). record x { view = record x.view { walk = w.view.walk; readings = x.view.readings ++ ys } }) e
+        ∙ ap (λ (rs : List Reading). record u { view = record u.view { walk = w.view.walk; readings = rs } }) (append_assoc u.view.readings xs ys)
+
+    all_append : {X : Type 0} (p : X → Bool) (xs ys : List X) → list_all p xs ≡ true → list_all p ys ≡ true → list_all p (xs ++ ys) ≡ true
+    all_append p [] ys e f = f
+    all_append p (x ∷ xs) ys e f = let t = and_parts (p x) (list_all p xs) e in and_from (p x) (list_all p (xs ++ ys)) t.0 (all_append p xs ys t.1 f)
+
+-- the first word differs
+pub compares_first : (g : Goal) (link n : ℕ) (v w : PassSight) → 0 < link → LoadsTuple (first_word (sizes_of v) link) v.view n w.view
+    → w ≡ record v { view = w.view } → n ≢ g.first → Compares g link false v w
+compares_first g link n v w some loads kept other = record {
+  walks = one_walk v w (first_word (sizes_of v) link) n (tuple_note (sizes_of v) (first_word (sizes_of v) link) n v.view.walk) kept loads.view (omega arith);
+  has = λ e. absurd (false≢true e);
+  another = λ e before walk. (
+    half_met link n,
+    ap (λ (x : View). x.walk) loads.view ∙ ap (tuple_note (sizes_of v) (first_word (sizes_of v) link) n) walk
+        ∙ ap (λ (x : Walk). Some x) (read_first (sizes_of v) g link before n),
+    refl,
+    ap (λ (b : Bool). not b || false) (ne_eqb n g.first other),
+  );
+}
+
+-- the first is the same; then the second decides
+pub compares_second : (g : Goal) (link n m : ℕ) (same : Bool) (u v w : PassSight) → 0 < link → LoadsTuple (first_word (sizes_of u) link) u.view n v.view
+    → v ≡ record u { view = v.view } → n ≡ g.first → LoadsTuple (second_word (sizes_of u) link) v.view m w.view
+    → w ≡ record v { view = w.view } → same ≡ (m == g.second) → Compares g link same u w
+compares_second g link n m same u v w some loads kept here loads' kept' decides =
+    let sizes : sizes_of v ≡ sizes_of u = ap sizes_of kept ∙ ap (λ (x : View). x.passes.sizes) loads.view in
+    let second : w.view.walk ≡ tuple_note (sizes_of u) (second_word (sizes_of u) link) m v.view.walk =
+    ap (λ (x : View). x.walk) loads'.view ∙ ap (λ (z : Sizes). tuple_note z (second_word (sizes_of u) link) m v.view.walk) sizes in
+    let whole : (before : List Met) → u.view.walk ≡ Some (walk_on g (just_met link ∷ before)) → w.view.walk ≡ Some (walk_on g (whole_met link n m ∷ before)) =
+    λ before walk.
+    second
+    ∙ ap (tuple_note (sizes_of u) (second_word (sizes_of u) link) m)
+    (ap (λ (x : View). x.walk) loads.view ∙ ap (tuple_note (sizes_of u) (first_word (sizes_of u) link) n) walk
+    ∙ ap (λ (x : Walk). Some x) (read_first (sizes_of u) g link before n))
+    ∙ ap (λ (x : Walk). Some x) (read_second (sizes_of u) g link before n m) in
+    record {
+      walks = walks_on u v w
+          (one_walk u v (first_word (sizes_of u) link) n (tuple_note (sizes_of u) (first_word (sizes_of u) link) n u.view.walk) kept loads.view (omega arith))
+          (one_walk v w (second_word (sizes_of u) link) m (tuple_note (sizes_of v) (second_word (sizes_of u) link) m v.view.walk) kept' loads'.view
+          (subst (λ (z : Sizes). 3 + z.buckets ≤ second_word (sizes_of u) link) (sym sizes) (omega arith)));
+      has = λ e before walk.
+          whole before walk
+          ∙ (λ i. Some (walk_on g (whole_met link (here i) (eqb-true m g.second (sym decides ∙ e) i) ∷ before)));
+      another = λ e before walk. (
+        whole_met link n m,
+        whole before walk,
+        refl,
+        ap (λ (b : Bool). not (n == g.first) || not b) (sym decides ∙ e) ∙ or_true (not (n == g.first)),
+      );
+    }
+  where
+    or_true : (a : Bool) → (a || true) ≡ true
+    or_true true = refl
+    or_true false = refl

@@ -1,0 +1,168 @@
+-- A locked chain is walked, link after link.
+use Rattle.std.proofs.Common.{◌≡◌, ◌≢◌, ℕ, zero, suc, ◌+◌, ◌*◌, ◌-◌, ◌<◌, ◌≤◌, Bool, true, false, cond, Option, Some, None, List, [], ◌∷◌, length, refl, sym, ap, subst, ◌∙◌, ⊎_elim, inl, inr, arith}
+use Rattle.std.specs.Prelude.{◌==◌, ◌&&◌, ◌||◌, not, if◌then◌else◌}
+use Rattle.std.specs.List.{list_any}
+use Rattle.std.proofs.lemmas.Bool.{eq-eqb, false≢true, ne_eqb}
+use mathlib.Core.Option.{some}
+use lib.ListN.{get_elem?}
+use Rattle.history_book.specs.declared.sizes.Sizes.{Sizes}
+use Rattle.track_rule.specs.BucketSteps.{Cuts, IsChainOf, IsEntryOf, IsShutAt, LoadsLink, MayString, Strings, end_word, first_of, has_link, strung, taken_from}
+use Rattle.track_rule.specs.Chains.{bucket_of, chain_in, shuts_of}
+use Rattle.track_rule.specs.Layout.{head_word, next_word}
+use Rattle.track_rule.specs.Links.{hook_of, is_raised, last_link}
+use Rattle.track_rule.specs.Notes.{link_note}
+use Rattle.track_rule.specs.Readings.{found, noted}
+use Rattle.track_rule.specs.Sights.{PassSight, sizes_of}
+use Rattle.track_rule.specs.Sums.{Each}
+use Rattle.track_rule.specs.Walks.{rev_onto}
+use Rattle.track_rule.specs.declared.view.Entry.{Entry}
+use Rattle.track_rule.specs.declared.view.Reading.{Reading}
+use Rattle.track_rule.specs.declared.view.HeldBuckets.{HeldBuckets}
+use Rattle.track_rule.specs.declared.view.View.{View}
+use Rattle.track_rule.specs.declared.view.Walk.{Walk}
+use Rattle.bucket_table.specs.LockedChain.{ChangesBuckets, IsPassing, IsSeeking, OnlyLoads, hook_bucket}
+use Rattle.bucket_table.proofs.Stringing.{stand_frame}
+
+pub length_rev : (passed rest : List Entry) → length (rev_onto passed rest) ≡ length passed + length rest
+length_rev [] rest = omega arith
+length_rev (p ∷ ps) rest = omega (arith, length_rev ps (p ∷ rest))
+
+each_behind : (F : Entry → Type 0) (passed rest : List Entry) → Each F (rev_onto passed rest) → Each F rest
+each_behind F [] rest e = e
+each_behind F (p ∷ ps) rest e = λ i x at. each_behind F ps (p ∷ rest) e (suc i) x at
+
+-- a pass that only loads stays as it was
+pub loads_join : (u v w : PassSight) → OnlyLoads u v → OnlyLoads v w → OnlyLoads u w
+loads_join u v w a b = record {
+  same = b.same ∙ ap (λ (x : PassSight). record x { view = record x.view { walk = w.view.walk; readings = w.view.readings } }) a.same;
+}
+
+pub load_only : (v w : PassSight) (word n : ℕ) → w ≡ record v { view = w.view } → LoadsLink word v.view n w.view → OnlyLoads v w
+load_only v w word n kept loads = record {
+  same = kept ∙ ap (λ (x : View). record v { view = x }) (stand_frame v.view w.view v.view.buckets _ _ loads.view);
+}
+
+-- the load of the head
+pub passing_start : (b n : ℕ) (v w : PassSight) → b < (sizes_of v).buckets → 0 < shuts_of b v.view → LoadsLink (head_word (sizes_of v) b) v.view n w.view
+    → w ≡ record v { view = w.view } → IsPassing b w n (last_link (sizes_of v)) [] (chain_in b v.view.buckets.shut)
+passing_start b n v w below mine loads kept =
+    let buckets : w.view.buckets ≡ v.view.buckets = ap (λ (k : View). k.buckets) loads.view in
+    let sizes : sizes_of w ≡ sizes_of v = ap sizes_of kept ∙ ap (λ (k : View). k.passes.sizes) loads.view in
+    record {
+      at = record { mine = omega (arith, mine, ap (λ (s : HeldBuckets). shuts_of b (record v.view { buckets = s })) buckets); all = ap (λ (s : HeldBuckets). chain_in b s.shut) buckets };
+      link_is = loads.next b [] (chain_in b v.view.buckets.shut) below (record { mine = mine; all = refl }) refl;
+      count = omega (arith, ap last_link sizes);
+      low = omega (arith, loads.link, ap last_link sizes);
+      right = subst (λ (k : HeldBuckets). IsChainOf (sizes_of w) b (chain_in b k.shut)) (sym buckets) (subst (λ (y : Sizes). IsChainOf y b (chain_in b v.view.buckets.shut)) (sym sizes) (loads.whole b below mine));
+    }
+
+-- the load of the next link
+pub passing_on : (b link left n : ℕ) (e : Entry) (passed rest : List Entry) (v w : PassSight) → b < (sizes_of v).buckets → IsPassing b v link left passed (e ∷ rest)
+    → LoadsLink (next_word (sizes_of v) link) v.view n w.view → w ≡ record v { view = w.view } → IsPassing b w n (left - 1) (e ∷ passed) rest
+passing_on b link left n e passed rest v w below p loads kept =
+    let buckets : w.view.buckets ≡ v.view.buckets = ap (λ (k : View). k.buckets) loads.view in
+    let sizes : sizes_of w ≡ sizes_of v = ap sizes_of kept ∙ ap (λ (k : View). k.passes.sizes) loads.view in
+    record {
+      at = record { mine = omega (arith, p.at.mine, ap (λ (s : HeldBuckets). shuts_of b (record v.view { buckets = s })) buckets); all = ap (λ (s : HeldBuckets). chain_in b s.shut) buckets ∙ p.at.all };
+      link_is = loads.next b (e ∷ passed) rest below (record { mine = p.at.mine; all = p.at.all }) (ap (next_word (sizes_of v)) p.link_is);
+      count = omega (arith, p.count, some_left b link left e passed rest v p, ap last_link sizes);
+      low = omega (arith, loads.link, ap last_link sizes);
+      right = subst (λ (k : HeldBuckets). IsChainOf (sizes_of w) b (chain_in b k.shut)) (sym buckets) (subst (λ (y : Sizes). IsChainOf y b (chain_in b v.view.buckets.shut)) (sym sizes) p.right);
+    }
+  where
+    some_left : (b link left : ℕ) (e : Entry) (passed rest : List Entry) (v : PassSight) → IsPassing b v link left passed (e ∷ rest) → 0 < left
+    some_left b link left e passed rest v p = omega (arith, p.count, p.right.few, ap (λ (es : List Entry). length es) p.at.all, length_rev passed (e ∷ rest))
+
+-- what is there of the next link
+pub passing_some : (b link left : ℕ) (e : Entry) (passed rest : List Entry) (v : PassSight) → IsPassing b v link left passed (e ∷ rest) → (0 < link) × (0 < left)
+passing_some b link left e passed rest v p =
+    let each = each_behind (IsEntryOf (sizes_of v) b) passed (e ∷ rest) (subst (Each (IsEntryOf (sizes_of v) b)) p.at.all p.right.each) in (
+      omega (arith, p.link_is, (each 0 e refl).some),
+      omega (arith, p.count, p.right.few, ap (λ (es : List Entry). length es) p.at.all, length_rev passed (e ∷ rest)),
+    )
+
+-- SEEKING A LINK
+
+pub seek_start : (z : Sizes) (b x n word : ℕ) (v w : PassSight) → z ≡ sizes_of v → word ≡ head_word z b → b < (sizes_of v).buckets → 0 < shuts_of b v.view
+    → is_raised x v.view.buckets.hooks ≡ true → hook_bucket (sizes_of v) x v.view.buckets.hooks ≡ b
+    → LoadsLink word v.view n w.view → w ≡ record v { view = w.view } → IsSeeking b x w word n (last_link z)
+seek_start z b x n word v w same word_is below mine up placed loads kept =
+    let sizes : sizes_of w ≡ sizes_of v = ap sizes_of kept ∙ ap (λ (k : View). k.passes.sizes) loads.view in
+    let here : word ≡ head_word (sizes_of v) b = word_is ∙ ap (λ (y : Sizes). head_word y b) same in
+    let p = passing_start b n v w below mine (subst (λ (k : ℕ). LoadsLink k v.view n w.view) here loads) kept in
+    record {
+      passed = [];
+      rest = chain_in b v.view.buckets.shut;
+      passing = subst (λ (k : ℕ). IsPassing b w n k [] (chain_in b v.view.buckets.shut)) (ap last_link (sym same)) p;
+      word_is = here ∙ ap (λ (y : Sizes). head_word y b) (sym sizes);
+      there = loads.up b x below mine up placed;
+    }
+
+-- the link is not this one
+pub seek_on : (b x word link left n word' : ℕ) (v w : PassSight) → b < (sizes_of v).buckets → IsSeeking b x v word link left → link ≢ x
+    → word' ≡ next_word (sizes_of v) link → LoadsLink word' v.view n w.view → w ≡ record v { view = w.view } → IsSeeking b x w word' n (left - 1)
+seek_on b x word link left n word' v w below s other word_is loads kept = by_rest s.passed s.rest s.passing s.there
+  where
+    by_rest : (passed rest : List Entry) → IsPassing b v link left passed rest → has_link x rest ≡ true → IsSeeking b x w word' n (left - 1)
+    by_rest passed [] p there = absurd (false≢true there)
+    by_rest passed (e ∷ rest) p there =
+        let sizes : sizes_of w ≡ sizes_of v = ap sizes_of kept ∙ ap (λ (k : View). k.passes.sizes) loads.view in
+        record {
+          passed = e ∷ passed;
+          rest = rest;
+          passing = passing_on b link left n e passed rest v w below p (subst (λ (k : ℕ). LoadsLink k v.view n w.view) word_is loads) kept;
+          word_is = word_is ∙ (λ i. next_word (sym sizes i) (p.link_is i));
+          there = sym (ap (λ (k : Bool). k || has_link x rest) (ne_eqb e.link x (λ k. other (p.link_is ∙ k)))) ∙ there;
+        }
+
+pub seek_some : (b x word link left : ℕ) (v : PassSight) → IsSeeking b x v word link left → (0 < link) × (0 < left)
+seek_some b x word link left v s = by_rest s.passed s.rest s.passing s.there
+  where
+    by_rest : (passed rest : List Entry) → IsPassing b v link left passed rest → has_link x rest ≡ true → (0 < link) × (0 < left)
+    by_rest passed [] p there = absurd (false≢true there)
+    by_rest passed (e ∷ rest) p there = passing_some b link left e passed rest v p
+
+-- it is this one: it may be taken out
+pub take_may : (b x word left n word' : ℕ) (v w : PassSight) → b < (sizes_of v).buckets → IsSeeking b x v word x left → is_raised x v.view.buckets.hooks ≡ true
+    → word' ≡ next_word (sizes_of v) x → LoadsLink word' v.view n w.view → w ≡ record v { view = w.view }
+    → MayString word n w.view × ((y : View) → Strings word n w.view y → y ≡ strung word n (taken_from b x v.view.buckets) w.view)
+take_may b x word left n word' v w below s up word_is loads kept = by_rest s.passed s.rest s.passing s.there s.word_is
+  where
+    by_rest : (passed rest : List Entry) → IsPassing b v x left passed rest → has_link x rest ≡ true → word ≡ end_word (sizes_of v) b passed
+        → MayString word n w.view × ((y : View) → Strings word n w.view y → y ≡ strung word n (taken_from b x v.view.buckets) w.view)
+    by_rest passed [] p there end = absurd (false≢true there)
+    by_rest passed (e ∷ rest) p there end =
+        let buckets : w.view.buckets ≡ v.view.buckets = ap (λ (k : View). k.buckets) loads.view in
+        let sizes : w.view.passes.sizes ≡ sizes_of v = ap (λ (k : View). k.passes.sizes) loads.view in
+        let next : n ≡ first_of rest =
+        loads.next b (e ∷ passed) rest below (record { mine = p.at.mine; all = p.at.all }) (word_is ∙ ap (next_word (sizes_of v)) p.link_is) in
+        let here : IsShutAt b w.view passed (e ∷ rest) = record {
+          mine = omega (arith, p.at.mine, ap (λ (k : HeldBuckets). shuts_of b (record v.view { buckets = k })) buckets);
+          all = ap (λ (k : HeldBuckets). chain_in b k.shut) buckets ∙ p.at.all;
+        } in
+        let end' : word ≡ end_word w.view.passes.sizes b passed = end ∙ ap (λ (y : Sizes). end_word y b passed) (sym sizes) in
+        let below' : b < w.view.passes.sizes.buckets = subst (λ (y : Sizes). b < y.buckets) (sym sizes) below in (
+          inr (inr (record {
+            bucket = b;
+            below = below';
+            passed = passed;
+            entry = e;
+            rest = rest;
+            at = here;
+            word_is = end';
+            to_is = next;
+            up = (λ i. is_raised (sym p.link_is i) (buckets i).hooks) ∙ up;
+          })),
+          λ y strings. strings.cuts b passed e rest below' here end' next ∙ (λ i. strung word n (taken_from b (sym p.link_is i) (buckets i)) w.view),
+        )
+
+pub take_done : (b x word n word' : ℕ) (o v w y : PassSight) → OnlyLoads o v → LoadsLink word' v.view n w.view → w ≡ record v { view = w.view }
+    → y.view ≡ strung word n (taken_from b x v.view.buckets) w.view → y ≡ record w { view = y.view } → ChangesBuckets (taken_from b x o.view.buckets) o y
+take_done b x word n word' o v w y only loads kept cut kept' =
+    let whole : y.view ≡ strung word n (taken_from b x v.view.buckets) (noted (found word' n) (record v.view { walk = link_note (sizes_of v) word' n v.view.walk })) =
+    cut ∙ ap (strung word n (taken_from b x v.view.buckets)) loads.view in
+    record {
+      same = kept' ∙ ap (λ (k : PassSight). record k { view = y.view }) kept
+          ∙ ap (λ (k : View). record v { view = k }) (stand_frame v.view y.view (taken_from b x v.view.buckets) _ _ whole)
+          ∙ (λ i. record (only.same i) { view = record (only.same i).view { buckets = taken_from b x (ap (λ (k : PassSight). k.view.buckets) only.same i); walk = y.view.walk; readings = y.view.readings } });
+    }

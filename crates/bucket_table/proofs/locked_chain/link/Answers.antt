@@ -1,0 +1,49 @@
+use Rattle.std.proofs.Common.{◌≡◌, ℕ, ◌<◌, ap, arith, subst, sym, ◌∙◌}
+use Rattle.std.specs.Prelude.{not}
+use Rattle.history_book.specs.declared.sizes.Sizes.{Sizes}
+use Rattle.track_rule.specs.BucketSteps.{put_in}
+use Rattle.track_rule.specs.Chains.{shuts_of}
+use Rattle.track_rule.specs.Links.{hooks_of, is_down}
+use Rattle.track_rule.specs.Sights.{PassSight, sizes_of}
+use Rattle.track_rule.specs.declared.view.Hook.{Hook}
+use Rattle.bucket_table.specs.LockedChain.{hook_bucket, original_link, reply_link}
+use Rattle.bucket_table.proofs.Pairs.{bucket_shut, put_keeps, second_of}
+use Rattle.bucket_table.proofs.Passing.{loads_join}
+use Rattle.bucket_table.proofs.Stringing.{some_there}
+use Rattle.bucket_table.proofs.locked_chain.link.Goals as goal
+
+pub bucket_of_link-first-requires-clause-own : goal.bucket_of_link-first-requires-clause-own
+bucket_of_link-first-requires-clause-own c = some_there (λ (h : Hook). not h.up) (original_link c.args.place) c.args.pass.now.view.buckets.hooks c.requires.original
+
+pub bucket_of_link-second-requires-clause-own : goal.bucket_of_link-second-requires-clause-own
+bucket_of_link-second-requires-clause-own c =
+    subst (λ (x : PassSight). 0 < hooks_of (reply_link c.args.place) x.view.buckets.hooks) (sym c.bucket_of_link-first.ensures.loads.same)
+    (some_there (λ (h : Hook). not h.up) (reply_link c.args.place) c.args.pass.now.view.buckets.hooks c.requires.reply)
+
+pub put_link-requires-2-clause-mine : goal.put_link-requires-2-clause-mine
+put_link-requires-2-clause-mine c =
+    let keeps = second_of (sizes_of c.args.pass.now) (original_link c.args.place) is_down (put_in c.bucket_of_link-second.result (reply_link c.args.place)) c.args.pass.now c.bucket_of_link-second.new.pass c.put_link.new.pass
+    (loads_join c.args.pass.now c.bucket_of_link-first.new.pass c.bucket_of_link-second.new.pass c.bucket_of_link-first.ensures.loads c.bucket_of_link-second.ensures.loads)
+    c.put_link.ensures (put_keeps (sizes_of c.args.pass.now) c.bucket_of_link-second.result (reply_link c.args.place) (original_link c.args.place) c.args.pass.now.view.buckets (λ e. omega (arith, e))) in
+    let here : c.bucket_of_link-first.result ≡ hook_bucket (sizes_of c.args.pass.now) (original_link c.args.place) c.args.pass.now.view.buckets.hooks = c.bucket_of_link-first.ensures.bucket in
+    omega (
+      arith,
+      keeps.0.shuts c.bucket_of_link-first.result,
+      subst (λ (b : ℕ). 0 < shuts_of b c.args.pass.now.view) (sym here)
+          (bucket_shut c.args.locked.now (hook_bucket (sizes_of c.args.pass.now) (original_link c.args.place) c.args.pass.now.view.buckets.hooks) c.args.pass.now.view c.requires.shut c.requires.original_ready.its_bucket),
+    )
+
+pub put_link-requires-2-clause-down : goal.put_link-requires-2-clause-down
+put_link-requires-2-clause-down c =
+    let keeps = second_of (sizes_of c.args.pass.now) (original_link c.args.place) is_down (put_in c.bucket_of_link-second.result (reply_link c.args.place)) c.args.pass.now c.bucket_of_link-second.new.pass c.put_link.new.pass
+    (loads_join c.args.pass.now c.bucket_of_link-first.new.pass c.bucket_of_link-second.new.pass c.bucket_of_link-first.ensures.loads c.bucket_of_link-second.ensures.loads)
+    c.put_link.ensures (put_keeps (sizes_of c.args.pass.now) c.bucket_of_link-second.result (reply_link c.args.place) (original_link c.args.place) c.args.pass.now.view.buckets (λ e. omega (arith, e))) in
+    keeps.0.passes ∙ c.requires.original
+
+pub put_link-requires-2-clause-placed : goal.put_link-requires-2-clause-placed
+put_link-requires-2-clause-placed c =
+    let keeps = second_of (sizes_of c.args.pass.now) (original_link c.args.place) is_down (put_in c.bucket_of_link-second.result (reply_link c.args.place)) c.args.pass.now c.bucket_of_link-second.new.pass c.put_link.new.pass
+    (loads_join c.args.pass.now c.bucket_of_link-first.new.pass c.bucket_of_link-second.new.pass c.bucket_of_link-first.ensures.loads c.bucket_of_link-second.ensures.loads)
+    c.put_link.ensures (put_keeps (sizes_of c.args.pass.now) c.bucket_of_link-second.result (reply_link c.args.place) (original_link c.args.place) c.args.pass.now.view.buckets (λ e. omega (arith, e))) in
+    let here : c.bucket_of_link-first.result ≡ hook_bucket (sizes_of c.args.pass.now) (original_link c.args.place) c.args.pass.now.view.buckets.hooks = c.bucket_of_link-first.ensures.bucket in
+    ap (λ (z : Sizes). hook_bucket z (original_link c.args.place) c.put_link.new.pass.view.buckets.hooks) keeps.1 ∙ keeps.0.bucket ∙ sym here

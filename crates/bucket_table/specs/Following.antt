@@ -1,0 +1,231 @@
+-- A chain is followed without a lock.
+use Rattle.std.specs.Prelude.{◌⊎◌, ◌≡◌, ℕ, ◌+◌, ◌%◌, ◌<◌, ◌≤◌, ◌==◌, ◌&&◌, ◌||◌, not, Bool, true, false, nat_le, Option, Some, None, List, [], ◌∷◌, ◌++◌, length, zero, suc, if◌then◌else◌}
+use Rattle.std.specs.List.{list_any, list_all}
+use Rattle.tuple_core.specs.Words.{address_word, flow_word}
+use Rattle.tuple_core.specs.declared.Direction.{Direction}
+use Rattle.tuple_core.specs.declared.Direction.TheVariants.{Original, Reply}
+use Rattle.tuple_core.specs.declared.Tuple.{Tuple}
+use Rattle.history_book.specs.Point.{StartsWith}
+use Rattle.history_book.specs.declared.event.Event.{Event}
+use Rattle.history_book.specs.declared.sizes.Sizes.{Sizes}
+use Rattle.track_rule.specs.BucketSteps.{IsChainOf, IsNoteOf, WasChain}
+use Rattle.track_rule.specs.Chains.{bucket_of, pair_of, shuts_of}
+use Rattle.track_rule.specs.Layout.{gen_word, place_of, side_of}
+use Rattle.track_rule.specs.Links.{last_link}
+use Rattle.track_rule.specs.Notes.{is_other, just_met}
+use Rattle.track_rule.specs.Readings.{Gave, added, changes, found, is_found}
+use Rattle.track_rule.specs.Sights.{PassSight, sizes_of}
+use Rattle.track_rule.specs.Walks.{HasLive}
+use Rattle.track_rule.specs.declared.view.Entry.{Entry}
+use Rattle.track_rule.specs.declared.view.Met.{Met}
+use Rattle.track_rule.specs.declared.view.Reading.{Reading}
+use Rattle.track_rule.specs.declared.view.View.{View}
+use Rattle.track_rule.specs.declared.view.Walk.{Walk}
+use Rattle.bucket_table.specs.declared.lookup.Followed.{Followed}
+use Rattle.bucket_table.specs.declared.lookup.Followed.TheVariants.{Link, End, Moved}
+use Rattle.bucket_table.specs.declared.lookup.Goal.{Goal}
+
+-- the bucket of a tuple
+abbrev pub bucket_in : Sizes → Tuple → ℕ
+bucket_in z t = bucket_of z (pair_of t)
+
+-- the direction of a link
+abbrev pub direction_of : ℕ → Direction
+direction_of link = by_side (side_of link)
+  where
+    by_side : ℕ → Direction
+    by_side zero = Original
+    by_side (suc n) = Reply
+
+-- a link was met that has another tuple than these two words
+abbrev pub is_another : ℕ → ℕ → Met → Bool
+is_another first second m = is_other m.first first || is_other m.second second
+
+-- a link was met that has this tuple
+abbrev pub met_with : ℕ → ℕ → ℕ → Met
+met_with link first second = record { link = link; first = Some first; second = Some second }
+
+-- a walk along the chain of this bucket at this generation, which met these links, the newest first; and one that met the end
+abbrev pub walk_to : ℕ → ℕ → List Met → Walk
+walk_to bucket generation met = record { bucket = bucket; generation = generation; met = met; ended = false; at = None; passed = false }
+
+abbrev pub walk_through : ℕ → ℕ → List Met → Walk
+walk_through bucket generation met = record { bucket = bucket; generation = generation; met = met; ended = true; at = None; passed = false }
+
+-- an entry has these two words
+abbrev pub has_words : ℕ → ℕ → Entry → Bool
+has_words first second e = e.pair.first == first && e.pair.second == second
+
+-- The pass has only read: no word was changed, and nothing of what it has. It may have seen more events.
+pub record OnlyReads (v w : PassSight) : Type 0 where
+  pub same : w ≡ record v {
+    view = record v.view {
+      seen = record v.view.seen { front = w.view.seen.front };
+      walk = w.view.walk;
+      readings = w.view.readings;
+    };
+  }
+  pub front : StartsWith w.view.seen.front v.view.seen.front
+  pub own : changes (λ word. true) (added v.view w.view) ≡ false
+
+-- What the walk noted: at this generation, which is even, and which this call found, the chain of the bucket begins with what was
+-- met; that is links with other tuples, and then this link with the tuple.
+pub record IsLink (t : Tuple) (place : ℕ) (direction : Direction) (generation : ℕ) (v w : PassSight) : Type 0 where
+  pub reads : OnlyReads v w
+  pub even : generation % 2 ≡ 0
+  pub read : is_found (gen_word (sizes_of v) (bucket_in (sizes_of v) t)) generation (added v.view w.view) ≡ true
+  pub link : ℕ
+  pub some : 0 < link
+  pub below : link ≤ last_link (sizes_of v)
+  pub place_is : place ≡ place_of link
+  pub direction_is : direction ≡ direction_of link
+  pub before : List Met
+  pub others : list_all (is_another (address_word t) (flow_word t)) before ≡ true
+  pub walk : w.view.walk ≡ Some (walk_to (bucket_in (sizes_of v) t) generation (met_with link (address_word t) (flow_word t) ∷ before))
+
+-- The readings of the call begin with a load of this generation, and end with one of the history word and then again one of
+-- this generation.
+pub record Encloses (word generation : ℕ) (readings : List Reading) : Type 0 where
+  pub middle : List Reading
+  pub history : Reading
+  pub history_is : (history.word ≡ 0) × (history.own ≡ false)
+  pub all : readings ≡ found word generation ∷ middle ++ history ∷ found word generation ∷ []
+
+-- The chain of the bucket, which was this one from the first load of the even generation to the second, has no link with the
+-- tuple. Between the two the pass has seen all events up to the point; the chain has what was live there.
+pub record IsEnd (t : Tuple) (at : ℕ) (v w : PassSight) : Type 0 where
+  pub reads : OnlyReads v w
+  pub point : at ≡ length w.view.seen.front
+  pub generation : ℕ
+  pub even : generation % 2 ≡ 0
+  pub between : Encloses (gen_word (sizes_of v) (bucket_in (sizes_of v) t)) generation (added v.view w.view)
+  pub chain : List Entry
+  pub right : IsChainOf (sizes_of v) (bucket_in (sizes_of v) t) chain
+  pub none : list_any (has_words (address_word t) (flow_word t)) chain ≡ false
+  pub live : HasLive (sizes_of v) (bucket_in (sizes_of v) t) w.view.seen.front chain
+
+-- another pass had shut the bucket: the call found an odd generation
+pub record WasShut (word was now : ℕ) (readings : List Reading) : Type 0 where
+  pub odd : was % 2 ≡ 1
+  pub read : is_found word was readings ≡ true
+  pub same : now ≡ was
+
+-- The generation of the bucket was odd, though this pass has not shut it, or it gave two different values.
+pub record IsMoved (t : Tuple) (word was now : ℕ) (v w : PassSight) : Type 0 where
+  pub reads : OnlyReads v w
+  pub word_is : word ≡ gen_word (sizes_of v) (bucket_in (sizes_of v) t)
+  pub mine : shuts_of (bucket_in (sizes_of v) t) v.view ≡ 0
+  pub cause : WasShut word was now (added v.view w.view) ⊎ Gave word was now (added v.view w.view)
+
+abbrev pub FollowSays : Followed → Tuple → PassSight → PassSight → Type 0
+FollowSays (Link place direction generation) t v w = IsLink t place direction generation v w
+FollowSays (End at) t v w = IsEnd t at v w
+FollowSays (Moved word was now) t v w = IsMoved t word was now v w
+
+-- ON THE WAY
+
+-- readings of words behind the generations, none of them changed by the pass
+abbrev pub is_of_walk : Sizes → Reading → Bool
+is_of_walk z r = nat_le (3 + z.buckets) r.word && not r.own
+
+-- the pass has read such words, and noted what it met
+pub record Walks (v w : PassSight) : Type 0 where
+  pub more : List Reading
+  pub same : w ≡ record v { view = record v.view { walk = w.view.walk; readings = v.view.readings ++ more } }
+  pub quiet : list_all (is_of_walk (sizes_of v)) more ≡ true
+
+-- what is looked for: these two words, in this bucket, at this generation
+abbrev pub walk_on : Goal → List Met → Walk
+walk_on g met = walk_to g.bucket g.generation met
+
+abbrev pub all_others : Goal → List Met → Bool
+all_others g met = list_all (is_another g.first g.second) met
+
+-- whether the newest link has the tuple
+pub record Compares (g : Goal) (link : ℕ) (same : Bool) (v w : PassSight) : Type 0 where
+  pub walks : Walks v w
+  pub has : same ≡ true → (before : List Met) → v.view.walk ≡ Some (walk_on g (just_met link ∷ before))
+      → w.view.walk ≡ Some (walk_on g (met_with link g.first g.second ∷ before))
+  pub another : same ≡ false → (before : List Met) → v.view.walk ≡ Some (walk_on g (just_met link ∷ before))
+      → (m : Met) × (w.view.walk ≡ Some (walk_on g (m ∷ before))) × (m.link ≡ link) × (is_another g.first g.second m ≡ true)
+
+-- so far all links had other tuples, and this is the next one, or the end
+abbrev pub note_at : Goal → ℕ → List Met → Walk
+note_at g link before = (if link == 0 then walk_through g.bucket g.generation before else walk_on g (just_met link ∷ before))
+
+pub record IsSoFar (g : Goal) (z : Sizes) (link left : ℕ) (view : View) : Type 0 where
+  pub before : List Met
+  pub walk : view.walk ≡ Some (note_at g link before)
+  pub others : all_others g before ≡ true
+  pub count : length before + left ≡ last_link z
+  pub low : link ≤ last_link z
+
+-- the walk begins with this link, or there is none
+abbrev pub IsStart : Goal → ℕ → View → Type 0
+IsStart g link view = view.walk ≡ Some (note_at g link [])
+
+-- A link with the tuple is the first one with it; at the end there is none; and there may be more links than a chain has.
+pub record SearchFound (g : Goal) (link : ℕ) (z : Sizes) (view : View) : Type 0 where
+  pub some : 0 < link
+  pub below : link ≤ last_link z
+  pub before : List Met
+  pub others : all_others g before ≡ true
+  pub walk : view.walk ≡ Some (walk_on g (met_with link g.first g.second ∷ before))
+
+pub record SearchEnded (g : Goal) (view : View) : Type 0 where
+  pub before : List Met
+  pub others : all_others g before ≡ true
+  pub walk : view.walk ≡ Some (walk_through g.bucket g.generation before)
+
+pub record SearchLong (g : Goal) (z : Sizes) (view : View) : Type 0 where
+  pub met : List Met
+  pub long : last_link z < length met
+  pub walk : view.walk ≡ Some (walk_on g met)
+
+abbrev pub SearchSays : Option ℕ → Goal → Sizes → View → Type 0
+SearchSays None g z view = SearchLong g z view
+SearchSays (Some zero) g z view = SearchEnded g view
+SearchSays (Some (suc n)) g z view = SearchFound g (suc n) z view
+
+-- the walk was begun at this generation, and went on
+pub record IsBegun (g : Goal) (v w : PassSight) : Type 0 where
+  pub more : List Reading
+  pub same : w ≡ record v {
+    view = record v.view {
+      walk = w.view.walk;
+      readings = v.view.readings ++ found (gen_word (sizes_of v) g.bucket) g.generation ∷ more;
+    };
+  }
+  pub quiet : list_all (is_of_walk (sizes_of v)) more ≡ true
+
+-- the history word was loaded, and then the generation, which was this one
+pub record LooksAgain (g : Goal) (now : ℕ) (v w : PassSight) : Type 0 where
+  pub history : Reading
+  pub history_is : (history.word ≡ 0) × (history.own ≡ false)
+  pub same : w ≡ record v {
+    view = record v.view {
+      seen = record v.view.seen { front = w.view.seen.front };
+      walk = w.view.walk;
+      readings = v.view.readings ++ history ∷ found (gen_word (sizes_of v) g.bucket) now ∷ [];
+    };
+  }
+  pub front : StartsWith w.view.seen.front v.view.seen.front
+
+-- The generation still stands: the note was true at this point, which is that of all events that the pass has seen.
+pub record StandsStill (g : Goal) (at : ℕ) (v w : PassSight) : Type 0 where
+  pub looks : LooksAgain g g.generation v w
+  pub point : at ≡ length w.view.seen.front
+  pub was : (m : Walk) → v.view.walk ≡ Some m → IsNoteOf g.bucket g.generation m → g.generation % 2 ≡ 0
+      → WasChain (sizes_of v) w.view.seen.front (record m { at = Some (length w.view.seen.front) })
+
+-- It does not.
+pub record StandsNoMore (g : Goal) (word was now : ℕ) (words : ℕ) (v w : PassSight) : Type 0 where
+  pub looks : LooksAgain g now v w
+  pub was_is : was ≡ g.generation
+  pub word_is : word ≡ words
+  pub other : (g.generation == now) ≡ false
+
+abbrev pub EndSays : Followed → ℕ → Goal → PassSight → PassSight → Type 0
+EndSays (Link place direction generation) words g v w = ⊥
+EndSays (End at) words g v w = StandsStill g at v w
+EndSays (Moved word was now) words g v w = StandsNoMore g word was now words v w

@@ -1,0 +1,71 @@
+-- Two locked buckets, which may be one.
+use Rattle.std.specs.Prelude.{◌≡◌, ℕ, ◌<◌, ◌≤◌, ◌==◌, if◌then◌else◌, max, min, List}
+use Rattle.track_rule.specs.BucketSteps.{IsChainOf, opened_of, shut_now}
+use Rattle.track_rule.specs.Chains.{chain_in, shuts_of}
+use Rattle.track_rule.specs.Sights.{PassSight, sizes_of}
+use Rattle.track_rule.specs.declared.view.Reading.{Reading}
+use Rattle.track_rule.specs.declared.view.Shut.{Shut}
+use Rattle.track_rule.specs.declared.view.HeldBuckets.{HeldBuckets}
+use Rattle.track_rule.specs.declared.view.View.{View}
+use Rattle.track_rule.specs.declared.view.Walk.{Walk}
+
+-- the lower one and the upper one
+pub record Buckets : Type 0 where
+  pub lower : ℕ
+  pub upper : ℕ
+
+-- these two, in any order
+abbrev pub buckets_of : ℕ → ℕ → Buckets
+buckets_of a b = record { lower = min a b; upper = max a b }
+
+-- the pass has shut both
+pub record AreShut (locked : Buckets) (v : View) : Type 0 where
+  pub lower : 0 < shuts_of locked.lower v
+  pub upper : 0 < shuts_of locked.upper v
+
+-- The bucket is shut, and the pass knows its chain. It had not shut it before. All else is as it was, but the note of a walk.
+pub record Locks (bucket : ℕ) (v w : PassSight) : Type 0 where
+  pub same : w ≡ record v {
+    view = record v.view {
+      buckets = shut_now bucket (chain_in bucket w.view.buckets.shut) v.view.buckets;
+      walk = w.view.walk;
+      readings = w.view.readings;
+    };
+  }
+  pub chain : IsChainOf (sizes_of v) bucket (chain_in bucket w.view.buckets.shut)
+  pub before : shuts_of bucket v.view ≡ 0
+
+-- what the pass has of buckets once both are shut, the lower one first; where both are one it is shut once
+abbrev pub shut_both : Buckets → HeldBuckets → HeldBuckets → HeldBuckets
+shut_both locked after before =
+    (if locked.lower == locked.upper then shut_now locked.lower (chain_in locked.lower after.shut) before else
+    shut_now locked.upper (chain_in locked.upper after.shut) (shut_now locked.lower (chain_in locked.lower after.shut) before))
+
+-- Both are shut, and the pass knows their chains. All else is as it was, but the note of a walk.
+pub record LocksTwo (locked : Buckets) (v w : PassSight) : Type 0 where
+  pub same : w ≡ record v {
+    view = record v.view {
+      buckets = shut_both locked w.view.buckets v.view.buckets;
+      walk = w.view.walk;
+      readings = w.view.readings;
+    };
+  }
+  pub shut : AreShut locked w.view
+  pub lower : IsChainOf (sizes_of v) locked.lower (chain_in locked.lower w.view.buckets.shut)
+  pub upper : IsChainOf (sizes_of v) locked.upper (chain_in locked.upper w.view.buckets.shut)
+
+-- without both
+abbrev pub open_both : Buckets → List Shut → List Shut
+open_both locked shut =
+    (if locked.lower == locked.upper then opened_of locked.lower shut else opened_of locked.lower (opened_of locked.upper shut))
+
+-- Both buckets are given back. All else is as it was.
+pub record UnlocksTwo (locked : Buckets) (v w : PassSight) : Type 0 where
+  pub same : w ≡ record v {
+    view = record v.view {
+      buckets = record v.view.buckets { shut = open_both locked v.view.buckets.shut };
+      readings = w.view.readings;
+    };
+  }
+  pub lower : shuts_of locked.lower w.view ≡ 0
+  pub upper : shuts_of locked.upper w.view ≡ 0

@@ -1,0 +1,6 @@
+//! The buckets of the shared table: chains of links, which a pass locks to change them, and follows without a lock.
+#![tactic(auto)]
+
+pub mod lock;
+pub mod locked_chain;
+pub mod lookup;

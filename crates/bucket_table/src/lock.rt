@@ -1,0 +1,74 @@
+//! The locks of buckets: a pass that has one may change the chain, and no other pass has it.
+
+ghost use Rattle.std.specs.Prelude.{◌≡◌, ◌<◌};
+ghost use Rattle.bucket_table.specs.Locks.{AreShut, Locks, LocksTwo, UnlocksTwo, buckets_of};
+ghost use Rattle.track_rule.specs.Sights.{sizes_of};
+
+use std::marker::Model;
+use std::sync::Wait;
+use std::thread;
+use track_rule::bucket_steps::LAST_GENERATION;
+use track_rule::pass::Pass;
+
+/// Two locked buckets, which may be one. Contracts see them as the lower and the upper one. It is given to `unlock_two`.
+pub struct Locked {
+    lower: u32,
+    upper: u32,
+}
+
+impl Model for Locked {
+    ghost use Rattle.std.specs.Prelude.{◌≤◌};
+    ghost use Rattle.bucket_table.specs.Locks.{Buckets};
+
+    ghost Value = { Buckets };
+
+    ghost view = { λ l. record { lower = l.lower; upper = l.upper } };
+
+    ghost invariant = { λ l. l.lower ≤ l.upper };
+}
+
+/// Waits for a bucket, and shuts it. It waits on where the generation has passed its last value.
+fn lock<R: Wait>(rt: &R, pass: &mut Pass, bucket: u32)
+    requires { bucket < (sizes_of pass.old).buckets }
+    ensures { Locks bucket pass.old pass.new }
+{
+    'tries: for _ in rt.forever() {
+        let generation = pass.gen_load(bucket);
+        if generation % 2 == 0 && generation < LAST_GENERATION {
+            if let Ok(()) = pass.gen_shut(bucket, generation) {
+                return;
+            }
+        }
+        thread::yield_now();
+    }
+    unreachable!()
+}
+
+/// Waits for two buckets, and locks them, the lower one first. Where both are one it locks that.
+pub fn lock_two<R: Wait>(rt: &R, pass: &mut Pass, a: u32, b: u32) -> Locked
+    requires a { a < (sizes_of pass.old).buckets }
+    requires b { b < (sizes_of pass.old).buckets }
+    ensures buckets { result ≡ buckets_of a b }
+    ensures locks { LocksTwo result pass.old pass.new }
+{
+    let lower = a.min(b);
+    let upper = a.max(b);
+    lock(rt, pass, lower);
+    if lower != upper {
+        lock(rt, pass, upper);
+    }
+    Locked { lower, upper }
+}
+
+/// Gives both buckets back.
+pub fn unlock_two(pass: &mut Pass, locked: Locked)
+    requires below { locked.upper < (sizes_of pass.old).buckets }
+    requires shut { AreShut locked pass.old.view }
+    ensures { UnlocksTwo locked pass.old pass.new }
+{
+    let Locked { lower, upper } = locked;
+    if lower != upper {
+        pass.gen_open(upper);
+    }
+    pass.gen_open(lower);
+}
