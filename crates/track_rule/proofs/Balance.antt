@@ -1,7 +1,7 @@
 -- The parts that a step on the pool changes: the passes, the references and the free list.
 use Rattle.std.proofs.lemmas.Bool.{cases_lt}
 use Rattle.std.specs.Prelude.{◌==◌, if◌then◌else◌}
-use Rattle.std.proofs.Common.{◌≡◌, ℕ, ◌+◌, ◌*◌, ◌^◌, ◌<◌, ◌≤◌, ◌⊎◌, min, Option, Some, None, List, [], length, sym, ap, subst, ◌∙◌, ⊎_elim, arith, set}
+use Rattle.std.proofs.Common.{◌≡◌, ℕ, ◌+◌, ◌*◌, ◌^◌, ◌<◌, ◌≤◌, ◌⊎◌, min, Option, Some, None, List, [], length, sym, ap, subst, ◌∙◌, ⊎_elim, inl, refl, arith, set}
 use Rattle.std.specs.List.{AllPairs}
 use Rattle.std.specs.Prelude.{slice_index, nat_le, nat_lt, ◌&&◌}
 use mathlib.Core.Option.{Option as Slotted, some}
@@ -16,6 +16,7 @@ use Rattle.track_rule.specs.declared.slot.Slot.{Slot}
 use Rattle.track_rule.specs.declared.view.Entry.{Entry}
 use Rattle.track_rule.specs.declared.view.Hook.{Hook}
 use Rattle.track_rule.specs.declared.view.Keep.{Keep}
+use Rattle.track_rule.specs.declared.view.Places.{Places}
 use Rattle.track_rule.specs.declared.view.Shares.{Shares}
 use Rattle.track_rule.specs.declared.view.HeldBuckets.{HeldBuckets}
 use Rattle.track_rule.specs.declared.view.View.{View}
@@ -36,11 +37,15 @@ use Rattle.track_rule.proofs.Frames.{Quiet, SameChains, Stays, chains_stay, hook
 use Rattle.track_rule.proofs.Lists.{total_long}
 use Rattle.track_rule.proofs.Sums.{each_other, each_put, total_le, total_same, total_set, total_times, total_two}
 
--- what a step on the pool leaves of a view
-pub record Moves (v w : View) : Type 0 where
+-- a pass that has the same shares, and made and gathered no event
+pub record MakesNone (v w : View) : Type 0 where
   pub passes : w.passes ≡ v.passes
   pub own : w.seen.own ≡ v.seen.own
   pub gathered : w.seen.gathered ≡ v.seen.gathered
+
+-- what a step on the pool leaves of a view
+pub record Moves (v w : View) : Type 0 where
+  pub made : MakesNone v w
   pub commit : w.commit ≡ v.commit
   pub expected : w.expected ≡ v.expected
 
@@ -83,7 +88,7 @@ same_lines z l s id v w h at buckets more walk front =
     (subst (λ (f : List Event). (n : Walk) → v.walk ≡ Some n → IsWalk z s.words l.chains f n) (sym front) (h.walks.each id v at)))
 
 -- a pass with some shares that has seen so much
-pub pass_moved : (z : Sizes) (log : List Event) (v w : View) → IsPass z log v → Moves v w → 0 < v.passes.shares
+pub pass_moved : (z : Sizes) (log : List Event) (v w : View) → IsPass z log v → MakesNone v w → 0 < v.passes.shares
     → StartsWith log w.seen.front → StartsWith log w.seen.told → IsPass z log w
 pass_moved z log v w p m has_some front told = record {
   front = front;
@@ -98,7 +103,7 @@ pass_moved z log v w p m has_some front told = record {
   spent = λ none_left. absurd (omega (arith, none_left, has_some, ap (λ (s : Shares). s.shares) m.passes));
 }
 
-pub passes_moved : (z : Sizes) (log : List Event) (vs : List View) (i : ℕ) (v w : View) → get_elem? vs i ≡ some v → Moves v w → IsPass z log w
+pub passes_moved : (z : Sizes) (log : List Event) (vs : List View) (i : ℕ) (v w : View) → get_elem? vs i ≡ some v → MakesNone v w → IsPass z log w
     → ArePasses z log vs → ArePasses z log (set vs i w)
 passes_moved z log vs i v w at m p h = record {
   each = each_put (IsPass z log) vs i w h.each p;
@@ -125,7 +130,7 @@ moved z l s id v w ws' hs' free' h at m p quiet long homes references free_list 
       commit = carries_set (λ (u : View). u.commit) no_commit s.views id v w at m.commit;
       expected = carries_set (λ (u : View). u.expected) None s.views id v w at m.expected;
     })
-    (passes_moved z l.log s.views id v w at m p h.passes) references free_list
+    (passes_moved z l.log s.views id v w at m.made p h.passes) references free_list
     (chains_stay z s.words ws' same l.log s.views (set s.views id w) l.chains
     (carries_set (λ (u : View). u.buckets.shut) [] s.views id v w at lines.shut)
     (λ b weight. total_same (loose_of z b weight) s.views id v w at (lines.loose b weight)) lines.lone h.chains)
@@ -208,6 +213,27 @@ free_moved z ws ws' hs hs' vs i v w free free' at t h = record {
   clear = each_put (λ u. (p : ℕ) → 0 < times p u.places.clear → (0 < times p u.places.owed) × (phase_at z ws' p ≡ 0)) vs i w
       (λ j u at' p some. let c = h.clear j u at' p some in (c.0, t.phases p ∙ c.1)) t.clear;
 }
+
+-- a step that leaves the places of the pass, and its turn of the list
+pub free_left : (z : Sizes) (ws ws' : List ℕ) (hs hs' : List (Slotted Slot)) (vs : List View) (i : ℕ) (v w : View) (free : List ℕ)
+    → get_elem? vs i ≡ some v → w.places ≡ v.places → w.free ≡ v.free → ((p : ℕ) → refs_at z ws' p ≡ refs_at z ws p)
+    → ((p : ℕ) → phase_at z ws' p ≡ phase_at z ws p) → slice_index ws' 1 ≡ slice_index ws 1 → get_elem? hs' 0 ≡ get_elem? hs 0
+    → IsFreeList z ws hs vs free → IsFreeList z ws' hs' (set vs i w) free
+free_left z ws ws' hs hs' vs i v w free at places turn refs phases word home h =
+    free_moved z ws ws' hs hs' vs i v w free free at (record {
+      once = λ p below. omega (arith, ap (λ (k : ℕ). min k 1) (refs p), ap (λ (x : Places). times p x.owed) places);
+      beyond = λ p above. omega (arith, ap (λ (x : Places). times p x.owed) places);
+      idle = λ p on. phases p ∙ h.idle p on;
+      phases = phases;
+      turn = omega (arith, word, ap turn_of turn);
+      single = omega (arith, word, h.single);
+      home = λ calm. let r = h.home (sym word ∙ calm) in record { list = r.list; there = home ∙ r.there; same = r.same; room = r.room };
+      others = inl refl;
+      away = λ list e. h.away i v at list (sym turn ∙ e);
+      few = omega (arith, h.few i v at, ap (λ (x : Places). length x.held + length x.owed) places);
+      clear = subst (λ (x : Places). (p : ℕ) → 0 < times p x.clear → (0 < times p x.owed) × (phase_at z ws' p ≡ 0)) (sym places)
+          (λ p on. let c = h.clear i v at p on in (c.0, phases p ∙ c.1));
+    }) h
 
 -- the passes keep few references to a place
 module _ (z : Sizes) (l : Ledger) (s : State Slot View) (h : IsKept z l s) where

@@ -41,8 +41,8 @@ pub note_read : (z : Sizes) (l : Ledger) (s : State Slot View) (id i : ℕ) (v :
 note_read z l s id i v walk h at has_some is_walk =
     let w : View = noted (found i (slice_index s.words i)) (record v { walk = walk }) in
     let one : IsPass z l.log v = h.passes.each id v at in
-    let m : Moves v w = record { passes = refl; own = refl; gathered = refl; commit = refl; expected = refl } in
-    reads z l s id i v w h at m (pass_moved z l.log v w one m has_some one.front one.told) refl refl
+    let m : Moves v w = record { made = record { passes = refl; own = refl; gathered = refl }; commit = refl; expected = refl } in
+    reads z l s id i v w h at m (pass_moved z l.log v w one m.made has_some one.front one.told) refl refl
     (bucket_lines z l s id v w h at refl (λ q. omega arith) is_walk)
 
 -- a load of a generation

@@ -31,7 +31,7 @@ use Rattle.track_rule.specs.References.{held_times, keeps}
 use Rattle.track_rule.specs.Rule.{Holds, IsKept, Ledger}
 use Rattle.track_rule.specs.Sums.{Each, bit, times, total}
 use Rattle.track_rule.specs.Walks.{AreWalks, IsWalk}
-use Rattle.track_rule.proofs.Balance.{Moves, free_moved, pass_moved, passes_moved, references_left}
+use Rattle.track_rule.proofs.Balance.{Moves, free_left, pass_moved, passes_moved, references_left}
 use Rattle.track_rule.proofs.BucketLoads.{note_read, one_gen}
 use Rattle.track_rule.proofs.Carried.{carries_set}
 use Rattle.track_rule.proofs.ChainLists.{chain_of}
@@ -58,25 +58,12 @@ bucket_moved z l s id v w ws' chains' h at m has_some seen places free rest long
       commit = carries_set (λ (u : View). u.commit) no_commit s.views id v w at m.commit;
       expected = carries_set (λ (u : View). u.expected) None s.views id v w at m.expected;
     })
-    (passes_moved z l.log s.views id v w at m
-    (pass_moved z l.log v w one m has_some (subst (StartsWith l.log) (sym (ap (λ (x : Seen). x.front) seen)) one.front)
+    (passes_moved z l.log s.views id v w at m.made
+    (pass_moved z l.log v w one m.made has_some (subst (StartsWith l.log) (sym (ap (λ (x : Seen). x.front) seen)) one.front)
     (subst (StartsWith l.log) (sym (ap (λ (x : Seen). x.told) seen)) one.told)) h.passes)
     (references_left z l.log s.words ws' s.views id v w at (ap (λ (x : Places). x.held) places) (ap (λ (x : Places). x.carried) places) rest.refs
     rest.still.phases h.references)
-    (free_moved z s.words ws' s.homes s.homes s.views id v w l.free l.free at (record {
-      once = λ p below. omega (arith, ap (λ (k : ℕ). min k 1) (rest.refs p), ap (λ (x : Places). times p x.owed) places);
-      beyond = λ p above. omega (arith, ap (λ (x : Places). times p x.owed) places);
-      idle = λ p on. rest.still.phases p ∙ h.free_list.idle p on;
-      phases = rest.still.phases;
-      turn = omega (arith, rest.free, ap turn_of free);
-      single = omega (arith, rest.free, h.free_list.single);
-      home = λ calm. h.free_list.home (sym rest.free ∙ calm);
-      others = inl refl;
-      away = λ list e. h.free_list.away id v at list (sym free ∙ e);
-      few = omega (arith, h.free_list.few id v at, ap (λ (x : Places). length x.held + length x.owed) places);
-      clear = subst (λ (x : Places). (p : ℕ) → 0 < times p x.clear → (0 < times p x.owed) × (phase_at z ws' p ≡ 0)) (sym places)
-          (λ p on. let c = h.free_list.clear id v at p on in (c.0, rest.still.phases p ∙ c.1));
-    }) h.free_list)
+    (free_left z s.words ws' s.homes s.homes s.views id v w l.free at places free rest.refs rest.still.phases rest.free refl h.free_list)
     chains links walks
 
 -- one generation changes
@@ -245,7 +232,7 @@ module _ (l : Ledger) (s : State Slot View) (id b : ℕ) (v : View) (h : IsKept 
       })
   shuts even hit half low =
       let w : View = noted (stored (gen_word v.passes.sizes b) (even + 1)) (record v { buckets = shut_now b (l.chains b) v.buckets }) in
-      regen (even + 1) w (record { passes = refl; own = refl; gathered = refl; commit = refl; expected = refl }) refl refl refl refl refl
+      regen (even + 1) w (record { made = record { passes = refl; own = refl; gathered = refl }; commit = refl; expected = refl }) refl refl refl refl refl
       (omega (arith, hit)) (omega (arith, low)) (omega (arith, hit, half, same_bit b b refl)) (λ c other. omega (arith, other_bit b c (λ e. other (sym e))))
       (λ c under any.
       cond_both (b == c) (l.chains b) (chain_in c v.buckets.shut) (λ es. es ≡ l.chains c)
@@ -285,7 +272,7 @@ module _ (l : Ledger) (s : State Slot View) (id b : ℕ) (v : View) (h : IsKept 
       let w : View = noted (stored (gen_word v.passes.sizes b) (n + 1)) (record v { buckets = record v.buckets { shut = opened_of b v.buckets.shut } }) in
       let once = once_shut any in
       let less = opened_less b v.buckets.shut any in
-      regen (n + 1) w (record { passes = refl; own = refl; gathered = refl; commit = refl; expected = refl }) refl refl refl refl refl
+      regen (n + 1) w (record { made = record { passes = refl; own = refl; gathered = refl }; commit = refl; expected = refl }) refl refl refl refl refl
       (omega arith) (omega (arith, h.links.gens b below, once.0)) (omega (arith, once.0, once.1, less)) (λ c other. opened_else b c other v.buckets.shut)
       (λ c under more.
       ⊎_elim

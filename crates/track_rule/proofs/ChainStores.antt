@@ -125,7 +125,7 @@ module _ (l : Ledger) (s : State Slot View) (id b : ℕ) (v : View) (h : IsKept 
         let z : Sizes = v.passes.sizes in
         let new : List ℕ = slice_set s.words word to in
         let w : View = strung word to buckets v in
-        bucket_moved z l s id v w new (rechained l.chains b es) h at (record { passes = refl; own = refl; gathered = refl; commit = refl; expected = refl }) has_some refl refl refl
+        bucket_moved z l s id v w new (rechained l.chains b es) h at (record { made = record { passes = refl; own = refl; gathered = refl }; commit = refl; expected = refl }) has_some refl refl refl
         (string_rest z s.words word to t.string) (length-set s.words word to)
         (record {
           linked = on_each (λ c xs. c < z.buckets → IsChain z new c (slice_index new (head_word z c)) xs) (λ under. t.chain)

@@ -16,6 +16,7 @@ use Rattle.track_rule.specs.declared.view.Walk.{Walk}
 use Rattle.track_rule.specs.Chains.{AreChains, IsChain, chain_in, hooks_at, links_in, loose_of}
 use Rattle.history_book.specs.State.{record_of}
 use Rattle.history_book.specs.declared.record.Record.{Record}
+use Rattle.track_rule.specs.declared.view.Hand.{Hand}
 use Rattle.track_rule.specs.declared.view.Hook.{Hook}
 use Rattle.track_rule.specs.declared.view.Keep.{Keep}
 use Rattle.track_rule.specs.declared.view.Shut.{Shut}
@@ -24,7 +25,7 @@ use Rattle.track_rule.specs.History.{IsHistory, records_after, state_after}
 use Rattle.track_rule.specs.Layout.{first_word, gen_at, gen_word, head_word, next_word, phase_at, phase_word, place_of, record_slot, refs_word, second_word, turn_at, turn_word}
 use Rattle.track_rule.specs.Passes.{ArePasses}
 use Rattle.track_rule.specs.Phases.{ArePhases, middle_of, middle_weight, of_both, of_place, shows, table_keeps}
-use Rattle.track_rule.specs.Records.{AreRecords, has_hand, is_hand_of, record_in}
+use Rattle.track_rule.specs.Records.{AreRecords, IsHand, has_hand, is_hand_of, record_in}
 use Rattle.track_rule.specs.References.{AreReferences}
 use Rattle.track_rule.specs.Free.{IsFreeList}
 use Rattle.track_rule.specs.Rule.{IsKept, Ledger}
@@ -96,6 +97,15 @@ module _ (z : Sizes) (ws ws' : List ℕ) (still : Still z ws ws') where
   history_stays : (log : List Event) → IsHistory z log ws → IsHistory z log ws'
   history_stays log h = record { legal = h.legal; word = still.history ∙ h.word }
 
+  -- what a pass knows under a record's turn
+  pub hand_stays : (log : List Event) (x : Hand) → IsHand z log ws x → IsHand z log ws' x
+  hand_stays log x h = record {
+    below = h.below;
+    shown = λ some. still.phases x.place ∙ h.shown some;
+    idle = λ low. omega (arith, h.idle low, still.phases x.place);
+    live = h.live;
+  }
+
   records_stay : (log : List Event) (hs hs' : List (Slotted Slot)) (vs vs' : List View) → Stays hs hs' → Leaves vs vs'
       → AreRecords z log ws hs vs → AreRecords z log ws' hs' vs'
   records_stay log hs hs' vs vs' homes leaves h = record {
@@ -106,8 +116,11 @@ module _ (z : Sizes) (ws ws' : List ℕ) (still : Still z ws ws') where
         record {
           slot = r.slot;
           there = homes (record_slot p) (λ e. omega (arith, e)) ∙ r.there;
+          kind = r.kind;
           live = subst (λ (ph : ℕ). 3 ≤ ph → record_in r.slot ≡ record_of (ph - 3) (state_after log)) (sym (still.phases p)) r.live;
         };
+    away = leaves.commit.each (λ (c : Commit). (x : Hand) → c.hand ≡ Some x → IsHand z log ws' x) (λ x e. absurd (none-some x e))
+        (λ i v at x e. hand_stays log x (h.away i v at x e));
   }
     where
       hands : (p : ℕ) → total (has_hand p) vs' ≡ total (has_hand p) vs

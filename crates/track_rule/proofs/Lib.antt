@@ -19,6 +19,7 @@ pub mod Loads
 pub mod Turns
 pub mod Refs
 pub mod PhaseMoves
+pub mod RecordTurns
 pub mod Handed
 pub mod Start
 pub mod Seats

@@ -28,7 +28,7 @@ use Rattle.track_rule.specs.References.{held_times, keeps}
 use Rattle.track_rule.specs.Rule.{Holds, IsKept, Ledger}
 use Rattle.track_rule.specs.Steps.{AreAll, IsCount, LoadStep, LoadsRefs, LookStep, at_point, found_history, saw}
 use Rattle.track_rule.specs.Sums.{Each, times, total}
-use Rattle.track_rule.proofs.Balance.{Lines, Moves, few_references, free_moved, moved, pass_moved, references_left, same_lines, bucket_lines}
+use Rattle.track_rule.proofs.Balance.{Lines, Moves, few_references, free_left, moved, pass_moved, references_left, same_lines, bucket_lines}
 use Rattle.track_rule.proofs.Sums.{length_total, total_gap, total_only, total_term, total_times}
 
 -- a view in which at most the readings and what was seen differ keeps the rule
@@ -40,20 +40,7 @@ reads z l s id i v w h at m p places free lines =
     (moved z l s id v w s.words s.homes l.free h at m p (λ k a b. refl) refl (λ k a. refl)
     (references_left z l.log s.words s.words s.views id v w at (ap (λ (x : Places). x.held) places) (ap (λ (x : Places). x.carried) places) (λ p. refl)
     (λ p. refl) h.references)
-    (free_moved z s.words s.words s.homes s.homes s.views id v w l.free l.free at (record {
-      once = λ p below. ap (λ (x : Places). times p l.free + times p x.owed + min (refs_at z s.words p) 1) places;
-      beyond = λ p above. ap (λ (x : Places). times p l.free + times p x.owed) places;
-      idle = h.free_list.idle;
-      phases = λ p. refl;
-      turn = ap (λ x. slice_index s.words 1 + turn_of x) (sym free);
-      single = h.free_list.single;
-      home = h.free_list.home;
-      others = inl refl;
-      away = λ list e. h.free_list.away id v at list (sym free ∙ e);
-      few = omega (arith, h.free_list.few id v at, ap (λ (x : Places). length x.held + length x.owed) places);
-      clear = subst (λ (x : Places). (p : ℕ) → 0 < times p x.clear → (0 < times p x.owed) × (phase_at z s.words p ≡ 0)) (sym places)
-          (h.free_list.clear id v at);
-    }) h.free_list) lines)
+    (free_left z s.words s.words s.homes s.homes s.views id v w l.free at places free (λ p. refl) (λ p. refl) refl refl h.free_list) lines)
 
 -- as many notes as events
 pub length-notes : (k : ℕ) (es : List Event) → length (notes_from k es) ≡ length es
@@ -161,7 +148,7 @@ looks slots id v c has_some s (l, h) long at range =
     let z : Sizes = v.passes.sizes in
     let w : View = noted (found_history (slice_index s.words 0) v) (saw l.log v) in
     let p : IsPass z l.log v = h.passes.each id v at in
-    let m : Moves v w = record { passes = refl; own = refl; gathered = refl; commit = refl; expected = refl } in
+    let m : Moves v w = record { made = record { passes = refl; own = refl; gathered = refl }; commit = refl; expected = refl } in
     let few = few_events z l.log s.views h.passes id v at has_some in
     let low : length l.log < 2 ^ 40 = omega (arith, few, h.limits.passes) in (
       w,
@@ -169,7 +156,7 @@ looks slots id v c has_some s (l, h) long at range =
       tt,
       (
         l,
-        reads z l s id 0 v w h at m (pass_moved z l.log v w p m has_some ([], sym (append-nil l.log)) p.told) refl refl
+        reads z l s id 0 v w h at m (pass_moved z l.log v w p m.made has_some ([], sym (append-nil l.log)) p.told) refl refl
             (bucket_lines z l s id v w h at refl (λ q. omega arith) (look_note z l s id v h at)),
       ),
       (
@@ -217,14 +204,14 @@ loads slots id p v c below has_some s (l, h) long at range =
     let n : ℕ = slice_index s.words (refs_word z p) in
     let w : View = noted (found (refs_word z p) n) v in
     let one : IsPass z l.log v = h.passes.each id v at in
-    let m : Moves v w = record { passes = refl; own = refl; gathered = refl; commit = refl; expected = refl } in
+    let m : Moves v w = record { made = record { passes = refl; own = refl; gathered = refl }; commit = refl; expected = refl } in
     let told : IsCount p n v = refs_told l s id p v h at below has_some in (
       w,
       unchanged,
       tt,
       (
         l,
-        reads z l s id (refs_word z p) v w h at m (pass_moved z l.log v w one m has_some one.front one.told) refl refl
+        reads z l s id (refs_word z p) v w h at m (pass_moved z l.log v w one m.made has_some one.front one.told) refl refl
             (same_lines z l s id v w h at refl (λ q. omega arith) refl refl),
       ),
       λ q same. subst (λ (k : ℕ). LoadsRefs k v n w × (c ≡ c)) (one_place z p q same) (record { view = refl; count = told }, refl),

@@ -118,7 +118,7 @@ module _ (l : Ledger) (s : State Slot View) (id : ℕ) (v : View) (h : IsKept v.
       let new : List ℕ = slice_set s.words word to in
       let w : View = strung word to (record v.buckets { hooks = map f v.buckets.hooks }) v in
       let own = own_link in
-      bucket_moved z l s id v w new l.chains h at (record { passes = refl; own = refl; gathered = refl; commit = refl; expected = refl }) has_some refl refl refl
+      bucket_moved z l s id v w new l.chains h at (record { made = record { passes = refl; own = refl; gathered = refl }; commit = refl; expected = refl }) has_some refl refl refl
       (string_rest z s.words word to of.string) (length-set s.words word to)
       (record {
         linked = λ b below.

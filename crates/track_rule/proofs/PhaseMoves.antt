@@ -15,6 +15,7 @@ use Rattle.track_rule.specs.declared.slot.Slot.{Slot}
 use Rattle.track_rule.specs.declared.view.Commit.{Commit}
 use Rattle.track_rule.specs.declared.view.Keep.{Keep}
 use Rattle.track_rule.specs.declared.view.Middle.TheVariants.{Calm}
+use Rattle.track_rule.specs.declared.view.Hand.{Hand}
 use Rattle.track_rule.specs.declared.view.View.{View}
 use Rattle.track_rule.specs.declared.view.Walk.{Walk}
 use Rattle.track_rule.specs.Chains.{hooks_at, loose_of}
@@ -28,7 +29,7 @@ use Rattle.track_rule.specs.Passes.{IsPass}
 use Rattle.track_rule.specs.PhaseSteps.{LoadPhaseStep, LoadsPhase, StorePhaseStep, may_store, phase_stored}
 use Rattle.track_rule.specs.Phases.{ArePhases, middle_of, of_both, of_place, shows, table_keeps}
 use Rattle.track_rule.specs.Readings.{found, noted}
-use Rattle.track_rule.specs.Records.{AreRecords, has_hand, record_in}
+use Rattle.track_rule.specs.Records.{AreRecords, IsHand, has_hand, record_in}
 use Rattle.track_rule.specs.References.{AreKept, AreReferences, held_times, is_at, is_for_new, is_taken, keeps, takes}
 use Rattle.track_rule.specs.Rule.{Holds, IsKept, Ledger}
 use Rattle.track_rule.specs.Sights.{AreOfPool}
@@ -55,14 +56,23 @@ loads_phase slots id p v c below has_some s (l, h) long at range =
     let n : ℕ = slice_index s.words (phase_word z p) in
     let w : View = noted (found (phase_word z p) n) v in
     let one : IsPass z l.log v = h.passes.each id v at in
-    let m : Moves v w = record { passes = refl; own = refl; gathered = refl; commit = refl; expected = refl } in
-    let told : LoadsPhase p v n w = record { view = refl; idle = idle z l s id v h at } in (
+    let m : Moves v w = record { made = record { passes = refl; own = refl; gathered = refl }; commit = refl; expected = refl } in
+    let told : LoadsPhase p v n w = record {
+      view = refl;
+      idle = idle z l s id v h at;
+      hand = λ x has here.
+          let k = h.records.away id v at x has in
+          let same : phase_at z s.words x.place ≡ n = ap (phase_at z s.words) here in (
+            λ some_shown. sym same ∙ k.shown some_shown,
+            λ low. omega (arith, same, k.idle low),
+          );
+    } in (
       w,
       unchanged,
       tt,
       (
         l,
-        reads z l s id (phase_word z p) v w h at m (pass_moved z l.log v w one m has_some one.front one.told) refl refl
+        reads z l s id (phase_word z p) v w h at m (pass_moved z l.log v w one m.made has_some one.front one.told) refl refl
             (same_lines z l s id v w h at refl (λ q. omega arith) refl refl),
       ),
       λ q same. subst (λ (k : ℕ). LoadsPhase k v n w × (c ≡ c)) (one_phase z p q same) (told, refl),
@@ -271,7 +281,18 @@ module _ (l : Ledger) (s : State Slot View) (id p to : ℕ) (v : View) (h : IsKe
         single = λ q. omega (arith, h.records.single q, total_same (has_hand q) s.views id v w at refl);
         home = λ q under calm.
             let r = h.records.home q under (sym (phase_turn z s.words p to q) ∙ calm) in
-            record { slot = r.slot; there = r.there; live = λ live. absurd (omega (arith, live, low_phase q under)) };
+            record { slot = r.slot; there = r.there; kind = r.kind; live = λ live. absurd (omega (arith, live, low_phase q under)) };
+        away = each_put (λ u. (x : Hand) → u.commit.hand ≡ Some x → IsHand z l.log (slice_set s.words (phase_word v.passes.sizes p) to) x) s.views id w
+            (λ i u at' x e. low_hand x (h.records.away i u at' x e)) (λ x e. low_hand x (h.records.away id v at x e));
+      }
+    where
+      -- no phase is LIVE
+      low_hand : (x : Hand) → IsHand v.passes.sizes l.log s.words x → IsHand v.passes.sizes l.log (slice_set s.words (phase_word v.passes.sizes p) to) x
+      low_hand x k = record {
+        below = k.below;
+        shown = λ some. absurd (omega (arith, some, k.shown some, h.phases.low x.place k.below));
+        idle = λ low. omega (arith, low_phase x.place k.below);
+        live = k.live;
       }
 
   stored_phases : ArePhases v.passes.sizes l.log (slice_set s.words (phase_word v.passes.sizes p) to) (set s.views id (phase_stored p to v))
@@ -303,13 +324,13 @@ module _ (l : Ledger) (s : State Slot View) (id p to : ℕ) (v : View) (h : IsKe
       let w : View = phase_stored p to v in
       let new : List ℕ = slice_set s.words (phase_word v.passes.sizes p) to in
       let one : IsPass z l.log v = h.passes.each id v at in
-      let m : Moves v w = record { passes = refl; own = refl; gathered = refl; commit = refl; expected = refl } in
+      let m : Moves v w = record { made = record { passes = refl; own = refl; gathered = refl }; commit = refl; expected = refl } in
       let same : SameChains z s.words new = phase_same z s.words p to in
       let expected : slice_index new 2 ≡ slice_index s.words 2 = phase_first z s.words p to 2 (omega arith) in
       record {
         limits = h.limits;
         count = length-set s.words (phase_word v.passes.sizes p) to ∙ h.count;
-        passes = passes_moved z l.log s.views id v w at m (pass_moved z l.log v w one m has_some one.front one.told) h.passes;
+        passes = passes_moved z l.log s.views id v w at m.made (pass_moved z l.log v w one m.made has_some one.front one.told) h.passes;
         history = record { legal = h.history.legal; word = phase_first z s.words p to 0 (omega arith) ∙ h.history.word };
         references = stored_references;
         free_list = stored_free;

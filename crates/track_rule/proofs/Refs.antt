@@ -79,7 +79,7 @@ counts z l s id p n v w free' h at has_some below t lines taken purposes =
     let ws : List ℕ = s.words in
     let now : refs_at z (slice_set ws (refs_word z p) n) p ≡ n = refs_here z ws p n (omega (arith, h.count, below)) in
     moved z l s id v w (slice_set ws (refs_word z p) n) s.homes free' h at t.moves
-    (pass_moved z l.log v w one t.moves has_some (subst (λ (x : Seen). StartsWith l.log x.front) (sym t.seen) one.front)
+    (pass_moved z l.log v w one t.moves.made has_some (subst (λ (x : Seen). StartsWith l.log x.front) (sym t.seen) one.front)
     (subst (λ (x : Seen). StartsWith l.log x.told) (sym t.seen) one.told))
     (refs_quiet z ws p n) (length-set ws (refs_word z p) n) (λ k other. refl)
     (references_moved z l.log ws (slice_set ws (refs_word z p) n) s.views id v w at (record {
@@ -147,7 +147,7 @@ opening slots id p v c below has_some on room s (l, h) sized at range =
       (
         record l { free = taken_out p (known_free v) },
         counts z l s id p 1 v w (taken_out p (known_free v)) h at has_some below (record {
-          moves = record { passes = refl; own = refl; gathered = refl; commit = refl; expected = refl };
+          moves = record { made = record { passes = refl; own = refl; gathered = refl }; commit = refl; expected = refl };
           seen = refl;
           keeps_here = omega (arith, nobody, same_bit p p refl);
           keeps_else = λ q other. omega (arith, other_bit p q (λ e. other (sym e)));
@@ -233,7 +233,7 @@ module _ (slots id p seen : ℕ) (v : View) (c : List (ℕ × Slot)) (below : p 
       ) in
       let none : times p v.places.carried ≡ 0 = total_none (λ q. q == p) v.places.carried (not-true (is_among p v.places.carried) parts.1) in
       counts v.passes.sizes l s id p (seen + 1) v (raised true p seen v) l.free h at has_some below (record {
-        moves = record { passes = refl; own = refl; gathered = refl; commit = refl; expected = refl };
+        moves = record { made = record { passes = refl; own = refl; gathered = refl }; commit = refl; expected = refl };
         seen = refl;
         keeps_here = omega (arith, hit, same_bit p p refl);
         keeps_else = λ q other. omega (arith, other_bit p q (λ e. other (sym e)));
@@ -255,7 +255,7 @@ module _ (slots id p seen : ℕ) (v : View) (c : List (ℕ × Slot)) (below : p 
       (λ q. omega (arith, h.references.taken q)) (h.references.purposes id v at)
   raised_hit false is room hit =
       counts v.passes.sizes l s id p (seen + 1) v (raised false p seen v) l.free h at has_some below (record {
-        moves = record { passes = refl; own = refl; gathered = refl; commit = refl; expected = refl };
+        moves = record { made = record { passes = refl; own = refl; gathered = refl }; commit = refl; expected = refl };
         seen = refl;
         keeps_here = omega (arith, hit, same_bit p p refl);
         keeps_else = λ q other. omega (arith, other_bit p q (λ e. other (sym e)));
@@ -290,8 +290,8 @@ module _ (slots id p seen : ℕ) (v : View) (c : List (ℕ × Slot)) (below : p 
   read_missed n e =
       let w : View = noted (found (refs_word v.passes.sizes p) n) v in
       let one : IsPass v.passes.sizes l.log v = h.passes.each id v at in
-      let m : Moves v w = record { passes = refl; own = refl; gathered = refl; commit = refl; expected = refl } in
-      reads v.passes.sizes l s id (refs_word v.passes.sizes p) v w h at m (pass_moved v.passes.sizes l.log v w one m has_some one.front one.told) refl refl
+      let m : Moves v w = record { made = record { passes = refl; own = refl; gathered = refl }; commit = refl; expected = refl } in
+      reads v.passes.sizes l s id (refs_word v.passes.sizes p) v w h at m (pass_moved v.passes.sizes l.log v w one m.made has_some one.front one.told) refl refl
       (same_lines v.passes.sizes l s id v w h at refl (λ q. omega arith) refl refl)
 
 pub raising : (slots id p seen : ℕ) (v : View) (c : List (ℕ × Slot)) → p < v.passes.sizes.entries → 0 < v.passes.shares → 0 < seen
@@ -366,7 +366,7 @@ module _ (id p : ℕ) (v : View) (below : p < v.passes.sizes.entries) (has_some 
       let two : 2 ≤ n =
       omega (arith, h.references.counted p below, total_term (keeps p) s.views id v at, some_carried, h.references.carried id v at p) in
       counts v.passes.sizes l s id p (n - 1) v (let_go_of true p n v) l.free h at has_some below (record {
-        moves = record { passes = refl; own = refl; gathered = refl; commit = refl; expected = refl };
+        moves = record { made = record { passes = refl; own = refl; gathered = refl }; commit = refl; expected = refl };
         seen = refl;
         keeps_here = omega (arith, some_left, same_taken p v.places.carried is);
         keeps_else = λ q other. omega (arith, other_taken p q v.places.carried is (λ e. other (sym e)));
@@ -392,7 +392,7 @@ module _ (id p : ℕ) (v : View) (below : p < v.passes.sizes.entries) (has_some 
       let none : times p v.places.carried ≡ 0 = total_none (λ q. q == p) v.places.carried is in
       let less : held_times p (without p v.places.held) + 1 ≡ held_times p v.places.held = same_without p v.places.held held in
       counts v.passes.sizes l s id p (n - 1) v (let_go_of false p n v) l.free h at has_some below (record {
-        moves = record { passes = refl; own = refl; gathered = refl; commit = refl; expected = refl };
+        moves = record { made = record { passes = refl; own = refl; gathered = refl }; commit = refl; expected = refl };
         seen = refl;
         keeps_here = omega (arith, some_left, less);
         keeps_else = λ q other. omega (arith, other_without p q v.places.held held (λ e. other (sym e)));

@@ -1,9 +1,11 @@
 -- A pass stays one at its table.
 use Rattle.std.specs.Prelude.{◌==◌, ◌||◌, not, if◌then◌else◌, is_some, unwrap_or}
-use Rattle.std.proofs.Common.{Bool, false, ◌≡◌, ℕ, ◌<◌, ⊎_elim, true, Option, Some, None, List, [], ◌∷◌, ◌++◌, length, refl, sym, ap, subst, ◌∙◌, arith}
-use Rattle.std.proofs.lemmas.Bool.{cases_Bool, cond_both, eqb-true, false≢true}
+use Rattle.std.proofs.Common.{Bool, false, ◌≡◌, ◌≢◌, ℕ, zero, suc, ◌+◌, ◌<◌, ⊎_elim, true, Option, Some, None, List, [], ◌∷◌, ◌++◌, length, refl, sym, ap, subst, ◌∙◌, arith}
+use Rattle.std.proofs.lemmas.Bool.{cases_Bool, cases_eq, cond_both, eqb-true, false≢true}
 use Rattle.atomic_table.specs.Seated.{TableId}
 use Rattle.atomic_table.specs.Table.{Allows, Me, rest}
+use Rattle.track_rule.proofs.Lists.{other_bit}
+use Rattle.std.proofs.lemmas.Option.{none-some}
 use Rattle.track_rule.specs.Rule.{Holds}
 use Rattle.expect_table.specs.declared.expectation.Expectation.{Expectation}
 use Rattle.room_list.specs.Roomed.{Roomed}
@@ -16,8 +18,11 @@ use Rattle.track_rule.specs.declared.view.Keep.{Keep}
 use Rattle.track_rule.specs.declared.view.Places.{Places}
 use Rattle.track_rule.specs.declared.view.Shares.{Shares}
 use Rattle.track_rule.specs.declared.view.View.{View}
-use Rattle.track_rule.specs.Layout.{IsTable}
+use Rattle.track_rule.specs.Layout.{IsTable, record_slot}
 use Rattle.track_rule.specs.Passes.{HasNothing}
+use Rattle.track_rule.specs.Records.{has_hand, is_hand_of, is_records, slot_of_record}
+use Rattle.track_rule.specs.TurnSteps.{TakesTurn, gave_turn, subject_in}
+use Rattle.history_book.specs.declared.record.Record.{Record}
 use Rattle.track_rule.specs.Sights.{AreHeldBelow, AreOfPool, AreOwedBelow, IsAt, PassSight, sight_at}
 use Rattle.track_rule.specs.Slots.{AllSuit, expected_number, free_at, free_in, free_number, hand_number, list_in, no_list, numbers, numbers_of, slot_of_free, suits}
 use Rattle.track_rule.specs.Free.{is_among, known_free, unlisted}
@@ -181,3 +186,102 @@ list_out me turn there carries suit =
     slot_is : (o p : Option (Roomed ℕ)) → p ≡ o → is_some p ≡ true → slot_of_free o ≡ Free (unwrap_or p no_list)
     slot_is o None e some_there = absurd (false≢true some_there)
     slot_is o (Some list) e some_there = ap slot_of_free (sym e)
+
+-- the slot of a record that is out, where the pass has its turn and not the free list
+pub hand_out : (place : ℕ) (me : Me Slot View) → me.0.free ≡ None → has_hand place me.0 ≡ 1 → numbers me.1 ≡ numbers_of me.0 → AllSuit me.1
+    → (x : Slot) × (me.1 ≡ (record_slot place, x) ∷ rest me.1) × (is_records x ≡ true)
+hand_out place me none mine carries suit = first_out me.0.free me.0.commit.hand me.0.expected me.1 none mine carries suit
+  where
+    record_kind : (k : ℕ) (x : Slot) → k ≡ 2 + place → suits k x ≡ true → is_records x ≡ true
+    record_kind k Vacant e h = refl
+    record_kind k (Subject r) e h = refl
+    record_kind zero (Free list) e h = absurd (omega (arith, e))
+    record_kind (suc zero) (Free list) e h = absurd (false≢true h)
+    record_kind (suc (suc k)) (Free list) e h = absurd (false≢true h)
+    record_kind zero (Expects table) e h = absurd (false≢true h)
+    record_kind (suc zero) (Expects table) e h = absurd (omega (arith, e))
+    record_kind (suc (suc k)) (Expects table) e h = absurd (false≢true h)
+
+    first_out : (free : Option (List ℕ)) (hand : Option Hand) (expected : Option (List Expectation)) (slots : List (ℕ × Slot)) → free ≡ None
+        → is_hand_of place hand ≡ 1 → numbers slots ≡ free_number free ++ hand_number hand ++ expected_number expected → AllSuit slots
+        → (x : Slot) × (slots ≡ (record_slot place, x) ∷ rest slots) × (is_records x ≡ true)
+    first_out (Some free) hand expected slots none mine same suit = absurd (none-some free (sym none))
+    first_out None None expected slots none mine same suit = absurd (omega (arith, mine))
+    first_out None (Some h) expected [] none mine same suit = absurd (omega (arith, ap length same))
+    first_out None (Some h) expected (s ∷ slots) none mine same suit =
+        let here : h.place ≡ place =
+        ⊎_elim (λ (t : h.place ≡ place). t) (λ (t : h.place ≢ place). absurd (omega (arith, mine, other_bit h.place place t))) (cases_eq h.place place) in
+        let number : s.0 ≡ 2 + place = ap first_number same ∙ ap (λ (n : ℕ). 2 + n) here in (
+          s.1,
+          (λ k. (number k, s.1) ∷ slots),
+          record_kind s.0 s.1 number suit.0,
+        )
+
+abbrev tail_of : List ℕ → List ℕ
+tail_of [] = []
+tail_of (n ∷ ns) = ns
+
+-- a pass that took the turn of a record, or missed it, is one at its table
+pub turned_at : (took : Bool) (place : ℕ) (table key-table : TableId) (key sizes : Sizes) (table' : TableId) (me me' : Me Slot View)
+    → IsAt key-table key sizes (sight_at table me) → table' ≡ table → me.0.free ≡ None → me.0.commit.hand ≡ None
+    → TakesTurn took place me.0 me.1 me'.0 me'.1 → IsAt key-table key sizes (sight_at table' me')
+turned_at false place table key-table key sizes table' me me' h there free calm t =
+    stays_at table key-table key sizes table' me me' h there (same_at me.0 me'.0 _ t.view (record { passes = refl; same = refl; pool = λ k. k })) t.out
+turned_at true place table key-table key sizes table' me me' h there free calm t =
+    let passes : me'.0.passes ≡ me.0.passes = ap (λ (v : View). v.passes) t.view in
+    let z : me'.0.passes.sizes ≡ me.0.passes.sizes = ap (λ (s : Shares). s.sizes) passes in
+    let before : numbers_of me.0 ≡ expected_number me.0.expected =
+    λ k. free_number (free k) ++ hand_number (calm k) ++ expected_number me.0.expected in
+    let after : numbers_of me'.0 ≡ (2 + place) ∷ expected_number me.0.expected =
+    ap numbers_of t.view ∙ (λ k. free_number (free k) ++ (2 + place) ∷ [] ++ expected_number me.0.expected) in
+    record {
+      same = there ∙ h.same;
+      key_is = z ∙ h.key_is;
+      sizes_are = h.sizes_are ∙ sym z;
+      right = record {
+        counts = subst (λ (y : Sizes). IsTable y table') (sym z) (subst (IsTable me.0.passes.sizes) (sym there) h.right.counts);
+        limits = subst AreWithinLimits (sym z) h.right.limits;
+        some = omega (arith, h.right.some, ap (λ (s : Shares). s.shares) passes);
+        carries = ap numbers t.out ∙ (λ k. (2 + place) ∷ (h.right.carries ∙ before) k) ∙ sym after;
+        pool = subst (λ (v : View). AreOfPool v.passes.sizes.entries v.places) (sym t.view) h.right.pool;
+        suit = subst AllSuit (sym t.out) (record_suits (subject_in me'.1), h.right.suit);
+      };
+    }
+  where
+    record_suits : (o : Option Record) → suits (record_slot place) (slot_of_record o) ≡ true
+    record_suits None = refl
+    record_suits (Some r) =
+        let two : 2 + place ≡ suc (suc place) = omega arith in
+        ap (λ (k : ℕ). suits k (Subject r)) two
+
+-- and so is one that gave it back
+pub turned_back : (place : ℕ) (table key-table : TableId) (key sizes : Sizes) (table' : TableId) (me me' : Me Slot View)
+    → IsAt key-table key sizes (sight_at table me) → table' ≡ table → me.0.free ≡ None → has_hand place me.0 ≡ 1
+    → me'.0 ≡ gave_turn place me.0 → me'.1 ≡ rest me.1 → IsAt key-table key sizes (sight_at table' me')
+turned_back place table key-table key sizes table' me me' h there free mine view slots =
+    let passes : me'.0.passes ≡ me.0.passes = ap (λ (v : View). v.passes) view in
+    let z : me'.0.passes.sizes ≡ me.0.passes.sizes = ap (λ (s : Shares). s.sizes) passes in
+    let out = hand_out place me free mine h.right.carries h.right.suit in
+    let left : numbers (rest me.1) ≡ expected_number me.0.expected =
+    sym (ap (λ (d : List (ℕ × Slot)). tail_of (numbers d)) out.1) ∙ ap tail_of h.right.carries ∙ hand_first me.0.free me.0.commit.hand free mine in
+    let after : numbers_of me'.0 ≡ expected_number me.0.expected =
+    ap numbers_of view ∙ (λ k. free_number (free k) ++ [] ++ expected_number me.0.expected) in
+    record {
+      same = there ∙ h.same;
+      key_is = z ∙ h.key_is;
+      sizes_are = h.sizes_are ∙ sym z;
+      right = record {
+        counts = subst (λ (y : Sizes). IsTable y table') (sym z) (subst (IsTable me.0.passes.sizes) (sym there) h.right.counts);
+        limits = subst AreWithinLimits (sym z) h.right.limits;
+        some = omega (arith, h.right.some, ap (λ (s : Shares). s.shares) passes);
+        carries = ap numbers slots ∙ left ∙ sym after;
+        pool = subst (λ (v : View). AreOfPool v.passes.sizes.entries v.places) (sym view) h.right.pool;
+        suit = subst AllSuit (sym slots) (subst AllSuit out.1 h.right.suit).1;
+      };
+    }
+  where
+    hand_first : (free : Option (List ℕ)) (hand : Option Hand) → free ≡ None → is_hand_of place hand ≡ 1
+        → tail_of (free_number free ++ hand_number hand ++ expected_number me.0.expected) ≡ expected_number me.0.expected
+    hand_first (Some list) hand none e = absurd (none-some list (sym none))
+    hand_first None None none e = absurd (omega (arith, e))
+    hand_first None (Some x) none e = refl

@@ -17,6 +17,7 @@ use Rattle.history_book.specs.Sizes.{AreWithinLimits}
 use Rattle.room_list.specs.Roomed.{Roomed}
 use Rattle.track_rule.specs.declared.slot.Slot.{Slot}
 use Rattle.track_rule.specs.declared.slot.Slot.TheVariants.{Vacant, Free, Expects}
+use Rattle.track_rule.specs.declared.view.Hand.{Hand}
 use Rattle.track_rule.specs.declared.view.View.{View}
 use Rattle.track_rule.specs.Layout.{gen_word, head_word, next_word, phase_at, phase_word, place_of, refs_word, turn_word, word_count}
 use Rattle.track_rule.specs.Opening.{IsWhole, first_slots}
@@ -28,6 +29,7 @@ use Rattle.track_rule.specs.Walks.{IsWalk}
 use Rattle.track_rule.specs.declared.view.Middle.TheVariants.{Calm}
 use Rattle.track_rule.specs.declared.view.Walk.{Walk}
 use Rattle.track_rule.specs.References.{AreKept, held_times}
+use Rattle.track_rule.specs.Records.{IsHand}
 use Rattle.track_rule.specs.Rule.{Holds, Ledger, first_view}
 use Rattle.track_rule.specs.Sums.{Each, times, total}
 
@@ -126,8 +128,10 @@ starts z list table limits whole nothing room =
           home = λ p below calm. record {
             slot = Vacant;
             there = record_vacant z.entries p (Free list) (Expects table) below;
+            kind = refl;
             live = λ shown. absurd (omega (arith, shown, word (phase_word z p)));
           };
+          away = one_view z (λ v. (x : Hand) → v.commit.hand ≡ Some x → IsHand z [] ws x) (λ x e. absurd (none-some x e));
         };
         phases = record {
           shown = λ p id below. omega (arith, ap (total (of_both p id)) no_records, ap (λ (ph : ℕ). shows ph id) (word (phase_word z p)), no_show id);

@@ -52,11 +52,11 @@ module _ (l : Ledger) (s : State Slot View) (id : ℕ) (v : View) (h : IsKept v.
   took list same calm free =
       let w : View = with_turn list.items v in
       let p : IsPass v.passes.sizes l.log v = h.passes.each id v at in
-      let m : Moves v w = record { passes = refl; own = refl; gathered = refl; commit = refl; expected = refl } in
+      let m : Moves v w = record { made = record { passes = refl; own = refl; gathered = refl }; commit = refl; expected = refl } in
       let now : slice_index (slice_set s.words 1 1) 1 ≡ 1 = get_or-set_same s.words 1 1 0 long in
       let before : has_turn v ≡ 0 = ap turn_of calm in
       moved v.passes.sizes l s id v w (slice_set s.words 1 1) (slice_set s.homes 0 none) l.free h at m
-      (pass_moved v.passes.sizes l.log v w p m has_some p.front p.told) (turn_quiet v.passes.sizes s.words 1) (length-set s.words 1 1)
+      (pass_moved v.passes.sizes l.log v w p m.made has_some p.front p.told) (turn_quiet v.passes.sizes s.words 1) (length-set s.words 1 1)
       (λ k other. set_else s.homes 0 k none other)
       (references_left v.passes.sizes l.log s.words (slice_set s.words 1 1) s.views id v w at refl refl (turn_refs v.passes.sizes s.words 1)
       (turn_phase v.passes.sizes s.words 1) h.references)
@@ -107,8 +107,8 @@ module _ (l : Ledger) (s : State Slot View) (id : ℕ) (v : View) (h : IsKept v.
   missed other =
       let w : View = noted (found 1 1) v in
       let p : IsPass v.passes.sizes l.log v = h.passes.each id v at in
-      let m : Moves v w = record { passes = refl; own = refl; gathered = refl; commit = refl; expected = refl } in
-      reads v.passes.sizes l s id 1 v w h at m (pass_moved v.passes.sizes l.log v w p m has_some p.front p.told) refl refl
+      let m : Moves v w = record { made = record { passes = refl; own = refl; gathered = refl }; commit = refl; expected = refl } in
+      reads v.passes.sizes l s id 1 v w h at m (pass_moved v.passes.sizes l.log v w p m.made has_some p.front p.told) refl refl
       (same_lines v.passes.sizes l s id v w h at refl (λ q. omega arith) refl refl)
 
   -- giving it back with this list
@@ -118,12 +118,12 @@ module _ (l : Ledger) (s : State Slot View) (id : ℕ) (v : View) (h : IsKept v.
   gave list free has can homes =
       let w : View = gave_free list.items v in
       let p : IsPass v.passes.sizes l.log v = h.passes.each id v at in
-      let m : Moves v w = record { passes = refl; own = refl; gathered = refl; commit = refl; expected = refl } in
+      let m : Moves v w = record { made = record { passes = refl; own = refl; gathered = refl }; commit = refl; expected = refl } in
       let now : slice_index (slice_set s.words 1 0) 1 ≡ 0 = get_or-set_same s.words 1 0 0 long in
       let mine : has_turn v ≡ 1 = ap turn_of has in
       let known : known_free v ≡ l.free = ap (λ (o : Option (List ℕ)). unwrap_or o []) has ∙ h.free_list.away id v at free has in
       moved v.passes.sizes l s id v w (slice_set s.words 1 0) (slice_set s.homes 0 (some (Free list))) list.items h at m
-      (pass_moved v.passes.sizes l.log v w p m has_some p.front p.told) (turn_quiet v.passes.sizes s.words 0) (length-set s.words 1 0)
+      (pass_moved v.passes.sizes l.log v w p m.made has_some p.front p.told) (turn_quiet v.passes.sizes s.words 0) (length-set s.words 1 0)
       (λ k other. set_else s.homes 0 k (some (Free list)) other)
       (references_left v.passes.sizes l.log s.words (slice_set s.words 1 0) s.views id v w at refl refl (turn_refs v.passes.sizes s.words 0)
       (turn_phase v.passes.sizes s.words 0) h.references)

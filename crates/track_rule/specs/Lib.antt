@@ -18,6 +18,7 @@ pub mod Sights
 pub mod Steps
 pub mod Shares
 pub mod PhaseSteps
+pub mod TurnSteps
 pub mod Notes
 pub mod BucketSteps
 pub mod Laws

@@ -1,7 +1,8 @@
 -- What the steps on a phase tell a pass: v is what it knew before, w what it knows after.
-use Rattle.std.specs.Prelude.{◌≡◌, ℕ, ◌+◌, ◌<◌, ◌==◌, ◌&&◌, ◌||◌, Bool, if◌then◌else◌, ◌∷◌}
+use Rattle.std.specs.Prelude.{◌≡◌, ℕ, ◌+◌, ◌<◌, ◌≤◌, ◌==◌, ◌&&◌, ◌||◌, Bool, if◌then◌else◌, Some, ◌∷◌}
 use Rattle.atomic_table.specs.Table.{Me, Step}
 use Rattle.track_rule.specs.declared.slot.Slot.{Slot}
+use Rattle.track_rule.specs.declared.view.Hand.{Hand}
 use Rattle.track_rule.specs.declared.view.View.{View}
 use Rattle.track_rule.specs.Free.{is_among, known_free}
 use Rattle.track_rule.specs.Layout.{phase_word}
@@ -21,9 +22,11 @@ abbrev pub may_store : ℕ → ℕ → View → Bool
 may_store place to v = (to == phase_free && is_among place v.places.owed) || (to == phase_owned && is_taken place v.places.held)
 
 -- A load: a place of the free list under the pass's own turn is FREE, and so is one whose phase the pass has set to that.
+-- Under the turn of the place's record it is the one that the pass knows, where that is LIVE, and else none such.
 pub record LoadsPhase (place : ℕ) (v : View) (n : ℕ) (w : View) : Type 0 where
   pub view : w ≡ noted (found (phase_word v.passes.sizes place) n) v
   pub idle : 0 < times place (known_free v) + times place v.places.clear → n ≡ phase_free
+  pub hand : (h : Hand) → v.commit.hand ≡ Some h → h.place ≡ place → (2 < h.phase → n ≡ h.phase) × (h.phase ≤ 2 → n ≤ 2)
 
 -- the pass has stored it, and where it is FREE the place may be given to the free list
 abbrev pub phase_stored : ℕ → ℕ → View → View

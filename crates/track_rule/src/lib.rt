@@ -12,6 +12,7 @@ pub mod pass;
 pub mod place_phase;
 pub mod plays;
 pub mod pool;
+pub mod record_turn;
 pub mod rule;
 pub mod slot;
 #[cfg(test)]

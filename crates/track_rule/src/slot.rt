@@ -1,6 +1,7 @@
 //! What lies in a slot of the table.
 
 ghost use Rattle.std.specs.Prelude.{◌≡◌};
+ghost use Rattle.track_rule.specs.Records.{record_in, slot_of_record};
 ghost use Rattle.track_rule.specs.Slots.{free_in, slot_of_free};
 
 use crate::free_list::FreeList;
@@ -33,5 +34,25 @@ pub fn free_of(slot: Slot) -> Option<FreeList>
     match slot {
         Slot::Free(list) => Some(list),
         Slot::Vacant | Slot::Expects(_) | Slot::Subject(_) => None,
+    }
+}
+
+/// The slot with this record, or with none.
+pub fn with_subject(subject: Option<Record>) -> Slot
+    ensures { result ≡ slot_of_record subject }
+{
+    match subject {
+        Some(subject) => Slot::Subject(subject),
+        None => Slot::Vacant,
+    }
+}
+
+/// The record that lay in a slot.
+pub fn subject_of(slot: Slot) -> Option<Record>
+    ensures { result ≡ record_in slot }
+{
+    match slot {
+        Slot::Subject(subject) => Some(subject),
+        Slot::Vacant | Slot::Free(_) | Slot::Expects(_) => None,
     }
 }

@@ -1,0 +1,13 @@
+use Rattle.std.proofs.Common.{◌≡◌, None, subst, sym}
+use Rattle.track_rule.specs.Records.{has_hand}
+use Rattle.track_rule.specs.Sights.{PassSight}
+use Rattle.track_rule.proofs.Seats.{hand_out}
+use Rattle.track_rule.proofs.pass.Pass.record_swap.Goals as goal
+
+pub exchange-requires : goal.exchange-requires
+exchange-requires c =
+    let p = c.self.inside in
+    let h = c.self.invariant in
+    let free : p.seat.me.0.free ≡ None = subst (λ (x : PassSight). x.view.free ≡ None) (sym c.self.view_is) c.requires.free in
+    let turn : has_hand c.args.place p.seat.me.0 ≡ 1 = subst (λ (x : PassSight). has_hand c.args.place x.view ≡ 1) (sym c.self.view_is) c.requires.turn in
+    let out = hand_out c.args.place p.seat.me free turn h.right.carries h.right.suit in (h.same, (out.0, out.1))
