@@ -29,6 +29,7 @@ use Rattle.track_rule.specs.Links.{HasHooks, hooks_of}
 use Rattle.track_rule.specs.Phases.{of_place, table_keeps}
 use Rattle.track_rule.specs.Passes.{ArePasses, IsPass, has_share, made_weight, shares_of}
 use Rattle.track_rule.specs.References.{AreKept, AreReferences, held_times, is_at, is_for_new, keeps, takes}
+use Rattle.track_rule.specs.Readings.{AreRead}
 use Rattle.track_rule.specs.Rule.{IsKept, Ledger}
 use Rattle.track_rule.specs.Sums.{Each, bit, times, total}
 use Rattle.track_rule.specs.Walks.{IsWalk}
@@ -121,9 +122,9 @@ passes_moved z log vs i v w at m p h = record {
 pub moved : (z : Sizes) (l : Ledger) (s : State Slot View) (id : ℕ) (v w : View) (ws' : List ℕ) (hs' : List (Slotted Slot)) (free' : List ℕ)
     → IsKept z l s → get_elem? s.views id ≡ some v → Moves v w → IsPass z l.log w
     → Quiet z s.words ws' → length ws' ≡ length s.words → Stays s.homes hs'
-    → AreReferences z l.log ws' (set s.views id w) → IsFreeList z ws' hs' (set s.views id w) free' → Lines z l s id v w
+    → AreReferences z l.log ws' (set s.views id w) → IsFreeList z ws' hs' (set s.views id w) free' → Lines z l s id v w → AreRead z ws' (set s.views id w)
     → IsKept z (record l { free = free' }) (record { words = ws'; homes = hs'; views = set s.views id w })
-moved z l s id v w ws' hs' free' h at m p quiet long homes references free_list lines =
+moved z l s id v w ws' hs' free' h at m p quiet long homes references free_list lines readings =
     let same : SameChains z s.words ws' = quiet_chains z s.words ws' quiet in
     kept z l s ws' hs' (set s.views id w) free' l.chains h (quiet_still z s.words ws' quiet) long homes
     (record {
@@ -142,7 +143,7 @@ moved z l s id v w ws' hs' free' h at m p quiet long homes references free_list 
       each = each_put (λ (u : View). (n : Walk) → u.walk ≡ Some n → IsWalk z ws' l.chains u.seen.front n) s.views id w
           (λ i u at' n e. walk_stays z s.words ws' same l.chains u.seen.front n (h.walks.each i u at' n e))
           (λ n e. walk_stays z s.words ws' same l.chains w.seen.front n (lines.walk n e));
-    })
+    }) readings
 
 -- what a step does to the references: a balance for each place
 pub record RefsStep (z : Sizes) (log : List Event) (ws ws' : List ℕ) (vs : List View) (v w : View) : Type 0 where

@@ -43,7 +43,8 @@ note_read z l s id i v walk h at has_some is_walk =
     let one : IsPass z l.log v = h.passes.each id v at in
     let m : Moves v w = record { made = record { passes = refl; own = refl; gathered = refl }; commit = refl; expected = refl } in
     reads z l s id i v w h at m (pass_moved z l.log v w one m.made has_some one.front one.told) refl refl
-    (bucket_lines z l s id v w h at refl (λ q. omega arith) is_walk)
+    (bucket_lines z l s id v w h at refl (λ q. omega arith) is_walk) has_some
+    (record { reading = found i (slice_index s.words i); more = refl; word = refl; value = refl })
 
 -- a load of a generation
 pub loads_gen : (slots id b : ℕ) (v : View) (c : List (ℕ × Slot)) → b < v.passes.sizes.buckets → 0 < v.passes.shares
@@ -58,8 +59,9 @@ loads_gen slots id b v c below has_some s (l, h) long at range =
       walk = note_of b n v.walk;
       last = h.links.gens b below;
       shut = λ any. omega (arith, any, h.chains.gens b below, total_term (shuts_of b) s.views id v at, half n);
+      sole = λ one. h.readings one id v at has_some (gen_word z b);
       others = λ odd mine.
-          others_there z l s id v h at (shuts_of b) (λ u k. ap (λ (xs : List Shut). total (λ (x : Shut). bit (x.bucket == b)) xs) k.shut)
+          others_there l s id v h at has_some (shuts_of b) (λ u k. ap (λ (xs : List Shut). total (λ (x : Shut). bit (x.bucket == b)) xs) k.shut)
           (omega (arith, odd, mine, h.chains.gens b below));
       least = λ m e here. let k = h.walks.each id v at m e in omega (arith, k.least, ap (gen_at z s.words) here);
       again = λ m e k even.
@@ -143,6 +145,7 @@ loads_link slots id word v c is has_some s (l, h) long at range =
         record {
           view = refl;
           link = link_low z l s word h is;
+          sole = λ one. h.readings one id v at has_some word;
           next = λ b passed rest below k there.
               ap (slice_index s.words) there ∙ chain_first z s.words b (slice_index s.words (end_word z b passed)) rest (chain_rest z l s h id v at b passed rest below k);
           up = λ b x below mine up placed.
@@ -180,6 +183,7 @@ loads_tuple slots id word v c has_some s (l, h) long at range =
       (
         record {
           view = refl;
+          sole = λ one. h.readings one id v at has_some word;
           first = λ b passed e rest below k there. ap (slice_index s.words) there ∙ (chain_rest z l s h id v at b passed (e ∷ rest) below k).1.first;
           second = λ b passed e rest below k there. ap (slice_index s.words) there ∙ (chain_rest z l s h id v at b passed (e ∷ rest) below k).1.second;
           own_first = λ x any there.

@@ -32,6 +32,9 @@ use Rattle.track_rule.specs.Rule.{Holds, IsKept, Ledger}
 use Rattle.track_rule.specs.Sums.{Each, bit, times, total}
 use Rattle.track_rule.specs.Walks.{AreWalks, IsWalk}
 use Rattle.track_rule.proofs.Balance.{Moves, free_left, pass_moved, passes_moved, references_left}
+use Rattle.track_rule.specs.Readings.{AreRead}
+use Rattle.track_rule.proofs.Loads.{others_there}
+use Rattle.track_rule.proofs.LastRead.{ReadsAt, stored_on}
 use Rattle.track_rule.proofs.BucketLoads.{note_read, one_gen}
 use Rattle.track_rule.proofs.Carried.{carries_set}
 use Rattle.track_rule.proofs.ChainLists.{chain_of}
@@ -49,9 +52,9 @@ pub record SameRest (z : Sizes) (ws ws' : List ℕ) : Type 0 where
 pub bucket_moved : (z : Sizes) (l : Ledger) (s : State Slot View) (id : ℕ) (v w : View) (ws' : List ℕ) (chains' : ℕ → List Entry)
     → IsKept z l s → get_elem? s.views id ≡ some v → Moves v w → 0 < v.passes.shares → w.seen ≡ v.seen → w.places ≡ v.places → w.free ≡ v.free
     → SameRest z s.words ws' → length ws' ≡ length s.words
-    → AreChains z l.log ws' (set s.views id w) chains' → AreLinks z ws' (set s.views id w) → AreWalks z ws' (set s.views id w) chains'
+    → AreChains z l.log ws' (set s.views id w) chains' → AreLinks z ws' (set s.views id w) → AreWalks z ws' (set s.views id w) chains' → AreRead z ws' (set s.views id w)
     → IsKept z (record l { chains = chains' }) (record { words = ws'; homes = s.homes; views = set s.views id w })
-bucket_moved z l s id v w ws' chains' h at m has_some seen places free rest long chains links walks =
+bucket_moved z l s id v w ws' chains' h at m has_some seen places free rest long chains links walks readings =
     let one : IsPass z l.log v = h.passes.each id v at in
     kept z l s ws' s.homes (set s.views id w) l.free chains' h rest.still long (λ k other. refl)
     (record {
@@ -64,7 +67,7 @@ bucket_moved z l s id v w ws' chains' h at m has_some seen places free rest long
     (references_left z l.log s.words ws' s.views id v w at (ap (λ (x : Places). x.held) places) (ap (λ (x : Places). x.carried) places) rest.refs
     rest.still.phases h.references)
     (free_left z s.words ws' s.homes s.homes s.views id v w l.free at places free rest.refs rest.still.phases rest.free refl h.free_list)
-    chains links walks
+    chains links walks readings
 
 -- one generation changes
 module _ (z : Sizes) (ws : List ℕ) (b n : ℕ) (below : b < z.buckets) where
@@ -157,8 +160,9 @@ module _ (l : Ledger) (s : State Slot View) (id b : ℕ) (v : View) (h : IsKept 
       → ((c : ℕ) → c ≢ b → shuts_of c w ≡ shuts_of c v)
       → ((c : ℕ) → c < v.passes.sizes.buckets → 0 < shuts_of c w → chain_in c w.buckets.shut ≡ l.chains c)
       → ((m : Walk) → m.generation ≤ gen_at v.passes.sizes s.words b → n ≡ m.generation → m.generation % 2 ≡ 0 → ⊥)
+      → ReadsAt (gen_word v.passes.sizes b) n v w
       → IsKept v.passes.sizes l (record { words = slice_set s.words (gen_word v.passes.sizes b) n; homes = s.homes; views = set s.views id w })
-  regen n w m seen places free hooks walk more low parity others mine never =
+  regen n w m seen places free hooks walk more low parity others mine never read =
       let z : Sizes = v.passes.sizes in
       let new : List ℕ = slice_set s.words (gen_word z b) n in
       let here : gen_at z new b ≡ n = gen_here z s.words b n below long in
@@ -212,6 +216,7 @@ module _ (l : Ledger) (s : State Slot View) (id b : ℕ) (v : View) (h : IsKept 
             (subst (λ (x : Seen). (m : Walk) → v.walk ≡ Some m → IsWalk z new l.chains x.front m) (sym seen)
             (λ m e. raised m v.seen.front (h.walks.each id v at m e))));
       })
+      (stored_on z l.log s.words s.views id (gen_word z b) n v w h.passes at has_some long read h.readings)
     where
       raised : (m : Walk) (front : List Event) → IsWalk v.passes.sizes s.words l.chains front m
           → IsWalk v.passes.sizes (slice_set s.words (gen_word v.passes.sizes b) n) l.chains front m
@@ -239,6 +244,7 @@ module _ (l : Ledger) (s : State Slot View) (id b : ℕ) (v : View) (h : IsKept 
       (λ e. ap l.chains (eqb-true b c e))
       (λ e. h.chains.mine c under id v at (omega (arith, any, ap bit e))))
       (λ m least same even_half. omega (arith, same, even_half, half))
+      (record { reading = stored (gen_word v.passes.sizes b) (even + 1); more = refl; word = refl; value = refl })
 
   shuts_told : (even : ℕ) → gen_at v.passes.sizes s.words b ≡ even → even % 2 ≡ 0
       → ShutsGen b even v (noted (stored (gen_word v.passes.sizes b) (even + 1)) (record v { buckets = shut_now b (l.chains b) v.buckets }))
@@ -249,6 +255,7 @@ module _ (l : Ledger) (s : State Slot View) (id b : ℕ) (v : View) (h : IsKept 
         view = ap (λ (es : List Entry). noted (stored (gen_word v.passes.sizes b) (even + 1)) (record v { buckets = shut_now b es v.buckets })) (sym own);
         chain = subst (IsChainOf v.passes.sizes b) (sym own) (chain_of v.passes.sizes l.log s.words s.views l.chains h.chains b below);
         before = none_shut even hit half;
+        sole = λ one. sym hit ∙ h.readings one id v at has_some (gen_word v.passes.sizes b);
       }
 
   -- an odd one becomes even
@@ -279,7 +286,7 @@ module _ (l : Ledger) (s : State Slot View) (id b : ℕ) (v : View) (h : IsKept 
       (λ (e : c ≡ b). absurd (omega (arith, more, less, once.1, ap (λ (k : ℕ). total (λ (x : Shut). bit (x.bucket == k)) (opened_of b v.buckets.shut)) e)))
       (λ (e : c ≢ b). chain_else b c e v.buckets.shut ∙ h.chains.mine c under id v at (omega (arith, more, opened_else b c e v.buckets.shut)))
       (cases_eq c b))
-      (λ m least same even. omega (arith, least, same))
+      (λ m least same even. omega (arith, least, same)) (record { reading = stored (gen_word v.passes.sizes b) (n + 1); more = refl; word = refl; value = refl })
 
 -- shutting a bucket keeps the rule
 pub shutting : (slots id b even : ℕ) (v : View) (c : List (ℕ × Slot)) → b < v.passes.sizes.buckets → 0 < v.passes.shares → even % 2 ≡ 0 → even < last_gen
@@ -308,7 +315,15 @@ shutting slots id b even v c below has_some half low s (l, h) long at range =
       (l, note_read z l s id (gen_word z b) v v.walk h at has_some (h.walks.each id v at)),
       λ a same. subst (λ (k : ℕ). ShutsOrMisses (n == even) k even v n w × (c ≡ c)) (one_gen z b a same) (
         subst (λ (t : Bool). ShutsOrMisses t b even v n w) (sym (ne_eqb n even miss))
-            (record { view = refl; other = ne_eqb n even miss; last = h.links.gens b below }),
+            (record {
+              view = refl;
+              other = ne_eqb n even miss;
+              last = h.links.gens b below;
+              others = λ odd mine.
+                  others_there l s id v h at has_some (shuts_of b) (λ u k. ap (λ (xs : List Shut). total (λ (x : Shut). bit (x.bucket == b)) xs) k.shut)
+                  (omega (arith, odd, mine, h.chains.gens b below));
+              sole = λ one. h.readings one id v at has_some (gen_word z b);
+            }),
         refl,
       ),
     ))
@@ -326,6 +341,7 @@ opening_gen slots id b v c below has_some any s (l, h) long at range =
     let told : OpensGen b v w = record {
       generation = n;
       odd = once.0;
+      sole = λ one. h.readings one id v at has_some (gen_word z b);
       view = refl;
       after = omega (arith, once.1, opened_less b v.buckets.shut any);
       others = λ a other. (opened_else b a other v.buckets.shut, chain_else b a other v.buckets.shut);

@@ -22,9 +22,11 @@ use Rattle.track_rule.specs.Chains.{IsChain, IsLinked, IsOrdered, bucket_of, cha
 use Rattle.track_rule.specs.History.{records_after}
 use Rattle.track_rule.specs.Layout.{first_word, gen_at, head_word, next_word, place_of, second_word, side_of}
 use Rattle.track_rule.specs.Links.{HasHooks, IsHook, hook_of, hooks_of, is_down, is_raised, last_link}
+use Rattle.track_rule.specs.Readings.{stored}
 use Rattle.track_rule.specs.Rule.{Holds, IsKept, Ledger}
 use Rattle.track_rule.specs.Sums.{Each, bit, total}
 use Rattle.track_rule.specs.Walks.{HasLive, IsWalk, Stands, rev_onto}
+use Rattle.track_rule.proofs.LastRead.{stored_on}
 use Rattle.track_rule.proofs.BucketMoves.{bucket_moved}
 use Rattle.track_rule.proofs.ChainLists.{alone, chain_each, chain_first, total_rev, unlinked}
 use Rattle.track_rule.proofs.ChainWords.{IsPassed, IsString, SameAt, bucket_there, chain_join, chain_local, chain_split, each_other_link, first_head, first_next, next_head, one_head, one_next, passed_kept, second_head, second_next, string_gens, string_head, string_next, string_rest, word_else, word_here}
@@ -185,6 +187,7 @@ module _ (l : Ledger) (s : State Slot View) (id b : ℕ) (v : View) (h : IsKept 
               (λ j u apart at' m e. walk_kept m u.seen.front (h.walks.each j u at' m e))
               (λ m e. walk_kept m v.seen.front (h.walks.each id v at m e));
         })
+        (stored_on z l.log s.words s.views id word to v w h.passes at has_some t.long (record { reading = stored word to; more = refl; word = refl; value = refl }) h.readings)
 
 -- a link is put in at the head
 module _ (l : Ledger) (s : State Slot View) (id b x : ℕ) (v : View) (h : IsKept v.passes.sizes l s) (at : get_elem? s.views id ≡ some v)

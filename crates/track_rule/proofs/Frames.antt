@@ -25,6 +25,7 @@ use Rattle.track_rule.specs.History.{IsHistory, records_after, state_after}
 use Rattle.track_rule.specs.Layout.{first_word, gen_at, gen_word, head_word, next_word, phase_at, phase_word, place_of, record_slot, refs_word, second_word, turn_at, turn_word}
 use Rattle.track_rule.specs.Passes.{ArePasses}
 use Rattle.track_rule.specs.Phases.{ArePhases, middle_of, middle_weight, of_both, of_place, shows, table_keeps}
+use Rattle.track_rule.specs.Readings.{AreRead}
 use Rattle.track_rule.specs.Records.{AreRecords, IsHand, has_hand, is_hand_of, record_in}
 use Rattle.track_rule.specs.References.{AreReferences}
 use Rattle.track_rule.specs.Free.{IsFreeList}
@@ -229,9 +230,9 @@ module _ (z : Sizes) (ws ws' : List ℕ) (same : SameChains z ws ws') where
 pub kept : (z : Sizes) (l : Ledger) (s : State Slot View) (ws' : List ℕ) (hs' : List (Slotted Slot)) (vs' : List View) (free' : List ℕ) (chains' : ℕ → List Entry)
     → IsKept z l s → Still z s.words ws' → length ws' ≡ length s.words → Stays s.homes hs' → Leaves s.views vs'
     → ArePasses z l.log vs' → AreReferences z l.log ws' vs' → IsFreeList z ws' hs' vs' free'
-    → AreChains z l.log ws' vs' chains' → AreLinks z ws' vs' → AreWalks z ws' vs' chains'
+    → AreChains z l.log ws' vs' chains' → AreLinks z ws' vs' → AreWalks z ws' vs' chains' → AreRead z ws' vs'
     → IsKept z (record l { free = free'; chains = chains' }) (record { words = ws'; homes = hs'; views = vs' })
-kept z l s ws' hs' vs' free' chains' h still long homes leaves passes references free_list chains links walks = record {
+kept z l s ws' hs' vs' free' chains' h still long homes leaves passes references free_list chains links walks readings = record {
   limits = h.limits;
   count = long ∙ h.count;
   passes = passes;
@@ -243,5 +244,6 @@ kept z l s ws' hs' vs' free' chains' h still long homes leaves passes references
   chains = chains;
   links = links;
   walks = walks;
+  readings = readings;
   expected = expected_stay z s.words ws' still l.log s.homes hs' s.views vs' homes leaves h.expected;
 }

@@ -1,7 +1,9 @@
 -- Shares are handed over, a pass takes in another one, the first pass begins, and the last one ends.
 use Rattle.std.specs.Prelude.{slice_get, slice_index, nat_le, nat_lt, ◌&&◌, if◌then◌else◌}
 use Rattle.std.proofs.Common.{◌≡◌, ℕ, ◌+◌, ◌-◌, ◌^◌, ◌<◌, ◌≤◌, true, Option, Some, None, List, [], ◌∷◌, ◌++◌, length, refl, sym, ap, subst, ◌∙◌, arith, set, length-append}
+use Rattle.std.proofs.lemmas.Bool.{cond_both}
 use Rattle.std.proofs.lemmas.Bool.Decides.{nat_tests}
+use Rattle.history_book.specs.Point.{StartsWith}
 use Rattle.history_book.specs.History.{is_legal}
 use Rattle.std.proofs.lemmas.List.Elements.{All-append}
 use Rattle.std.proofs.lemmas.Option.{none-some}
@@ -26,8 +28,9 @@ use Rattle.track_rule.specs.Links.{HasHooks, hooks_of}
 use Rattle.track_rule.specs.Passes.{ArePasses, HasNothing, IsPass, IsSpent, has_share, made_weight, no_places, shares_of}
 use Rattle.track_rule.specs.References.{AreKept, AreReferences, held_times, is_at, is_for_new, keeps}
 use Rattle.track_rule.specs.Phases.{table_keeps}
+use Rattle.track_rule.specs.Readings.{AreRead}
 use Rattle.track_rule.specs.Rule.{Holds, IsKept, Ledger}
-use Rattle.track_rule.specs.Shares.{IsLast, further, joined, shares_left, spent_view}
+use Rattle.track_rule.specs.Shares.{IsLast, further, joined, longer, shares_left, spent_view}
 use Rattle.track_rule.specs.Sums.{Each, bit, times, total}
 use Rattle.track_rule.specs.Walks.{IsWalk}
 use Rattle.track_rule.proofs.Carried.{Carries, carries_cut, carries_join}
@@ -71,8 +74,9 @@ handed : (z : Sizes) (l : Ledger) (s : State Slot View) (vs' : List View) → Is
     → Carries (λ (v : View). v.places) no_places s.views vs' → Carries (λ (v : View). v.free) None s.views vs'
     → Carries {X = Places × HeldBuckets} (λ (v : View). (v.places, v.buckets)) (no_places, no_buckets) s.views vs'
     → ((P : List Event → Option Walk → Type 0) → ((front : List Event) → P front None) → Each (λ v. P v.seen.front v.walk) s.views → Each (λ v. P v.seen.front v.walk) vs')
+    → AreRead z s.words vs'
     → IsKept z l (record { words = s.words; homes = s.homes; views = vs' })
-handed z l s vs' h passes leaves places free buckets walk =
+handed z l s vs' h passes leaves places free buckets walk readings =
     let quiet : Quiet z s.words s.words = λ k a b. refl in
     let same : SameChains z s.words s.words = quiet_chains z s.words s.words quiet in
     let shut : Carries (λ (v : View). v.buckets.shut) [] s.views vs' = record {
@@ -87,7 +91,7 @@ handed z l s vs' h passes leaves places free buckets walk =
     (λ link some. omega (arith, h.chains.lone link some, buckets.sums (λ (x : Places × HeldBuckets). hooks_of link x.1.hooks) refl)) h.chains)
     (links_stay z s.words s.words same s.views vs'
     (buckets.each (λ (x : Places × HeldBuckets). HasHooks z s.words x.0.held x.1.hooks) (no_hooks z s.words) h.links.hooks) h.links)
-    (record { each = walk (λ front o. (n : Walk) → o ≡ Some n → IsWalk z s.words l.chains front n) (λ front n e. absurd (none-some n e)) h.walks.each })
+    (record { each = walk (λ front o. (n : Walk) → o ≡ Some n → IsWalk z s.words l.chains front n) (λ front n e. absurd (none-some n e)) h.walks.each }) readings
   where
     no_hooks : (z : Sizes) (ws : List ℕ) → HasHooks z ws [] []
     no_hooks z ws = record { each = λ i h at. absurd (some-ne-none h (sym at)); owned = λ link any. absurd (omega (arith, any)) }
@@ -166,15 +170,23 @@ splits z id shares v has_some fewer s (l, h) at =
           (carries_cut (λ (u : View). u.free) None s.views id v left right at refl refl)
           (carries_cut {X = Places × HeldBuckets} (λ (u : View). (u.places, u.buckets)) (no_places, no_buckets) s.views id v left right at refl refl)
           (λ P base all. each_more (λ (u : View). P u.seen.front u.walk) (set s.views id left) right
-          (each_put (λ (u : View). P u.seen.front u.walk) s.views id left all (all id v at)) (base v.seen.front)),
+          (each_put (λ (u : View). P u.seen.front u.walk) s.views id left all (all id v at)) (base v.seen.front))
+          (λ one. absurd (many one)),
     )
+
+-- of three first parts of the history the longest is one
+longest_starts : (log a b c : List Event) → StartsWith log a → StartsWith log b → StartsWith log c → StartsWith log (longer a (longer b c))
+longest_starts log a b c ha hb hc = longer_starts a (longer b c) ha (longer_starts b c hb hc)
+  where
+    longer_starts : (a b : List Event) → StartsWith log a → StartsWith log b → StartsWith log (longer a b)
+    longer_starts a b ha hb = cond_both (nat_le (length a) (length b)) b a (StartsWith log) (λ e. hb) (λ e. ha)
 
 -- a pass that took in another one
 pass_joined : (z : Sizes) (log : List Event) (v w : View) → 0 < v.passes.shares → 0 < w.passes.shares → IsPass z log v → IsPass z log w
     → (z.passes ≡ 1 → ⊥) → IsPass z log (joined v w)
 pass_joined z log v w has_some other p q many = record {
   front = p.front;
-  told = q.front;
+  told = longest_starts log v.seen.told w.seen.front w.seen.told p.told q.front q.told;
   own = p.own;
   ordered = p.ordered;
   own_few = p.own_few;
@@ -268,7 +280,8 @@ joins z id other v w has_some has_other none s (l, h) at apart at' =
           (carries_join {X = Places × HeldBuckets} (λ (u : View). (u.places, u.buckets)) (no_places, no_buckets) s.views id other v w both spent_view at at' refl
           (λ k. (record { held = none.held k; owed = none.owed k; clear = none.clear k; carried = none.carried k }, record { shut = none.shut k; hooks = none.hooks k })) refl)
           (λ P base all. each_put (λ (u : View). P u.seen.front u.walk) vs other spent_view
-          (each_put (λ (u : View). P u.seen.front u.walk) s.views id both all (all id v at)) (base [])),
+          (each_put (λ (u : View). P u.seen.front u.walk) s.views id both all (all id v at)) (base []))
+          (λ one. absurd (many one)),
     )
   where
     range_none : (n : ℕ) → in_range 0 0 n ≡ 0

@@ -1,6 +1,7 @@
 pub mod Sums
 pub mod Carried
 pub mod Frames
+pub mod LastRead
 pub mod Lists
 pub mod Counting
 pub mod Balance

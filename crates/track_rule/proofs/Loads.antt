@@ -21,26 +21,29 @@ use Rattle.track_rule.specs.Walks.{IsWalk}
 use Rattle.track_rule.specs.Free.{turn_of}
 use Rattle.track_rule.specs.History.{events_in, live_in, records_after}
 use Rattle.track_rule.specs.Layout.{phase_at, refs_at, refs_word}
-use Rattle.track_rule.specs.Passes.{ArePasses, HasNothing, IsPass, made_weight, shares_of}
+use Rattle.track_rule.specs.Passes.{ArePasses, HasNothing, IsPass, IsSpent, made_weight, shares_of}
 use Rattle.track_rule.specs.Phases.{middle_of, middle_weight, of_place}
 use Rattle.track_rule.specs.Readings.{found, noted}
 use Rattle.track_rule.specs.References.{held_times, keeps}
 use Rattle.track_rule.specs.Rule.{Holds, IsKept, Ledger}
-use Rattle.track_rule.specs.Steps.{AreAll, IsCount, LoadStep, LoadsRefs, LookStep, at_point, found_history, saw}
+use Rattle.track_rule.specs.Steps.{AreAll, HasOthers, IsCount, LoadStep, LoadsRefs, LookStep, at_point, found_history, saw}
 use Rattle.track_rule.specs.Sums.{Each, times, total}
+use Rattle.track_rule.proofs.LastRead.{ReadsAt, read_on}
 use Rattle.track_rule.proofs.Balance.{Lines, Moves, few_references, free_left, moved, pass_moved, references_left, same_lines, bucket_lines}
 use Rattle.track_rule.proofs.Sums.{length_total, total_gap, total_only, total_term, total_times}
 
 -- a view in which at most the readings and what was seen differ keeps the rule
 pub reads : (z : Sizes) (l : Ledger) (s : State Slot View) (id i : ℕ) (v w : View) → IsKept z l s → get_elem? s.views id ≡ some v
     → Moves v w → IsPass z l.log w → w.places ≡ v.places → w.free ≡ v.free → Lines z l s id v w
+    → 0 < v.passes.shares → ReadsAt i (slice_index s.words i) v w
     → IsKept z l (record { words = slice_set s.words i (slice_index s.words i); homes = s.homes; views = set s.views id w })
-reads z l s id i v w h at m p places free lines =
+reads z l s id i v w h at m p places free lines has_some read =
     subst (λ (ws : List ℕ). IsKept z l (record { words = ws; homes = s.homes; views = set s.views id w })) (sym (set-get_or s.words i 0))
     (moved z l s id v w s.words s.homes l.free h at m p (λ k a b. refl) refl (λ k a. refl)
     (references_left z l.log s.words s.words s.views id v w at (ap (λ (x : Places). x.held) places) (ap (λ (x : Places). x.carried) places) (λ p. refl)
     (λ p. refl) h.references)
-    (free_left z s.words s.words s.homes s.homes s.views id v w l.free at places free (λ p. refl) (λ p. refl) refl refl h.free_list) lines)
+    (free_left z s.words s.words s.homes s.homes s.views id v w l.free at places free (λ p. refl) (λ p. refl) refl refl h.free_list) lines
+    (read_on z l.log s.words s.words s.views id i (slice_index s.words i) v w h.passes at has_some refl (λ k other. refl) read h.readings))
 
 -- as many notes as events
 pub length-notes : (k : ℕ) (es : List Event) → length (notes_from k es) ≡ length es
@@ -119,12 +122,18 @@ module _ (z : Sizes) (l : Ledger) (s : State Slot View) (id : ℕ) (v : View) (h
       total_only f shares_of s.views id v at (h.passes.all ∙ sym alone)
       (λ i u at' zero. none u ((h.passes.each i u at').spent (omega (arith, zero))).nothing)
 
-  pub others_there : f v < total f s.views → shares_of v < z.passes
-  others_there more =
+  pub fewer_shares : f v < total f s.views → shares_of v < z.passes
+  fewer_shares more =
       ⊎_elim (λ (e : shares_of v < z.passes). e)
       (λ (e : z.passes ≤ shares_of v).
       absurd (omega (arith, more, alone_total (omega (arith, e, h.passes.all, total_term shares_of s.views id v at)))))
       (cases_lt (shares_of v) z.passes)
+
+-- so there are more passes than one
+pub others_there : (l : Ledger) (s : State Slot View) (id : ℕ) (v : View) → IsKept v.passes.sizes l s → get_elem? s.views id ≡ some v → 0 < v.passes.shares
+    → (f : View → ℕ) → ((u : View) → HasNothing u → f u ≡ 0) → f v < total f s.views → HasOthers v
+others_there l s id v h at has_some f nothing more =
+    let fewer = fewer_shares v.passes.sizes l s id v h at f nothing more in (fewer, omega (arith, fewer, has_some))
 
 -- all events, as a pass knows them
 all_events : (l : Ledger) (s : State Slot View) (id : ℕ) (v : View) → IsKept v.passes.sizes l s → get_elem? s.views id ≡ some v → 0 < v.passes.shares
@@ -157,7 +166,8 @@ looks slots id v c has_some s (l, h) long at range =
       (
         l,
         reads z l s id 0 v w h at m (pass_moved z l.log v w p m.made has_some ([], sym (append-nil l.log)) p.told) refl refl
-            (bucket_lines z l s id v w h at refl (λ q. omega arith) (look_note z l s id v h at)),
+            (bucket_lines z l s id v w h at refl (λ q. omega arith) (look_note z l s id v h at)) has_some
+            (record { reading = found_history (slice_index s.words 0) v; more = refl; word = refl; value = refl }),
       ),
       (
         record {
@@ -165,6 +175,7 @@ looks slots id v c has_some s (l, h) long at range =
           all = all_events l s id v h at has_some;
           events = ap events_in h.history.word ∙ word_events (length l.log) (length (records_after l.log)) low;
           live = ap live_in h.history.word ∙ word_live (length l.log) (length (records_after l.log)) low;
+          sole = λ one. h.readings one id v at has_some 0;
         },
         refl,
       ),
@@ -181,6 +192,11 @@ refs_told l s id p v h at below has_some =
       alone = λ alone. record {
         log = l.log;
         all = all_events l s id v h at has_some;
+        made = λ weight. h.passes.made weight
+            ∙ total_only (made_weight weight) shares_of s.views id v at (h.passes.all ∙ sym alone)
+            (λ j u at' none_left.
+            let sp : IsSpent u = (h.passes.each j u at').spent (omega (arith, none_left)) in
+            omega (arith, ap (total weight) sp.own, ap (total weight) sp.gathered));
         exact = omega (
           arith,
           h.references.counted p below,
@@ -189,6 +205,7 @@ refs_told l s id p v h at below has_some =
           alone_total z l s id v h at (middle_of (of_place p)) (λ u n. ap (middle_weight (of_place p)) n.middle) alone,
         );
       };
+      sole = λ one. h.readings one id v at has_some (refs_word z p);
     }
 
 -- two places have two words
@@ -212,7 +229,8 @@ loads slots id p v c below has_some s (l, h) long at range =
       (
         l,
         reads z l s id (refs_word z p) v w h at m (pass_moved z l.log v w one m.made has_some one.front one.told) refl refl
-            (same_lines z l s id v w h at refl (λ q. omega arith) refl refl),
+            (same_lines z l s id v w h at refl (λ q. omega arith) refl refl) has_some
+            (record { reading = found (refs_word z p) n; more = refl; word = refl; value = refl }),
       ),
       λ q same. subst (λ (k : ℕ). LoadsRefs k v n w × (c ≡ c)) (one_place z p q same) (record { view = refl; count = told }, refl),
     )

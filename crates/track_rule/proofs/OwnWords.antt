@@ -25,6 +25,7 @@ use Rattle.track_rule.specs.References.{held_times}
 use Rattle.track_rule.specs.Rule.{Holds, IsKept, Ledger}
 use Rattle.track_rule.specs.Sums.{Each, bit, total}
 use Rattle.track_rule.specs.Walks.{IsWalk}
+use Rattle.track_rule.proofs.LastRead.{stored_on}
 use Rattle.track_rule.proofs.BucketMoves.{bucket_moved}
 use Rattle.track_rule.proofs.ChainLists.{chain_each, unlinked}
 use Rattle.track_rule.proofs.ChainWords.{IsString, SameAt, chain_local, each_other_link, first_head, first_next, first_second, next_head, one_first, one_next, one_second, second_head, second_next, string_first, string_gens, string_next, string_rest, string_second, word_else, word_here}
@@ -104,7 +105,7 @@ module _ (l : Ledger) (s : State Slot View) (id : ℕ) (v : View) (h : IsKept v.
       was_false true e = absurd (false≢true e)
       was_false false e = refl
 
-  pub own_moved : (word to : ℕ) (f : Hook → Hook) → IsOf v.passes.sizes word x
+  pub own_moved : (word to : ℕ) (f : Hook → Hook) → word < length s.words → IsOf v.passes.sizes word x
       → Each (λ k. k.link ≢ x → f k ≡ k) v.buckets.hooks → ((k : Hook) → ((f k).link ≡ k.link) × ((f k).up ≡ k.up))
       → ((k : Hook) → IsHook v.passes.sizes s.words k → IsHook v.passes.sizes (slice_set s.words word to) (f k))
       → ((y : ℕ) → 0 < y → y ≤ last_link v.passes.sizes → slice_index (slice_set s.words word to) (next_word v.passes.sizes y) ≤ last_link v.passes.sizes)
@@ -113,7 +114,7 @@ module _ (l : Ledger) (s : State Slot View) (id : ℕ) (v : View) (h : IsKept v.
         homes = s.homes;
         views = set s.views id (strung word to (record v.buckets { hooks = map f v.buckets.hooks }) v);
       })
-  own_moved word to f of others keeps_link hook nexts =
+  own_moved word to f low of others keeps_link hook nexts =
       let z : Sizes = v.passes.sizes in
       let new : List ℕ = slice_set s.words word to in
       let w : View = strung word to (record v.buckets { hooks = map f v.buckets.hooks }) v in
@@ -163,6 +164,7 @@ module _ (l : Ledger) (s : State Slot View) (id : ℕ) (v : View) (h : IsKept v.
             (λ i u at' m e. walk_gens z s.words new l.chains u.seen.front m (string_gens z s.words word to of.string) (h.walks.each i u at' m e))
             (λ m e. walk_gens z s.words new l.chains v.seen.front m (string_gens z s.words word to of.string) (h.walks.each id v at m e));
       })
+      (stored_on z l.log s.words s.views id word to v w h.passes at has_some low (record { reading = stored word to; more = refl; word = refl; value = refl }) h.readings)
     where
       loose_stays : (b : ℕ) (weight : Entry → ℕ)
           → total (λ (k : Hook). (if k.up then side v.passes.sizes b weight (entry_of k) else 0)) (map f v.buckets.hooks)
@@ -190,7 +192,7 @@ aims_kept l s id v x to h at has_some down low =
     let z : Sizes = v.passes.sizes in
     let own = own_link l s id v h at has_some x down in
     let here : slice_index (slice_set s.words (next_word z x) to) (next_word z x) ≡ to = word_here z s.words (next_word z x) to (omega (arith, h.count, own.0, own.1)) in
-    own_moved l s id v h at has_some x down (next_word z x) to (aim x to) (of_next z x own.0)
+    own_moved l s id v h at has_some x down (next_word z x) to (aim x to) (omega (arith, h.count, own.0, own.1)) (of_next z x own.0)
     (λ i k there other. ap (λ (t : Bool). if t then record k { next = Some to } else k) (ne_eqb k.link x other))
     (λ k. cond_both (k.link == x) (record k { next = Some to }) k (λ y. (y.link ≡ k.link) × (y.up ≡ k.up)) (λ e. (refl, refl)) (λ e. (refl, refl)))
     (λ k is.
@@ -289,7 +291,7 @@ tuples_kept : (l : Ledger) (s : State Slot View) (id : ℕ) (v : View) (x word t
 tuples_kept l s id v x word to h at has_some down of low apart =
     let z : Sizes = v.passes.sizes in
     let own = own_link l s id v h at has_some x down in
-    own_moved l s id v h at has_some x down word to (tuple_in z word to) of
+    own_moved l s id v h at has_some x down word to (tuple_in z word to) low of
     (λ i k there other.
     let t = of.others k.link ((h.links.hooks id v at).each i k there).some other in
     ap (λ (b : Bool). if b then record k { pair = record k.pair { first = to } } else (if second_word z k.link == word then record k { pair = record k.pair { second = to } } else k)) (ne_eqb (first_word z k.link) word t.0)

@@ -28,7 +28,7 @@ use Rattle.track_rule.specs.Links.{HasHooks}
 use Rattle.track_rule.specs.Passes.{IsPass}
 use Rattle.track_rule.specs.PhaseSteps.{LoadPhaseStep, LoadsPhase, StorePhaseStep, may_store, phase_stored}
 use Rattle.track_rule.specs.Phases.{ArePhases, middle_of, of_both, of_place, shows, table_keeps}
-use Rattle.track_rule.specs.Readings.{found, noted}
+use Rattle.track_rule.specs.Readings.{found, noted, stored}
 use Rattle.track_rule.specs.Records.{AreRecords, IsHand, has_hand, record_in}
 use Rattle.track_rule.specs.References.{AreKept, AreReferences, held_times, is_at, is_for_new, is_taken, keeps, takes}
 use Rattle.track_rule.specs.Rule.{Holds, IsKept, Ledger}
@@ -41,6 +41,7 @@ use Rattle.track_rule.proofs.Frames.{SameChains, Stays, chains_stay, hooks_stay,
 use Rattle.track_rule.proofs.Lists.{other_bit, same_bit, total_some, some_of}
 use Rattle.track_rule.proofs.Seats.{held_below, owed_below}
 use Rattle.track_rule.proofs.Loads.{reads}
+use Rattle.track_rule.proofs.LastRead.{stored_on}
 use Rattle.track_rule.proofs.Sums.{each_put, total_same, total_term}
 
 -- two places have two phases
@@ -60,6 +61,7 @@ loads_phase slots id p v c below has_some s (l, h) long at range =
     let told : LoadsPhase p v n w = record {
       view = refl;
       idle = idle z l s id v h at;
+      sole = λ one. h.readings one id v at has_some (phase_word z p);
       hand = λ x has here.
           let k = h.records.away id v at x has in
           let same : phase_at z s.words x.place ≡ n = ap (phase_at z s.words) here in (
@@ -73,7 +75,8 @@ loads_phase slots id p v c below has_some s (l, h) long at range =
       (
         l,
         reads z l s id (phase_word z p) v w h at m (pass_moved z l.log v w one m.made has_some one.front one.told) refl refl
-            (same_lines z l s id v w h at refl (λ q. omega arith) refl refl),
+            (same_lines z l s id v w h at refl (λ q. omega arith) refl refl) has_some
+            (record { reading = found (phase_word z p) n; more = refl; word = refl; value = refl }),
       ),
       λ q same. subst (λ (k : ℕ). LoadsPhase k v n w × (c ≡ c)) (one_phase z p q same) (told, refl),
     )
@@ -348,6 +351,8 @@ module _ (l : Ledger) (s : State Slot View) (id p to : ℕ) (v : View) (h : IsKe
               (λ i u at' n e. walk_stays z s.words new same l.chains u.seen.front n (h.walks.each i u at' n e))
               (λ n e. walk_stays z s.words new same l.chains v.seen.front n (h.walks.each id v at n e));
         };
+        readings = stored_on z l.log s.words s.views id (phase_word z p) to v w h.passes at has_some (omega (arith, h.count, below))
+            (record { reading = stored (phase_word z p) to; more = refl; word = refl; value = refl }) h.readings;
         expected = record {
           turn = expected ∙ h.expected.turn ∙ sym (total_same has_expected s.views id v w at refl);
           single = omega (arith, expected, h.expected.single);

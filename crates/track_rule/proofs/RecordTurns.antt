@@ -38,6 +38,7 @@ use Rattle.track_rule.proofs.Carried.{carries_set}
 use Rattle.track_rule.proofs.Frames.{SameChains, chains_stay, hooks_stay, links_stay, walk_stays}
 use Rattle.track_rule.proofs.Lists.{bit_low, other_bit, same_bit}
 use Rattle.track_rule.proofs.Loads.{others_there, reads}
+use Rattle.track_rule.proofs.LastRead.{ReadsAt, stored_on}
 use Rattle.track_rule.proofs.Sums.{each_put, total_same, total_set, total_term}
 
 -- two places have two turns
@@ -77,8 +78,9 @@ module _ (l : Ledger) (s : State Slot View) (id p : ℕ) (v : View) (h : IsKept 
   -- the turn of the place's record becomes n, and the pass has this one or none; all parts but that of the records stay
   turn_kept : (n : ℕ) (hand : Option Hand) (r : Reading) (hs' : List (Slotted Slot)) → get_elem? hs' 0 ≡ get_elem? s.homes 0 → get_elem? hs' 1 ≡ get_elem? s.homes 1
       → AreRecords v.passes.sizes l.log (slice_set s.words (turn_word v.passes.sizes p) n) hs' (set s.views id (with_hand hand r v))
+      → ReadsAt (turn_word v.passes.sizes p) n v (with_hand hand r v)
       → IsKept v.passes.sizes l (record { words = slice_set s.words (turn_word v.passes.sizes p) n; homes = hs'; views = set s.views id (with_hand hand r v) })
-  turn_kept n hand r hs' first second records =
+  turn_kept n hand r hs' first second records read =
       let z : Sizes = v.passes.sizes in
       let w : View = with_hand hand r v in
       let new : List ℕ = slice_set s.words (turn_word v.passes.sizes p) n in
@@ -123,6 +125,7 @@ module _ (l : Ledger) (s : State Slot View) (id p : ℕ) (v : View) (h : IsKept 
               (λ i u at' x e. walk_stays z s.words new same l.chains u.seen.front x (h.walks.each i u at' x e))
               (λ x e. walk_stays z s.words new same l.chains v.seen.front x (h.walks.each id v at x e));
         };
+        readings = stored_on z l.log s.words s.views id (turn_word z p) n v w h.passes at has_some low_word read h.readings;
         expected = record {
           turn = expected ∙ h.expected.turn ∙ sym (total_same has_expected s.views id v w at refl);
           single = omega (arith, expected, h.expected.single);
@@ -238,13 +241,15 @@ taking_turn slots id p v c below has_some calm s (l, h) sized at range =
         l,
         turn_kept l s id p v h at has_some below 1 (Some hand) (stored (turn_word z p) 1) (slice_set s.homes (record_slot p) none)
             (set_else s.homes (record_slot p) 0 none (λ e. omega (arith, e))) (set_else s.homes (record_slot p) 1 none (λ e. omega (arith, e)))
-            (taken_records l s id p v h at has_some below calm hit (stored (turn_word z p) 1) hand refl),
+            (taken_records l s id p v h at has_some below calm hit (stored (turn_word z p) 1) hand refl)
+            (record { reading = stored (turn_word z p) 1; more = refl; word = refl; value = refl }),
       ),
       λ q same. subst (λ (k : ℕ). TakesTurn (slice_index s.words (turn_word z p) == 0) k v c w ((record_slot p, x) ∷ c)) (one_turn z p q same)
           (subst (λ (b : Bool). TakesTurn b p v c w ((record_slot p, x) ∷ c)) (sym (eq-eqb (slice_index s.words (turn_word z p)) 0 hit)) (record {
             phase = phase_at z s.words p;
             view = refl;
             out = ap (λ (y : Slot). (record_slot p, y) ∷ c) (own_slot x home.kind);
+            sole = λ one. sym (h.readings one id v at has_some (turn_word z p)) ∙ hit;
           })),
     ))
     (λ (miss : slice_index s.words (turn_word v.passes.sizes p) ≢ 0).
@@ -258,13 +263,19 @@ taking_turn slots id p v c below has_some calm s (l, h) sized at range =
       (
         l,
         reads z l s id (turn_word z p) v w h at m (pass_moved z l.log v w one m.made has_some one.front one.told) refl refl
-            (same_lines z l s id v w h at refl (λ q. omega arith) refl refl),
+            (same_lines z l s id v w h at refl (λ q. omega arith) refl refl) has_some
+            (record {
+              reading = found (turn_word z p) 1;
+              more = refl;
+              word = refl;
+              value = omega (arith, miss, h.records.turn p below, h.records.single p);
+            }),
       ),
       λ q same. subst (λ (k : ℕ). TakesTurn (slice_index s.words (turn_word z p) == 0) k v c w c) (one_turn z p q same)
           (subst (λ (b : Bool). TakesTurn b p v c w c) (sym (ne_eqb (slice_index s.words (turn_word z p)) 0 miss)) (record {
             view = refl;
             out = refl;
-            others = others_there z l s id v h at (has_hand p) (λ u k. ap (is_hand_of p) k.hand)
+            others = others_there l s id v h at has_some (has_hand p) (λ u k. ap (is_hand_of p) k.hand)
                 (omega (arith, miss, ap (is_hand_of p) calm, h.records.turn p below));
           })),
     ))
@@ -289,7 +300,7 @@ giving_turn slots id p v x c below some_slots has_some mine kind can s (l, h) si
         l,
         turn_kept l s id p v h at has_some below 0 None (stored (turn_word z p) 0) (slice_set s.homes (record_slot p) (some x))
             (set_else s.homes (record_slot p) 0 (some x) (λ e. omega (arith, e))) (set_else s.homes (record_slot p) 1 (some x) (λ e. omega (arith, e)))
-            given_records,
+            given_records (record { reading = stored (turn_word z p) 0; more = refl; word = refl; value = refl }),
       ),
       λ q same. subst (λ (k : ℕ). (gave_turn p v ≡ gave_turn k v) × (c ≡ c)) (one_turn z p q same) (refl, refl),
     )

@@ -28,6 +28,7 @@ use Rattle.track_rule.specs.Rule.{Holds, IsKept, Ledger}
 use Rattle.track_rule.specs.Steps.{IsCount, LowerStep, LowersRefs, OpenStep, Opens, RaiseStep, RaisedRefs, RaisesRefs, is_second, keep, let_go, let_go_of, opened, owed_then, raised}
 use Rattle.track_rule.specs.Sums.{bit, times, total}
 use Rattle.track_rule.proofs.Frames.{Quiet}
+use Rattle.track_rule.proofs.LastRead.{ReadsAt, stored_on}
 use Rattle.track_rule.proofs.Lists.{bit_low, kept_without, length_without, other_bit, other_taken, other_without, same_bit, same_taken, same_without, takes_held, takes_other, takes_testing, takes_without, total_none, total_some}
 use Rattle.track_rule.proofs.Loads.{one_place, reads, refs_told}
 use Rattle.track_rule.proofs.Balance.{Lines, Moves, free_moved, moved, pass_moved, references_moved, same_lines}
@@ -73,8 +74,9 @@ pub record RefsMove (v w : View) (p n : ℕ) (free free' : List ℕ) (before : �
 pub counts : (z : Sizes) (l : Ledger) (s : State Slot View) (id p n : ℕ) (v w : View) (free' : List ℕ) → IsKept z l s → get_elem? s.views id ≡ some v
     → 0 < v.passes.shares → p < z.entries → RefsMove v w p n l.free free' (refs_at z s.words p) → Lines z l s id v w
     → ((q : ℕ) → total (takes q) s.views + total (of_place q) (records_after l.log) + takes q w ≤ 1 + takes q v) → AreKept l.log w.places.held
+    → ReadsAt (refs_word z p) n v w
     → IsKept z (record l { free = free' }) (record { words = slice_set s.words (refs_word z p) n; homes = s.homes; views = set s.views id w })
-counts z l s id p n v w free' h at has_some below t lines taken purposes =
+counts z l s id p n v w free' h at has_some below t lines taken purposes read =
     let one : IsPass z l.log v = h.passes.each id v at in
     let ws : List ℕ = s.words in
     let now : refs_at z (slice_set ws (refs_word z p) n) p ≡ n = refs_here z ws p n (omega (arith, h.count, below)) in
@@ -120,7 +122,7 @@ counts z l s id p n v w free' h at has_some below t lines taken purposes =
       clear = λ q on.
           let c = h.free_list.clear id v at q (omega (arith, on, ap (times q) t.clear)) in
           (t.owed q c.0, refs_phase z ws p n q ∙ c.1);
-    }) h.free_list) lines
+    }) h.free_list) lines (stored_on z l.log ws s.views id (refs_word z p) n v w h.passes at has_some (omega (arith, h.count, below)) read h.readings)
 
 -- the first reference to a place from the free list
 pub opening : (slots id p : ℕ) (v : View) (c : List (ℕ × Slot)) → p < v.passes.sizes.entries → 0 < v.passes.shares
@@ -175,7 +177,7 @@ opening slots id p v c below has_some on room s (l, h) sized at range =
               bit_low (is_at p (keep p Taken) && is_for_new Taken),
             )))
             (λ (e : p ≢ q). omega (arith, h.references.taken q, takes_other q p true e)) (cases_eq p q))
-            (tt, h.references.purposes id v at),
+            (tt, h.references.purposes id v at) (record { reading = stored (refs_word z p) 1; more = refl; word = refl; value = refl }),
       ),
       λ q same. subst (λ (k : ℕ). Opens k v w × (c ≡ c)) (one_place z p q same)
           (record { view = refl; hooks = hooks_new z s.words p v.buckets.hooks; held = omega (arith, not_held); owed = not_owed }, refl),
@@ -252,7 +254,7 @@ module _ (slots id p seen : ℕ) (v : View) (c : List (ℕ × Slot)) (below : p 
         clear = refl;
         owed = λ q any. any;
       }) (same_lines v.passes.sizes l s id v (raised true p seen v) h at refl (λ q. omega arith) refl refl)
-      (λ q. omega (arith, h.references.taken q)) (h.references.purposes id v at)
+      (λ q. omega (arith, h.references.taken q)) (h.references.purposes id v at) (record { reading = stored (refs_word v.passes.sizes p) (seen + 1); more = refl; word = refl; value = refl })
   raised_hit false is room hit =
       counts v.passes.sizes l s id p (seen + 1) v (raised false p seen v) l.free h at has_some below (record {
         moves = record { made = record { passes = refl; own = refl; gathered = refl }; commit = refl; expected = refl };
@@ -271,7 +273,7 @@ module _ (slots id p seen : ℕ) (v : View) (c : List (ℕ × Slot)) (below : p 
         clear = refl;
         owed = λ q any. any;
       }) (same_lines v.passes.sizes l s id v (raised false p seen v) h at refl (λ q. omega arith) refl refl)
-      (λ q. omega (arith, h.references.taken q, takes_testing q p)) (tt, h.references.purposes id v at)
+      (λ q. omega (arith, h.references.taken q, takes_testing q p)) (tt, h.references.purposes id v at) (record { reading = stored (refs_word v.passes.sizes p) (seen + 1); more = refl; word = refl; value = refl })
 
   raised_tells : refs_at v.passes.sizes s.words p ≡ seen → RaisedRefs p seen v (raised (is_second p v) p seen v)
   raised_tells hit = record {
@@ -292,7 +294,8 @@ module _ (slots id p seen : ℕ) (v : View) (c : List (ℕ × Slot)) (below : p 
       let one : IsPass v.passes.sizes l.log v = h.passes.each id v at in
       let m : Moves v w = record { made = record { passes = refl; own = refl; gathered = refl }; commit = refl; expected = refl } in
       reads v.passes.sizes l s id (refs_word v.passes.sizes p) v w h at m (pass_moved v.passes.sizes l.log v w one m.made has_some one.front one.told) refl refl
-      (same_lines v.passes.sizes l s id v w h at refl (λ q. omega arith) refl refl)
+      (same_lines v.passes.sizes l s id v w h at refl (λ q. omega arith) refl refl) has_some
+      (record { reading = found (refs_word v.passes.sizes p) n; more = refl; word = refl; value = sym e })
 
 pub raising : (slots id p seen : ℕ) (v : View) (c : List (ℕ × Slot)) → p < v.passes.sizes.entries → 0 < v.passes.shares → 0 < seen
     → (is_second p v ≡ false → length v.places.held + length v.places.owed ≤ 3)
@@ -385,7 +388,7 @@ module _ (id p : ℕ) (v : View) (below : p < v.passes.sizes.entries) (has_some 
         clear = refl;
         owed = λ q any. any;
       }) (same_lines v.passes.sizes l s id v (let_go_of true p n v) h at refl (λ q. omega arith) refl refl)
-      (λ q. omega (arith, h.references.taken q)) (h.references.purposes id v at)
+      (λ q. omega (arith, h.references.taken q)) (h.references.purposes id v at) (record { reading = stored (refs_word v.passes.sizes p) (n - 1); more = refl; word = refl; value = refl })
   lowered false is =
       let n : ℕ = refs_at v.passes.sizes s.words p in
       let some_held : 1 ≤ held_times p v.places.held = total_some (is_at p) v.places.held held in
@@ -410,7 +413,7 @@ module _ (id p : ℕ) (v : View) (below : p < v.passes.sizes.entries) (has_some 
         clear = refl;
         owed = λ q any. omega (arith, any, times_then p q n v.places.owed);
       }) (lowered_lines v.passes.sizes l s id p n v h at some_held less (λ q other. other_without p q v.places.held held (λ e. other (sym e))) down)
-      (λ q. omega (arith, h.references.taken q, takes_without q p v.places.held)) (kept_without l.log p v.places.held (h.references.purposes id v at))
+      (λ q. omega (arith, h.references.taken q, takes_without q p v.places.held)) (kept_without l.log p v.places.held (h.references.purposes id v at)) (record { reading = stored (refs_word v.passes.sizes p) (n - 1); more = refl; word = refl; value = refl })
     where
       times_here : (p n : ℕ) (owed : List ℕ) → times p (owed_then p n owed) ≡ times p owed + bit (n == 1)
       times_here p n owed = times_then p p n owed ∙ ap (λ (b : Bool). times p owed + bit (n == 1 && b)) (eq-eqb p p refl) ∙ both (n == 1)

@@ -29,6 +29,7 @@ use Rattle.track_rule.specs.Walks.{IsWalk}
 use Rattle.track_rule.specs.declared.view.Middle.TheVariants.{Calm}
 use Rattle.track_rule.specs.declared.view.Walk.{Walk}
 use Rattle.track_rule.specs.References.{AreKept, held_times}
+use Rattle.track_rule.specs.Readings.{last_read}
 use Rattle.track_rule.specs.Records.{IsHand}
 use Rattle.track_rule.specs.Rule.{Holds, Ledger, first_view}
 use Rattle.track_rule.specs.Sums.{Each, times, total}
@@ -154,6 +155,7 @@ starts z list table limits whole nothing room =
           hooks = one_view z (λ v. HasHooks z ws v.places.held v.buckets.hooks) (no_hooks z ws);
         };
         walks = record { each = one_view z (λ v. (n : Walk) → v.walk ≡ Some n → IsWalk z ws l.chains v.seen.front n) (λ n e. absurd (none-some n e)) };
+        readings = λ one. one_view z (λ v. 0 < v.passes.shares → (k : ℕ) → slice_index ws k ≡ last_read k v) (λ has k. word k);
         expected = record {
           turn = word 2;
           single = omega (arith, word 2);

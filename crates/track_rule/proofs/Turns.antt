@@ -17,7 +17,7 @@ use Rattle.track_rule.specs.declared.view.View.{View}
 use Rattle.track_rule.specs.Free.{has_turn, is_among, known_free, owes, turn_of}
 use Rattle.track_rule.specs.Layout.{phase_at, phase_word, refs_at, refs_word}
 use Rattle.track_rule.specs.Passes.{IsPass}
-use Rattle.track_rule.specs.Readings.{found, noted}
+use Rattle.track_rule.specs.Readings.{found, noted, stored}
 use Rattle.track_rule.specs.References.{keeps}
 use Rattle.track_rule.specs.Rule.{Holds, IsKept, Ledger}
 use Rattle.track_rule.specs.Slots.{list_in}
@@ -27,6 +27,7 @@ use Rattle.track_rule.proofs.Counting.{few_places}
 use Rattle.track_rule.proofs.Frames.{Quiet}
 use Rattle.track_rule.proofs.Lists.{length_unlisted, unlisted_in, unlisted_out}
 use Rattle.track_rule.proofs.Loads.{others_there, reads}
+use Rattle.track_rule.proofs.LastRead.{stored_on}
 use Rattle.track_rule.proofs.Balance.{Moves, free_moved, moved, pass_moved, references_left, same_lines}
 use Rattle.track_rule.proofs.Sums.{total_term}
 
@@ -73,14 +74,15 @@ module _ (l : Ledger) (s : State Slot View) (id : ℕ) (v : View) (h : IsKept v.
         few = h.free_list.few id v at;
         clear = λ q on. let c = h.free_list.clear id v at q on in (c.0, turn_phase v.passes.sizes s.words 1 q ∙ c.1);
       }) h.free_list) (same_lines v.passes.sizes l s id v w h at refl (λ q. omega arith) refl refl)
+      (stored_on v.passes.sizes l.log s.words s.views id 1 1 v w h.passes at has_some long (record { reading = stored 1 1; more = refl; word = refl; value = refl }) h.readings)
     where
       some_same : (a b f : List ℕ) → Some a ≡ Some b → a ≡ f → b ≡ f
       some_same a b f e x = cc
 
   -- what it tells
-  told : (c : List (ℕ × Slot)) (list : Roomed ℕ) → list.items ≡ l.free → v.passes.sizes.entries ≤ list.room
+  told : (c : List (ℕ × Slot)) (list : Roomed ℕ) → list.items ≡ l.free → v.passes.sizes.entries ≤ list.room → slice_index s.words 1 ≡ 0
       → TookFree v c (with_turn list.items v) ((0, Free list) ∷ c)
-  told c list same room = record {
+  told c list same room free = record {
     view = refl;
     out = refl;
     room = room;
@@ -96,6 +98,7 @@ module _ (l : Ledger) (s : State Slot View) (id : ℕ) (v : View) (h : IsKept v.
         (cases_lt q v.passes.sizes.entries);
     below = λ q above. omega (arith, h.free_list.beyond q above, mine q, ap (times q) same);
     clear = λ q on. (h.free_list.clear id v at q on).0;
+    sole = λ one. sym (h.readings one id v at has_some 1) ∙ free;
   }
     where
       mine : (q : ℕ) → owes q v ≤ total (owes q) s.views
@@ -109,7 +112,8 @@ module _ (l : Ledger) (s : State Slot View) (id : ℕ) (v : View) (h : IsKept v.
       let p : IsPass v.passes.sizes l.log v = h.passes.each id v at in
       let m : Moves v w = record { made = record { passes = refl; own = refl; gathered = refl }; commit = refl; expected = refl } in
       reads v.passes.sizes l s id 1 v w h at m (pass_moved v.passes.sizes l.log v w p m.made has_some p.front p.told) refl refl
-      (same_lines v.passes.sizes l s id v w h at refl (λ q. omega arith) refl refl)
+      (same_lines v.passes.sizes l s id v w h at refl (λ q. omega arith) refl refl) has_some
+      (record { reading = found 1 1; more = refl; word = refl; value = omega (arith, other, h.free_list.single) })
 
   -- giving it back with this list
   gave : (list : Roomed ℕ) → (free : List ℕ) → v.free ≡ Some free → CanGive v list → 0 < length s.homes
@@ -150,6 +154,7 @@ module _ (l : Ledger) (s : State Slot View) (id : ℕ) (v : View) (h : IsKept v.
             (omega (arith, c.0, unlisted_out list.items q v.places.owed e), turn_phase v.passes.sizes s.words 0 q ∙ c.1))
             (cases_Bool (is_among q list.items));
       }) h.free_list) (same_lines v.passes.sizes l s id v w h at refl (λ q. omega arith) refl refl)
+      (stored_on v.passes.sizes l.log s.words s.views id 1 0 v w h.passes at has_some long (record { reading = stored 1 0; more = refl; word = refl; value = refl }) h.readings)
 
 -- taking the turn keeps the rule
 pub taking : (slots id : ℕ) (v : View) (c : List (ℕ × Slot)) → 0 < v.passes.shares → v.free ≡ None
@@ -167,7 +172,7 @@ taking slots id v c has_some calm s (l, h) sized at range =
       home.there,
       (l, took l s id v h at has_some list home.same calm hit),
       subst (λ (b : Bool). TakesFree b v c w ((0, Free list) ∷ c)) (sym (eq-eqb (slice_index s.words 1) 0 hit))
-          (told l s id v h at has_some c list home.same home.room),
+          (told l s id v h at has_some c list home.same home.room hit),
     ))
     (λ (miss : slice_index s.words 1 ≢ 0).
     let w : View = noted (found 1 1) v in (
@@ -178,7 +183,7 @@ taking slots id v c has_some calm s (l, h) sized at range =
       subst (λ (b : Bool). TakesFree b v c w c) (sym (ne_eqb (slice_index s.words 1) 0 miss)) (record {
         view = refl;
         out = refl;
-        others = others_there v.passes.sizes l s id v h at has_turn (λ u n. ap turn_of n.free) (omega (arith, miss, ap turn_of calm, h.free_list.turn));
+        others = others_there l s id v h at has_some has_turn (λ u n. ap turn_of n.free) (omega (arith, miss, ap turn_of calm, h.free_list.turn));
       }),
     ))
 

@@ -15,7 +15,7 @@ use Rattle.track_rule.specs.Chains.{IsOrdered, bucket_of, chain_in, entry_of, sh
 use Rattle.track_rule.specs.Layout.{first_word, gen_word, head_word, next_word, place_of, second_word, side_of}
 use Rattle.track_rule.specs.Links.{hook_of, hooks_of, is_down, is_raised, last_gen, last_link}
 use Rattle.track_rule.specs.Notes.{link_note, note_then, tuple_note}
-use Rattle.track_rule.specs.Readings.{found, noted, stored}
+use Rattle.track_rule.specs.Readings.{IsSole, found, last_read, noted, stored}
 use Rattle.track_rule.specs.Steps.{HasOthers}
 use Rattle.track_rule.specs.Sums.{Each}
 use Rattle.track_rule.specs.Walks.{HasLive, Stands, rev_onto}
@@ -55,6 +55,7 @@ pub record LoadsGen (bucket : ℕ) (v : View) (n : ℕ) (w : View) : Type 0 wher
   pub last : n ≤ last_gen
   pub shut : 0 < shuts_of bucket v → n % 2 ≡ 1
   pub others : n % 2 ≡ 1 → shuts_of bucket v ≡ 0 → HasOthers v
+  pub sole : IsSole v → n ≡ last_read (gen_word v.passes.sizes bucket) v
   pub least : (m : Walk) → v.walk ≡ Some m → m.bucket ≡ bucket → m.generation ≤ n
   pub again : (m : Walk) → v.walk ≡ Some m → IsNoteOf bucket n m → n % 2 ≡ 0 → (m.passed ≡ false) × WasChain v.passes.sizes v.seen.front m
 
@@ -67,12 +68,15 @@ pub record ShutsGen (bucket even : ℕ) (v w : View) : Type 0 where
   pub view : w ≡ noted (stored (gen_word v.passes.sizes bucket) (even + 1)) (record v { buckets = shut_now bucket (chain_in bucket w.buckets.shut) v.buckets })
   pub chain : IsChainOf v.passes.sizes bucket (chain_in bucket w.buckets.shut)
   pub before : shuts_of bucket v ≡ 0
+  pub sole : IsSole v → even ≡ last_read (gen_word v.passes.sizes bucket) v
 
--- It was another one.
+-- It was another one. Where that is odd and the pass has not shut the bucket, another pass has.
 pub record MissesGen (bucket even : ℕ) (v : View) (n : ℕ) (w : View) : Type 0 where
   pub view : w ≡ noted (found (gen_word v.passes.sizes bucket) n) v
   pub other : (n == even) ≡ false
   pub last : n ≤ last_gen
+  pub others : n % 2 ≡ 1 → shuts_of bucket v ≡ 0 → HasOthers v
+  pub sole : IsSole v → n ≡ last_read (gen_word v.passes.sizes bucket) v
 
 abbrev pub ShutsOrMisses : Bool → ℕ → ℕ → View → ℕ → View → Type 0
 ShutsOrMisses same bucket even v n w = MatchBool same (ShutsGen bucket even v w) (MissesGen bucket even v n w)
@@ -86,6 +90,7 @@ opened_of bucket (s ∷ rest) = (if s.bucket == bucket then rest else s ∷ open
 pub record OpensGen (bucket : ℕ) (v : View) (w : View) : Type 0 where
   pub generation : ℕ
   pub odd : generation % 2 ≡ 1
+  pub sole : IsSole v → generation ≡ last_read (gen_word v.passes.sizes bucket) v
   pub view : w ≡ noted (stored (gen_word v.passes.sizes bucket) (generation + 1)) (record v { buckets = record v.buckets { shut = opened_of bucket v.buckets.shut } })
   pub after : shuts_of bucket w ≡ 0
   pub others : (b : ℕ) → (b ≡ bucket → ⊥) → (shuts_of b w ≡ shuts_of b v) × (chain_in b w.buckets.shut ≡ chain_in b v.buckets.shut)
@@ -120,6 +125,7 @@ is_up_in z bucket link hooks = list_any (λ (h : Hook). h.link == link && (h.up 
 pub record LoadsLink (word : ℕ) (v : View) (n : ℕ) (w : View) : Type 0 where
   pub view : w ≡ noted (found word n) (record v { walk = link_note v.passes.sizes word n v.walk })
   pub link : n ≤ last_link v.passes.sizes
+  pub sole : IsSole v → n ≡ last_read word v
   pub next : (bucket : ℕ) (passed rest : List Entry) → bucket < v.passes.sizes.buckets → IsShutAt bucket v passed rest
       → word ≡ end_word v.passes.sizes bucket passed → n ≡ first_of rest
   pub up : (bucket link : ℕ) → bucket < v.passes.sizes.buckets → 0 < shuts_of bucket v → is_raised link v.buckets.hooks ≡ true
@@ -130,6 +136,7 @@ pub record LoadsLink (word : ℕ) (v : View) (n : ℕ) (w : View) : Type 0 where
 -- one that the pass knows.
 pub record LoadsTuple (word : ℕ) (v : View) (n : ℕ) (w : View) : Type 0 where
   pub view : w ≡ noted (found word n) (record v { walk = tuple_note v.passes.sizes word n v.walk })
+  pub sole : IsSole v → n ≡ last_read word v
   pub first : (bucket : ℕ) (passed : List Entry) (e : Entry) (rest : List Entry) → bucket < v.passes.sizes.buckets
       → IsShutAt bucket v passed (e ∷ rest) → word ≡ first_word v.passes.sizes e.link → n ≡ e.pair.first
   pub second : (bucket : ℕ) (passed : List Entry) (e : Entry) (rest : List Entry) → bucket < v.passes.sizes.buckets

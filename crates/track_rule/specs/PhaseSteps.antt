@@ -6,7 +6,7 @@ use Rattle.track_rule.specs.declared.view.Hand.{Hand}
 use Rattle.track_rule.specs.declared.view.View.{View}
 use Rattle.track_rule.specs.Free.{is_among, known_free}
 use Rattle.track_rule.specs.Layout.{phase_word}
-use Rattle.track_rule.specs.Readings.{found, noted, stored}
+use Rattle.track_rule.specs.Readings.{IsSole, found, last_read, noted, stored}
 use Rattle.track_rule.specs.References.{is_taken}
 use Rattle.track_rule.specs.Sums.{times}
 
@@ -26,6 +26,7 @@ may_store place to v = (to == phase_free && is_among place v.places.owed) || (to
 pub record LoadsPhase (place : ℕ) (v : View) (n : ℕ) (w : View) : Type 0 where
   pub view : w ≡ noted (found (phase_word v.passes.sizes place) n) v
   pub idle : 0 < times place (known_free v) + times place v.places.clear → n ≡ phase_free
+  pub sole : IsSole v → n ≡ last_read (phase_word v.passes.sizes place) v
   pub hand : (h : Hand) → v.commit.hand ≡ Some h → h.place ≡ place → (2 < h.phase → n ≡ h.phase) × (h.phase ≤ 2 → n ≤ 2)
 
 -- the pass has stored it, and where it is FREE the place may be given to the free list

@@ -1,8 +1,11 @@
--- The readings of a pass, the oldest first: what its loads and its failed exchanges found, and what its own changes left.
-use Rattle.std.specs.Prelude.{◌≡◌, ℕ, ◌==◌, ◌&&◌, ◌||◌, not, Bool, true, false, None, List, [], ◌∷◌, ◌++◌, drop, filter, length}
+-- The readings of a pass, the oldest first: what its loads and its failed exchanges found, and what its own changes left. In a
+-- table of one pass each word has what that pass read or left there last, and 0 where it did not yet.
+use Rattle.std.specs.Prelude.{◌<◌, if◌then◌else◌, slice_index, ◌≡◌, ℕ, ◌==◌, ◌&&◌, ◌||◌, not, Bool, true, false, None, List, [], ◌∷◌, ◌++◌, drop, filter, length}
 use Rattle.std.specs.List.{list_any}
 use Rattle.track_rule.specs.declared.view.Reading.{Reading}
 use Rattle.track_rule.specs.declared.view.View.{View}
+use Rattle.history_book.specs.declared.sizes.Sizes.{Sizes}
+use Rattle.track_rule.specs.Sums.{Each}
 
 -- a value that was found in a word
 abbrev pub found : ℕ → ℕ → Reading
@@ -15,6 +18,21 @@ stored word value = record { word = word; value = value; own = true; free = None
 -- the pass with one reading more
 abbrev pub noted : Reading → View → View
 noted r v = record v { readings = v.readings ++ r ∷ [] }
+
+-- the last value of a word among them; 0 where there is none, as every word begins
+abbrev pub read_from : ℕ → ℕ → List Reading → ℕ
+read_from value word [] = value
+read_from value word (r ∷ rs) = read_from (if r.word == word then r.value else value) word rs
+
+abbrev pub last_read : ℕ → View → ℕ
+last_read word v = read_from 0 word v.readings
+
+-- the table has one pass
+abbrev pub IsSole : View → Type 0
+IsSole v = v.passes.sizes.passes ≡ 1
+
+abbrev pub AreRead : Sizes → List ℕ → List View → Type 0
+AreRead z words views = z.passes ≡ 1 → Each (λ v. 0 < v.passes.shares → (word : ℕ) → slice_index words word ≡ last_read word v) views
 
 -- what a call added to the readings
 abbrev pub added : View → View → List Reading

@@ -17,6 +17,7 @@ use Rattle.track_rule.specs.Records.{AreRecords}
 use Rattle.track_rule.specs.Phases.{ArePhases}
 use Rattle.track_rule.specs.Chains.{AreChains}
 use Rattle.track_rule.specs.Links.{AreLinks}
+use Rattle.track_rule.specs.Readings.{AreRead}
 use Rattle.track_rule.specs.Walks.{AreWalks}
 use Rattle.track_rule.specs.Expected.{AreExpected}
 
@@ -39,6 +40,7 @@ pub record IsKept (z : Sizes) (l : Ledger) (s : State Slot View) : Type 0 where
   pub chains : AreChains z l.log s.words s.views l.chains
   pub links : AreLinks z s.words s.views
   pub walks : AreWalks z s.words s.views l.chains
+  pub readings : AreRead z s.words s.views
   pub expected : AreExpected z l.log s.words s.homes s.views
 
 abbrev pub Holds : Sizes → State Slot View → Type 0

@@ -6,6 +6,7 @@ use Rattle.history_book.specs.History.{is_legal}
 use Rattle.history_book.specs.Point.{StartsWith}
 use Rattle.history_book.specs.Sight.{notes_from}
 use Rattle.history_book.specs.declared.event.Event.{Event}
+use Rattle.history_book.specs.declared.event.Note.{Note}
 use Rattle.track_rule.specs.declared.slot.Slot.{Slot}
 use Rattle.track_rule.specs.declared.slot.Slot.TheVariants.{Free}
 use Rattle.track_rule.specs.declared.view.Hook.{Hook}
@@ -19,7 +20,7 @@ use Rattle.track_rule.specs.declared.view.Walk.{Walk}
 use Rattle.track_rule.specs.Free.{is_among, known_free, taken_out, unlisted}
 use Rattle.track_rule.specs.History.{events_in, live_in, records_after}
 use Rattle.track_rule.specs.Layout.{place_of, refs_word}
-use Rattle.track_rule.specs.Readings.{found, noted, stored}
+use Rattle.track_rule.specs.Readings.{IsSole, found, last_read, noted, stored}
 use Rattle.track_rule.specs.Phases.{middle_of, of_place}
 use Rattle.track_rule.specs.Records.{has_hand}
 use Rattle.track_rule.specs.References.{held_times, is_taken, keeps, without}
@@ -43,9 +44,9 @@ pub record AreAll (v : View) (log : List Event) : Type 0 where
   pub shares : v.passes.shares + v.passes.returned ≤ v.passes.sizes.passes
   pub alone : v.passes.sizes.passes ≡ 1 → v.seen.own ≡ notes_from 0 log
 
--- some other pass has a share
+-- some other pass has a share; so the table is not one of a single pass
 abbrev pub HasOthers : View → Type 0
-HasOthers v = v.passes.shares + v.passes.returned < v.passes.sizes.passes
+HasOthers v = (v.passes.shares + v.passes.returned < v.passes.sizes.passes) × (1 < v.passes.sizes.passes)
 
 -- no other pass has one
 abbrev pub IsAlone : View → Type 0
@@ -75,6 +76,7 @@ pub record Looks (v : View) (word : ℕ) (w : View) : Type 0 where
   pub all : AreAll v w.seen.front
   pub events : events_in word ≡ length w.seen.front
   pub live : live_in word ≡ length (records_after w.seen.front)
+  pub sole : IsSole v → word ≡ last_read 0 v
 
 -- THE FREE LIST
 
@@ -93,6 +95,7 @@ pub record TookFree (v : View) (slots : List (ℕ × Slot)) (w : View) (slots' :
   pub apart : (p : ℕ) → times p (list_in slots').items + times p v.places.owed + min (held_times p v.places.held) 1 ≤ 1
   pub below : (p : ℕ) → v.passes.sizes.entries ≤ p → times p (list_in slots').items + times p v.places.owed ≡ 0
   pub clear : (p : ℕ) → 0 < times p v.places.clear → 0 < times p v.places.owed
+  pub sole : IsSole v → last_read 1 v ≡ 0
 
 -- Another pass has it: so there is one, with a share.
 pub record MissedFree (v : View) (slots : List (ℕ × Slot)) (w : View) (slots' : List (ℕ × Slot)) : Type 0 where
@@ -147,10 +150,11 @@ pub record Opens (place : ℕ) (v w : View) : Type 0 where
   pub owed : times place v.places.owed ≡ 0
 
 -- All references to a place are those that the only pass keeps, and the table's one while an entry is live there. In the
--- middle of a commit the pass keeps that one itself.
+-- middle of a commit the pass keeps that one itself. Each event is its own, or one that it gathered.
 pub record AreOwn (place n : ℕ) (v : View) : Type 0 where
   pub log : List Event
   pub all : AreAll v log
+  pub made : (weight : Note → ℕ) → total weight (notes_from 0 log) ≡ total weight v.seen.own + total weight v.seen.gathered
   pub exact : n + middle_of (of_place place) v ≡ keeps place v + total (of_place place) (records_after log)
 
 -- There were so many references to the place. They are few, and at least those that the pass keeps itself.
@@ -158,6 +162,7 @@ pub record IsCount (place n : ℕ) (v : View) : Type 0 where
   pub few : n < most_keeps
   pub own : keeps place v ≤ n
   pub alone : IsAlone v → AreOwn place n v
+  pub sole : IsSole v → n ≡ last_read (refs_word v.passes.sizes place) v
 
 -- A load of the references.
 pub record LoadsRefs (place : ℕ) (v : View) (n : ℕ) (w : View) : Type 0 where

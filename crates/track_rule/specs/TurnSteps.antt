@@ -8,7 +8,7 @@ use Rattle.track_rule.specs.declared.view.Hand.{Hand}
 use Rattle.track_rule.specs.declared.view.Reading.{Reading}
 use Rattle.track_rule.specs.declared.view.View.{View}
 use Rattle.track_rule.specs.Layout.{record_slot, turn_word}
-use Rattle.track_rule.specs.Readings.{found, noted, stored}
+use Rattle.track_rule.specs.Readings.{IsSole, found, last_read, noted, stored}
 use Rattle.track_rule.specs.Records.{record_in, slot_of_record}
 use Rattle.track_rule.specs.Steps.{HasOthers}
 
@@ -31,6 +31,7 @@ pub record TookTurn (place : ℕ) (v : View) (slots : List (ℕ × Slot)) (w : V
   pub phase : ℕ
   pub view : w ≡ with_hand (Some (record { place = place; phase = phase; subject = subject_in slots' })) (stored (turn_word v.passes.sizes place) 1) v
   pub out : slots' ≡ (record_slot place, slot_of_record (subject_in slots')) ∷ slots
+  pub sole : IsSole v → last_read (turn_word v.passes.sizes place) v ≡ 0
 
 -- Another pass has it.
 pub record MissedTurn (place : ℕ) (v : View) (slots : List (ℕ × Slot)) (w : View) (slots' : List (ℕ × Slot)) : Type 0 where
