@@ -14,7 +14,7 @@ use Rattle.track_rule.specs.declared.view.Met.{Met}
 use Rattle.track_rule.specs.declared.view.Reading.{Reading}
 use Rattle.track_rule.specs.declared.view.View.{View}
 use Rattle.track_rule.specs.declared.view.Walk.{Walk}
-use Rattle.bucket_table.specs.Following.{Compares, Walks, is_another, is_of_walk, met_with, walk_on}
+use Rattle.bucket_table.specs.Following.{Compares, WalksOn, is_another, is_of_walk, met_with, walk_on}
 use Rattle.bucket_table.specs.declared.lookup.Goal.{Goal}
 
 -- a link of which the first word was read
@@ -55,7 +55,7 @@ module _ (z : Sizes) (g : Goal) (link : ℕ) (before : List Met) where
 
 -- one load of such a word
 pub one_walk : (v w : PassSight) (word n : ℕ) (walk : Option Walk) → w ≡ record v { view = w.view }
-    → w.view ≡ noted (found word n) (record v.view { walk = walk }) → 3 + (sizes_of v).buckets ≤ word → Walks v w
+    → w.view ≡ noted (found word n) (record v.view { walk = walk }) → 3 + (sizes_of v).buckets ≤ word → WalksOn v w
 one_walk v w word n noted_is kept view high = record {
   more = found word n ∷ [];
   same = kept ∙ ap (λ (x : View). record v { view = x }) (view_is v.view w.view word n noted_is view);
@@ -67,7 +67,7 @@ one_walk v w word n noted_is kept view high = record {
     view_is v w word n noted_is e = e ∙ ap (λ (o : Option Walk). record v { walk = o; readings = v.readings ++ found word n ∷ [] }) (sym (ap (λ (x : View). x.walk) e))
 
 -- two walks one after the other
-pub walks_on : (u v w : PassSight) → Walks u v → Walks v w → Walks u w
+pub walks_on : (u v w : PassSight) → WalksOn u v → WalksOn v w → WalksOn u w
 walks_on u v w a b = record {
   more = a.more ++ b.more;
   same = b.same ∙ joined u v w a.more b.more a.same;

@@ -13,14 +13,14 @@ use Rattle.track_rule.specs.Sights.{PassSight, sizes_of}
 use Rattle.track_rule.specs.declared.view.Met.{Met}
 use Rattle.track_rule.specs.declared.view.View.{View}
 use Rattle.track_rule.specs.declared.view.Walk.{Walk}
-use Rattle.bucket_table.specs.Following.{Compares, IsSoFar, IsStart, SearchEnded, SearchFound, SearchLong, SearchSays, Walks, all_others, is_another, met_with, note_at, walk_on, walk_through}
+use Rattle.bucket_table.specs.Following.{Compares, IsSoFar, IsStart, SearchEnded, SearchFound, SearchLong, SearchSays, WalksOn, all_others, is_another, met_with, note_at, walk_on, walk_through}
 use Rattle.bucket_table.specs.declared.lookup.Goal.{Goal}
 use Rattle.bucket_table.proofs.Looking.{one_walk, walks_on}
 
 pub far_start : (g : Goal) (z : Sizes) (head left : ℕ) (view : View) → IsStart g head view → left ≡ last_link z → head ≤ last_link z → IsSoFar g z head left view
 far_start g z head left view start all low = record { before = []; walk = start; others = refl; count = omega (arith, all); low = low }
 
-pub walk_none : (v : PassSight) → Walks v v
+pub walk_none : (v : PassSight) → WalksOn v v
 walk_none v = record {
   more = [];
   same = ap (λ xs. record v { view = record v.view { readings = xs } }) (sym (append-nil v.view.readings));
@@ -63,7 +63,7 @@ far_on g link left n v u w below far some more compares loads kept =
     }
 
 -- the load of a link reads a word behind the generations
-pub link_walk : (link n : ℕ) (v w : PassSight) → LoadsLink (next_word (sizes_of v) link) v.view n w.view → w ≡ record v { view = w.view } → Walks v w
+pub link_walk : (link n : ℕ) (v w : PassSight) → LoadsLink (next_word (sizes_of v) link) v.view n w.view → w ≡ record v { view = w.view } → WalksOn v w
 link_walk link n v w loads kept =
     one_walk v w (next_word (sizes_of v) link) n (link_note (sizes_of v) (next_word (sizes_of v) link) n v.view.walk) kept loads.view (omega arith)
 

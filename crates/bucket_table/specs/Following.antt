@@ -10,17 +10,20 @@ use Rattle.history_book.specs.declared.event.Event.{Event}
 use Rattle.history_book.specs.declared.sizes.Sizes.{Sizes}
 use Rattle.track_rule.specs.BucketSteps.{IsChainOf, IsNoteOf, WasChain}
 use Rattle.track_rule.specs.Chains.{bucket_of, pair_of, shuts_of}
+use Rattle.track_rule.specs.History.{events_in}
 use Rattle.track_rule.specs.Layout.{gen_word, place_of, side_of}
 use Rattle.track_rule.specs.Links.{last_link}
 use Rattle.track_rule.specs.Notes.{is_other, just_met}
-use Rattle.track_rule.specs.Readings.{Gave, added, changes, found, is_found}
+use Rattle.track_rule.specs.Readings.{Gave, IsSole, added, changes, found, is_found, of_word, read_from}
 use Rattle.track_rule.specs.Sights.{PassSight, sizes_of}
-use Rattle.track_rule.specs.Walks.{HasLive}
+use Rattle.track_rule.specs.Steps.{AreAll}
+use Rattle.track_rule.specs.Walks.{HasLive, Stands}
 use Rattle.track_rule.specs.declared.view.Entry.{Entry}
 use Rattle.track_rule.specs.declared.view.Met.{Met}
 use Rattle.track_rule.specs.declared.view.Reading.{Reading}
 use Rattle.track_rule.specs.declared.view.View.{View}
 use Rattle.track_rule.specs.declared.view.Walk.{Walk}
+use Rattle.bucket_table.specs.GoesOn.{ReadingsStand}
 use Rattle.bucket_table.specs.declared.lookup.Followed.{Followed}
 use Rattle.bucket_table.specs.declared.lookup.Followed.TheVariants.{Link, End, Moved}
 use Rattle.bucket_table.specs.declared.lookup.Goal.{Goal}
@@ -52,11 +55,16 @@ walk_to bucket generation met = record { bucket = bucket; generation = generatio
 abbrev pub walk_through : ℕ → ℕ → List Met → Walk
 walk_through bucket generation met = record { bucket = bucket; generation = generation; met = met; ended = true; at = None; passed = false }
 
+-- the same, where the pass has seen all events up to this point
+abbrev pub walk_seen : ℕ → ℕ → List Met → ℕ → Walk
+walk_seen bucket generation met point = record (walk_through bucket generation met) { at = Some point }
+
 -- an entry has these two words
 abbrev pub has_words : ℕ → ℕ → Entry → Bool
 has_words first second e = e.pair.first == first && e.pair.second == second
 
--- The pass has only read: no word was changed, and nothing of what it has. It may have seen more events.
+-- The pass has only read: no word was changed, and nothing of what it has. It may have seen more events, and its readings come
+-- after those before the call.
 pub record OnlyReads (v w : PassSight) : Type 0 where
   pub same : w ≡ record v {
     view = record v.view {
@@ -66,14 +74,19 @@ pub record OnlyReads (v w : PassSight) : Type 0 where
     };
   }
   pub front : StartsWith w.view.seen.front v.view.seen.front
+  pub stand : ReadingsStand v w
   pub own : changes (λ word. true) (added v.view w.view) ≡ false
 
--- What the walk noted: at this generation, which is even, and which this call found, the chain of the bucket begins with what was
--- met; that is links with other tuples, and then this link with the tuple.
+-- What the walk noted at this generation, which is even, and which the one load of it in this call found: links with other
+-- tuples were met, and then this link with the tuple. While the generation is that one, the chain of the bucket begins with
+-- them; else it says nothing of the chain. No event was seen.
 pub record IsLink (t : Tuple) (place : ℕ) (direction : Direction) (generation : ℕ) (v w : PassSight) : Type 0 where
   pub reads : OnlyReads v w
   pub even : generation % 2 ≡ 0
   pub read : is_found (gen_word (sizes_of v) (bucket_in (sizes_of v) t)) generation (added v.view w.view) ≡ true
+  pub loads : of_word (gen_word (sizes_of v) (bucket_in (sizes_of v) t)) (added v.view w.view)
+      ≡ found (gen_word (sizes_of v) (bucket_in (sizes_of v) t)) generation ∷ []
+  pub front : w.view.seen.front ≡ v.view.seen.front
   pub link : ℕ
   pub some : 0 < link
   pub below : link ≤ last_link (sizes_of v)
@@ -91,15 +104,22 @@ pub record Encloses (word generation : ℕ) (readings : List Reading) : Type 0 w
   pub history_is : (history.word ≡ 0) × (history.own ≡ false)
   pub all : readings ≡ found word generation ∷ middle ++ history ∷ found word generation ∷ []
 
--- The chain of the bucket, which was this one from the first load of the even generation to the second, has no link with the
--- tuple. Between the two the pass has seen all events up to the point; the chain has what was live there.
+-- The chain of the bucket, which was this one from the first load of the even generation to the second, is the links that the
+-- walk met, and has none with the tuple. Between the two the pass has seen all events up to the point, which the history word
+-- named; the chain has what was live there.
 pub record IsEnd (t : Tuple) (at : ℕ) (v w : PassSight) : Type 0 where
   pub reads : OnlyReads v w
   pub point : at ≡ length w.view.seen.front
+  pub all : AreAll v.view w.view.seen.front
   pub generation : ℕ
   pub even : generation % 2 ≡ 0
   pub between : Encloses (gen_word (sizes_of v) (bucket_in (sizes_of v) t)) generation (added v.view w.view)
+  pub events : events_in between.history.value ≡ at
+  pub before : List Met
+  pub others : list_all (is_another (address_word t) (flow_word t)) before ≡ true
+  pub walk : w.view.walk ≡ Some (walk_seen (bucket_in (sizes_of v) t) generation before at)
   pub chain : List Entry
+  pub stands : Stands chain (walk_seen (bucket_in (sizes_of v) t) generation before at)
   pub right : IsChainOf (sizes_of v) (bucket_in (sizes_of v) t) chain
   pub none : list_any (has_words (address_word t) (flow_word t)) chain ≡ false
   pub live : HasLive (sizes_of v) (bucket_in (sizes_of v) t) w.view.seen.front chain
@@ -110,12 +130,15 @@ pub record WasShut (word was now : ℕ) (readings : List Reading) : Type 0 where
   pub read : is_found word was readings ≡ true
   pub same : now ≡ was
 
--- The generation of the bucket was odd, though this pass has not shut it, or it gave two different values.
+-- The generation of the bucket was odd, though this pass has not shut it, or it gave two different values. So the table is not
+-- one of a single pass. Where it was odd no event was seen.
 pub record IsMoved (t : Tuple) (word was now : ℕ) (v w : PassSight) : Type 0 where
   pub reads : OnlyReads v w
   pub word_is : word ≡ gen_word (sizes_of v) (bucket_in (sizes_of v) t)
   pub mine : shuts_of (bucket_in (sizes_of v) t) v.view ≡ 0
+  pub many : 1 < (sizes_of v).passes
   pub cause : WasShut word was now (added v.view w.view) ⊎ Gave word was now (added v.view w.view)
+  pub front : was % 2 ≡ 1 → w.view.seen.front ≡ v.view.seen.front
 
 abbrev pub FollowSays : Followed → Tuple → PassSight → PassSight → Type 0
 FollowSays (Link place direction generation) t v w = IsLink t place direction generation v w
@@ -129,7 +152,7 @@ abbrev pub is_of_walk : Sizes → Reading → Bool
 is_of_walk z r = nat_le (3 + z.buckets) r.word && not r.own
 
 -- the pass has read such words, and noted what it met
-pub record Walks (v w : PassSight) : Type 0 where
+pub record WalksOn (v w : PassSight) : Type 0 where
   pub more : List Reading
   pub same : w ≡ record v { view = record v.view { walk = w.view.walk; readings = v.view.readings ++ more } }
   pub quiet : list_all (is_of_walk (sizes_of v)) more ≡ true
@@ -143,7 +166,7 @@ all_others g met = list_all (is_another g.first g.second) met
 
 -- whether the newest link has the tuple
 pub record Compares (g : Goal) (link : ℕ) (same : Bool) (v w : PassSight) : Type 0 where
-  pub walks : Walks v w
+  pub walks : WalksOn v w
   pub has : same ≡ true → (before : List Met) → v.view.walk ≡ Some (walk_on g (just_met link ∷ before))
       → w.view.walk ≡ Some (walk_on g (met_with link g.first g.second ∷ before))
   pub another : same ≡ false → (before : List Met) → v.view.walk ≡ Some (walk_on g (just_met link ∷ before))
@@ -198,7 +221,8 @@ pub record IsBegun (g : Goal) (v w : PassSight) : Type 0 where
   }
   pub quiet : list_all (is_of_walk (sizes_of v)) more ≡ true
 
--- the history word was loaded, and then the generation, which was this one
+-- The history word was loaded, and then the generation, which was this one. The pass has seen all events at the history word. In
+-- a table of one pass the generation is the value that it read there last.
 pub record LooksAgain (g : Goal) (now : ℕ) (v w : PassSight) : Type 0 where
   pub history : Reading
   pub history_is : (history.word ≡ 0) × (history.own ≡ false)
@@ -210,22 +234,27 @@ pub record LooksAgain (g : Goal) (now : ℕ) (v w : PassSight) : Type 0 where
     };
   }
   pub front : StartsWith w.view.seen.front v.view.seen.front
+  pub all : AreAll v.view w.view.seen.front
+  pub events : events_in history.value ≡ length w.view.seen.front
+  pub sole : IsSole v.view → now ≡ read_from 0 (gen_word (sizes_of v) g.bucket) (v.view.readings ++ history ∷ [])
 
--- The generation still stands: the note was true at this point, which is that of all events that the pass has seen.
+-- The generation still stands: the note was true at this point, which is that of all events that the pass has seen, and it
+-- names that point now.
 pub record StandsStill (g : Goal) (at : ℕ) (v w : PassSight) : Type 0 where
   pub looks : LooksAgain g g.generation v w
   pub point : at ≡ length w.view.seen.front
+  pub noted : (m : Walk) → v.view.walk ≡ Some m → IsNoteOf g.bucket g.generation m → w.view.walk ≡ Some (record m { at = Some (length w.view.seen.front) })
   pub was : (m : Walk) → v.view.walk ≡ Some m → IsNoteOf g.bucket g.generation m → g.generation % 2 ≡ 0
       → WasChain (sizes_of v) w.view.seen.front (record m { at = Some (length w.view.seen.front) })
 
 -- It does not.
-pub record StandsNoMore (g : Goal) (word was now : ℕ) (words : ℕ) (v w : PassSight) : Type 0 where
+pub record StandsNoMore (g : Goal) (word was now : ℕ) (word_of : ℕ) (v w : PassSight) : Type 0 where
   pub looks : LooksAgain g now v w
   pub was_is : was ≡ g.generation
-  pub word_is : word ≡ words
+  pub word_is : word ≡ word_of
   pub other : (g.generation == now) ≡ false
 
 abbrev pub EndSays : Followed → ℕ → Goal → PassSight → PassSight → Type 0
-EndSays (Link place direction generation) words g v w = ⊥
-EndSays (End at) words g v w = StandsStill g at v w
-EndSays (Moved word was now) words g v w = StandsNoMore g word was now words v w
+EndSays (Link place direction generation) word_of g v w = ⊥
+EndSays (End at) word_of g v w = StandsStill g at v w
+EndSays (Moved word was now) word_of g v w = StandsNoMore g word was now word_of v w

@@ -1,3 +1,4 @@
+pub mod GoesOn
 pub mod Locks
 pub mod Following
 pub mod LockedChain

@@ -1,7 +1,7 @@
 //! Looking for a tuple in its chain without a lock.
 
 ghost use Rattle.std.specs.Prelude.{◌≡◌, ◌%◌, ◌<◌, ◌≤◌, true};
-ghost use Rattle.bucket_table.specs.Following.{Compares, EndSays, FollowSays, IsStart, SearchSays, Walks, bucket_in, direction_of};
+ghost use Rattle.bucket_table.specs.Following.{Compares, EndSays, FollowSays, IsStart, SearchSays, WalksOn, bucket_in, direction_of};
 ghost use Rattle.history_book.specs.Sizes.{AreWithinLimits};
 ghost use Rattle.track_rule.specs.Chains.{shuts_of};
 ghost use Rattle.track_rule.specs.Layout.{place_of};
@@ -16,13 +16,14 @@ use tuple_core::{Direction, Tuple, bucket_of, words};
 /// What came of following a chain.
 #[derive(Clone, Copy)]
 pub enum Followed {
-    /// At this generation the chain has this link with the tuple.
+    /// The walk met this link with the tuple at this generation, which the call found once. It says that the link is in the
+    /// chain only while the generation is that one.
     Link {
         place: u32,
         direction: Direction,
         generation: u64,
     },
-    /// At this point no link of the chain had the tuple.
+    /// At this point no link of the chain had the tuple, and the walk met them all.
     End {
         at: u64,
     },
@@ -87,7 +88,7 @@ fn search(pass: &mut Pass, sizes: &Sizes, goal: &Goal, head: u64) -> Option<u64>
     requires bucket { goal.now.bucket < sizes.now.buckets }
     requires start { IsStart goal.now head pass.old.view }
     requires low { head ≤ last_link (sizes_of pass.old) }
-    ensures walks { Walks pass.old pass.new }
+    ensures walks { WalksOn pass.old pass.new }
     ensures says { SearchSays result goal.now (sizes_of pass.old) pass.new.view }
 {
     let mut link = head;

@@ -1,7 +1,3 @@
-use Rattle.std.proofs.Common.{◌≡◌, ap, sym, subst, ◌∙◌}
-use Rattle.history_book.specs.declared.sizes.Sizes.{Sizes}
-use Rattle.track_rule.specs.Layout.{next_word}
-use Rattle.track_rule.specs.Sights.{sizes_of}
 use Rattle.bucket_table.proofs.Stringing.{put_done, put_may}
 use Rattle.bucket_table.proofs.locked_chain.put_link.Goals as goal
 

@@ -1,6 +1,5 @@
 use Rattle.std.proofs.Common.{◌≡◌, true}
 use Rattle.track_rule.specs.Links.{is_link_word}
-use Rattle.track_rule.specs.Sights.{sizes_of}
 use Rattle.bucket_table.specs.LockedChain.{IsSeeking, OnlyLoads}
 use Rattle.bucket_table.proofs.locked_chain.take_link.Given as goal
 

@@ -1,4 +1,4 @@
-use Rattle.std.proofs.Common.{◌≡◌, ◌≢◌, ℕ, ◌%◌, ◌<◌, List, get_or, ap, arith, subst, sym, ◌∙◌, refl, suc, zero, Some, Option}
+use Rattle.std.proofs.Common.{◌≡◌, ◌≢◌, ℕ, ◌%◌, ◌<◌, ◌≤◌, List, get_or, ap, arith, subst, sym, ◌∙◌, refl, suc, zero, Some, Option}
 use Rattle.history_book.specs.declared.sizes.Sizes.{Sizes}
 use Rattle.tuple_core.specs.Words.{address_word, flow_word}
 use Rattle.track_rule.specs.Layout.{gen_word, place_of}
@@ -32,9 +32,10 @@ returns-then-link-eq0 c =
     c.link_load-head.ensures.loads c.link_load-head.ensures.kept c.in-Some.ensures.walks in
     let same : sizes_of c.link_load-head.new.self ≡ sizes_of c.args.pass.now = ap sizes_of c.link_load-head.ensures.kept ∙ ap (λ (x : View). x.passes.sizes) c.link_load-head.ensures.loads.view
     ∙ ap sizes_of c.gen_load-generation.ensures.kept ∙ ap (λ (x : View). x.passes.sizes) c.gen_load-generation.ensures.loads.view in
+    let some : 1 ≤ (sizes_of c.args.pass.now).passes = subst (λ (z : Sizes). 1 ≤ z.passes) c.sizes-sizes.ensures.sizes c.sizes-sizes.ensures.limits.some_passes in
     end_says c.args.t.now g c.end.result c.gen_word-word.result c.args.pass.now c.search.new.pass c.end.new.pass bucket
     (subst (λ (z : Sizes). c.bucket_of-bucket.result < z.buckets) c.sizes-sizes.ensures.sizes c.bucket_of-bucket.ensures.below)
-    (c.gen_word-word.ensures ∙ ap (λ (z : Sizes). gen_word z c.bucket_of-bucket.result) c.sizes-sizes.ensures.sizes) first second even c.requires begun
+    (c.gen_word-word.ensures ∙ ap (λ (z : Sizes). gen_word z c.bucket_of-bucket.result) c.sizes-sizes.ensures.sizes) first second even c.requires some begun
     (subst (λ (n : ℕ). SearchSays (Some n) g (sizes_of c.args.pass.now) c.search.new.pass.view) c.if-link-eq0.true
     (subst (λ z. SearchSays (Some c.in-Some.link) g z c.search.new.pass.view) same c.in-Some.ensures.says)) c.end.ensures
 
@@ -59,7 +60,8 @@ returns-else-link-eq0 c =
     ∙ ap sizes_of c.gen_load-generation.ensures.kept ∙ ap (λ (x : View). x.passes.sizes) c.gen_load-generation.ensures.loads.view in
     let says : SearchSays (Some c.in-Some.link) g (sizes_of c.args.pass.now) c.search.new.pass.view =
     subst (λ z. SearchSays (Some c.in-Some.link) g z c.search.new.pass.view) same c.in-Some.ensures.says in
-    let there = link_is c.args.t.now g c.in-Some.link c.args.pass.now c.search.new.pass bucket first second even begun (found_some g c.in-Some.link (sizes_of c.args.pass.now) c.search.new.pass c.if-link-eq0.false says) in
+    let there = link_is c.args.t.now g c.in-Some.link c.args.pass.now c.search.new.pass bucket
+    (subst (λ (z : Sizes). c.bucket_of-bucket.result < z.buckets) c.sizes-sizes.ensures.sizes c.bucket_of-bucket.ensures.below) first second even begun (found_some g c.in-Some.link (sizes_of c.args.pass.now) c.search.new.pass c.if-link-eq0.false says) in
     subst (λ d. IsLink c.args.t.now c.place_of.result d c.gen_load-generation.result c.args.pass.now c.search.new.pass) (sym c.direction_of.ensures)
     (subst (λ (p : ℕ). IsLink c.args.t.now p (direction_of c.in-Some.link) c.gen_load-generation.result c.args.pass.now c.search.new.pass) (sym c.place_of.ensures) there)
 
@@ -80,7 +82,8 @@ returns-in-None c =
     c.link_load-head.ensures.loads c.link_load-head.ensures.kept c.in-None.ensures.walks in
     let same : sizes_of c.link_load-head.new.self ≡ sizes_of c.args.pass.now = ap sizes_of c.link_load-head.ensures.kept ∙ ap (λ (x : View). x.passes.sizes) c.link_load-head.ensures.loads.view
     ∙ ap sizes_of c.gen_load-generation.ensures.kept ∙ ap (λ (x : View). x.passes.sizes) c.gen_load-generation.ensures.loads.view in
+    let some : 1 ≤ (sizes_of c.args.pass.now).passes = subst (λ (z : Sizes). 1 ≤ z.passes) c.sizes-sizes.ensures.sizes c.sizes-sizes.ensures.limits.some_passes in
     long_moved c.args.t.now g c.gen_word-word.result c.gen_load.result c.args.pass.now c.search.new.pass c.gen_load.new.self bucket
     (subst (λ (z : Sizes). c.bucket_of-bucket.result < z.buckets) c.sizes-sizes.ensures.sizes c.bucket_of-bucket.ensures.below)
-    (c.gen_word-word.ensures ∙ ap (λ (z : Sizes). gen_word z c.bucket_of-bucket.result) c.sizes-sizes.ensures.sizes) c.requires even begun
+    (c.gen_word-word.ensures ∙ ap (λ (z : Sizes). gen_word z c.bucket_of-bucket.result) c.sizes-sizes.ensures.sizes) c.requires even some begun
     (subst (λ z. SearchLong g z c.search.new.pass.view) same c.in-None.ensures.says) c.gen_load.ensures.loads c.gen_load.ensures.kept

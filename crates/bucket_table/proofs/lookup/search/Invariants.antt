@@ -1,11 +1,10 @@
-use Rattle.std.proofs.Common.{◌≡◌}
 use Rattle.track_rule.specs.Sights.{sizes_of}
-use Rattle.bucket_table.specs.Following.{IsSoFar, Walks}
+use Rattle.bucket_table.specs.Following.{IsSoFar, WalksOn}
 use Rattle.bucket_table.proofs.lookup.search.Given as goal
 
 abbrev pub invariant-links : goal.invariant-links
 invariant-links l = record {
-  walks : Walks l.initial.pass l.pass;
+  walks : WalksOn l.initial.pass l.pass;
   far : IsSoFar l.goal (sizes_of l.initial.pass) l.link l.left l.pass.view;
 }
 
