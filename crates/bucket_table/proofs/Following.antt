@@ -1,9 +1,9 @@
 -- What came of following a chain, from its loads.
-use Rattle.std.proofs.Common.{◌⊎◌, ◌≡◌, ◌≢◌, ℕ, zero, suc, ◌+◌, ◌*◌, ◌-◌, ◌%◌, ◌<◌, ◌≤◌, Bool, true, false, cond, Option, Some, None, List, [], ◌∷◌, ◌++◌, length, drop, refl, sym, ap, subst, ◌∙◌, ⊎_elim, inl, inr, arith, append_assoc, append-nil}
+use Rattle.std.proofs.Common.{◌≡◌, ◌≢◌, ℕ, zero, suc, ◌+◌, ◌%◌, ◌<◌, ◌≤◌, Bool, true, false, Option, Some, None, List, [], ◌∷◌, ◌++◌, length, drop, refl, sym, ap, subst, ◌∙◌, ⊎_elim, inl, inr, arith, append_assoc, append-nil}
 use Rattle.std.specs.Prelude.{◌==◌, ◌&&◌, ◌||◌, not, if◌then◌else◌, nat_le}
 use Rattle.std.specs.List.{list_all, list_any}
 use Rattle.std.proofs.Math.Seq.{drop-append_seam}
-use Rattle.std.proofs.lemmas.Bool.{and_from, and_parts, and_right, cases_Bool, cases_eq, eq-eqb, eqb-true, false≢true, leb-true, ne_eqb, or_from, or_parts}
+use Rattle.std.proofs.lemmas.Bool.{and_parts, and_right, cases_Bool, cases_eq, eq-eqb, false≢true, leb-true, ne_eqb, or_from, or_parts}
 use Rattle.history_book.specs.Point.{StartsWith}
 use Rattle.history_book.specs.declared.event.Event.{Event}
 use Rattle.history_book.specs.declared.sizes.Sizes.{Sizes}
@@ -14,17 +14,17 @@ use Rattle.track_rule.specs.Chains.{shuts_of}
 use Rattle.track_rule.specs.History.{events_in}
 use Rattle.track_rule.specs.Layout.{gen_word, head_word, place_of}
 use Rattle.track_rule.specs.Links.{last_link}
-use Rattle.track_rule.specs.Notes.{fresh_walk, is_after, is_other, just_met, link_note, link_noted, met_then, note_then}
-use Rattle.track_rule.specs.Readings.{Gave, IsSole, added, changes, found, is_found, last_read, noted, of_word, read_from, turns_over}
+use Rattle.track_rule.specs.Notes.{fresh_walk, is_after, is_other, link_note, met_then, note_then}
+use Rattle.track_rule.specs.Readings.{Gave, IsSole, added, changes, found, is_found, noted, of_word, read_from, turns_over}
 use Rattle.track_rule.specs.Sights.{PassSight, sizes_of}
-use Rattle.track_rule.specs.Steps.{AreAll, Looks, at_point, found_history, saw}
+use Rattle.track_rule.specs.Steps.{AreAll, Looks, at_point, found_history}
 use Rattle.track_rule.specs.Walks.{HasLive, IsRead, Matches, rev_onto}
 use Rattle.track_rule.specs.declared.view.Entry.{Entry}
 use Rattle.track_rule.specs.declared.view.Met.{Met}
 use Rattle.track_rule.specs.declared.view.Reading.{Reading}
 use Rattle.track_rule.specs.declared.view.View.{View}
 use Rattle.track_rule.specs.declared.view.Walk.{Walk}
-use Rattle.bucket_table.specs.Following.{Encloses, EndSays, FollowSays, IsBegun, IsEnd, IsLink, IsMoved, IsStart, LooksAgain, OnlyReads, SearchEnded, SearchFound, SearchLong, SearchSays, StandsNoMore, StandsStill, WalksOn, all_others, bucket_in, direction_of, has_words, is_another, is_of_walk, met_with, note_at, walk_on, walk_seen, walk_through, walk_to}
+use Rattle.bucket_table.specs.Following.{EndSays, FollowSays, IsBegun, IsEnd, IsLink, IsMoved, IsStart, LooksAgain, OnlyReads, SearchEnded, SearchFound, SearchLong, SearchSays, StandsNoMore, StandsStill, WalksOn, bucket_in, direction_of, has_words, is_another, is_of_walk, met_with, note_at, walk_on, walk_seen, walk_through, walk_to}
 use Rattle.bucket_table.specs.declared.lookup.Followed.{Followed}
 use Rattle.bucket_table.specs.declared.lookup.Followed.TheVariants.{Link, End, Moved}
 use Rattle.bucket_table.specs.declared.lookup.Goal.{Goal}

@@ -1,12 +1,11 @@
 -- What the loads of a walk leave in its note.
-use Rattle.std.proofs.Common.{◌≡◌, ◌≢◌, ℕ, ◌+◌, ◌*◌, ◌/◌, ◌%◌, ◌-◌, ◌<◌, ◌≤◌, Bool, true, false, cond, Option, Some, None, List, [], ◌∷◌, ◌++◌, length, refl, sym, ap, subst, ◌∙◌, ⊎_elim, arith, append_assoc}
+use Rattle.std.proofs.Common.{◌≡◌, ◌≢◌, ℕ, ◌+◌, ◌<◌, ◌≤◌, Bool, true, false, Option, Some, None, List, [], ◌∷◌, ◌++◌, refl, sym, ap, subst, ◌∙◌, arith, append_assoc}
 use Rattle.std.specs.Prelude.{◌==◌, ◌&&◌, ◌||◌, not, if◌then◌else◌, nat_le}
 use Rattle.std.specs.List.{list_all}
-use Rattle.std.proofs.lemmas.Bool.{and_from, and_parts, cases_Bool, eq-eqb, eqb-true, false≢true, ne_eqb, le-leb}
+use Rattle.std.proofs.lemmas.Bool.{and_from, and_parts, eq-eqb, eqb-true, false≢true, ne_eqb, le-leb}
 use Rattle.history_book.specs.declared.sizes.Sizes.{Sizes}
 use Rattle.track_rule.specs.BucketSteps.{LoadsTuple}
-use Rattle.track_rule.specs.Layout.{first_word, place_of, second_word}
-use Rattle.track_rule.specs.Links.{last_link}
+use Rattle.track_rule.specs.Layout.{first_word, second_word}
 use Rattle.track_rule.specs.Notes.{just_met, tuple_note, tuple_noted}
 use Rattle.track_rule.specs.Readings.{found, noted}
 use Rattle.track_rule.specs.Sights.{PassSight, sizes_of}
@@ -14,7 +13,7 @@ use Rattle.track_rule.specs.declared.view.Met.{Met}
 use Rattle.track_rule.specs.declared.view.Reading.{Reading}
 use Rattle.track_rule.specs.declared.view.View.{View}
 use Rattle.track_rule.specs.declared.view.Walk.{Walk}
-use Rattle.bucket_table.specs.Following.{Compares, WalksOn, is_another, is_of_walk, met_with, walk_on}
+use Rattle.bucket_table.specs.Following.{Compares, WalksOn, is_of_walk, walk_on}
 use Rattle.bucket_table.specs.declared.lookup.Goal.{Goal}
 
 -- a link of which the first word was read

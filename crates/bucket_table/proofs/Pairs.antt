@@ -1,17 +1,16 @@
 -- Both links of a place, one after the other; and a walk along a locked chain.
-use Rattle.std.proofs.Common.{◌≡◌, ◌≢◌, ℕ, zero, suc, ◌+◌, ◌*◌, ◌-◌, ◌%◌, ◌<◌, ◌≤◌, Bool, true, false, cond, Option, Some, None, List, [], ◌∷◌, length, map, refl, sym, ap, subst, ◌∙◌, ⊎_elim, inl, inr, ◌⊎◌, arith}
+use Rattle.std.proofs.Common.{◌≡◌, ◌≢◌, ℕ, suc, ◌+◌, ◌-◌, ◌<◌, ◌≤◌, Bool, true, false, Option, Some, None, List, [], ◌∷◌, map, refl, sym, ap, subst, ◌∙◌, ⊎_elim, inl, inr, ◌⊎◌, arith}
 use mathlib.Core.Option.{some}
 use lib.ListN.{get_elem?}
 use Rattle.std.specs.Prelude.{◌==◌, ◌&&◌, ◌||◌, not, if◌then◌else◌}
-use Rattle.std.specs.List.{list_any}
-use Rattle.std.proofs.lemmas.Bool.{cases_Bool, cases_eq, cond_both, eq-eqb, eqb-true, false≢true, ne_eqb}
+use Rattle.std.proofs.lemmas.Bool.{cases_Bool, cases_eq, cond_both, eq-eqb, eqb-true, ne_eqb}
 use Rattle.history_book.specs.declared.sizes.Sizes.{Sizes}
 use Rattle.tuple_core.specs.declared.Direction.{Direction}
 use Rattle.tuple_core.specs.declared.Direction.TheVariants.{Original, Reply}
 use Rattle.track_rule.specs.BucketSteps.{IsChainOf, IsShutAt, LoadsLink, lower, put_in, raise, taken_from, with_chain, without_link}
 use Rattle.track_rule.specs.Chains.{bucket_of, chain_in, entry_of, shuts_of}
 use Rattle.track_rule.specs.Layout.{head_word, next_word, place_of, side_of}
-use Rattle.track_rule.specs.Links.{hook_of, hooks_of, is_down, is_raised, last_link}
+use Rattle.track_rule.specs.Links.{hook_of, is_down, is_raised, last_link}
 use Rattle.track_rule.specs.Sights.{PassSight, sizes_of}
 use Rattle.track_rule.specs.Sums.{bit, total}
 use Rattle.track_rule.specs.declared.view.Entry.{Entry}
@@ -20,10 +19,10 @@ use Rattle.track_rule.specs.declared.view.Shut.{Shut}
 use Rattle.track_rule.specs.declared.view.HeldBuckets.{HeldBuckets}
 use Rattle.track_rule.specs.declared.view.View.{View}
 use Rattle.bucket_table.specs.Following.{has_words}
-use Rattle.bucket_table.specs.LockedChain.{ChangesBuckets, IsPassing, IsWalking, OnlyLoads, found_from, found_in, has_bucket, hook_bucket, link_with, linked_buckets, original_first, original_link, reply_link, unlinked_buckets}
+use Rattle.bucket_table.specs.LockedChain.{ChangesBuckets, IsPassing, IsWalking, OnlyLoads, found_from, found_in, has_bucket, hook_bucket, link_with, original_first}
 use Rattle.bucket_table.specs.Locks.{AreShut, Buckets}
 use Rattle.bucket_table.proofs.Passing.{passing_on, passing_some, passing_start}
-use Rattle.bucket_table.proofs.Stringing.{hook_map, lower_else, lower_link, raise_else, raise_link, some_there, test_map}
+use Rattle.bucket_table.proofs.Stringing.{lower_else, lower_link, raise_else, raise_link, test_map}
 
 -- a bucket that is one of the locked ones is shut
 pub bucket_shut : (locked : Buckets) (b : ℕ) (v : View) → AreShut locked v → has_bucket locked b ≡ true → 0 < shuts_of b v

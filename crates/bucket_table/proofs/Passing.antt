@@ -1,26 +1,22 @@
 -- A locked chain is walked, link after link.
-use Rattle.std.proofs.Common.{◌≡◌, ◌≢◌, ℕ, zero, suc, ◌+◌, ◌*◌, ◌-◌, ◌<◌, ◌≤◌, Bool, true, false, cond, Option, Some, None, List, [], ◌∷◌, length, refl, sym, ap, subst, ◌∙◌, ⊎_elim, inl, inr, arith}
-use Rattle.std.specs.Prelude.{◌==◌, ◌&&◌, ◌||◌, not, if◌then◌else◌}
-use Rattle.std.specs.List.{list_any}
-use Rattle.std.proofs.lemmas.Bool.{eq-eqb, false≢true, ne_eqb}
-use mathlib.Core.Option.{some}
-use lib.ListN.{get_elem?}
+use Rattle.std.proofs.Common.{◌≡◌, ◌≢◌, ℕ, suc, ◌+◌, ◌-◌, ◌<◌, Bool, true, List, [], ◌∷◌, length, refl, sym, ap, subst, ◌∙◌, inr, arith}
+use Rattle.std.specs.Prelude.{◌||◌, not}
+use Rattle.std.proofs.lemmas.Bool.{false≢true, ne_eqb}
 use Rattle.history_book.specs.declared.sizes.Sizes.{Sizes}
-use Rattle.track_rule.specs.BucketSteps.{Cuts, IsChainOf, IsEntryOf, IsShutAt, LoadsLink, MayString, Strings, end_word, first_of, has_link, strung, taken_from}
-use Rattle.track_rule.specs.Chains.{bucket_of, chain_in, shuts_of}
+use Rattle.track_rule.specs.BucketSteps.{IsChainOf, IsEntryOf, IsShutAt, LoadsLink, MayString, Strings, end_word, first_of, has_link, strung, taken_from}
+use Rattle.track_rule.specs.Chains.{chain_in, shuts_of}
 use Rattle.track_rule.specs.Layout.{head_word, next_word}
-use Rattle.track_rule.specs.Links.{hook_of, is_raised, last_link}
+use Rattle.track_rule.specs.Links.{is_link_word, is_raised, last_link}
 use Rattle.track_rule.specs.Notes.{link_note}
 use Rattle.track_rule.specs.Readings.{found, noted}
 use Rattle.track_rule.specs.Sights.{PassSight, sizes_of}
 use Rattle.track_rule.specs.Sums.{Each}
 use Rattle.track_rule.specs.Walks.{rev_onto}
 use Rattle.track_rule.specs.declared.view.Entry.{Entry}
-use Rattle.track_rule.specs.declared.view.Reading.{Reading}
 use Rattle.track_rule.specs.declared.view.HeldBuckets.{HeldBuckets}
 use Rattle.track_rule.specs.declared.view.View.{View}
-use Rattle.track_rule.specs.declared.view.Walk.{Walk}
 use Rattle.bucket_table.specs.LockedChain.{ChangesBuckets, IsPassing, IsSeeking, OnlyLoads, hook_bucket}
+use Rattle.bucket_table.proofs.Reading.{More, more_found, more_join, more_of, more_own, more_stand, more_stored, more_weak}
 use Rattle.bucket_table.proofs.Stringing.{stand_frame}
 
 pub length_rev : (passed rest : List Entry) → length (rev_onto passed rest) ≡ length passed + length rest
@@ -31,16 +27,60 @@ each_behind : (F : Entry → Type 0) (passed rest : List Entry) → Each F (rev_
 each_behind F [] rest e = e
 each_behind F (p ∷ ps) rest e = λ i x at. each_behind F ps (p ∷ rest) e (suc i) x at
 
+-- what a call that only loads adds
+pub loads_more : (v w : PassSight) → OnlyLoads v w → More (λ word. true) v.view.readings w.view.readings
+loads_more v w a = more_of (λ word. true) v.view.readings w.view.readings a.stand a.own
+
+more_loads : (u v w : PassSight) → OnlyLoads u v → OnlyLoads v w → More (λ word. true) u.view.readings w.view.readings
+more_loads u v w a b = more_join (λ word. true) u.view.readings v.view.readings w.view.readings (loads_more u v a) (loads_more v w b)
+
 -- a pass that only loads stays as it was
 pub loads_join : (u v w : PassSight) → OnlyLoads u v → OnlyLoads v w → OnlyLoads u w
 loads_join u v w a b = record {
   same = b.same ∙ ap (λ (x : PassSight). record x { view = record x.view { walk = w.view.walk; readings = w.view.readings } }) a.same;
+  stand = more_stand (λ word. true) u.view.readings w.view.readings (more_loads u v w a b);
+  own = more_own (λ word. true) u.view.readings w.view.readings (more_loads u v w a b);
 }
 
+-- one load
 pub load_only : (v w : PassSight) (word n : ℕ) → w ≡ record v { view = w.view } → LoadsLink word v.view n w.view → OnlyLoads v w
-load_only v w word n kept loads = record {
-  same = kept ∙ ap (λ (x : View). record v { view = x }) (stand_frame v.view w.view v.view.buckets _ _ loads.view);
+load_only v w word n kept loads =
+    let one : More (λ k. true) v.view.readings w.view.readings =
+    more_found (λ k. true) word n v.view.readings w.view.readings (ap (λ (x : View). x.readings) loads.view) in
+    record {
+      same = kept ∙ ap (λ (x : View). record v { view = x }) (stand_frame v.view w.view v.view.buckets _ _ loads.view);
+      stand = more_stand (λ k. true) v.view.readings w.view.readings one;
+      own = more_own (λ k. true) v.view.readings w.view.readings one;
+    }
+
+-- a call that only loads changes no words but those of links
+pub loads_links : (z : Sizes) (v w : PassSight) → OnlyLoads v w → More (λ word. not (is_link_word z word)) v.view.readings w.view.readings
+loads_links z v w a = more_weak (λ word. true) (λ word. not (is_link_word z word)) v.view.readings w.view.readings (λ word e. refl) (loads_more v w a)
+
+-- and neither does one that puts links in or takes them out
+pub links_more : (b : HeldBuckets) (v w : PassSight) → ChangesBuckets b v w → More (λ word. not (is_link_word (sizes_of v) word)) v.view.readings w.view.readings
+links_more b v w a = more_of (λ word. not (is_link_word (sizes_of v) word)) v.view.readings w.view.readings a.stand a.own
+
+-- first loads, and then two changes
+pub changes_join : (b c d : HeldBuckets) (o u v w : PassSight) → OnlyLoads o u → ChangesBuckets b u v → ChangesBuckets c v w → c ≡ d → ChangesBuckets d o w
+changes_join b c d o u v w loads first second same = record {
+  same = second.same
+      ∙ ap (λ (x : PassSight). record x { view = record x.view { buckets = c; walk = w.view.walk; readings = w.view.readings } }) (first.same
+      ∙ ap (λ (x : PassSight). record x { view = record x.view { buckets = b; walk = v.view.walk; readings = v.view.readings } }) loads.same)
+      ∙ ap (λ (s : HeldBuckets). record o { view = record o.view { buckets = s; walk = w.view.walk; readings = w.view.readings } }) same;
+  stand = more_stand (λ word. not (is_link_word (sizes_of o) word)) o.view.readings w.view.readings (whole b c o u v w loads first second);
+  own = more_own (λ word. not (is_link_word (sizes_of o) word)) o.view.readings w.view.readings (whole b c o u v w loads first second);
 }
+  where
+    whole : (b c : HeldBuckets) (o u v w : PassSight) → OnlyLoads o u → ChangesBuckets b u v → ChangesBuckets c v w
+        → More (λ word. not (is_link_word (sizes_of o) word)) o.view.readings w.view.readings
+    whole b c o u v w loads first second =
+        let sizes : sizes_of u ≡ sizes_of o = ap sizes_of loads.same in
+        let sizes' : sizes_of v ≡ sizes_of o = ap sizes_of first.same ∙ sizes in
+        more_join (λ word. not (is_link_word (sizes_of o) word)) o.view.readings u.view.readings w.view.readings (loads_links (sizes_of o) o u loads)
+        (more_join (λ word. not (is_link_word (sizes_of o) word)) u.view.readings v.view.readings w.view.readings
+        (subst (λ (z : Sizes). More (λ word. not (is_link_word z word)) u.view.readings v.view.readings) sizes (links_more b u v first))
+        (subst (λ (z : Sizes). More (λ word. not (is_link_word z word)) v.view.readings w.view.readings) sizes' (links_more c v w second)))
 
 -- the load of the head
 pub passing_start : (b n : ℕ) (v w : PassSight) → b < (sizes_of v).buckets → 0 < shuts_of b v.view → LoadsLink (head_word (sizes_of v) b) v.view n w.view
@@ -156,12 +196,18 @@ take_may b x word left n word' v w below s up word_is loads kept = by_rest s.pas
           λ y strings. strings.cuts b passed e rest below' here end' next ∙ (λ i. strung word n (taken_from b (sym p.link_is i) (buckets i)) w.view),
         )
 
-pub take_done : (b x word n word' : ℕ) (o v w y : PassSight) → OnlyLoads o v → LoadsLink word' v.view n w.view → w ≡ record v { view = w.view }
+pub take_done : (b x word n word' : ℕ) (o v w y : PassSight) → is_link_word (sizes_of o) word ≡ true → OnlyLoads o v → LoadsLink word' v.view n w.view → w ≡ record v { view = w.view }
     → y.view ≡ strung word n (taken_from b x v.view.buckets) w.view → y ≡ record w { view = y.view } → ChangesBuckets (taken_from b x o.view.buckets) o y
-take_done b x word n word' o v w y only loads kept cut kept' =
+take_done b x word n word' o v w y link only loads kept cut kept' =
     let whole : y.view ≡ strung word n (taken_from b x v.view.buckets) (noted (found word' n) (record v.view { walk = link_note (sizes_of v) word' n v.view.walk })) =
     cut ∙ ap (strung word n (taken_from b x v.view.buckets)) loads.view in
+    let more : More (λ k. not (is_link_word (sizes_of o) k)) o.view.readings y.view.readings =
+    more_join (λ k. not (is_link_word (sizes_of o) k)) o.view.readings w.view.readings y.view.readings
+    (loads_links (sizes_of o) o w (loads_join o v w only (load_only v w word' n kept loads)))
+    (more_stored (λ k. not (is_link_word (sizes_of o) k)) word n w.view.readings y.view.readings (ap not link) (ap (λ (k : View). k.readings) cut)) in
     record {
+      stand = more_stand (λ k. not (is_link_word (sizes_of o) k)) o.view.readings y.view.readings more;
+      own = more_own (λ k. not (is_link_word (sizes_of o) k)) o.view.readings y.view.readings more;
       same = kept' ∙ ap (λ (k : PassSight). record k { view = y.view }) kept
           ∙ ap (λ (k : View). record v { view = k }) (stand_frame v.view y.view (taken_from b x v.view.buckets) _ _ whole)
           ∙ (λ i. record (only.same i) { view = record (only.same i).view { buckets = taken_from b x (ap (λ (k : PassSight). k.view.buckets) only.same i); walk = y.view.walk; readings = y.view.readings } });

@@ -1,21 +1,19 @@
 -- A search along a chain: link after link.
-use Rattle.std.proofs.Common.{◌≡◌, ◌≢◌, ℕ, zero, suc, ◌+◌, ◌*◌, ◌-◌, ◌<◌, ◌≤◌, Bool, true, false, Option, Some, None, List, [], ◌∷◌, ◌++◌, length, refl, sym, ap, subst, ◌∙◌, arith, append-nil}
-use Rattle.std.specs.Prelude.{◌==◌, ◌&&◌, ◌||◌, not, if◌then◌else◌}
-use Rattle.std.specs.List.{list_all}
-use Rattle.std.proofs.lemmas.Bool.{and_from, eq-eqb, ne_eqb, false≢true}
+use Rattle.std.proofs.Common.{◌≡◌, ◌≢◌, ℕ, zero, suc, ◌-◌, ◌<◌, ◌≤◌, Bool, true, false, Some, None, List, [], ◌∷◌, refl, sym, ap, subst, ◌∙◌, arith, append-nil}
+use Rattle.std.specs.Prelude.{◌==◌, if◌then◌else◌}
+use Rattle.std.proofs.lemmas.Bool.{and_from, eq-eqb, ne_eqb}
 use Rattle.history_book.specs.declared.sizes.Sizes.{Sizes}
 use Rattle.track_rule.specs.BucketSteps.{LoadsLink}
 use Rattle.track_rule.specs.Layout.{head_word, next_word}
 use Rattle.track_rule.specs.Links.{last_link}
 use Rattle.track_rule.specs.Notes.{fresh_walk, just_met, link_note, link_noted, met_then}
-use Rattle.track_rule.specs.Readings.{found, noted}
 use Rattle.track_rule.specs.Sights.{PassSight, sizes_of}
 use Rattle.track_rule.specs.declared.view.Met.{Met}
 use Rattle.track_rule.specs.declared.view.View.{View}
 use Rattle.track_rule.specs.declared.view.Walk.{Walk}
-use Rattle.bucket_table.specs.Following.{Compares, IsSoFar, IsStart, SearchEnded, SearchFound, SearchLong, SearchSays, WalksOn, all_others, is_another, met_with, note_at, walk_on, walk_through}
+use Rattle.bucket_table.specs.Following.{Compares, IsSoFar, IsStart, SearchSays, WalksOn, all_others, is_another, note_at, walk_on, walk_through}
 use Rattle.bucket_table.specs.declared.lookup.Goal.{Goal}
-use Rattle.bucket_table.proofs.Looking.{one_walk, walks_on}
+use Rattle.bucket_table.proofs.Looking.{one_walk}
 
 pub far_start : (g : Goal) (z : Sizes) (head left : ℕ) (view : View) → IsStart g head view → left ≡ last_link z → head ≤ last_link z → IsSoFar g z head left view
 far_start g z head left view start all low = record { before = []; walk = start; others = refl; count = omega (arith, all); low = low }

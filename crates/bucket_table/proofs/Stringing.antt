@@ -1,19 +1,17 @@
 -- Links that are put into chains and taken out of them.
-use Rattle.std.proofs.Common.{◌≡◌, ◌≢◌, ℕ, zero, suc, ◌+◌, ◌*◌, ◌-◌, ◌<◌, ◌≤◌, Bool, true, false, cond, Option, Some, None, List, [], ◌∷◌, ◌++◌, length, map, refl, sym, ap, subst, ◌∙◌, ⊎_elim, inl, inr, arith}
+use Rattle.std.proofs.Common.{◌≡◌, ◌≢◌, ℕ, ◌-◌, ◌<◌, Bool, true, false, Option, Some, None, List, [], ◌∷◌, map, refl, sym, ap, subst, ◌∙◌, ⊎_elim, inl, inr, arith}
 use Rattle.std.specs.Prelude.{◌==◌, ◌&&◌, ◌||◌, not, if◌then◌else◌}
 use Rattle.std.specs.List.{list_any}
 use Rattle.std.proofs.lemmas.Bool.{and_parts, cases_Bool, cond_both, eq-eqb, eqb-true, false≢true, ne_eqb}
 use Rattle.history_book.specs.declared.sizes.Sizes.{Sizes}
-use Rattle.track_rule.specs.BucketSteps.{Aims, Cuts, IsShutAt, LoadsLink, MayString, Puts, Strings, aim, aimed, end_word, first_of, has_link, lower, put_in, raise, strung, taken_from, with_chain, without_link}
+use Rattle.track_rule.specs.BucketSteps.{LoadsLink, MayString, Strings, aim, aimed, first_of, lower, put_in, raise, strung, with_chain}
 use Rattle.track_rule.specs.Chains.{bucket_of, chain_in, entry_of, shuts_of}
 use Rattle.track_rule.specs.Layout.{head_word, next_word, side_of}
-use Rattle.track_rule.specs.Links.{hook_of, hooks_of, is_down, is_raised, last_link}
+use Rattle.track_rule.specs.Links.{hook_of, hooks_of, is_down, is_link_word}
 use Rattle.track_rule.specs.Notes.{link_note}
 use Rattle.track_rule.specs.Readings.{found, noted}
 use Rattle.track_rule.specs.Sights.{PassSight, sizes_of}
 use Rattle.track_rule.specs.Sums.{bit, total}
-use Rattle.track_rule.specs.Walks.{rev_onto}
-use Rattle.track_rule.specs.declared.view.Entry.{Entry}
 use Rattle.track_rule.specs.declared.view.Hook.{Hook}
 use Rattle.track_rule.specs.declared.view.Shut.{Shut}
 use Rattle.track_rule.specs.declared.view.HeldBuckets.{HeldBuckets}
@@ -21,6 +19,7 @@ use Rattle.track_rule.specs.declared.view.Reading.{Reading}
 use Rattle.track_rule.specs.declared.view.View.{View}
 use Rattle.track_rule.specs.declared.view.Walk.{Walk}
 use Rattle.bucket_table.specs.LockedChain.{ChangesBuckets, hook_bucket}
+use Rattle.bucket_table.proofs.Reading.{More, more_found, more_join, more_own, more_stand, more_stored}
 
 -- hooks of which some change, but not in their links
 module _ (f : Hook → Hook) (links : (h : Hook) → (f h).link ≡ h.link) where
@@ -149,12 +148,12 @@ stand_frame v y buckets walk rs e =
     e ∙ (λ i. record v { buckets = buckets; walk = sym (ap (λ (k : View). k.walk) e) i; readings = sym (ap (λ (k : View). k.readings) e) i })
 
 -- and then it is
-pub put_done : (z : Sizes) (b x first head word : ℕ) (v u w y : PassSight) → z ≡ sizes_of v → b < (sizes_of v).buckets → head ≡ head_word z b → word ≡ next_word z x
+pub put_done : (z : Sizes) (b x first head word : ℕ) (v u w y : PassSight) → is_link_word z head ≡ true → is_link_word z word ≡ true → z ≡ sizes_of v → b < (sizes_of v).buckets → head ≡ head_word z b → word ≡ next_word z x
     → LoadsLink head v.view first u.view → u ≡ record v { view = u.view } → Strings word first u.view w.view → w ≡ record u { view = w.view }
     → 0 < shuts_of b v.view → is_down x v.view.buckets.hooks ≡ true → hook_bucket (sizes_of v) x v.view.buckets.hooks ≡ b
     → (side_of x ≡ 1 → is_down (x - 1) v.view.buckets.hooks ≡ true) → Strings head x w.view y.view → y ≡ record w { view = y.view }
     → ChangesBuckets (put_in b x v.view.buckets) v y
-put_done z b x first head word v u w y sizes below head_is word_is loads kept strings kept' mine down placed before strings' kept'' =
+put_done z b x first head word v u w y link link' sizes below head_is word_is loads kept strings kept' mine down placed before strings' kept'' =
     let may = put_may z b x first head word v u w sizes below head_is word_is loads kept strings mine down placed before in
     let z' : sizes_of u ≡ sizes_of v = ap sizes_of kept ∙ ap (λ (k : View). k.passes.sizes) loads.view in
     let buckets : u.view.buckets ≡ v.view.buckets = ap (λ (k : View). k.buckets) loads.view in
@@ -170,7 +169,17 @@ put_done z b x first head word v u w y sizes below head_is word_is loads kept st
     let whole : y.view ≡ strung head x (put_in b x v.view.buckets) (strung word first w.view.buckets (noted (found head first) (record v.view { walk = link_note (sizes_of v) head first v.view.walk }))) =
     puts ∙ ap (λ (k : HeldBuckets). strung head x k w.view) now
     ∙ ap (strung head x (put_in b x v.view.buckets)) (aims ∙ ap (strung word first w.view.buckets) loads.view) in
+    let link_head : not (is_link_word (sizes_of v) head) ≡ false = ap (λ (k : Sizes). not (is_link_word k head)) (sym sizes) ∙ ap not link in
+    let link_word : not (is_link_word (sizes_of v) word) ≡ false = ap (λ (k : Sizes). not (is_link_word k word)) (sym sizes) ∙ ap not link' in
+    let more : More (λ k. not (is_link_word (sizes_of v) k)) v.view.readings y.view.readings =
+    more_join (λ k. not (is_link_word (sizes_of v) k)) v.view.readings u.view.readings y.view.readings
+    (more_found (λ k. not (is_link_word (sizes_of v) k)) head first v.view.readings u.view.readings (ap (λ (k : View). k.readings) loads.view))
+    (more_join (λ k. not (is_link_word (sizes_of v) k)) u.view.readings w.view.readings y.view.readings
+    (more_stored (λ k. not (is_link_word (sizes_of v) k)) word first u.view.readings w.view.readings link_word (ap (λ (k : View). k.readings) aims))
+    (more_stored (λ k. not (is_link_word (sizes_of v) k)) head x w.view.readings y.view.readings link_head (ap (λ (k : View). k.readings) puts))) in
     record {
+      stand = more_stand (λ k. not (is_link_word (sizes_of v) k)) v.view.readings y.view.readings more;
+      own = more_own (λ k. not (is_link_word (sizes_of v) k)) v.view.readings y.view.readings more;
       same = kept'' ∙ ap (λ (k : PassSight). record k { view = y.view }) (kept' ∙ ap (λ (k : PassSight). record k { view = w.view }) kept)
           ∙ ap (λ (k : View). record v { view = k }) (stand_frame v.view y.view (put_in b x v.view.buckets) _ _ whole);
     }

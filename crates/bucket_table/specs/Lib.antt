@@ -2,3 +2,4 @@ pub mod GoesOn
 pub mod Locks
 pub mod Following
 pub mod LockedChain
+pub mod Trying

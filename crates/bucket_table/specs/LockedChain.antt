@@ -1,5 +1,5 @@
 -- What a pass does with a chain that it has locked.
-use Rattle.std.specs.Prelude.{◌≡◌, ℕ, ◌+◌, ◌*◌, ◌-◌, ◌<◌, ◌≤◌, ◌==◌, ◌&&◌, ◌||◌, Bool, true, if◌then◌else◌, Option, Some, None, List, [], ◌∷◌, length, get_or}
+use Rattle.std.specs.Prelude.{◌≡◌, ℕ, ◌+◌, ◌*◌, ◌<◌, ◌≤◌, ◌==◌, ◌&&◌, ◌||◌, not, Bool, true, false, if◌then◌else◌, Option, Some, None, List, [], ◌∷◌, length, get_or}
 use Rattle.tuple_core.specs.Tuple.{is_valid}
 use Rattle.tuple_core.specs.Words.{words_of}
 use Rattle.tuple_core.specs.declared.Direction.{Direction}
@@ -7,28 +7,34 @@ use Rattle.tuple_core.specs.declared.Direction.TheVariants.{Original, Reply}
 use Rattle.tuple_core.specs.declared.Tuple.{Tuple}
 use Rattle.history_book.specs.declared.sizes.Sizes.{Sizes}
 use Rattle.track_rule.specs.BucketSteps.{IsChainOf, IsShutAt, end_word, first_of, has_link, put_in, taken_from}
-use Rattle.track_rule.specs.Chains.{bucket_of, chain_in, shuts_of}
+use Rattle.track_rule.specs.Chains.{bucket_of, chain_in}
 use Rattle.track_rule.specs.Layout.{place_of, side_of}
-use Rattle.track_rule.specs.Links.{hook_of, is_down, is_raised, last_link}
+use Rattle.track_rule.specs.Links.{hook_of, is_link_word, last_link}
+use Rattle.track_rule.specs.Readings.{added, changes}
 use Rattle.track_rule.specs.Sights.{PassSight, sizes_of}
 use Rattle.track_rule.specs.declared.view.Entry.{Entry}
 use Rattle.track_rule.specs.declared.view.Hook.{Hook}
 use Rattle.track_rule.specs.declared.view.HeldBuckets.{HeldBuckets}
 use Rattle.track_rule.specs.declared.view.View.{View}
 use Rattle.bucket_table.specs.Following.{has_words}
+use Rattle.bucket_table.specs.GoesOn.{ReadingsStand}
 use Rattle.bucket_table.specs.Locks.{Buckets}
 
 -- the bucket is one of the locked ones
 abbrev pub has_bucket : Buckets → ℕ → Bool
 has_bucket locked bucket = bucket == locked.lower || bucket == locked.upper
 
--- the pass is as it was, but for the note of a walk, and what it read
+-- The pass is as it was, but for the note of a walk, and what it read after its earlier readings. It changed no word.
 pub record OnlyLoads (v w : PassSight) : Type 0 where
   pub same : w ≡ record v { view = record v.view { walk = w.view.walk; readings = w.view.readings } }
+  pub stand : ReadingsStand v w
+  pub own : changes (λ word. true) (added v.view w.view) ≡ false
 
--- and for its links and its chains, which are these
+-- The same, but for its links and its chains, which are these. It changed no words but those of links.
 pub record ChangesBuckets (buckets : HeldBuckets) (v w : PassSight) : Type 0 where
   pub same : w ≡ record v { view = record v.view { buckets = buckets; walk = w.view.walk; readings = w.view.readings } }
+  pub stand : ReadingsStand v w
+  pub own : changes (λ word. not (is_link_word (sizes_of v) word)) (added v.view w.view) ≡ false
 
 -- the first link of this direction in the chain that has the two words
 abbrev pub link_with : ℕ → ℕ → ℕ → List Entry → Option ℕ

@@ -1,13 +1,15 @@
 -- Two locked buckets, which may be one.
-use Rattle.std.specs.Prelude.{◌≡◌, ℕ, ◌<◌, ◌≤◌, ◌==◌, if◌then◌else◌, max, min, List}
+use Rattle.std.specs.Prelude.{◌≡◌, ℕ, ◌<◌, ◌==◌, ◌||◌, not, Bool, false, if◌then◌else◌, max, min, List}
+use Rattle.history_book.specs.declared.sizes.Sizes.{Sizes}
 use Rattle.track_rule.specs.BucketSteps.{IsChainOf, opened_of, shut_now}
 use Rattle.track_rule.specs.Chains.{chain_in, shuts_of}
+use Rattle.track_rule.specs.Layout.{gen_word}
+use Rattle.track_rule.specs.Readings.{added, changes}
 use Rattle.track_rule.specs.Sights.{PassSight, sizes_of}
-use Rattle.track_rule.specs.declared.view.Reading.{Reading}
 use Rattle.track_rule.specs.declared.view.Shut.{Shut}
 use Rattle.track_rule.specs.declared.view.HeldBuckets.{HeldBuckets}
 use Rattle.track_rule.specs.declared.view.View.{View}
-use Rattle.track_rule.specs.declared.view.Walk.{Walk}
+use Rattle.bucket_table.specs.GoesOn.{ReadingsStand}
 
 -- the lower one and the upper one
 pub record Buckets : Type 0 where
@@ -23,7 +25,13 @@ pub record AreShut (locked : Buckets) (v : View) : Type 0 where
   pub lower : 0 < shuts_of locked.lower v
   pub upper : 0 < shuts_of locked.upper v
 
--- The bucket is shut, and the pass knows its chain. It had not shut it before. All else is as it was, but the note of a walk.
+-- the pass has shut neither
+pub record AreOpen (locked : Buckets) (v : View) : Type 0 where
+  pub lower : shuts_of locked.lower v ≡ 0
+  pub upper : shuts_of locked.upper v ≡ 0
+
+-- The bucket is shut, and the pass knows its chain. It had not shut it before. All else is as it was, but the note of a walk and
+-- the readings, which come after those before the call. It changed no word but the generation of the bucket.
 pub record Locks (bucket : ℕ) (v w : PassSight) : Type 0 where
   pub same : w ≡ record v {
     view = record v.view {
@@ -34,6 +42,12 @@ pub record Locks (bucket : ℕ) (v w : PassSight) : Type 0 where
   }
   pub chain : IsChainOf (sizes_of v) bucket (chain_in bucket w.view.buckets.shut)
   pub before : shuts_of bucket v.view ≡ 0
+  pub stand : ReadingsStand v w
+  pub own : changes (λ word. not (word == gen_word (sizes_of v) bucket)) (added v.view w.view) ≡ false
+
+-- a word that is not the generation of either bucket
+abbrev pub is_else : Sizes → Buckets → ℕ → Bool
+is_else z locked word = not (word == gen_word z locked.lower || word == gen_word z locked.upper)
 
 -- what the pass has of buckets once both are shut, the lower one first; where both are one it is shut once
 abbrev pub shut_both : Buckets → HeldBuckets → HeldBuckets → HeldBuckets
@@ -41,7 +55,8 @@ shut_both locked after before =
     (if locked.lower == locked.upper then shut_now locked.lower (chain_in locked.lower after.shut) before else
     shut_now locked.upper (chain_in locked.upper after.shut) (shut_now locked.lower (chain_in locked.lower after.shut) before))
 
--- Both are shut, and the pass knows their chains. All else is as it was, but the note of a walk.
+-- Both are shut, and the pass knows their chains. It had shut neither before. All else is as it was, but the note of a walk and
+-- the readings, which come after those before the call. It changed no word but the two generations.
 pub record LocksTwo (locked : Buckets) (v w : PassSight) : Type 0 where
   pub same : w ≡ record v {
     view = record v.view {
@@ -53,13 +68,17 @@ pub record LocksTwo (locked : Buckets) (v w : PassSight) : Type 0 where
   pub shut : AreShut locked w.view
   pub lower : IsChainOf (sizes_of v) locked.lower (chain_in locked.lower w.view.buckets.shut)
   pub upper : IsChainOf (sizes_of v) locked.upper (chain_in locked.upper w.view.buckets.shut)
+  pub before : AreOpen locked v.view
+  pub stand : ReadingsStand v w
+  pub own : changes (is_else (sizes_of v) locked) (added v.view w.view) ≡ false
 
 -- without both
 abbrev pub open_both : Buckets → List Shut → List Shut
 open_both locked shut =
     (if locked.lower == locked.upper then opened_of locked.lower shut else opened_of locked.lower (opened_of locked.upper shut))
 
--- Both buckets are given back. All else is as it was.
+-- Both buckets are given back. All else is as it was, but the readings, which come after those before the call. It changed no
+-- word but the two generations.
 pub record UnlocksTwo (locked : Buckets) (v w : PassSight) : Type 0 where
   pub same : w ≡ record v {
     view = record v.view {
@@ -69,3 +88,5 @@ pub record UnlocksTwo (locked : Buckets) (v w : PassSight) : Type 0 where
   }
   pub lower : shuts_of locked.lower w.view ≡ 0
   pub upper : shuts_of locked.upper w.view ≡ 0
+  pub stand : ReadingsStand v w
+  pub own : changes (is_else (sizes_of v) locked) (added v.view w.view) ≡ false

@@ -2,6 +2,8 @@
 
 ghost use Rattle.std.specs.Prelude.{◌≡◌, ◌<◌};
 ghost use Rattle.bucket_table.specs.Locks.{AreShut, Locks, LocksTwo, UnlocksTwo, buckets_of};
+ghost use Rattle.bucket_table.specs.Trying.{TriesLock};
+ghost use Rattle.track_rule.specs.Chains.{shuts_of};
 ghost use Rattle.track_rule.specs.Sights.{sizes_of};
 
 use std::marker::Model;
@@ -27,21 +29,44 @@ impl Model for Locked {
     ghost invariant = { λ l. l.lower ≤ l.upper };
 }
 
-/// Waits for a bucket, and shuts it. It waits on where the generation has passed its last value.
+/// Shuts a bucket, if its generation is even and has not reached its last value, and no other pass is first.
+fn try_lock(pass: &mut Pass, bucket: u32) -> bool
+    requires { bucket < (sizes_of pass.old).buckets }
+    ensures { TriesLock result bucket pass.old pass.new }
+{
+    let generation = pass.gen_load(bucket);
+    if generation % 2 == 0 && generation < LAST_GENERATION {
+        return match pass.gen_shut(bucket, generation) {
+            Ok(()) => true,
+            Err(_) => false,
+        };
+    }
+    false
+}
+
+/// Waits for a bucket, and shuts it. It waits on where the generation has reached its last value.
 fn lock<R: Wait>(rt: &R, pass: &mut Pass, bucket: u32)
     requires { bucket < (sizes_of pass.old).buckets }
     ensures { Locks bucket pass.old pass.new }
 {
     'tries: for _ in rt.forever() {
-        let generation = pass.gen_load(bucket);
-        if generation % 2 == 0 && generation < LAST_GENERATION {
-            if let Ok(()) = pass.gen_shut(bucket, generation) {
-                return;
-            }
+        if try_lock(pass, bucket) {
+            return;
         }
         thread::yield_now();
     }
     unreachable!()
+}
+
+/// Waits for the upper one of two buckets, of which the lower one is locked, and shuts it.
+fn lock_above<R: Wait>(rt: &R, pass: &mut Pass, lower: u32, upper: u32)
+    requires order { lower < upper }
+    requires bucket { upper < (sizes_of pass.old).buckets }
+    requires shut { 0 < shuts_of lower pass.old.view }
+    ensures { Locks upper pass.old pass.new }
+{
+    let _ = lower;
+    lock(rt, pass, upper);
 }
 
 /// Waits for two buckets, and locks them, the lower one first. Where both are one it locks that.
@@ -54,9 +79,10 @@ pub fn lock_two<R: Wait>(rt: &R, pass: &mut Pass, a: u32, b: u32) -> Locked
     let lower = a.min(b);
     let upper = a.max(b);
     lock(rt, pass, lower);
-    if lower != upper {
-        lock(rt, pass, upper);
+    if lower == upper {
+        return Locked { lower, upper };
     }
+    lock_above(rt, pass, lower, upper);
     Locked { lower, upper }
 }
 
@@ -67,8 +93,10 @@ pub fn unlock_two(pass: &mut Pass, locked: Locked)
     ensures { UnlocksTwo locked pass.old pass.new }
 {
     let Locked { lower, upper } = locked;
-    if lower != upper {
-        pass.gen_open(upper);
+    if upper == lower {
+        pass.gen_open(lower);
+        return;
     }
+    pass.gen_open(upper);
     pass.gen_open(lower);
 }

@@ -1,7 +1,7 @@
 use Rattle.std.proofs.Common.{◌≡◌, ℕ, ◌<◌, ap, arith, subst, sym, ◌∙◌}
 use Rattle.history_book.specs.declared.sizes.Sizes.{Sizes}
 use Rattle.track_rule.specs.Layout.{next_word}
-use Rattle.track_rule.specs.Links.{is_raised}
+use Rattle.track_rule.specs.Links.{is_link_word, is_raised}
 use Rattle.track_rule.specs.Sights.{sizes_of}
 use Rattle.bucket_table.specs.LockedChain.{IsSeeking}
 use Rattle.bucket_table.proofs.Passing.{load_only, loads_join, seek_on, seek_some, seek_start, take_done, take_may}
@@ -52,7 +52,7 @@ pub returns : goal.returns
 returns c =
     let same : sizes_of c.links.pass ≡ sizes_of c.args.pass.now = ap sizes_of c.links.invariant.loads.same in
     take_done c.args.bucket c.args.link c.links.word c.link_load-next.result c.next_word.result c.args.pass.now c.links.pass c.link_load-next.new.self c.link_store.new.self
-    c.links.invariant.loads c.link_load-next.ensures.loads c.link_load-next.ensures.kept
+    (ap (λ (z : Sizes). is_link_word z c.links.word) (sym c.requires.sizes) ∙ c.links.invariant.word) c.links.invariant.loads c.link_load-next.ensures.loads c.link_load-next.ensures.kept
     ((take_may c.args.bucket c.args.link c.links.word c.links.left c.link_load-next.result c.next_word.result c.links.pass c.link_load-next.new.self
     (subst (λ (z : Sizes). c.args.bucket < z.buckets) (sym same) c.requires.bucket)
     (subst (λ (k : ℕ). IsSeeking c.args.bucket c.args.link c.links.pass c.links.word k c.links.left) c.links-test.false c.links.invariant.seeks)

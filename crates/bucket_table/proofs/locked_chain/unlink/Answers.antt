@@ -7,7 +7,7 @@ use Rattle.track_rule.specs.Sights.{PassSight, sizes_of}
 use Rattle.track_rule.specs.declared.view.Hook.{Hook}
 use Rattle.bucket_table.specs.LockedChain.{hook_bucket, original_link, reply_link}
 use Rattle.bucket_table.proofs.Pairs.{bucket_shut, take_keeps, second_of}
-use Rattle.bucket_table.proofs.Passing.{loads_join}
+use Rattle.bucket_table.proofs.Passing.{changes_join, loads_join}
 use Rattle.bucket_table.proofs.Stringing.{some_there}
 use Rattle.bucket_table.proofs.locked_chain.unlink.Goals as goal
 
@@ -46,3 +46,15 @@ take_link-requires-2-clause-placed c =
     c.take_link.ensures (take_keeps (sizes_of c.args.pass.now) c.bucket_of_link-first.result (original_link c.args.place) (reply_link c.args.place) c.args.pass.now.view.buckets (λ e. omega (arith, e))) in
     let here : c.bucket_of_link-second.result ≡ hook_bucket (sizes_of c.args.pass.now) (reply_link c.args.place) c.args.pass.now.view.buckets.hooks = (c.bucket_of_link-second.ensures.bucket ∙ ap (λ (k : PassSight). hook_bucket (sizes_of k) (reply_link c.args.place) k.view.buckets.hooks) c.bucket_of_link-first.ensures.loads.same) in
     ap (λ (z : Sizes). hook_bucket z (reply_link c.args.place) c.take_link.new.pass.view.buckets.hooks) keeps.1 ∙ keeps.0.bucket ∙ sym here
+
+pub returns : goal.returns
+returns c =
+    let loads = loads_join c.args.pass.now c.bucket_of_link-first.new.pass c.bucket_of_link-second.new.pass c.bucket_of_link-first.ensures.loads c.bucket_of_link-second.ensures.loads in
+    let second : c.bucket_of_link-second.result ≡ hook_bucket (sizes_of c.args.pass.now) (reply_link c.args.place) c.args.pass.now.view.buckets.hooks =
+    c.bucket_of_link-second.ensures.bucket ∙ ap (λ (k : PassSight). hook_bucket (sizes_of k) (reply_link c.args.place) k.view.buckets.hooks) c.bucket_of_link-first.ensures.loads.same in
+    let between : c.take_link.new.pass.view.buckets
+    ≡ taken_from (hook_bucket (sizes_of c.args.pass.now) (original_link c.args.place) c.args.pass.now.view.buckets.hooks) (original_link c.args.place) c.args.pass.now.view.buckets =
+    ap (λ (k : PassSight). k.view.buckets) c.take_link.ensures.same
+    ∙ (λ i. taken_from (c.bucket_of_link-first.ensures.bucket i) (original_link c.args.place) (ap (λ (k : PassSight). k.view.buckets) loads.same i)) in
+    changes_join _ _ _ c.args.pass.now c.bucket_of_link-second.new.pass c.take_link.new.pass c.take_link-2.new.pass loads c.take_link.ensures c.take_link-2.ensures
+    (λ i. taken_from (second i) (reply_link c.args.place) (between i))

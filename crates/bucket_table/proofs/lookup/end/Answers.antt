@@ -1,5 +1,5 @@
 use Rattle.std.proofs.Common.{refl}
-use Rattle.bucket_table.proofs.Following.{looks_again, stands_still}
+use Rattle.bucket_table.proofs.Following.{stands_still}
 use Rattle.bucket_table.proofs.lookup.end.Goals as goal
 
 pub returns-then-now-goal : goal.returns-then-now-goal

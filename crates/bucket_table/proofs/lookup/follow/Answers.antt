@@ -1,11 +1,10 @@
-use Rattle.std.proofs.Common.{◌≡◌, ◌≢◌, ℕ, ◌%◌, ◌<◌, ◌≤◌, List, get_or, ap, arith, subst, sym, ◌∙◌, refl, suc, zero, Some, Option}
+use Rattle.std.proofs.Common.{◌≡◌, ◌≢◌, ℕ, ◌%◌, ◌<◌, ◌≤◌, List, get_or, ap, arith, subst, sym, ◌∙◌, Some}
 use Rattle.history_book.specs.declared.sizes.Sizes.{Sizes}
 use Rattle.tuple_core.specs.Words.{address_word, flow_word}
-use Rattle.track_rule.specs.Layout.{gen_word, place_of}
+use Rattle.track_rule.specs.Layout.{gen_word}
 use Rattle.track_rule.specs.Sights.{sizes_of}
 use Rattle.track_rule.specs.declared.view.View.{View}
-use Rattle.bucket_table.specs.Following.{EndSays, FollowSays, IsBegun, IsLink, SearchEnded, SearchFound, SearchLong, SearchSays, bucket_in, direction_of}
-use Rattle.bucket_table.specs.declared.lookup.Followed.{Followed}
+use Rattle.bucket_table.specs.Following.{IsBegun, IsLink, SearchLong, SearchSays, bucket_in, direction_of}
 use Rattle.bucket_table.specs.declared.lookup.Goal.{Goal}
 use Rattle.bucket_table.proofs.Following.{begun_from, end_says, found_some, link_is, long_moved}
 use Rattle.bucket_table.proofs.lookup.follow.Goals as goal
