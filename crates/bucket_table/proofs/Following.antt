@@ -29,6 +29,7 @@ use Rattle.bucket_table.specs.declared.lookup.Followed.{Followed}
 use Rattle.bucket_table.specs.declared.lookup.Followed.TheVariants.{Link, End, Moved}
 use Rattle.bucket_table.specs.declared.lookup.Goal.{Goal}
 use Rattle.bucket_table.proofs.Looking.{one_walk, walks_on}
+use Rattle.bucket_table.proofs.Reading.{changes_append}
 
 -- THE BEGINNING
 
@@ -97,12 +98,6 @@ no_changes z (r ∷ rs) e =
     let t = and_parts (is_of_walk z r) (list_all (is_of_walk z) rs) e in
     ap (λ (b : Bool). (b && true) || changes (λ word. true) rs) (not_own z r t.0) ∙ no_changes z rs t.1
 
-changes_join : (xs ys : List Reading) → changes (λ word. true) xs ≡ false → changes (λ word. true) ys ≡ false → changes (λ word. true) (xs ++ ys) ≡ false
-changes_join [] ys e f = f
-changes_join (r ∷ rs) ys e f =
-    let t = or_parts (r.own && true) (changes (λ word. true) rs) e in
-    or_from (r.own && true) (changes (λ word. true) (rs ++ ys)) t.0 (changes_join rs ys t.1 f)
-
 none_of : (z : Sizes) (word : ℕ) (xs ys : List Reading) → word < 3 + z.buckets → list_all (is_of_walk z) xs ≡ true → of_word word (xs ++ ys) ≡ of_word word ys
 none_of z word [] ys low e = refl
 none_of z word (r ∷ rs) ys low e =
@@ -139,6 +134,11 @@ just_one z word n xs low quiet =
 read_on : (a word : ℕ) (xs ys : List Reading) → read_from a word (xs ++ ys) ≡ read_from (read_from a word xs) word ys
 read_on a word [] ys = refl
 read_on a word (r ∷ rs) ys = read_on (if r.word == word then r.value else a) word rs ys
+
+last_is : (word n : ℕ) (xs : List Reading) (a : ℕ) → read_from a word (xs ++ found word n ∷ []) ≡ n
+last_is word n xs a =
+    read_on a word xs (found word n ∷ [])
+    ∙ ap (λ (b : Bool). if b then n else read_from a word xs) (eq-eqb word word refl)
 
 -- a walk does not read it
 read_past : (z : Sizes) (a word : ℕ) (xs ys : List Reading) → word < 3 + z.buckets → list_all (is_of_walk z) xs ≡ true
@@ -247,7 +247,7 @@ again_reads g now v u w b a =
       front = subst (StartsWith w.view.seen.front) front a.front;
       stand = stands_now v.view w.view _ (again_readings g now v u w b a);
       own = ap (changes (λ k. true)) (again_added g now v u w b a)
-          ∙ changes_join b.more (a.history ∷ found (gen_word (sizes_of v) g.bucket) now ∷ []) (no_changes (sizes_of v) b.more b.quiet)
+          ∙ changes_append (λ k. true) b.more (a.history ∷ found (gen_word (sizes_of v) g.bucket) now ∷ []) (no_changes (sizes_of v) b.more b.quiet)
           (ap (λ (t : Bool). (t && true) || false) a.history_is.1);
     }
 
@@ -338,11 +338,11 @@ end_moved t g word was now word_of v u w bucket below word_of_is mine even some 
     let low : gen_word (sizes_of v) g.bucket < 3 + (sizes_of v).buckets = word_low (sizes_of v) g.bucket below in
     let sole : IsSole v.view → now ≡ g.generation =
     λ e. s.looks.sole (ap (λ (x : PassSight). x.view.passes.sizes.passes) b.same ∙ e)
-        ∙ ap (λ (rs : List Reading). read_from 0 (gen_word (sizes_of v) g.bucket) (rs ++ s.looks.history ∷ [])) (begun_readings g v u b)
-        ∙ ap (read_from 0 (gen_word (sizes_of v) g.bucket)) (append_assoc v.view.readings (found (gen_word (sizes_of v) g.bucket) g.generation ∷ b.more) (s.looks.history ∷ []))
-        ∙ read_found (sizes_of v) (gen_word (sizes_of v) g.bucket) g.generation v.view.readings b.more (s.looks.history ∷ []) low b.quiet
-        ∙ ap (λ (k : Bool). if k then s.looks.history.value else g.generation)
-        (ne_eqb s.looks.history.word (gen_word (sizes_of v) g.bucket) (λ e. omega (arith, e, s.looks.history_is.0))) in
+    ∙ ap (λ (rs : List Reading). read_from 0 (gen_word (sizes_of v) g.bucket) (rs ++ s.looks.history ∷ [])) (begun_readings g v u b)
+    ∙ ap (read_from 0 (gen_word (sizes_of v) g.bucket)) (append_assoc v.view.readings (found (gen_word (sizes_of v) g.bucket) g.generation ∷ b.more) (s.looks.history ∷ []))
+    ∙ read_found (sizes_of v) (gen_word (sizes_of v) g.bucket) g.generation v.view.readings b.more (s.looks.history ∷ []) low b.quiet
+    ∙ ap (λ (k : Bool). if k then s.looks.history.value else g.generation)
+    (ne_eqb s.looks.history.word (gen_word (sizes_of v) g.bucket) (λ e. omega (arith, e, s.looks.history_is.0))) in
     record {
       reads = again_reads g now v u w b s.looks;
       word_is = here ∙ ap (gen_word (sizes_of v)) bucket;
@@ -355,6 +355,10 @@ end_moved t g word was now word_of v u w bucket below word_of_is mine even some 
           other)));
       many = many_of (sizes_of v).passes g.generation now some other sole;
       front = λ odd. absurd (omega (arith, odd, even, s.was_is));
+      last = λ a. ap (λ (k : ℕ). read_from a k (added v.view w.view)) here
+          ∙ ap (read_from a (gen_word (sizes_of v) g.bucket)) (again_added g now v u w b s.looks
+          ∙ sym (append_assoc (found (gen_word (sizes_of v) g.bucket) g.generation ∷ b.more) (s.looks.history ∷ []) (found (gen_word (sizes_of v) g.bucket) now ∷ [])))
+          ∙ last_is (gen_word (sizes_of v) g.bucket) now (found (gen_word (sizes_of v) g.bucket) g.generation ∷ b.more ++ s.looks.history ∷ []) a;
     }
 
 -- there are no more links than the chain has
@@ -400,10 +404,10 @@ long_moved t g word_of now v u w bucket below word_of_is mine even some b f gen 
     let low : gen_word (sizes_of v) g.bucket < 3 + (sizes_of v).buckets = word_low (sizes_of v) g.bucket below in
     let sole : IsSole v.view → now ≡ g.generation =
     λ e. gen.sole (ap (λ (z : Sizes). z.passes) sizes ∙ e)
-        ∙ ap (read_from 0 (gen_word (sizes_of v) g.bucket)) (begun_readings g v u b)
-        ∙ ap (λ (rs : List Reading). read_from 0 (gen_word (sizes_of v) g.bucket) (v.view.readings ++ found (gen_word (sizes_of v) g.bucket) g.generation ∷ rs))
-        (sym (append-nil b.more))
-        ∙ read_found (sizes_of v) (gen_word (sizes_of v) g.bucket) g.generation v.view.readings b.more [] low b.quiet in
+    ∙ ap (read_from 0 (gen_word (sizes_of v) g.bucket)) (begun_readings g v u b)
+    ∙ ap (λ (rs : List Reading). read_from 0 (gen_word (sizes_of v) g.bucket) (v.view.readings ++ found (gen_word (sizes_of v) g.bucket) g.generation ∷ rs))
+    (sym (append-nil b.more))
+    ∙ read_found (sizes_of v) (gen_word (sizes_of v) g.bucket) g.generation v.view.readings b.more [] low b.quiet in
     record {
       reads = record {
         same = more ∙ (λ i. record v {
@@ -416,7 +420,7 @@ long_moved t g word_of now v u w bucket below word_of_is mine even some b f gen 
         front = ([], front ∙ sym (append-nil v.view.seen.front));
         stand = stands_now v.view w.view _ readings;
         own = ap (changes (λ k. true)) all
-            ∙ changes_join b.more (found (gen_word (sizes_of v) g.bucket) now ∷ []) (no_changes (sizes_of v) b.more b.quiet) refl;
+            ∙ changes_append (λ k. true) b.more (found (gen_word (sizes_of v) g.bucket) now ∷ []) (no_changes (sizes_of v) b.more b.quiet) refl;
       };
       word_is = word_of_is ∙ ap (gen_word (sizes_of v)) bucket;
       mine = mine;
@@ -426,6 +430,8 @@ long_moved t g word_of now v u w bucket below word_of_is mine even some b f gen 
           ∙ just_two (sizes_of v) (gen_word (sizes_of v) g.bucket) g.generation now b.more low b.quiet) other));
       many = many_of (sizes_of v).passes g.generation now some other sole;
       front = λ odd. front;
+      last = λ a. ap (λ (k : ℕ). read_from a k (added v.view w.view)) word_of_is ∙ ap (read_from a (gen_word (sizes_of v) g.bucket)) all
+          ∙ last_is (gen_word (sizes_of v) g.bucket) now (found (gen_word (sizes_of v) g.bucket) g.generation ∷ b.more) a;
     }
 
 -- the first load found an odd generation
@@ -450,6 +456,8 @@ odd_moved t b word_of n v w bucket word_of_is mine odd gen kept =
       mine = mine;
       many = (gen.others odd (subst (λ (k : ℕ). shuts_of k v.view ≡ 0) (sym bucket) mine)).1;
       front = λ odd. front;
+      last = λ a. ap (λ (k : ℕ). read_from a k (added v.view w.view)) word_of_is ∙ ap (read_from a (gen_word (sizes_of v) b)) all
+          ∙ last_is (gen_word (sizes_of v) b) n [] a;
       cause = inl (record {
         odd = odd;
         read = ap (is_found word_of n) (all ∙ ap (λ (k : ℕ). found k n ∷ []) (sym word_of_is)) ∙ first_found word_of n [];

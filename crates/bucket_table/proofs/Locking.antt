@@ -98,7 +98,7 @@ locks_two locked v u w other first second =
           ∙ (λ i. record v {
             view = record v.view {
               buckets = (if sym (ne_eqb locked.lower locked.upper other) i then shut_now locked.lower (chain_in locked.lower w.view.buckets.shut) v.view.buckets else
-              shut_now locked.upper (chain_in locked.upper w.view.buckets.shut) (shut_now locked.lower (sym keeps i) v.view.buckets));
+                  shut_now locked.upper (chain_in locked.upper w.view.buckets.shut) (shut_now locked.lower (sym keeps i) v.view.buckets));
               walk = w.view.walk;
               readings = w.view.readings;
             };

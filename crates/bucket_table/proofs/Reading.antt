@@ -18,7 +18,7 @@ more_found test word n old new e = record { more = found word n ∷ []; all = e;
 pub more_stored : (test : ℕ → Bool) (word n : ℕ) (old new : List Reading) → test word ≡ false → new ≡ old ++ stored word n ∷ [] → More test old new
 more_stored test word n old new other e = record { more = stored word n ∷ []; all = e; own = ap (λ (b : Bool). b || false) other }
 
-changes_append : (test : ℕ → Bool) (xs ys : List Reading) → changes test xs ≡ false → changes test ys ≡ false → changes test (xs ++ ys) ≡ false
+pub changes_append : (test : ℕ → Bool) (xs ys : List Reading) → changes test xs ≡ false → changes test ys ≡ false → changes test (xs ++ ys) ≡ false
 changes_append test [] ys e f = f
 changes_append test (r ∷ rs) ys e f =
     let t = or_parts (r.own && test r.word) (changes test rs) e in

@@ -78,7 +78,7 @@ pub record OnlyReads (v w : PassSight) : Type 0 where
 
 -- What the walk noted at this generation, which is even, and which the one load of it in this call found: links with other
 -- tuples were met, and then this link with the tuple. While the generation is that one, the chain of the bucket begins with
--- them; else it says nothing of the chain. No event was seen.
+-- them; else it says nothing of the chain. The call saw no further event.
 pub record IsLink (t : Tuple) (place : ℕ) (direction : Direction) (generation : ℕ) (v w : PassSight) : Type 0 where
   pub reads : OnlyReads v w
   pub even : generation % 2 ≡ 0
@@ -130,7 +130,8 @@ pub record WasShut (word was now : ℕ) (readings : List Reading) : Type 0 where
   pub same : now ≡ was
 
 -- The generation of the bucket was odd, though this pass has not shut it, or it gave two different values. So the table is not
--- one of a single pass. Where it was odd no event was seen.
+-- one of a single pass. Where it was odd the call saw no further event. The
+-- value that the call read there last is `now`.
 pub record IsMoved (t : Tuple) (word was now : ℕ) (v w : PassSight) : Type 0 where
   pub reads : OnlyReads v w
   pub word_is : word ≡ gen_word (sizes_of v) (bucket_in (sizes_of v) t)
@@ -138,6 +139,7 @@ pub record IsMoved (t : Tuple) (word was now : ℕ) (v w : PassSight) : Type 0 w
   pub many : 1 < (sizes_of v).passes
   pub cause : WasShut word was now (added v.view w.view) ⊎ Gave word was now (added v.view w.view)
   pub front : was % 2 ≡ 1 → w.view.seen.front ≡ v.view.seen.front
+  pub last : (value : ℕ) → read_from value word (added v.view w.view) ≡ now
 
 abbrev pub FollowSays : Followed → Tuple → PassSight → PassSight → Type 0
 FollowSays (Link place direction generation) t v w = IsLink t place direction generation v w
