@@ -130,8 +130,7 @@ pub record WasShut (word was now : ℕ) (readings : List Reading) : Type 0 where
   pub same : now ≡ was
 
 -- The generation of the bucket was odd, though this pass has not shut it, or it gave two different values. So the table is not
--- one of a single pass. Where it was odd the call saw no further event. The
--- value that the call read there last is `now`.
+-- one of a single pass. Where it was odd the call saw no further event. The value that the call read there last is `now`.
 pub record IsMoved (t : Tuple) (word was now : ℕ) (v w : PassSight) : Type 0 where
   pub reads : OnlyReads v w
   pub word_is : word ≡ gen_word (sizes_of v) (bucket_in (sizes_of v) t)
