@@ -372,6 +372,16 @@ length_rev : (passed rest : List Entry) → length (rev_onto passed rest) ≡ le
 length_rev [] rest = omega arith
 length_rev (p ∷ ps) rest = omega (arith, length_rev ps (p ∷ rest))
 
+few_met : (z : Sizes) (front : List Event) (m : Walk) → WasChain z front m → length m.met ≤ last_link z
+few_met z front m was =
+    omega (
+      arith,
+      matches_long m.met was.stands.passed was.stands.matches,
+      length_rev was.stands.passed was.stands.rest,
+      ap (λ (es : List Entry). length es) was.stands.all,
+      was.right.few,
+    )
+
 pub long_moved : (t : Tuple) (g : Goal) (word_of now : ℕ) (v u w : PassSight) → g.bucket ≡ bucket_in (sizes_of v) t → g.bucket < (sizes_of v).buckets
     → word_of ≡ gen_word (sizes_of v) g.bucket → shuts_of (bucket_in (sizes_of v) t) v.view ≡ 0 → g.generation % 2 ≡ 0
     → 1 ≤ (sizes_of v).passes → IsBegun g v u → SearchLong g (sizes_of v) u.view → LoadsGen g.bucket u.view now w.view → w ≡ record u { view = w.view } → IsMoved t word_of g.generation now v w
@@ -390,15 +400,11 @@ long_moved t g word_of now v u w bucket below word_of_is mine even some b f gen 
     let all : added v.view w.view ≡ found (gen_word (sizes_of v) g.bucket) g.generation ∷ b.more ++ found (gen_word (sizes_of v) g.bucket) now ∷ [] =
     added_is v.view w.view _ readings in
     let front : w.view.seen.front ≡ v.view.seen.front = ap (λ (x : PassSight). x.view.seen.front) more in
-    let other : g.generation ≢ now = λ e.
-    let was = (gen.again (walk_on g f.met) f.walk (record { bucket_is = refl; generation_is = e }) (omega (arith, e, even))).1 in
-    omega (
+    let other : g.generation ≢ now = λ e. omega (
       arith,
       f.long,
-      matches_long f.met was.stands.passed was.stands.matches,
-      length_rev was.stands.passed was.stands.rest,
-      ap (λ (es : List Entry). length es) was.stands.all,
-      was.right.few,
+      few_met (sizes_of u) u.view.seen.front (walk_on g f.met)
+          (gen.again (walk_on g f.met) f.walk (record { bucket_is = refl; generation_is = e }) (omega (arith, e, even))).1,
       ap last_link sizes,
     ) in
     let low : gen_word (sizes_of v) g.bucket < 3 + (sizes_of v).buckets = word_low (sizes_of v) g.bucket below in
