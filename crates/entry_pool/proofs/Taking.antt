@@ -32,7 +32,7 @@ use Rattle.entry_pool.specs.Take.{HasOpened, HasTaken, IsFull, IsGivenBack, Recy
 use Rattle.entry_pool.specs.Turn.{HasList}
 use Rattle.entry_pool.proofs.Hooks.{up_new}
 use Rattle.entry_pool.proofs.Lists.{among_push, none_of, other_bit, other_taken, same_bit, same_taken, some_of, times_push, total_none, total_some, unlisted_in, unlisted_none, unlisted_out, unlisted_push, unlisted_same}
-use Rattle.entry_pool.proofs.Waiting.{added_one, added_two, any_at, any_more, drop_first, stands_before, stands_one, stands_two}
+use Rattle.entry_pool.proofs.Waiting.{added_one, added_two, any_at, any_less, any_more, drop_first, stands_before, stands_one, stands_two}
 
 -- a pass by its parts
 made_of : (w x : PassSight) → w ≡ x → (seen : Seen) → x.view.seen ≡ seen → (places : Places) → x.view.places ≡ places
@@ -57,6 +57,16 @@ made_of w x e seen es places ep free ef buckets eb walk ew k = record {
 -- a reading of another word than the turn, that the pass changed itself
 abbrev not_turn : Reading → Bool
 not_turn r = r.own && not (r.word == 1)
+
+-- what no test of a turn passes passes no test of a turn or more
+less : (own turn more : Bool) → (own && not turn) ≡ false → (own && not (turn || more)) ≡ false
+less true true more e = refl
+less true false more e = cc
+less false turn more e = refl
+
+none_then : (b : Bool) → not (b || true) ≡ false
+none_then true = refl
+none_then false = refl
 
 and_both : (a b : Bool) → a ≡ true → b ≡ true → (a && b) ≡ true
 and_both a b ea eb = ap (λ (x : Bool). x && b) ea ∙ eb
@@ -130,23 +140,38 @@ module _ (v u : PassSight) (list : Roomed ℕ) (h : HasList v u list) where
             slots = (0, Vacant) ∷ v.slots;
           }) = e ∙ ap (gave left) et ∙ ap step h.same in
           record {
-            same = made_of w _ x v.view.seen refl (record v.view.places { held = keep place Taken ∷ v.view.places.held })
-                (λ k. record v.view.places {
-                  held = keep place Taken ∷ v.view.places.held;
-                  owed = unlisted_none left.items v.view.places.owed off_left k;
-                  clear = unlisted_none left.items v.view.places.clear (λ q any. off_left q (h.right.clear q any)) k;
-                }) v.view.free (sym calm) (record v.view.buckets { hooks = w.view.buckets.hooks })
-                (λ k. record v.view.buckets { hooks = sym (ap (λ (y : PassSight). y.view.buckets.hooks) x) k }) v.view.walk refl;
-            hooks = subst (λ (new : List Hook). NewHooks place v.view.buckets.hooks new) (sym (ap (λ (y : PassSight). y.view.buckets.hooks) x))
-                (subst (λ (old : List Hook). NewHooks place old hooks) (ap (λ (y : PassSight). y.view.buckets.hooks) h.same) o.hooks);
-            down = up_new place v.view.buckets.hooks w.view.buckets.hooks
-                (subst (λ (new : List Hook). NewHooks place v.view.buckets.hooks new) (sym (ap (λ (y : PassSight). y.view.buckets.hooks) x))
-                (subst (λ (old : List Hook). NewHooks place old hooks) (ap (λ (y : PassSight). y.view.buckets.hooks) h.same) o.hooks));
-            stand = stands_two v.view.readings u.view.readings w.view.readings (stored (refs_word (sizes_of v) place) 1) (stored 1 0) h.waits
-                (ap (λ (y : PassSight). y.view.readings) x);
-            held = ap (λ (y : PassSight). held_times place y.view.places.held) (sym h.same) ∙ o.held;
-            owed = ap (λ (y : PassSight). times place y.view.places.owed) (sym h.same) ∙ o.owed;
+            has = record {
+              same = made_of w _ x v.view.seen refl (record v.view.places { held = keep place Taken ∷ v.view.places.held })
+                  (λ k. record v.view.places {
+                    held = keep place Taken ∷ v.view.places.held;
+                    owed = unlisted_none left.items v.view.places.owed off_left k;
+                    clear = unlisted_none left.items v.view.places.clear (λ q any. off_left q (h.right.clear q any)) k;
+                  }) v.view.free (sym calm) (record v.view.buckets { hooks = w.view.buckets.hooks })
+                  (λ k. record v.view.buckets { hooks = sym (ap (λ (y : PassSight). y.view.buckets.hooks) x) k }) v.view.walk refl;
+              hooks = subst (λ (new : List Hook). NewHooks place v.view.buckets.hooks new) (sym (ap (λ (y : PassSight). y.view.buckets.hooks) x))
+                  (subst (λ (old : List Hook). NewHooks place old hooks) (ap (λ (y : PassSight). y.view.buckets.hooks) h.same) o.hooks);
+              down = up_new place v.view.buckets.hooks w.view.buckets.hooks
+                  (subst (λ (new : List Hook). NewHooks place v.view.buckets.hooks new) (sym (ap (λ (y : PassSight). y.view.buckets.hooks) x))
+                  (subst (λ (old : List Hook). NewHooks place old hooks) (ap (λ (y : PassSight). y.view.buckets.hooks) h.same) o.hooks));
+              stand = stands_two v.view.readings u.view.readings w.view.readings (stored (refs_word (sizes_of v) place) 1) (stored 1 0) h.waits
+                  (ap (λ (y : PassSight). y.view.readings) x);
+              held = ap (λ (y : PassSight). held_times place y.view.places.held) (sym h.same) ∙ o.held;
+              owed = ap (λ (y : PassSight). times place y.view.places.owed) (sym h.same) ∙ o.owed;
+            };
+            own = ap (list_any others)
+                (added_two v.view.readings u.view.readings w.view.readings (stored (refs_word (sizes_of v) place) 1) (stored 1 0) h.waits
+                (ap (λ (y : PassSight). y.view.readings) x))
+                ∙ any_more others (h.waits.more ++ stored (refs_word (sizes_of v) place) 1 ∷ []) (stored 1 0)
+                (any_more others h.waits.more (stored (refs_word (sizes_of v) place) 1)
+                (any_less not_turn others (λ y e. less y.own (y.word == 1) (y.word == refs_word (sizes_of v) place) e) h.waits.more h.waits.own)
+                (its_own (refs_word (sizes_of v) place))) refl;
           }
+        where
+          others : Reading → Bool
+          others r = r.own && not (r.word == 1 || r.word == refs_word (sizes_of v) place)
+
+          its_own : (n : ℕ) → (true && not ((n == 1) || (n == n))) ≡ false
+          its_own n = ap (λ (b : Bool). true && not ((n == 1) || b)) (eq-eqb n n refl) ∙ none_then (n == 1)
 
     -- the list was empty, and the history word was loaded
     module _ (word at : ℕ) (t w : PassSight) (calm : v.view.free ≡ None) (none : list.items ≡ []) (none_left : left.items ≡ [])
@@ -314,29 +339,47 @@ taken_is place v u w o e =
         buckets = record v.view.buckets { hooks = u.view.buckets.hooks };
         readings = u.view.readings ++ stored (phase_word (sizes_of v) place) 1 ∷ [];
       };
-    } = e ∙ ap (λ (y : PassSight). record y { view = phase_stored place 1 y.view }) o.same in
+    } = e ∙ ap (λ (y : PassSight). record y { view = phase_stored place 1 y.view }) o.has.same in
     let hooks : w.view.buckets.hooks ≡ u.view.buckets.hooks = ap (λ (y : PassSight). y.view.buckets.hooks) e in
     let all : w.view.readings ≡ v.view.readings ++ (added v.view u.view ++ stored (phase_word (sizes_of v) place) 1 ∷ []) =
-    ap (λ (y : PassSight). y.view.readings) x ∙ ap (λ rs. rs ++ stored (phase_word (sizes_of v) place) 1 ∷ []) o.stand
+    ap (λ (y : PassSight). y.view.readings) x ∙ ap (λ rs. rs ++ stored (phase_word (sizes_of v) place) 1 ∷ []) o.has.stand
     ∙ append_assoc v.view.readings (added v.view u.view) (stored (phase_word (sizes_of v) place) 1 ∷ []) in
     let more : added v.view w.view ≡ added v.view u.view ++ stored (phase_word (sizes_of v) place) 1 ∷ [] =
     ap (drop (length v.view.readings)) all ∙ drop_first v.view.readings (added v.view u.view ++ stored (phase_word (sizes_of v) place) 1 ∷ []) in
     record {
-      opened = record {
+      has = record {
         same = made_of w _ x v.view.seen refl (record v.view.places { held = keep place Taken ∷ v.view.places.held }) refl v.view.free refl
             (record v.view.buckets { hooks = w.view.buckets.hooks }) (λ k. record v.view.buckets { hooks = sym hooks k }) v.view.walk refl;
-        hooks = subst (NewHooks place v.view.buckets.hooks) (sym hooks) o.hooks;
-        down = subst (RaisesNone v.view.buckets.hooks) (sym hooks) o.down;
+        hooks = subst (NewHooks place v.view.buckets.hooks) (sym hooks) o.has.hooks;
+        down = subst (RaisesNone v.view.buckets.hooks) (sym hooks) o.has.down;
         stand = stands_before v.view.readings w.view.readings (added v.view u.view ++ stored (phase_word (sizes_of v) place) 1 ∷ []) all;
-        held = o.held;
-        owed = o.owed;
+        held = o.has.held;
+        owed = o.has.owed;
       };
       phase = ap (is_stored (phase_word (sizes_of v) place) 1) more
           ∙ ap (is_stored (phase_word (sizes_of v) place) 1) (sym (append-nil (added v.view u.view ++ stored (phase_word (sizes_of v) place) 1 ∷ [])))
           ∙ any_at (λ (y : Reading). y.word == phase_word (sizes_of v) place && y.value == 1 && y.own) (added v.view u.view)
           (stored (phase_word (sizes_of v) place) 1) [] (word_there (phase_word (sizes_of v) place));
+      own = ap (list_any others) more
+          ∙ any_more others (added v.view u.view) (stored (phase_word (sizes_of v) place) 1)
+          (any_less (λ r. r.own && not (r.word == 1 || r.word == refs_word (sizes_of v) place)) others
+          (λ y e. one_less y.own (y.word == 1) (y.word == refs_word (sizes_of v) place) (y.word == phase_word (sizes_of v) place) e)
+          (added v.view u.view) o.own)
+          (its_own (refs_word (sizes_of v) place) (phase_word (sizes_of v) place));
     }
   where
+    others : Reading → Bool
+    others r = r.own && not (r.word == 1 || r.word == refs_word (sizes_of v) place || r.word == phase_word (sizes_of v) place)
+
+    one_less : (own a b c : Bool) → (own && not (a || b)) ≡ false → (own && not (a || b || c)) ≡ false
+    one_less true true b c e = refl
+    one_less true false true c e = refl
+    one_less true false false c e = cc
+    one_less false a b c e = refl
+
+    its_own : (n m : ℕ) → (true && not ((m == 1) || (m == n) || (m == m))) ≡ false
+    its_own n m = ap (λ (b : Bool). true && not ((m == 1) || (m == n) || b)) (eq-eqb m m refl) ∙ none_then ((m == 1) || (m == n))
+
     word_there : (n : ℕ) → (n == n && 1 == 1 && true) ≡ true
     word_there n = ap (λ (b : Bool). b && true && true) (eq-eqb n n refl)
 
@@ -383,24 +426,9 @@ recycled_is place v u w e g =
     first_stored : (n : ℕ) (rs : List Reading) → is_stored n 0 (stored n 0 ∷ rs) ≡ true
     first_stored n rs = ap (λ (b : Bool). (b && true && true) || is_stored n 0 rs) (eq-eqb n n refl)
 
-    fewer : (n : ℕ) (rs : List Reading) → changes (λ word. not (word == 1)) rs ≡ false → changes (λ word. not (word == 1 || word == n)) rs ≡ false
-    fewer n [] none = refl
-    fewer n (y ∷ ys) none =
-        let parts = or_parts (y.own && not (y.word == 1)) (changes (λ word. not (word == 1)) ys) none in
-        or_from (y.own && not (y.word == 1 || y.word == n)) (changes (λ word. not (word == 1 || word == n)) ys)
-        (one y.own (y.word == 1) (y.word == n) parts.0) (fewer n ys parts.1)
-      where
-        one : (a b c : Bool) → (a && not b) ≡ false → (a && not (b || c)) ≡ false
-        one true true c e = refl
-        one true false c e = cc
-        one false b c e = refl
-
     first_own : (n : ℕ) (rs : List Reading) → changes (λ word. not (word == 1)) rs ≡ false
         → changes (λ word. not (word == 1 || word == n)) (stored n 0 ∷ rs) ≡ false
     first_own n rs none =
         ap (λ (b : Bool). (true && not ((n == 1) || b)) || changes (λ word. not (word == 1 || word == n)) rs) (eq-eqb n n refl)
-        ∙ ap (λ (b : Bool). b || changes (λ word. not (word == 1 || word == n)) rs) (or_right (n == 1)) ∙ fewer n rs none
-      where
-        or_right : (b : Bool) → not (b || true) ≡ false
-        or_right true = refl
-        or_right false = refl
+        ∙ ap (λ (b : Bool). b || changes (λ word. not (word == 1 || word == n)) rs) (none_then (n == 1))
+        ∙ any_less not_turn (λ r. r.own && not (r.word == 1 || r.word == n)) (λ y e. less y.own (y.word == 1) (y.word == n) e) rs none

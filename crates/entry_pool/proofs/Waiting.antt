@@ -2,6 +2,7 @@
 use Rattle.std.specs.Prelude.{◌==◌, ◌&&◌, ◌||◌, not, drop}
 use Rattle.std.specs.List.{list_any}
 use Rattle.std.proofs.Common.{◌≡◌, Bool, true, false, List, [], ◌∷◌, ◌++◌, length, refl, sym, ap, ◌∙◌, append-nil, append_assoc}
+use Rattle.std.proofs.lemmas.Bool.{or_from, or_parts}
 use Rattle.track_rule.specs.declared.view.Reading.{Reading}
 use Rattle.entry_pool.specs.Turn.{Waits}
 
@@ -13,6 +14,14 @@ any_more test (y ∷ ys) x none last = both (test y) (list_any test ys) (list_an
     both : (a b c : Bool) → (a || b) ≡ false → (b ≡ false → c ≡ false) → (a || c) ≡ false
     both true b c e f = e
     both false b c e f = f e
+
+-- a test that passes less
+pub any_less : {X : Type 0} (test less : X → Bool) → ((x : X) → test x ≡ false → less x ≡ false) → (xs : List X) → list_any test xs ≡ false
+    → list_any less xs ≡ false
+any_less test less fewer [] none = refl
+any_less test less fewer (x ∷ xs) none =
+    let parts = or_parts (test x) (list_any test xs) none in
+    or_from (less x) (list_any less xs) (fewer x parts.0) (any_less test less fewer xs parts.1)
 
 -- no reading yet
 pub waits_none : (rs : List Reading) → Waits rs rs

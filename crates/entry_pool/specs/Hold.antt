@@ -1,5 +1,5 @@
 -- A reference more, or one less, without waiting.
-use Rattle.std.specs.Prelude.{◌≡◌, ℕ, ◌<◌, true, false, ◌∷◌}
+use Rattle.std.specs.Prelude.{◌≡◌, ℕ, ◌<◌, ◌==◌, not, true, false, ◌∷◌}
 use Rattle.history_book.specs.declared.outcome.ReleaseOutcome.{ReleaseOutcome}
 use Rattle.history_book.specs.declared.outcome.ReleaseOutcome.TheVariants.{Kept, Last}
 use Rattle.track_rule.specs.Layout.{refs_word}
@@ -15,7 +15,8 @@ use Rattle.entry_pool.specs.declared.hold.TryHold.{TryHold}
 use Rattle.entry_pool.specs.declared.hold.TryHold.TheVariants.{Held, Zero, Moved}
 
 -- There is one reference more: the place is held once more, to look what stands there; or, where the pass has the turn of the
--- record of a place that it took, the reference is the table's, which the pass carries. So the pass did not owe the place.
+-- record of a place that it took, the reference is the table's, which the pass carries. So the pass did not owe the place. It
+-- changed no word itself but the references of the place.
 pub record HoldsMore (place : ℕ) (v w : PassSight) : Type 0 where
   pub same : w ≡ record v {
     view = record v.view {
@@ -25,6 +26,7 @@ pub record HoldsMore (place : ℕ) (v w : PassSight) : Type 0 where
   }
   pub stand : ReadingsStand v w
   pub owed : times place v.view.places.owed ≡ 0
+  pub own : changes (λ word. not (word == refs_word (sizes_of v) place)) (added v.view w.view) ≡ false
 
 -- The pass has only read: it changed no word, and all that it holds and owes is as it was.
 pub record OnlyReads (v w : PassSight) : Type 0 where

@@ -5,7 +5,7 @@ use Rattle.history_book.specs.declared.outcome.TakeOutcome.{TakeOutcome}
 use Rattle.history_book.specs.declared.outcome.TakeOutcome.TheVariants.{Taken, Full}
 use Rattle.track_rule.specs.Free.{taken_out, unlisted}
 use Rattle.track_rule.specs.History.{events_in}
-use Rattle.track_rule.specs.Layout.{phase_word}
+use Rattle.track_rule.specs.Layout.{phase_word, refs_word}
 use Rattle.track_rule.specs.Links.{RaisesNone}
 use Rattle.track_rule.specs.PhaseSteps.{phase_free, phase_owned}
 use Rattle.track_rule.specs.Readings.{added, changes, is_stored}
@@ -19,7 +19,7 @@ use Rattle.entry_pool.specs.GoesOn.{ReadingsStand}
 
 -- The place is held, for a new entry, and the pass has both its links, which are in no chain; before the call the pass neither
 -- held nor owed the place. All else is as it was.
-pub record HasOpened (place : ℕ) (v w : PassSight) : Type 0 where
+pub record HasPlace (place : ℕ) (v w : PassSight) : Type 0 where
   pub same : w ≡ record v {
     view = record v.view {
       places = record v.view.places { held = keep place purpose.Taken ∷ v.view.places.held };
@@ -33,10 +33,16 @@ pub record HasOpened (place : ℕ) (v w : PassSight) : Type 0 where
   pub held : held_times place v.view.places.held ≡ 0
   pub owed : times place v.view.places.owed ≡ 0
 
--- Besides, its phase is OWNED, as a reading of the call shows.
+-- The pass changed no word itself but the turn of the free list and the references of the place.
+pub record HasOpened (place : ℕ) (v w : PassSight) : Type 0 where
+  pub has : HasPlace place v w
+  pub own : changes (λ word. not (word == 1 || word == refs_word (sizes_of v) place)) (added v.view w.view) ≡ false
+
+-- Its phase is OWNED besides, as a reading of the call shows. The pass changed no word itself but these three.
 pub record HasTaken (place : ℕ) (v w : PassSight) : Type 0 where
-  pub opened : HasOpened place v w
+  pub has : HasPlace place v w
   pub phase : is_stored (phase_word (sizes_of v) place) phase_owned (added v.view w.view) ≡ true
+  pub own : changes (λ word. not (word == 1 || word == refs_word (sizes_of v) place || word == phase_word (sizes_of v) place)) (added v.view w.view) ≡ false
 
 -- a reading of the history word that says so many events, under the turn of the free list, which was empty
 abbrev pub says_empty : ℕ → Reading → Bool

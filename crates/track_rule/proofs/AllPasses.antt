@@ -4,7 +4,7 @@ use Rattle.std.proofs.Common.{◌≡◌, ℕ, ◌+◌, ◌<◌, ◌≤◌, true,
 use Rattle.std.proofs.lemmas.Bool.{cases_lt, false≢true}
 use Rattle.std.proofs.Common.{⊎_elim}
 use Rattle.track_rule.specs.Free.{has_turn, is_among, known_free, owes, turn_of}
-use Rattle.track_rule.specs.Laws.{GivenPlacesAreUnused, LastReferenceIsAlone, NoOtherPlaces, OnePassHasTheList, PlacesHaveOneUse, TheListIsKnown}
+use Rattle.track_rule.specs.Laws.{GivenPlacesAreUnused, LastReferenceIsAlone, NoOtherPlaces, OnePassHasTheList, PlacesHaveOneUse, TakenPlacesAreNew, TheListIsKnown}
 use Rattle.track_rule.specs.Layout.{refs_at}
 use Rattle.track_rule.specs.References.{keeps}
 use Rattle.track_rule.specs.Sums.{times, total}
@@ -51,3 +51,6 @@ given_unused z l s i place v h at on =
 pub last_alone : LastReferenceIsAlone
 last_alone z l s i j place v u h at at' other one below mine =
     omega (arith, h.references.counted place below, one, total_two (keeps place) s.views i j v u at at' other, mine)
+
+pub taken_new : TakenPlacesAreNew
+taken_new z l s place h = h.references.taken place

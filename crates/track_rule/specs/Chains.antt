@@ -2,7 +2,8 @@
 -- its tuple, which belongs to the bucket. While a generation is odd, one pass has the bucket, and knows its chain. However
 -- tuples are weighed, the chain of a bucket weighs what the live records weigh in it, and the tuples of places that a pass
 -- has linked and not yet confirmed, or not yet unlinked. So it has each of these once, and no other. Where both links of a
--- place are in one chain, that of its original tuple comes first.
+-- place are in one chain, that of its original tuple comes first. So at an even generation a chain may still have links of a
+-- place that is not confirmed: who finds one reads the phase of its place, and goes on.
 use Rattle.std.specs.Prelude.{◌≡◌, ℕ, ◌+◌, ◌-◌, ◌*◌, ◌%◌, ◌<◌, ◌≤◌, ◌==◌, if◌then◌else◌, bit_xor, List, [], ◌∷◌, slice_index}
 use Rattle.tuple_core.specs.Hash.{mix}
 use Rattle.tuple_core.specs.Words.{address_word, flow_word}

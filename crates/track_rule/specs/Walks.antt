@@ -1,8 +1,7 @@
 -- What a pass noted on a walk along a chain without a lock. A noted generation is at most the present one. Where it still
 -- is that one, and even, what was met begins the chain, and the chain has the tuples of this bucket of all entries that were
 -- live at the noted point. Otherwise the note says nothing. Where something was met that shows that the generation has
--- passed, it has. A note speaks of the words, of the history and of the chains alone, and of no other pass. The readings of a pass are what its steps found and left: no step of another pass
--- takes one of them away, and they say nothing of the present words.
+-- passed, it has. A note speaks of the words, of the history and of the chains alone, and of no other pass.
 use Rattle.std.specs.Prelude.{◌≡◌, ℕ, ◌<◌, ◌≤◌, ◌%◌, true, Option, Some, None, List, [], ◌∷◌, length}
 use Rattle.history_book.specs.declared.event.Event.{Event}
 use Rattle.history_book.specs.declared.sizes.Sizes.{Sizes}

@@ -1,6 +1,6 @@
 //! What the rule says of all passes: each law is the contract of a function that does nothing.
 
-ghost use Rattle.track_rule.specs.Laws.{GivenPlacesAreUnused, LastReferenceIsAlone, NoOtherPlaces, OnePassHasTheList, PlacesHaveOneUse, TheListIsKnown};
+ghost use Rattle.track_rule.specs.Laws.{GivenPlacesAreUnused, LastReferenceIsAlone, NoOtherPlaces, OnePassHasTheList, PlacesHaveOneUse, TakenPlacesAreNew, TheListIsKnown};
 
 /// Between any two steps each place of the pool is free once, or owed once by one pass, or has a reference.
 pub fn places_have_one_use()
@@ -22,4 +22,9 @@ pub fn given_places_are_unused()
 /// Who gives up the last reference to a place was alone with it.
 pub fn last_reference_is_alone()
     ensures { LastReferenceIsAlone }
+{}
+
+/// A place is taken for one new entry at a time.
+pub fn taken_places_are_new()
+    ensures { TakenPlacesAreNew }
 {}

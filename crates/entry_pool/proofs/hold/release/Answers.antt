@@ -1,4 +1,3 @@
-use Rattle.std.proofs.Common.{arith}
 use Rattle.entry_pool.proofs.Releasing.{kept_none, kept_some}
 use Rattle.entry_pool.proofs.hold.release.Goals as goal
 
