@@ -6,7 +6,8 @@ use Rattle.std.proofs.lemmas.Bool.{and_parts, cases_Bool, cond_both, eq-eqb, eqb
 use Rattle.history_book.specs.declared.sizes.Sizes.{Sizes}
 use Rattle.track_rule.specs.BucketSteps.{LoadsLink, MayString, Strings, aim, aimed, first_of, lower, put_in, raise, strung, with_chain}
 use Rattle.track_rule.specs.Chains.{bucket_of, chain_in, entry_of, shuts_of}
-use Rattle.track_rule.specs.Layout.{head_word, next_word, side_of}
+use Rattle.track_rule.specs.Layout.{head_word, place_of, next_word, side_of}
+use Rattle.track_rule.specs.Free.{is_among}
 use Rattle.track_rule.specs.Links.{hook_of, hooks_of, is_down, is_link_word}
 use Rattle.track_rule.specs.Notes.{link_note}
 use Rattle.track_rule.specs.Readings.{found, noted}
@@ -108,8 +109,9 @@ put_aimed b x to s any = (λ i. record {
 pub put_may : (z : Sizes) (b x first head word : ℕ) (v u w : PassSight) → z ≡ sizes_of v → b < (sizes_of v).buckets → head ≡ head_word z b → word ≡ next_word z x
     → LoadsLink head v.view first u.view → u ≡ record v { view = u.view } → Strings word first u.view w.view
     → 0 < shuts_of b v.view → is_down x v.view.buckets.hooks ≡ true → hook_bucket (sizes_of v) x v.view.buckets.hooks ≡ b
-    → (side_of x ≡ 1 → is_down (x - 1) v.view.buckets.hooks ≡ true) → MayString head x w.view × (w.view.buckets ≡ aimed x first v.view.buckets)
-put_may z b x first head word v u w sizes below head_is word_is loads kept strings mine down placed before =
+    → is_among (place_of x) v.view.places.owned ≡ true → (side_of x ≡ 1 → is_down (x - 1) v.view.buckets.hooks ≡ true)
+    → MayString head x w.view × (w.view.buckets ≡ aimed x first v.view.buckets)
+put_may z b x first head word v u w sizes below head_is word_is loads kept strings mine down placed owned before =
     let z' : sizes_of u ≡ sizes_of v = ap sizes_of kept ∙ ap (λ (k : View). k.passes.sizes) loads.view in
     let buckets : u.view.buckets ≡ v.view.buckets = ap (λ (k : View). k.buckets) loads.view in
     let aims : w.view ≡ strung word first (aimed x first u.view.buckets) u.view =
@@ -135,6 +137,7 @@ put_may z b x first head word v u w sizes below head_is word_is loads kept strin
             ∙ ap (λ (n : ℕ). Some n) is_first);
         placed = subst (λ (s : HeldBuckets). bucket_of w.view.passes.sizes (hook_of x s.hooks).pair ≡ b) (sym now)
             ((λ i. bucket_of (z'' i) (entry i).pair) ∙ placed);
+        owned = ap (λ (k : View). is_among (place_of x) k.places.owned) aims ∙ ap (λ (k : View). is_among (place_of x) k.places.owned) loads.view ∙ owned;
         before = λ reply. subst (λ (s : HeldBuckets). is_down (x - 1) s.hooks ≡ true) (sym now)
             (test_map (aim x first) (aim_link x first) (λ (h : Hook). not h.up) (x - 1) (λ h e. ap not (aim_up x first h)) v.view.buckets.hooks ∙ before reply);
       })),
@@ -151,10 +154,11 @@ stand_frame v y buckets walk rs e =
 pub put_done : (z : Sizes) (b x first head word : ℕ) (v u w y : PassSight) → is_link_word z head ≡ true → is_link_word z word ≡ true → z ≡ sizes_of v → b < (sizes_of v).buckets → head ≡ head_word z b → word ≡ next_word z x
     → LoadsLink head v.view first u.view → u ≡ record v { view = u.view } → Strings word first u.view w.view → w ≡ record u { view = w.view }
     → 0 < shuts_of b v.view → is_down x v.view.buckets.hooks ≡ true → hook_bucket (sizes_of v) x v.view.buckets.hooks ≡ b
-    → (side_of x ≡ 1 → is_down (x - 1) v.view.buckets.hooks ≡ true) → Strings head x w.view y.view → y ≡ record w { view = y.view }
+    → is_among (place_of x) v.view.places.owned ≡ true → (side_of x ≡ 1 → is_down (x - 1) v.view.buckets.hooks ≡ true)
+    → Strings head x w.view y.view → y ≡ record w { view = y.view }
     → ChangesBuckets (put_in b x v.view.buckets) v y
-put_done z b x first head word v u w y link link' sizes below head_is word_is loads kept strings kept' mine down placed before strings' kept'' =
-    let may = put_may z b x first head word v u w sizes below head_is word_is loads kept strings mine down placed before in
+put_done z b x first head word v u w y link link' sizes below head_is word_is loads kept strings kept' mine down placed owned before strings' kept'' =
+    let may = put_may z b x first head word v u w sizes below head_is word_is loads kept strings mine down placed owned before in
     let z' : sizes_of u ≡ sizes_of v = ap sizes_of kept ∙ ap (λ (k : View). k.passes.sizes) loads.view in
     let buckets : u.view.buckets ≡ v.view.buckets = ap (λ (k : View). k.buckets) loads.view in
     let any : 0 < hooks_of x v.view.buckets.hooks = some_there (λ (h : Hook). not h.up) x v.view.buckets.hooks down in

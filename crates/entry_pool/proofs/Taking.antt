@@ -335,7 +335,7 @@ taken_is place v u w o e =
     let r : Reading = stored (phase_word (sizes_of u) place) 1 in
     let x : w ≡ record v {
       view = record v.view {
-        places = record v.view.places { held = keep place Taken ∷ v.view.places.held };
+        places = record v.view.places { held = keep place Taken ∷ v.view.places.held; owned = place ∷ v.view.places.owned };
         buckets = record v.view.buckets { hooks = u.view.buckets.hooks };
         readings = u.view.readings ++ stored (phase_word (sizes_of v) place) 1 ∷ [];
       };
@@ -348,7 +348,8 @@ taken_is place v u w o e =
     ap (drop (length v.view.readings)) all ∙ drop_first v.view.readings (added v.view u.view ++ stored (phase_word (sizes_of v) place) 1 ∷ []) in
     record {
       has = record {
-        same = made_of w _ x v.view.seen refl (record v.view.places { held = keep place Taken ∷ v.view.places.held }) refl v.view.free refl
+        same = made_of w _ x v.view.seen refl
+            (record v.view.places { held = keep place Taken ∷ v.view.places.held; owned = place ∷ v.view.places.owned }) refl v.view.free refl
             (record v.view.buckets { hooks = w.view.buckets.hooks }) (λ k. record v.view.buckets { hooks = sym hooks k }) v.view.walk refl;
         hooks = subst (NewHooks place v.view.buckets.hooks) (sym hooks) o.has.hooks;
         down = subst (RaisesNone v.view.buckets.hooks) (sym hooks) o.has.down;

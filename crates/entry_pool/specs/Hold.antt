@@ -7,7 +7,7 @@ use Rattle.track_rule.specs.Links.{RaisesNone}
 use Rattle.track_rule.specs.Readings.{Gave, added, changes, is_found, noted, stored}
 use Rattle.track_rule.specs.References.{held_times, without}
 use Rattle.track_rule.specs.Sights.{PassSight, sizes_of}
-use Rattle.track_rule.specs.Steps.{hooks_then, is_second, one_more}
+use Rattle.track_rule.specs.Steps.{hooks_then, is_second, one_more, owned_then}
 use Rattle.track_rule.specs.Sums.{times}
 use Rattle.track_rule.specs.declared.view.View.{View}
 use Rattle.entry_pool.specs.GoesOn.{ReadingsStand}
@@ -49,10 +49,14 @@ TryHoldSays Held place v w = HoldsMore place v w
 TryHoldSays Zero place v w = ReadsZero place v w
 TryHoldSays (Moved was now) place v w = ReadsTwo place was now v w
 
--- The pass gave up its newest reference to the place, and with its last one both its links; no link came into a chain.
+-- The pass gave up its newest reference to the place. With its last one it no longer owns the place, and has none of its links;
+-- no link came into a chain.
 abbrev pub gave_up : ℕ → PassSight → View
 gave_up place v = record v.view {
-  places = record v.view.places { held = without place v.view.places.held };
+  places = record v.view.places {
+    held = without place v.view.places.held;
+    owned = owned_then place v.view.places.held v.view.places.owned;
+  };
   buckets = record v.view.buckets { hooks = hooks_then place v.view.places.held v.view.buckets.hooks };
 }
 

@@ -1,5 +1,5 @@
 -- A place for a new entry, and what becomes of a place that is owed.
-use Rattle.std.specs.Prelude.{◌≡◌, ℕ, ◌<◌, ◌==◌, ◌&&◌, ◌||◌, not, Bool, true, false, Option, None, Some, [], ◌∷◌, length}
+use Rattle.std.specs.Prelude.{◌≡◌, ℕ, ◌<◌, ◌==◌, ◌&&◌, ◌||◌, not, Bool, true, false, Option, None, Some, List, [], ◌∷◌, length}
 use Rattle.std.specs.List.{list_any}
 use Rattle.history_book.specs.declared.outcome.TakeOutcome.{TakeOutcome}
 use Rattle.history_book.specs.declared.outcome.TakeOutcome.TheVariants.{Taken, Full}
@@ -18,11 +18,11 @@ use Rattle.track_rule.specs.declared.view.Reading.{Reading}
 use Rattle.entry_pool.specs.GoesOn.{ReadingsStand}
 
 -- The place is held, for a new entry, and the pass has both its links, which are in no chain; before the call the pass neither
--- held nor owed the place. All else is as it was.
-pub record HasPlace (place : ℕ) (v w : PassSight) : Type 0 where
+-- held nor owed the place. The pass owns these places. All else is as it was.
+pub record HasPlace (place : ℕ) (owned : List ℕ) (v w : PassSight) : Type 0 where
   pub same : w ≡ record v {
     view = record v.view {
-      places = record v.view.places { held = keep place purpose.Taken ∷ v.view.places.held };
+      places = record v.view.places { held = keep place purpose.Taken ∷ v.view.places.held; owned = owned };
       buckets = record v.view.buckets { hooks = w.view.buckets.hooks };
       readings = w.view.readings;
     };
@@ -35,12 +35,13 @@ pub record HasPlace (place : ℕ) (v w : PassSight) : Type 0 where
 
 -- The pass changed no word itself but the turn of the free list and the references of the place.
 pub record HasOpened (place : ℕ) (v w : PassSight) : Type 0 where
-  pub has : HasPlace place v w
+  pub has : HasPlace place v.view.places.owned v w
   pub own : changes (λ word. not (word == 1 || word == refs_word (sizes_of v) place)) (added v.view w.view) ≡ false
 
--- Its phase is OWNED besides, as a reading of the call shows. The pass changed no word itself but these three.
+-- Its phase is OWNED besides, as a reading of the call shows, and the pass owns it. The pass changed no word itself but these
+-- three.
 pub record HasTaken (place : ℕ) (v w : PassSight) : Type 0 where
-  pub has : HasPlace place v w
+  pub has : HasPlace place (place ∷ v.view.places.owned) v w
   pub phase : is_stored (phase_word (sizes_of v) place) phase_owned (added v.view w.view) ≡ true
   pub own : changes (λ word. not (word == 1 || word == refs_word (sizes_of v) place || word == phase_word (sizes_of v) place)) (added v.view w.view) ≡ false
 

@@ -25,7 +25,7 @@ use Rattle.track_rule.specs.Chains.{entry_of, hooks_at, loose_of, side}
 use Rattle.track_rule.specs.Free.{IsFreeList, IsHome, has_turn, owes, turn_of}
 use Rattle.track_rule.specs.History.{records_after}
 use Rattle.track_rule.specs.Layout.{phase_at, place_of, refs_at}
-use Rattle.track_rule.specs.Links.{HasHooks, hooks_of}
+use Rattle.track_rule.specs.Links.{HasHooks, IsOwned, hooks_of}
 use Rattle.track_rule.specs.Phases.{of_place, table_keeps}
 use Rattle.track_rule.specs.Passes.{ArePasses, IsPass, has_share, made_weight, shares_of}
 use Rattle.track_rule.specs.References.{AreKept, AreReferences, held_times, is_at, is_for_new, keeps, takes}
@@ -55,14 +55,14 @@ pub record Lines (z : Sizes) (l : Ledger) (s : State Slot View) (id : ℕ) (v w 
   pub shut : w.buckets.shut ≡ v.buckets.shut
   pub loose : (b : ℕ) (weight : Entry → ℕ) → loose_of z b weight w ≡ loose_of z b weight v
   pub lone : (link : ℕ) → 0 < link → total (hooks_at link) (set s.views id w) + total (of_place (place_of link)) (records_after l.log) ≤ 1
-  pub hooks : HasHooks z s.words w.places.held w.buckets.hooks
+  pub hooks : HasHooks z s.words w.places w.buckets.hooks
   pub walk : (n : Walk) → w.walk ≡ Some n → IsWalk z s.words l.chains w.seen.front n
 
 -- where its links are as they were, and it holds no fewer places
 pub bucket_lines : (z : Sizes) (l : Ledger) (s : State Slot View) (id : ℕ) (v w : View) → IsKept z l s → get_elem? s.views id ≡ some v
-    → w.buckets ≡ v.buckets → ((q : ℕ) → held_times q v.places.held ≤ held_times q w.places.held)
+    → w.buckets ≡ v.buckets → ((q : ℕ) → held_times q v.places.held ≤ held_times q w.places.held) → w.places.owned ≡ v.places.owned
     → ((n : Walk) → w.walk ≡ Some n → IsWalk z s.words l.chains w.seen.front n) → Lines z l s id v w
-bucket_lines z l s id v w h at buckets more walk =
+bucket_lines z l s id v w h at buckets more owned walk =
     let hooks = h.links.hooks id v at in
     record {
       shut = ap (λ (x : HeldBuckets). x.shut) buckets;
@@ -72,19 +72,21 @@ bucket_lines z l s id v w h at buckets more walk =
         h.chains.lone link some,
         total_same (hooks_at link) s.views id v w at (ap (λ (x : HeldBuckets). hooks_of link x.hooks) buckets),
       );
-      hooks = subst (λ (x : HeldBuckets). HasHooks z s.words w.places.held x.hooks) (sym buckets) (record {
+      hooks = subst (λ (x : HeldBuckets). HasHooks z s.words w.places x.hooks) (sym buckets) (record {
         each = hooks.each;
-        owned = λ link some. omega (arith, hooks.owned link some, more (place_of link));
+        held = λ link some. omega (arith, hooks.held link some, more (place_of link));
+        linked = subst (λ (xs : List ℕ). Each (IsOwned xs) v.buckets.hooks) (sym owned) hooks.linked;
       });
       walk = walk;
     }
 
 -- and its walk too
 pub same_lines : (z : Sizes) (l : Ledger) (s : State Slot View) (id : ℕ) (v w : View) → IsKept z l s → get_elem? s.views id ≡ some v
-    → w.buckets ≡ v.buckets → ((q : ℕ) → held_times q v.places.held ≤ held_times q w.places.held) → w.walk ≡ v.walk → w.seen.front ≡ v.seen.front
+    → w.buckets ≡ v.buckets → ((q : ℕ) → held_times q v.places.held ≤ held_times q w.places.held) → w.places.owned ≡ v.places.owned
+    → w.walk ≡ v.walk → w.seen.front ≡ v.seen.front
     → Lines z l s id v w
-same_lines z l s id v w h at buckets more walk front =
-    bucket_lines z l s id v w h at buckets more
+same_lines z l s id v w h at buckets more owned walk front =
+    bucket_lines z l s id v w h at buckets more owned
     (subst (λ (o : Option Walk). (n : Walk) → o ≡ Some n → IsWalk z s.words l.chains w.seen.front n) (sym walk)
     (subst (λ (f : List Event). (n : Walk) → v.walk ≡ Some n → IsWalk z s.words l.chains f n) (sym front) (h.walks.each id v at)))
 
@@ -136,9 +138,9 @@ moved z l s id v w ws' hs' free' h at m p quiet long homes references free_list 
     (carries_set (λ (u : View). u.buckets.shut) [] s.views id v w at lines.shut)
     (λ b weight. total_same (loose_of z b weight) s.views id v w at (lines.loose b weight)) lines.lone h.chains)
     (links_stay z s.words ws' same s.views (set s.views id w)
-    (each_put (λ (u : View). HasHooks z ws' u.places.held u.buckets.hooks) s.views id w
-    (λ i u at'. hooks_stay z s.words ws' same.links u.places.held u.buckets.hooks (h.links.hooks i u at'))
-    (hooks_stay z s.words ws' same.links w.places.held w.buckets.hooks lines.hooks)) h.links)
+    (each_put (λ (u : View). HasHooks z ws' u.places u.buckets.hooks) s.views id w
+    (λ i u at'. hooks_stay z s.words ws' same.links u.places u.buckets.hooks (h.links.hooks i u at'))
+    (hooks_stay z s.words ws' same.links w.places w.buckets.hooks lines.hooks)) h.links)
     (record {
       each = each_put (λ (u : View). (n : Walk) → u.walk ≡ Some n → IsWalk z ws' l.chains u.seen.front n) s.views id w
           (λ i u at' n e. walk_stays z s.words ws' same l.chains u.seen.front n (h.walks.each i u at' n e))
@@ -194,6 +196,7 @@ pub record FreeStep (z : Sizes) (ws ws' : List ℕ) (hs' : List (Slotted Slot)) 
   pub away : (list : List ℕ) → w.free ≡ Some list → list ≡ free'
   pub few : length w.places.held + length w.places.owed ≤ 4
   pub clear : (p : ℕ) → 0 < times p w.places.clear → (0 < times p w.places.owed) × (phase_at z ws' p ≡ 0)
+  pub owned : (p : ℕ) → 0 < times p w.places.owned → (0 < held_times p w.places.held) × (phase_at z ws' p ≡ 1)
 
 pub free_moved : (z : Sizes) (ws ws' : List ℕ) (hs hs' : List (Slotted Slot)) (vs : List View) (i : ℕ) (v w : View) (free free' : List ℕ)
     → get_elem? vs i ≡ some v → FreeStep z ws ws' hs' vs v w free free' → IsFreeList z ws hs vs free
@@ -213,6 +216,8 @@ free_moved z ws ws' hs hs' vs i v w free free' at t h = record {
   few = each_put (λ u. length u.places.held + length u.places.owed ≤ 4) vs i w h.few t.few;
   clear = each_put (λ u. (p : ℕ) → 0 < times p u.places.clear → (0 < times p u.places.owed) × (phase_at z ws' p ≡ 0)) vs i w
       (λ j u at' p some. let c = h.clear j u at' p some in (c.0, t.phases p ∙ c.1)) t.clear;
+  owned = each_put (λ u. (p : ℕ) → 0 < times p u.places.owned → (0 < held_times p u.places.held) × (phase_at z ws' p ≡ 1)) vs i w
+      (λ j u at' p some. let c = h.owned j u at' p some in (c.0, t.phases p ∙ c.1)) t.owned;
 }
 
 -- a step that leaves the places of the pass, and its turn of the list
@@ -234,6 +239,8 @@ free_left z ws ws' hs hs' vs i v w free at places turn refs phases word home h =
       few = omega (arith, h.few i v at, ap (λ (x : Places). length x.held + length x.owed) places);
       clear = subst (λ (x : Places). (p : ℕ) → 0 < times p x.clear → (0 < times p x.owed) × (phase_at z ws' p ≡ 0)) (sym places)
           (λ p on. let c = h.clear i v at p on in (c.0, phases p ∙ c.1));
+      owned = subst (λ (x : Places). (p : ℕ) → 0 < times p x.owned → (0 < held_times p x.held) × (phase_at z ws' p ≡ 1)) (sym places)
+          (λ p on. let c = h.owned i v at p on in (c.0, phases p ∙ c.1));
     }) h
 
 -- the passes keep few references to a place

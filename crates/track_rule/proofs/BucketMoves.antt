@@ -203,11 +203,11 @@ module _ (l : Ledger) (s : State Slot View) (id b : ℕ) (v : View) (h : IsKept 
         gens = λ c under.
             ⊎_elim (λ (e : c ≡ b). omega (arith, ap (gen_at z new) e, here, low))
             (λ (e : c ≢ b). omega (arith, gen_else z s.words b n below c e, h.links.gens c under)) (cases_eq c b);
-        hooks = each_put (λ u. HasHooks z new u.places.held u.buckets.hooks) s.views id w
-            (λ i u at'. hooks_stay z s.words new same u.places.held u.buckets.hooks (h.links.hooks i u at'))
-            (subst (HasHooks z new w.places.held) (sym hooks)
-            (subst (λ (x : Places). HasHooks z new x.held v.buckets.hooks) (sym places)
-            (hooks_stay z s.words new same v.places.held v.buckets.hooks (h.links.hooks id v at))));
+        hooks = each_put (λ u. HasHooks z new u.places u.buckets.hooks) s.views id w
+            (λ i u at'. hooks_stay z s.words new same u.places u.buckets.hooks (h.links.hooks i u at'))
+            (subst (HasHooks z new w.places) (sym hooks)
+            (subst (λ (x : Places). HasHooks z new x v.buckets.hooks) (sym places)
+            (hooks_stay z s.words new same v.places v.buckets.hooks (h.links.hooks id v at))));
       })
       (record {
         each = each_put (λ (u : View). (m : Walk) → u.walk ≡ Some m → IsWalk z new l.chains u.seen.front m) s.views id w

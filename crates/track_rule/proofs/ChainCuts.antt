@@ -15,7 +15,7 @@ use Rattle.track_rule.specs.declared.view.View.{View}
 use Rattle.track_rule.specs.BucketSteps.{Aims, Cuts, IsShutAt, MayString, Puts, StoreLinkStep, Strings, aimed, end_word, first_of, lower, put_in, strung, taken_from, without_link}
 use Rattle.track_rule.specs.Chains.{IsChain, IsLinked, IsOrdered, bucket_of, chain_in, entry_of, hooks_at, is_at_link, loose_of, shuts_of, side}
 use Rattle.track_rule.specs.Layout.{first_word, head_word, next_word, place_of, second_word}
-use Rattle.track_rule.specs.Links.{IsHook, hook_of, hooks_of, is_down, is_raised, last_link}
+use Rattle.track_rule.specs.Links.{IsHook, IsOwned, hook_of, hooks_of, is_down, is_raised, last_link}
 use Rattle.track_rule.specs.Rule.{Holds, IsKept, Ledger}
 use Rattle.track_rule.specs.Sums.{Each, bit, total}
 use Rattle.track_rule.specs.Walks.{rev_onto}
@@ -235,6 +235,8 @@ module _ (l : Ledger) (s : State Slot View) (id b : ℕ) (v : View) (h : IsKept 
                 second = word_else z s.words word to (second_word z k.link) (w.seconds k.link) ∙ is.0.second;
                 next = λ n off some_is. word_else z s.words word to (next_word z k.link) (is.1 off) ∙ is.0.next n off some_is;
               }));
+          linked = each_change (IsOwned v.places.owned) (IsOwned v.places.owned) (lower e.link) v.buckets.hooks (h.links.hooks id v at).linked (λ k is.
+              cond_both (k.link == e.link) (record k { next = None; up = false }) k (IsOwned v.places.owned) (λ p up. absurd (false≢true up)) (λ p. is));
         })
       where
         low_first : (es : List Entry) → Each (IsLinked v.passes.sizes s.words b) es → first_of es ≤ last_link v.passes.sizes

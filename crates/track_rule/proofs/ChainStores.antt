@@ -10,6 +10,7 @@ use lib.ListN.{get_elem?}
 use Rattle.atomic_table.specs.Table.{State}
 use Rattle.history_book.specs.declared.event.Event.{Event}
 use Rattle.history_book.specs.declared.sizes.Sizes.{Sizes}
+use Rattle.track_rule.specs.Free.{is_among}
 use Rattle.track_rule.specs.declared.slot.Slot.{Slot}
 use Rattle.track_rule.specs.declared.view.Entry.{Entry}
 use Rattle.track_rule.specs.declared.view.Hook.{Hook}
@@ -21,17 +22,17 @@ use Rattle.track_rule.specs.BucketSteps.{IsShutAt, end_word, first_of, lower, pu
 use Rattle.track_rule.specs.Chains.{IsChain, IsLinked, IsOrdered, bucket_of, chain_in, entry_of, hooks_at, is_at_link, links_in, loose_of, shuts_of, side}
 use Rattle.track_rule.specs.History.{records_after}
 use Rattle.track_rule.specs.Layout.{first_word, gen_at, head_word, next_word, place_of, second_word, side_of}
-use Rattle.track_rule.specs.Links.{HasHooks, IsHook, hook_of, hooks_of, is_down, is_raised, last_link}
+use Rattle.track_rule.specs.Links.{HasHooks, IsHook, IsOwned, hook_of, hooks_of, is_down, is_raised, last_link}
 use Rattle.track_rule.specs.Readings.{stored}
 use Rattle.track_rule.specs.Rule.{Holds, IsKept, Ledger}
-use Rattle.track_rule.specs.Sums.{Each, bit, total}
+use Rattle.track_rule.specs.Sums.{Each, bit, total, times}
 use Rattle.track_rule.specs.Walks.{HasLive, IsWalk, Stands, rev_onto}
 use Rattle.track_rule.proofs.LastRead.{stored_on}
 use Rattle.track_rule.proofs.BucketMoves.{bucket_moved}
 use Rattle.track_rule.proofs.ChainLists.{alone, chain_each, chain_first, total_rev, unlinked}
 use Rattle.track_rule.proofs.ChainWords.{IsPassed, IsString, SameAt, bucket_there, chain_join, chain_local, chain_split, each_other_link, first_head, first_next, next_head, one_head, one_next, passed_kept, second_head, second_next, string_gens, string_head, string_next, string_rest, word_else, word_here}
 use Rattle.track_rule.proofs.HookLists.{each_change, hook_test, hook_there, links_kept, ordered_rev, some_hook, total_change, with_else, with_here, with_shuts, without_first, without_rev}
-use Rattle.track_rule.proofs.Lists.{other_bit, same_bit}
+use Rattle.track_rule.proofs.Lists.{other_bit, same_bit, total_some}
 use Rattle.track_rule.proofs.OwnWords.{hook_stays, own_link}
 use Rattle.track_rule.proofs.Sums.{each_other, total_same, total_set, total_term, total_two}
 
@@ -71,6 +72,7 @@ pub record Restrings (z : Sizes) (s : State Slot View) (chains : ℕ → List En
   pub here : chain_in b buckets.shut ≡ es
   pub there : (c : ℕ) → c ≢ b → chain_in c buckets.shut ≡ chain_in c v.buckets.shut
   pub hooks : Each (IsHook z (slice_set s.words word to)) buckets.hooks
+  pub linked : Each (IsOwned v.places.owned) buckets.hooks
 
 module _ (l : Ledger) (s : State Slot View) (id b : ℕ) (v : View) (h : IsKept v.passes.sizes l s) (at : get_elem? s.views id ≡ some v)
     (has_some : 0 < v.passes.shares) (below : b < v.passes.sizes.buckets) (mine : 0 < shuts_of b v) where
@@ -165,7 +167,7 @@ module _ (l : Ledger) (s : State Slot View) (id b : ℕ) (v : View) (h : IsKept 
               ⊎_elim (λ (e : next_word z x ≡ word). omega (arith, ap (slice_index new) e, word_here z s.words word to t.long, t.low))
               (λ (e : next_word z x ≢ word). omega (arith, word_else z s.words word to (next_word z x) e, h.links.nexts x any under)) (cases_eq (next_word z x) word);
           gens = λ c under. omega (arith, h.links.gens c under, string_gens z s.words word to t.string c under);
-          hooks = each_other (λ u. HasHooks z new u.places.held u.buckets.hooks) s.views id w
+          hooks = each_other (λ u. HasHooks z new u.places u.buckets.hooks) s.views id w
               (λ j u apart at'.
               let k = h.links.hooks j u at' in
               record {
@@ -178,9 +180,10 @@ module _ (l : Ledger) (s : State Slot View) (id b : ℕ) (v : View) (h : IsKept 
                       second = word_else z s.words word to (second_word z y.link) (t.seconds y.link) ∙ is.second;
                       next = λ n down e. word_else z s.words word to (next_word z y.link) (t.off j u at' i y there down) ∙ is.next n down e;
                     };
-                owned = k.owned;
+                held = k.held;
+                linked = k.linked;
               })
-              (record { each = t.hooks; owned = λ link any. (h.links.hooks id v at).owned link (omega (arith, any, t.links link)) });
+              (record { each = t.hooks; held = λ link any. (h.links.hooks id v at).held link (omega (arith, any, t.links link)); linked = t.linked });
         })
         (record {
           each = each_other (λ (u : View). (m : Walk) → u.walk ≡ Some m → IsWalk z new (rechained l.chains b es) u.seen.front m) s.views id w
@@ -194,7 +197,7 @@ module _ (l : Ledger) (s : State Slot View) (id b x : ℕ) (v : View) (h : IsKep
     (has_some : 0 < v.passes.shares) (below : b < v.passes.sizes.buckets) (mine : 0 < shuts_of b v) (down : is_down x v.buckets.hooks ≡ true)
     (next : (hook_of x v.buckets.hooks).next ≡ Some (first_of (chain_in b v.buckets.shut)))
     (placed : bucket_of v.passes.sizes (hook_of x v.buckets.hooks).pair ≡ b)
-    (before : side_of x ≡ 1 → is_down (x - 1) v.buckets.hooks ≡ true) where
+    (owned : is_among (place_of x) v.places.owned ≡ true) (before : side_of x ≡ 1 → is_down (x - 1) v.buckets.hooks ≡ true) where
   raised_hook : (k : Hook) → k.link ≡ x → raise x k ≡ record k { next = None; up = true }
   raised_hook k e = ap (λ (t : Bool). if t then record k { next = None; up = true } else k) (eq-eqb k.link x e)
 
@@ -306,6 +309,10 @@ module _ (l : Ledger) (s : State Slot View) (id b x : ℕ) (v : View) (h : IsKep
               second = word_else z s.words (head_word z b) x (second_word z y.link) (second_head z y.link b below);
               next = word_else z s.words (head_word z b) x (next_word z y.link) (next_head z y.link b below);
             }) is));
+        linked = each_change (IsOwned v.places.owned) (IsOwned v.places.owned) (raise x) v.buckets.hooks (h.links.hooks id v at).linked (λ y is.
+            cond_both (y.link == x) (record y { next = None; up = true }) y (IsOwned v.places.owned)
+            (λ e up. subst (λ (k : ℕ). 0 < times (place_of k) v.places.owned) (sym (eqb-true y.link x e))
+            (total_some (λ q. q == place_of x) v.places.owned owned)) (λ e. is));
       })
     where
       behind : (y : ℕ) → 0 < y → side_of y ≡ 1 → 0 < y - 1

@@ -6,6 +6,7 @@ use lib.ListN.{get_elem?}
 use Rattle.expect_table.specs.declared.expectation.Expectation.{Expectation}
 use Rattle.history_book.specs.declared.event.Event.{Event}
 use Rattle.history_book.specs.declared.sizes.Sizes.{Sizes}
+use Rattle.track_rule.specs.declared.view.Places.{Places}
 use Rattle.track_rule.specs.declared.slot.Slot.{Slot}
 use Rattle.track_rule.specs.declared.view.Commit.{Commit}
 use Rattle.track_rule.specs.declared.view.Entry.{Entry}
@@ -171,8 +172,8 @@ module _ (z : Sizes) (ws ws' : List ℕ) (same : SameLinks z ws ws') where
     subst (λ (n : ℕ). IsChain z ws' b n es) (sym (same.nexts e.link)) (chain_stays b (slice_index ws (next_word z e.link)) es h.2),
   )
 
-  pub hooks_stay : (held : List Keep) (hooks : List Hook) → HasHooks z ws held hooks → HasHooks z ws' held hooks
-  hooks_stay held hooks h = record {
+  pub hooks_stay : (places : Places) (hooks : List Hook) → HasHooks z ws places hooks → HasHooks z ws' places hooks
+  hooks_stay places hooks h = record {
     each = λ i x at.
         let k = h.each i x at in
         record {
@@ -182,7 +183,8 @@ module _ (z : Sizes) (ws ws' : List ℕ) (same : SameLinks z ws ws') where
           second = same.seconds x.link ∙ k.second;
           next = λ n down e. same.nexts x.link ∙ k.next n down e;
         };
-    owned = h.owned;
+    held = h.held;
+    linked = h.linked;
   }
 
 module _ (z : Sizes) (ws ws' : List ℕ) (same : SameChains z ws ws') where
@@ -218,7 +220,7 @@ module _ (z : Sizes) (ws ws' : List ℕ) (same : SameChains z ws ws') where
     gone = λ passed even. omega (arith, w.gone passed even, same.gens n.bucket w.bucket);
   }
 
-  pub links_stay : (vs vs' : List View) → Each (λ v. HasHooks z ws' v.places.held v.buckets.hooks) vs' → AreLinks z ws vs → AreLinks z ws' vs'
+  pub links_stay : (vs vs' : List View) → Each (λ v. HasHooks z ws' v.places v.buckets.hooks) vs' → AreLinks z ws vs → AreLinks z ws' vs'
   links_stay vs vs' hooks h = record {
     heads = λ b below. omega (arith, h.heads b below, same.links.heads b below);
     nexts = λ x some below. omega (arith, h.nexts x some below, same.links.nexts x);

@@ -64,6 +64,7 @@ free_carry z ws hs vs vs' free c t h = record {
   away = t.each (λ (o : Option (List ℕ)). (list : List ℕ) → o ≡ Some list → list ≡ free) (λ list e. absurd (none-some list e)) h.away;
   few = c.each (λ (x : Places). length x.held + length x.owed ≤ 4) (omega arith) h.few;
   clear = c.each (λ (x : Places). (p : ℕ) → 0 < times p x.clear → (0 < times p x.owed) × (phase_at z ws p ≡ 0)) (λ p any. absurd (omega (arith, any))) h.clear;
+  owned = c.each (λ (x : Places). (p : ℕ) → 0 < times p x.owned → (0 < held_times p x.held) × (phase_at z ws p ≡ 1)) (λ p any. absurd (omega (arith, any))) h.owned;
 }
   where
     owed_by : (p : ℕ) → total (owes p) vs' ≡ total (owes p) vs
@@ -90,11 +91,11 @@ handed z l s vs' h passes leaves places free buckets walk readings =
     (λ b weight. buckets.sums (λ (x : Places × HeldBuckets). total (λ (y : Hook). (if y.up then side z b weight (entry_of y) else 0)) x.1.hooks) refl)
     (λ link some. omega (arith, h.chains.lone link some, buckets.sums (λ (x : Places × HeldBuckets). hooks_of link x.1.hooks) refl)) h.chains)
     (links_stay z s.words s.words same s.views vs'
-    (buckets.each (λ (x : Places × HeldBuckets). HasHooks z s.words x.0.held x.1.hooks) (no_hooks z s.words) h.links.hooks) h.links)
+    (buckets.each (λ (x : Places × HeldBuckets). HasHooks z s.words x.0 x.1.hooks) (no_hooks z s.words) h.links.hooks) h.links)
     (record { each = walk (λ front o. (n : Walk) → o ≡ Some n → IsWalk z s.words l.chains front n) (λ front n e. absurd (none-some n e)) h.walks.each }) readings
   where
-    no_hooks : (z : Sizes) (ws : List ℕ) → HasHooks z ws [] []
-    no_hooks z ws = record { each = λ i h at. absurd (some-ne-none h (sym at)); owned = λ link any. absurd (omega (arith, any)) }
+    no_hooks : (z : Sizes) (ws : List ℕ) → HasHooks z ws no_places []
+    no_hooks z ws = record { each = λ i h at. absurd (some-ne-none h (sym at)); held = λ link any. absurd (omega (arith, any)); linked = λ i h at. absurd (some-ne-none h (sym at)) }
 
 -- numbers below a place, and those from it on
 abbrev in_range : ℕ → ℕ → ℕ → ℕ
@@ -225,6 +226,7 @@ pass_spent z log = record {
       held = refl;
       owed = refl;
       clear = refl;
+      owned = refl;
       carried = refl;
       free = refl;
       shut = refl;
@@ -275,10 +277,10 @@ joins z id other v w has_some has_other none s (l, h) at apart at' =
             expected = carries_join (λ (u : View). u.expected) None s.views id other v w both spent_view at at' refl none.expected refl;
           })
           (carries_join (λ (u : View). u.places) no_places s.views id other v w both spent_view at at' refl
-          (λ k. record { held = none.held k; owed = none.owed k; clear = none.clear k; carried = none.carried k }) refl)
+          (λ k. record { held = none.held k; owed = none.owed k; clear = none.clear k; owned = none.owned k; carried = none.carried k }) refl)
           (carries_join (λ (u : View). u.free) None s.views id other v w both spent_view at at' refl none.free refl)
           (carries_join {X = Places × HeldBuckets} (λ (u : View). (u.places, u.buckets)) (no_places, no_buckets) s.views id other v w both spent_view at at' refl
-          (λ k. (record { held = none.held k; owed = none.owed k; clear = none.clear k; carried = none.carried k }, record { shut = none.shut k; hooks = none.hooks k })) refl)
+          (λ k. (record { held = none.held k; owed = none.owed k; clear = none.clear k; owned = none.owned k; carried = none.carried k }, record { shut = none.shut k; hooks = none.hooks k })) refl)
           (λ P base all. each_put (λ (u : View). P u.seen.front u.walk) vs other spent_view
           (each_put (λ (u : View). P u.seen.front u.walk) s.views id both all (all id v at)) (base []))
           (λ one. absurd (many one)),

@@ -1,7 +1,7 @@
 -- The hooks of a pass: those of a place that it takes, and those that it gives up with its last reference.
 use Rattle.std.proofs.Common.{◌≡◌, ◌≢◌, ℕ, zero, suc, ◌+◌, ◌*◌, ◌<◌, ◌≤◌, Bool, true, false, cond, Option, Some, None, List, [], ◌∷◌, filter, refl, sym, ap, subst, ◌∙◌, ⊎_elim, arith, set}
 use Rattle.std.specs.Prelude.{slice_index, ◌==◌, ◌&&◌, ◌||◌, not, if◌then◌else◌}
-use Rattle.std.proofs.lemmas.Bool.{and_cases, cases_Bool, cases_eq, cond_both, eq-eqb, eqb-true, false≢true, not_from_false, or_parts}
+use Rattle.std.proofs.lemmas.Bool.{and_cases, cases_Bool, cases_eq, cond_both, eq-eqb, eqb-true, false≢true, ne_eqb, not_from_false, or_parts}
 use Rattle.std.proofs.lemmas.Option.{none-some}
 use mathlib.Core.Option.{some, some-injective, some-ne-none}
 use lib.ListN.{get_elem?}
@@ -15,16 +15,17 @@ use Rattle.track_rule.specs.declared.view.Keep.{Keep}
 use Rattle.track_rule.specs.declared.view.Middle.{Middle}
 use Rattle.track_rule.specs.declared.view.View.{View}
 use Rattle.track_rule.specs.Chains.{entry_of, hooks_at, loose_of, side}
+use Rattle.track_rule.specs.Free.{unlisted}
 use Rattle.track_rule.specs.History.{records_after}
 use Rattle.track_rule.specs.Layout.{first_word, place_of, refs_at, second_word}
-use Rattle.track_rule.specs.Links.{HasHooks, IsHook, hooks_of, is_up, last_link}
+use Rattle.track_rule.specs.Links.{HasHooks, IsHook, IsOwned, hooks_of, is_up, last_link}
 use Rattle.track_rule.specs.Phases.{middle_of, middle_weight, of_place}
 use Rattle.track_rule.specs.References.{held_times, keeps}
 use Rattle.track_rule.specs.Rule.{IsKept, Ledger}
-use Rattle.track_rule.specs.Steps.{NewHooks, hooks_then, let_go_of, opened}
-use Rattle.track_rule.specs.Sums.{Each, bit, total}
+use Rattle.track_rule.specs.Steps.{NewHooks, hooks_then, let_go_of, opened, owned_then}
+use Rattle.track_rule.specs.Sums.{Each, bit, times, total}
 use Rattle.track_rule.proofs.Balance.{Lines}
-use Rattle.track_rule.proofs.Lists.{other_bit, other_without, same_bit, same_without}
+use Rattle.track_rule.proofs.Lists.{other_bit, other_without, same_bit, same_without, unlisted_in, unlisted_out}
 use Rattle.track_rule.proofs.Sums.{total_only, total_set, total_term}
 
 -- a link of a place that is not in a chain, with what stands in its words
@@ -57,12 +58,12 @@ module _ (z : Sizes) (l : Ledger) (s : State Slot View) (h : IsKept z l s) (id :
   mine_none : keeps p v ≡ 0
   mine_none = omega (arith, h.references.counted p below, nobody, total_term (keeps p) s.views id v at)
 
-  unhooked : (v : View) → HasHooks z s.words v.places.held v.buckets.hooks → (link : ℕ) → place_of link ≡ p → keeps p v ≡ 0 → hooks_at link v ≡ 0
+  unhooked : (v : View) → HasHooks z s.words v.places v.buckets.hooks → (link : ℕ) → place_of link ≡ p → keeps p v ≡ 0 → hooks_at link v ≡ 0
   unhooked v k link here none =
       ⊎_elim
       (λ (e : hooks_at link v ≡ 0). e)
       (λ (e : hooks_at link v ≢ 0).
-      absurd (omega (arith, none, ap (λ (x : ℕ). held_times x v.places.held) here, k.owned link (omega (arith, e)))))
+      absurd (omega (arith, none, ap (λ (x : ℕ). held_times x v.places.held) here, k.held link (omega (arith, e)))))
       (cases_eq (hooks_at link v) 0)
 
   no_hooks_there : (link : ℕ) → place_of link ≡ p → total (hooks_at link) s.views ≡ 0
@@ -76,12 +77,12 @@ module _ (z : Sizes) (l : Ledger) (s : State Slot View) (h : IsKept z l s) (id :
       (λ i u at' none. ap (middle_weight (of_place p)) (h.phases.calm i u at')) in
       omega (arith, h.phases.used p below, h.references.counted p below, nobody, calm, ap (middle_weight (of_place p)) (h.phases.calm id v at))
 
-  no_hook : (v : View) → HasHooks z s.words v.places.held v.buckets.hooks → keeps p v ≡ 0
-      → HasHooks z s.words (opened p (new_hooks z s.words p v.buckets.hooks) v).places.held (new_hooks z s.words p v.buckets.hooks)
+  no_hook : (v : View) → HasHooks z s.words v.places v.buckets.hooks → keeps p v ≡ 0
+      → HasHooks z s.words (opened p (new_hooks z s.words p v.buckets.hooks) v).places (new_hooks z s.words p v.buckets.hooks)
   no_hook v k none = record {
-    each = with_two (new_hook z s.words (1 + 2 * p)) (new_hook z s.words (2 + 2 * p)) (fresh (1 + 2 * p) (omega arith) (omega (arith, below)))
+    each = with_two (IsHook z s.words) (new_hook z s.words (1 + 2 * p)) (new_hook z s.words (2 + 2 * p)) (fresh (1 + 2 * p) (omega arith) (omega (arith, below)))
         (fresh (2 + 2 * p) (omega arith) (omega (arith, below))) k.each;
-    owned = λ link any.
+    held = λ link any.
         ⊎_elim
         (λ (e : p ≡ place_of link). omega (arith, same_bit p (place_of link) e))
         (λ (e : p ≢ place_of link).
@@ -90,7 +91,7 @@ module _ (z : Sizes) (l : Ledger) (s : State Slot View) (h : IsKept z l s) (id :
           any,
           other_bit (1 + 2 * p) link (λ x. e (omega (arith, x))),
           other_bit (2 + 2 * p) link (λ x. e (omega (arith, x))),
-          k.owned link (omega (
+          k.held link (omega (
             arith,
             any,
             other_bit (1 + 2 * p) link (λ x. e (omega (arith, x))),
@@ -98,15 +99,17 @@ module _ (z : Sizes) (l : Ledger) (s : State Slot View) (h : IsKept z l s) (id :
           )),
         ))
         (cases_eq p (place_of link));
+    linked = with_two (IsOwned v.places.owned) (new_hook z s.words (1 + 2 * p)) (new_hook z s.words (2 + 2 * p)) (λ up. absurd (false≢true up))
+        (λ up. absurd (false≢true up)) k.linked;
   }
     where
       fresh : (link : ℕ) → 0 < link → link ≤ last_link z → IsHook z s.words (new_hook z s.words link)
       fresh link any low = record { some = any; below = low; first = refl; second = refl; next = λ n down e. absurd (none-some n e) }
 
-      with_two : (a b : Hook) → IsHook z s.words a → IsHook z s.words b → Each (IsHook z s.words) v.buckets.hooks → Each (IsHook z s.words) (a ∷ b ∷ v.buckets.hooks)
-      with_two a b f g e zero x at' = subst (IsHook z s.words) (some-injective a x at') f
-      with_two a b f g e (suc zero) x at' = subst (IsHook z s.words) (some-injective b x at') g
-      with_two a b f g e (suc (suc i)) x at' = e i x at'
+      with_two : (F : Hook → Type 0) (a b : Hook) → F a → F b → Each F v.buckets.hooks → Each F (a ∷ b ∷ v.buckets.hooks)
+      with_two F a b f g e zero x at' = subst F (some-injective a x at') f
+      with_two F a b f g e (suc zero) x at' = subst F (some-injective b x at') g
+      with_two F a b f g e (suc (suc i)) x at' = e i x at'
 
   pub opened_lines : Lines z l s id v (opened p (new_hooks z s.words p v.buckets.hooks) v)
   opened_lines =
@@ -208,6 +211,40 @@ module _ (p : ℕ) where
       more xs f r zero x at = subst F (some-injective h x at) f
       more xs f r (suc i) x at = r i x at
 
+-- a place that stays owned where a reference to one is given up: if it is that one, then it was not the last reference
+pub still_owned : (p q : ℕ) (held : List Keep) (owned : List ℕ) → 0 < times q (owned_then p held owned)
+    → (0 < times q owned) × (q ≡ p → (held_times p held == 1) ≡ false)
+still_owned p q held owned =
+    cond_both (held_times p held == 1) (unlisted (p ∷ []) owned) owned
+    (λ xs. 0 < times q xs → (0 < times q owned) × (q ≡ p → (held_times p held == 1) ≡ false))
+    (λ t some_left.
+    ⊎_elim
+    (λ (e : q ≡ p). absurd (omega (arith, some_left, unlisted_in (p ∷ []) q owned (ap (λ b. b || false) (eq-eqb p q (sym e))))))
+    (λ (e : q ≢ p). (
+      omega (arith, some_left, unlisted_out (p ∷ []) q owned (ap (λ b. b || false) (ne_eqb p q (λ x. e (sym x))))),
+      λ same. absurd (e same),
+    ))
+    (cases_eq q p))
+    (λ t some_left. (some_left, λ e. t))
+
+-- the places of links in chains stay owned where no such link is of the place of that reference
+stays_linked : (p : ℕ) (held : List Keep) (owned : List ℕ) (hooks : List Hook) → is_up p hooks ≡ false → Each (IsOwned owned) hooks
+    → Each (IsOwned (owned_then p held owned)) hooks
+stays_linked p held owned [] down each i h at = absurd (some-ne-none h (sym at))
+stays_linked p held owned (k ∷ ks) down each (suc i) h at =
+    stays_linked p held owned ks (or_parts (place_of k.link == p && k.up) (is_up p ks) down).1 (λ j m at'. each (suc j) m at') i h at
+stays_linked p held owned (k ∷ ks) down each zero h at =
+    subst (IsOwned (owned_then p held owned)) (some-injective k h at)
+    (λ up.
+    cond_both (held_times p held == 1) (unlisted (p ∷ []) owned) owned (λ xs. 0 < times (place_of k.link) xs)
+    (λ t. omega (arith, each 0 k refl up, unlisted_out (p ∷ []) (place_of k.link) owned (ap (λ b. b || false) (ne_eqb p (place_of k.link) (elsewhere up)))))
+    (λ t. each 0 k refl up))
+  where
+    elsewhere : k.up ≡ true → p ≢ place_of k.link
+    elsewhere up e =
+        false≢true (sym (or_parts (place_of k.link == p && k.up) (is_up p ks) down).0
+        ∙ ap (λ b. b && k.up) (eq-eqb (place_of k.link) p (sym e)) ∙ up)
+
 -- a reference is given up, and where it was the last of the pass, the hooks with it
 pub lowered_lines : (z : Sizes) (l : Ledger) (s : State Slot View) (id p n : ℕ) (v : View) → IsKept z l s → get_elem? s.views id ≡ some v
     → (1 ≤ held_times p v.places.held) → held_times p (let_go_of false p n v).places.held + 1 ≡ held_times p v.places.held
@@ -228,22 +265,25 @@ lowered_lines z l s id p n v h at any less others down =
             (λ xs. hooks_of link xs ≤ hooks_of link v.buckets.hooks) (λ t. fewer p link v.buckets.hooks) (λ t. omega arith),
       );
       hooks = cond_both (held_times p v.places.held == 1) (filter (λ (h : Hook). not (place_of h.link == p)) v.buckets.hooks) v.buckets.hooks
-          (HasHooks z s.words (let_go_of false p n v).places.held)
+          (HasHooks z s.words (let_go_of false p n v).places)
           (λ t. record {
             each = each_left p (IsHook z s.words) v.buckets.hooks hooks.each;
-            owned = λ link some_hook.
+            linked = each_left p (IsOwned (owned_then p v.places.held v.places.owned)) v.buckets.hooks
+                (stays_linked p v.places.held v.places.owned v.buckets.hooks down hooks.linked);
+            held = λ link some_hook.
                 ⊎_elim
                 (λ (e : place_of link ≡ p). absurd (omega (arith, some_hook, none_left p link e v.buckets.hooks)))
-                (λ (e : place_of link ≢ p). omega (arith, others (place_of link) e, hooks.owned link (omega (arith, some_hook, fewer p link v.buckets.hooks))))
+                (λ (e : place_of link ≢ p). omega (arith, others (place_of link) e, hooks.held link (omega (arith, some_hook, fewer p link v.buckets.hooks))))
                 (cases_eq (place_of link) p);
           })
           (λ t. record {
             each = hooks.each;
-            owned = λ link some_hook.
+            linked = stays_linked p v.places.held v.places.owned v.buckets.hooks down hooks.linked;
+            held = λ link some_hook.
                 ⊎_elim
                 (λ (e : place_of link ≡ p).
                 subst (λ (x : ℕ). 0 < held_times x (let_go_of false p n v).places.held) (sym e) (two_held (held_times p v.places.held) (held_times p (let_go_of false p n v).places.held) any less t))
-                (λ (e : place_of link ≢ p). omega (arith, others (place_of link) e, hooks.owned link some_hook))
+                (λ (e : place_of link ≢ p). omega (arith, others (place_of link) e, hooks.held link some_hook))
                 (cases_eq (place_of link) p);
           });
       walk = h.walks.each id v at;

@@ -166,7 +166,7 @@ looks slots id v c has_some s (l, h) long at range =
       (
         l,
         reads z l s id 0 v w h at m (pass_moved z l.log v w p m.made has_some ([], sym (append-nil l.log)) p.told) refl refl
-            (bucket_lines z l s id v w h at refl (λ q. omega arith) (look_note z l s id v h at)) has_some
+            (bucket_lines z l s id v w h at refl (λ q. omega arith) refl (look_note z l s id v h at)) has_some
             (record { reading = found_history (slice_index s.words 0) v; more = refl; word = refl; value = refl }),
       ),
       (
@@ -229,7 +229,7 @@ loads slots id p v c below has_some s (l, h) long at range =
       (
         l,
         reads z l s id (refs_word z p) v w h at m (pass_moved z l.log v w one m.made has_some one.front one.told) refl refl
-            (same_lines z l s id v w h at refl (λ q. omega arith) refl refl) has_some
+            (same_lines z l s id v w h at refl (λ q. omega arith) refl refl refl) has_some
             (record { reading = found (refs_word z p) n; more = refl; word = refl; value = refl }),
       ),
       λ q same. subst (λ (k : ℕ). LoadsRefs k v n w × (c ≡ c)) (one_place z p q same) (record { view = refl; count = told }, refl),

@@ -18,12 +18,13 @@ use Rattle.track_rule.specs.declared.view.Walk.{Walk}
 use Rattle.track_rule.specs.BucketSteps.{StoreTupleStep, aim, aimed, is_own_tuple, strung, tuple_in, tuple_stored}
 use Rattle.track_rule.specs.Chains.{IsChain, IsLinked, chain_in, entry_of, hooks_at, links_in, loose_of, shuts_of, side}
 use Rattle.track_rule.specs.History.{records_after}
+use Rattle.track_rule.specs.Free.{is_among}
 use Rattle.track_rule.specs.Layout.{first_word, gen_at, head_word, next_word, place_of, second_word, word_count}
-use Rattle.track_rule.specs.Links.{HasHooks, IsHook, hook_of, hooks_of, is_down, last_link}
+use Rattle.track_rule.specs.Links.{HasHooks, IsHook, IsOwned, hook_of, hooks_of, is_down, last_link}
 use Rattle.track_rule.specs.Readings.{noted, stored}
 use Rattle.track_rule.specs.References.{held_times}
 use Rattle.track_rule.specs.Rule.{Holds, IsKept, Ledger}
-use Rattle.track_rule.specs.Sums.{Each, bit, total}
+use Rattle.track_rule.specs.Sums.{Each, bit, total, times}
 use Rattle.track_rule.specs.Walks.{IsWalk}
 use Rattle.track_rule.proofs.LastRead.{stored_on}
 use Rattle.track_rule.proofs.BucketMoves.{bucket_moved}
@@ -145,18 +146,21 @@ module _ (l : Ledger) (s : State Slot View) (id : ℕ) (v : View) (h : IsKept v.
         heads = λ b below. omega (arith, h.links.heads b below, word_else z s.words word to (head_word z b) (of.heads b below));
         nexts = nexts;
         gens = λ b below. omega (arith, h.links.gens b below, string_gens z s.words word to of.string b below);
-        hooks = each_other (λ u. HasHooks z new u.places.held u.buckets.hooks) s.views id w
+        hooks = each_other (λ u. HasHooks z new u.places u.buckets.hooks) s.views id w
             (λ j u apart at'.
             let k = h.links.hooks j u at' in
             let elsewhere : hooks_of x u.buckets.hooks ≡ 0 = omega (arith, h.chains.lone x own.0, total_two (hooks_at x) s.views id j v u at at' apart, own.2) in
             record {
               each = λ i y there. hook_stays z s.words new y (other_at z s.words word to x of y.link (k.each i y there).some (hooks_elsewhere x u.buckets.hooks elsewhere i y there)) (k.each i y there);
-              owned = k.owned;
+              held = k.held;
+              linked = k.linked;
             })
             (let k = h.links.hooks id v at in
             record {
               each = each_change (IsHook z s.words) (IsHook z new) f v.buckets.hooks k.each hook;
-              owned = λ link any. k.owned link (omega (arith, any, links_kept link f (λ y. (keeps_link y).0) v.buckets.hooks));
+              held = λ link any. k.held link (omega (arith, any, links_kept link f (λ y. (keeps_link y).0) v.buckets.hooks));
+              linked = each_change (IsOwned v.places.owned) (IsOwned v.places.owned) f v.buckets.hooks k.linked (λ y is up.
+                  subst (λ (n : ℕ). 0 < times (place_of n) v.places.owned) (sym (keeps_link y).0) (is (sym (keeps_link y).1 ∙ up)));
             });
       })
       (record {
@@ -252,21 +256,24 @@ tuple_hook z ws word to low apart k is =
     }))
 
 -- the link of such a word
-own_tuple : (z : Sizes) (ws : List ℕ) (word : ℕ) (hooks : List Hook) → is_own_tuple z word hooks ≡ true
+own_tuple : (z : Sizes) (ws : List ℕ) (word : ℕ) (owned : List ℕ) (hooks : List Hook)
+    → list_any (λ (h : Hook). (not h.up && (first_word z h.link == word || second_word z h.link == word)) && is_among (place_of h.link) owned) hooks ≡ true
     → (x : ℕ) × (is_down x hooks ≡ true) × ((word ≡ first_word z x) ⊎ (word ≡ second_word z x))
-own_tuple z ws word [] e = absurd (false≢true e)
-own_tuple z ws word (k ∷ ks) e =
+own_tuple z ws word owned [] e = absurd (false≢true e)
+own_tuple z ws word owned (k ∷ ks) e =
     ⊎_elim
-    (λ (t : (not k.up && (first_word z k.link == word || second_word z k.link == word)) ≡ true).
-    let parts = and_parts (not k.up) (first_word z k.link == word || second_word z k.link == word) t in (
+    (λ (t : ((not k.up && (first_word z k.link == word || second_word z k.link == word)) && is_among (place_of k.link) owned) ≡ true).
+    let parts = and_parts (not k.up) (first_word z k.link == word || second_word z k.link == word)
+    (and_parts (not k.up && (first_word z k.link == word || second_word z k.link == word)) (is_among (place_of k.link) owned) t).0 in (
       k.link,
       ap (λ (b : Bool). (k.link == k.link && b) || is_down k.link ks) parts.0 ∙ ap (λ (b : Bool). (b && true) || is_down k.link ks) (eq-eqb k.link k.link refl),
       either_word (first_word z k.link) (second_word z k.link) word parts.1,
     ))
-    (λ (t : (not k.up && (first_word z k.link == word || second_word z k.link == word)) ≡ false).
-    let rest = own_tuple z ws word ks (sym (ap (λ (b : Bool). b || is_own_tuple z word ks) t) ∙ e) in
+    (λ (t : ((not k.up && (first_word z k.link == word || second_word z k.link == word)) && is_among (place_of k.link) owned) ≡ false).
+    let rest = own_tuple z ws word owned ks (sym (ap (λ (b : Bool). b || list_any
+    (λ (h : Hook). (not h.up && (first_word z h.link == word || second_word z h.link == word)) && is_among (place_of h.link) owned) ks) t) ∙ e) in
     (rest.0, down_more rest.0 k.link (not k.up) ks rest.1, rest.2))
-    (cases_Bool (not k.up && (first_word z k.link == word || second_word z k.link == word)))
+    (cases_Bool ((not k.up && (first_word z k.link == word || second_word z k.link == word)) && is_among (place_of k.link) owned))
   where
     either_word : (a b w : ℕ) → (a == w || b == w) ≡ true → (w ≡ a) ⊎ (w ≡ b)
     either_word a b w e =
@@ -304,13 +311,13 @@ tuples_kept l s id v x word to h at has_some down of low apart =
     (λ y any under. omega (arith, word_else z s.words word to (next_word z y) (apart y), h.links.nexts y any under))
 
 -- storing a word of the tuple of a link in no chain keeps the rule
-pub stores_tuple : (slots id word to : ℕ) (v : View) (c : List (ℕ × Slot)) → is_own_tuple v.passes.sizes word v.buckets.hooks ≡ true → 0 < v.passes.shares
+pub stores_tuple : (slots id word to : ℕ) (v : View) (c : List (ℕ × Slot)) → is_own_tuple v.passes.sizes word v.buckets v.places.owned ≡ true → 0 < v.passes.shares
     → Allows (Holds v.passes.sizes) slots id (v, c) word (λ _. to) (λ _. StoreTupleStep (step slots word to 0 none) (v, c) to)
 stores_tuple slots id word to v c own has_some s (l, h) long at range = (
   tuple_stored word to v,
   unchanged,
   tt,
-  (l, of_word (own_tuple v.passes.sizes s.words word v.buckets.hooks own)),
+  (l, of_word (own_tuple v.passes.sizes s.words word v.places.owned v.buckets.hooks own)),
   (refl, refl),
 )
   where

@@ -23,7 +23,7 @@ use Rattle.expect_table.specs.declared.expectation.Expectation.{Expectation}
 use Rattle.track_rule.specs.Expected.{has_expected}
 use Rattle.track_rule.specs.Free.{IsFreeList, has_turn, is_among, known_free, owes}
 use Rattle.track_rule.specs.History.{IsHistory, state_after}
-use Rattle.track_rule.specs.Layout.{first_word, gen_at, gen_word, head_word, next_word, phase_at, phase_word, refs_at, refs_word, second_word, turn_at, turn_word}
+use Rattle.track_rule.specs.Layout.{first_word, gen_at, gen_word, head_word, next_word, phase_at, phase_word, refs_at, refs_word, second_word, turn_at, turn_word, place_of}
 use Rattle.track_rule.specs.Links.{HasHooks}
 use Rattle.track_rule.specs.Passes.{IsPass}
 use Rattle.track_rule.specs.PhaseSteps.{LoadPhaseStep, LoadsPhase, StorePhaseStep, may_store, phase_stored}
@@ -61,6 +61,7 @@ loads_phase slots id p v c below has_some s (l, h) long at range =
     let told : LoadsPhase p v n w = record {
       view = refl;
       idle = idle z l s id v h at;
+      owned = λ some_owned. (h.free_list.owned id v at p some_owned).1;
       sole = λ one. h.readings one id v at has_some (phase_word z p);
       hand = λ x has here.
           let k = h.records.away id v at x has in
@@ -75,7 +76,7 @@ loads_phase slots id p v c below has_some s (l, h) long at range =
       (
         l,
         reads z l s id (phase_word z p) v w h at m (pass_moved z l.log v w one m.made has_some one.front one.told) refl refl
-            (same_lines z l s id v w h at refl (λ q. omega arith) refl refl) has_some
+            (same_lines z l s id v w h at refl (λ q. omega arith) refl refl refl) has_some
             (record { reading = found (phase_word z p) n; more = refl; word = refl; value = refl }),
       ),
       λ q same. subst (λ (k : ℕ). LoadsPhase k v n w × (c ≡ c)) (one_phase z p q same) (told, refl),
@@ -250,6 +251,58 @@ module _ (l : Ledger) (s : State Slot View) (id p to : ℕ) (v : View) (h : IsKe
             (λ (e : q ≢ p). phase_else v.passes.sizes s.words p to q e ∙ c.1) (cases_eq q p),
       )
 
+  -- no pass holds what another one owes
+  held_and_owed : (i : ℕ) (u : View) → get_elem? s.views i ≡ some u → 0 < held_times p u.places.held → 0 < owes p v → ⊥
+  held_and_owed i u at' holds owed =
+      omega (
+        arith,
+        owed,
+        none_owed (times p l.free) (total (owes p) s.views) (owes p v) (refs_at v.passes.sizes s.words p) (keeps p u) (h.free_list.once p below)
+            (total_term (owes p) s.views id v at) (omega (arith, h.references.counted p below, total_term (keeps p) s.views i u at'))
+            (omega (arith, holds)),
+      )
+
+  -- a place that a pass owns is held by it, so OWNED is stored
+  set_owned : 0 < held_times p v.places.held → to ≡ 1
+  unfolding MayStore
+  set_owned mine' = ⊎_elim (λ (t : (to ≡ 0) × (0 < owes p v)). absurd (held_and_owed id v at mine' t.1)) (λ (t : (to ≡ 1) × (0 < held_times p v.places.held)). t.0) may
+
+  still_owned : (i : ℕ) (u : View) → get_elem? s.views i ≡ some u → (q : ℕ) → 0 < times q u.places.owned
+      → (0 < held_times q u.places.held) × (phase_at v.passes.sizes (slice_set s.words (phase_word v.passes.sizes p) to) q ≡ 1)
+  unfolding MayStore
+  still_owned i u at' q on =
+      let c = h.free_list.owned i u at' q on in (
+        c.0,
+        ⊎_elim
+            (λ (e : q ≡ p).
+            ap (phase_at v.passes.sizes (slice_set s.words (phase_word v.passes.sizes p) to)) e ∙ here
+            ∙ ⊎_elim (λ (t : (to ≡ 0) × (0 < owes p v)). absurd (held_and_owed i u at' (subst (λ (x : ℕ). 0 < held_times x u.places.held) e c.0) t.1))
+            (λ (t : (to ≡ 1) × (0 < held_times p v.places.held)). t.0) may)
+            (λ (e : q ≢ p). phase_else v.passes.sizes s.words p to q e ∙ c.1) (cases_eq q p),
+      )
+
+  owned_then : (b : Bool) → (q : ℕ) → 0 < times q (if b then p ∷ v.places.owned else v.places.owned) → (b ≡ true → 0 < held_times p v.places.held)
+      → (0 < times q v.places.owned) ⊎ ((q ≡ p) × (0 < held_times p v.places.held))
+  owned_then false q any holds = inl any
+  owned_then true q any holds =
+      ⊎_elim (λ (e : p ≡ q). inr (sym e, holds refl)) (λ (e : p ≢ q). inl (omega (arith, any, other_bit p q e))) (cases_eq p q)
+
+  is_held_one : (to == 1) ≡ true → 0 < held_times p v.places.held
+  unfolding MayStore
+  is_held_one e = ⊎_elim (λ (t : (to ≡ 0) × (0 < owes p v)). absurd (omega (arith, t.0, eqb-true to 1 e))) (λ (t : (to ≡ 1) × (0 < held_times p v.places.held)). t.1) may
+
+  owned_more : HasHooks v.passes.sizes (slice_set s.words (phase_word v.passes.sizes p) to) v.places v.buckets.hooks
+      → HasHooks v.passes.sizes (slice_set s.words (phase_word v.passes.sizes p) to) (phase_stored p to v).places v.buckets.hooks
+  owned_more k = record {
+    each = k.each;
+    held = k.held;
+    linked = λ i x at' up. more (to == 1) (place_of x.link) (k.linked i x at' up);
+  }
+    where
+      more : (b : Bool) (q : ℕ) → 0 < times q v.places.owned → 0 < times q (if b then p ∷ v.places.owned else v.places.owned)
+      more true q any = omega (arith, any)
+      more false q any = any
+
   stored_free : IsFreeList v.passes.sizes (slice_set s.words (phase_word v.passes.sizes p) to) s.homes (set s.views id (phase_stored p to v)) l.free
   stored_free =
       let z : Sizes = v.passes.sizes in
@@ -273,6 +326,14 @@ module _ (l : Ledger) (s : State Slot View) (id p to : ℕ) (v : View) (h : IsKe
               ap (phase_at z new) t.0 ∙ here ∙ cleared id v at t.1,
             ))
             (clear_then (to == 0) q on is_owed));
+        owned = each_put (λ u. (q : ℕ) → 0 < times q u.places.owned → (0 < held_times q u.places.held) × (phase_at z new q ≡ 1)) s.views id w still_owned
+            (λ q on.
+            ⊎_elim (λ (t : 0 < times q v.places.owned). still_owned id v at q t)
+            (λ (t : (q ≡ p) × (0 < held_times p v.places.held)). (
+              subst (λ (x : ℕ). 0 < held_times x v.places.held) (sym t.0) t.1,
+              ap (phase_at z new) t.0 ∙ here ∙ set_owned t.1,
+            ))
+            (owned_then (to == 1) q on is_held_one));
       }
 
   stored_records : AreRecords v.passes.sizes l.log (slice_set s.words (phase_word v.passes.sizes p) to) s.homes (set s.views id (phase_stored p to v))
@@ -343,9 +404,9 @@ module _ (l : Ledger) (s : State Slot View) (id p to : ℕ) (v : View) (h : IsKe
             (λ b weight. total_same (loose_of z b weight) s.views id v w at refl)
             (λ link any. omega (arith, h.chains.lone link any, total_same (hooks_at link) s.views id v w at refl)) h.chains;
         links = links_stay z s.words new same s.views (set s.views id w)
-            (each_put (λ u. HasHooks z new u.places.held u.buckets.hooks) s.views id w
-            (λ i u at'. hooks_stay z s.words new same.links u.places.held u.buckets.hooks (h.links.hooks i u at'))
-            (hooks_stay z s.words new same.links v.places.held v.buckets.hooks (h.links.hooks id v at))) h.links;
+            (each_put (λ u. HasHooks z new u.places u.buckets.hooks) s.views id w
+            (λ i u at'. hooks_stay z s.words new same.links u.places u.buckets.hooks (h.links.hooks i u at'))
+            (owned_more (hooks_stay z s.words new same.links v.places v.buckets.hooks (h.links.hooks id v at)))) h.links;
         walks = record {
           each = each_put (λ (u : View). (n : Walk) → u.walk ≡ Some n → IsWalk z new l.chains u.seen.front n) s.views id w
               (λ i u at' n e. walk_stays z s.words new same l.chains u.seen.front n (h.walks.each i u at' n e))

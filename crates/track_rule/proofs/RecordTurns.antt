@@ -117,9 +117,9 @@ module _ (l : Ledger) (s : State Slot View) (id p : ℕ) (v : View) (h : IsKept 
             (λ b weight. total_same (loose_of z b weight) s.views id v w at refl)
             (λ link any. omega (arith, h.chains.lone link any, total_same (hooks_at link) s.views id v w at refl)) h.chains;
         links = links_stay z s.words new same s.views (set s.views id w)
-            (each_put (λ u. HasHooks z new u.places.held u.buckets.hooks) s.views id w
-            (λ i u at'. hooks_stay z s.words new same.links u.places.held u.buckets.hooks (h.links.hooks i u at'))
-            (hooks_stay z s.words new same.links v.places.held v.buckets.hooks (h.links.hooks id v at))) h.links;
+            (each_put (λ u. HasHooks z new u.places u.buckets.hooks) s.views id w
+            (λ i u at'. hooks_stay z s.words new same.links u.places u.buckets.hooks (h.links.hooks i u at'))
+            (hooks_stay z s.words new same.links v.places v.buckets.hooks (h.links.hooks id v at))) h.links;
         walks = record {
           each = each_put (λ (u : View). (x : Walk) → u.walk ≡ Some x → IsWalk z new l.chains u.seen.front x) s.views id w
               (λ i u at' x e. walk_stays z s.words new same l.chains u.seen.front x (h.walks.each i u at' x e))
@@ -263,7 +263,7 @@ taking_turn slots id p v c below has_some calm s (l, h) sized at range =
       (
         l,
         reads z l s id (turn_word z p) v w h at m (pass_moved z l.log v w one m.made has_some one.front one.told) refl refl
-            (same_lines z l s id v w h at refl (λ q. omega arith) refl refl) has_some
+            (same_lines z l s id v w h at refl (λ q. omega arith) refl refl refl) has_some
             (record {
               reading = found (turn_word z p) 1;
               more = refl;

@@ -32,7 +32,7 @@ use Rattle.track_rule.proofs.LastRead.{ReadsAt, stored_on}
 use Rattle.track_rule.proofs.Lists.{bit_low, kept_without, length_without, other_bit, other_taken, other_without, same_bit, same_taken, same_without, takes_held, takes_other, takes_testing, takes_without, total_none, total_some}
 use Rattle.track_rule.proofs.Loads.{one_place, reads, refs_told}
 use Rattle.track_rule.proofs.Balance.{Lines, Moves, free_moved, moved, pass_moved, references_moved, same_lines}
-use Rattle.track_rule.proofs.Hooks.{hooks_new, lowered_lines, new_hooks, no_record_there, opened_lines}
+use Rattle.track_rule.proofs.Hooks.{hooks_new, lowered_lines, new_hooks, no_record_there, opened_lines, still_owned}
 use Rattle.track_rule.specs.Links.{is_up}
 use Rattle.track_rule.proofs.Sums.{total_le, total_term}
 
@@ -69,6 +69,7 @@ pub record RefsMove (v w : View) (p n : ℕ) (free free' : List ℕ) (before : �
   pub few : length w.places.held + length w.places.owed ≤ 4
   pub clear : w.places.clear ≡ v.places.clear
   pub owed : (q : ℕ) → 0 < times q v.places.owed → 0 < times q w.places.owed
+  pub owned : (q : ℕ) → 0 < times q w.places.owned → (0 < held_times q w.places.held) × (0 < times q v.places.owned)
 
 -- a references word becomes n, and the view changes so
 pub counts : (z : Sizes) (l : Ledger) (s : State Slot View) (id p n : ℕ) (v w : View) (free' : List ℕ) → IsKept z l s → get_elem? s.views id ≡ some v
@@ -122,6 +123,9 @@ counts z l s id p n v w free' h at has_some below t lines taken purposes read =
       clear = λ q on.
           let c = h.free_list.clear id v at q (omega (arith, on, ap (times q) t.clear)) in
           (t.owed q c.0, refs_phase z ws p n q ∙ c.1);
+      owned = λ q on.
+          let c = t.owned q on in
+          (c.0, refs_phase z ws p n q ∙ (h.free_list.owned id v at q c.1).1);
     }) h.free_list) lines (stored_on z l.log ws s.views id (refs_word z p) n v w h.passes at has_some (omega (arith, h.count, below)) read h.readings)
 
 -- the first reference to a place from the free list
@@ -165,6 +169,7 @@ opening slots id p v c below has_some on room s (l, h) sized at range =
           few = omega (arith, room);
           clear = refl;
           owed = λ q any. any;
+          owned = λ q on. (omega (arith, (h.free_list.owned id v at q on).0), on);
         }) (opened_lines z l s h id v at p below nobody)
             (λ q.
             ⊎_elim
@@ -253,7 +258,8 @@ module _ (slots id p seen : ℕ) (v : View) (c : List (ℕ × Slot)) (below : p 
         few = h.free_list.few id v at;
         clear = refl;
         owed = λ q any. any;
-      }) (same_lines v.passes.sizes l s id v (raised true p seen v) h at refl (λ q. omega arith) refl refl)
+        owned = λ q on. ((h.free_list.owned id v at q on).0, on);
+      }) (same_lines v.passes.sizes l s id v (raised true p seen v) h at refl (λ q. omega arith) refl refl refl)
       (λ q. omega (arith, h.references.taken q)) (h.references.purposes id v at) (record { reading = stored (refs_word v.passes.sizes p) (seen + 1); more = refl; word = refl; value = refl })
   raised_hit false is room hit =
       counts v.passes.sizes l s id p (seen + 1) v (raised false p seen v) l.free h at has_some below (record {
@@ -272,7 +278,8 @@ module _ (slots id p seen : ℕ) (v : View) (c : List (ℕ × Slot)) (below : p 
         few = omega (arith, room refl);
         clear = refl;
         owed = λ q any. any;
-      }) (same_lines v.passes.sizes l s id v (raised false p seen v) h at refl (λ q. omega arith) refl refl)
+        owned = λ q on. (omega (arith, (h.free_list.owned id v at q on).0), on);
+      }) (same_lines v.passes.sizes l s id v (raised false p seen v) h at refl (λ q. omega arith) refl refl refl)
       (λ q. omega (arith, h.references.taken q, takes_testing q p)) (tt, h.references.purposes id v at) (record { reading = stored (refs_word v.passes.sizes p) (seen + 1); more = refl; word = refl; value = refl })
 
   raised_tells : refs_at v.passes.sizes s.words p ≡ seen → RaisedRefs p seen v (raised (is_second p v) p seen v)
@@ -294,7 +301,7 @@ module _ (slots id p seen : ℕ) (v : View) (c : List (ℕ × Slot)) (below : p 
       let one : IsPass v.passes.sizes l.log v = h.passes.each id v at in
       let m : Moves v w = record { made = record { passes = refl; own = refl; gathered = refl }; commit = refl; expected = refl } in
       reads v.passes.sizes l s id (refs_word v.passes.sizes p) v w h at m (pass_moved v.passes.sizes l.log v w one m.made has_some one.front one.told) refl refl
-      (same_lines v.passes.sizes l s id v w h at refl (λ q. omega arith) refl refl) has_some
+      (same_lines v.passes.sizes l s id v w h at refl (λ q. omega arith) refl refl refl) has_some
       (record { reading = found (refs_word v.passes.sizes p) n; more = refl; word = refl; value = sym e })
 
 pub raising : (slots id p seen : ℕ) (v : View) (c : List (ℕ × Slot)) → p < v.passes.sizes.entries → 0 < v.passes.shares → 0 < seen
@@ -387,7 +394,8 @@ module _ (id p : ℕ) (v : View) (below : p < v.passes.sizes.entries) (has_some 
         few = h.free_list.few id v at;
         clear = refl;
         owed = λ q any. any;
-      }) (same_lines v.passes.sizes l s id v (let_go_of true p n v) h at refl (λ q. omega arith) refl refl)
+        owned = λ q on. ((h.free_list.owned id v at q on).0, on);
+      }) (same_lines v.passes.sizes l s id v (let_go_of true p n v) h at refl (λ q. omega arith) refl refl refl)
       (λ q. omega (arith, h.references.taken q)) (h.references.purposes id v at) (record { reading = stored (refs_word v.passes.sizes p) (n - 1); more = refl; word = refl; value = refl })
   lowered false is =
       let n : ℕ = refs_at v.passes.sizes s.words p in
@@ -412,9 +420,21 @@ module _ (id p : ℕ) (v : View) (below : p < v.passes.sizes.entries) (has_some 
         few = omega (arith, h.free_list.few id v at, length_without p v.places.held held, length_then p n v.places.owed);
         clear = refl;
         owed = λ q any. omega (arith, any, times_then p q n v.places.owed);
+        owned = λ q on.
+            let o = still_owned p q v.places.held v.places.owned on in (
+              ⊎_elim
+                  (λ (e : q ≡ p). subst (λ (k : ℕ). 0 < held_times k (without p v.places.held)) (sym e) (left_held (held_times p v.places.held) some_held less (o.1 e)))
+                  (λ (e : q ≢ p). omega (arith, other_without p q v.places.held held (λ x. e (sym x)), (h.free_list.owned id v at q o.0).0))
+                  (cases_eq q p),
+              o.0,
+            );
       }) (lowered_lines v.passes.sizes l s id p n v h at some_held less (λ q other. other_without p q v.places.held held (λ e. other (sym e))) down)
       (λ q. omega (arith, h.references.taken q, takes_without q p v.places.held)) (kept_without l.log p v.places.held (h.references.purposes id v at)) (record { reading = stored (refs_word v.passes.sizes p) (n - 1); more = refl; word = refl; value = refl })
     where
+      left_held : (m : ℕ) → 1 ≤ m → held_times p (without p v.places.held) + 1 ≡ m → (m == 1) ≡ false → 0 < held_times p (without p v.places.held)
+      left_held m any less other =
+          ⊎_elim (λ (e : m ≡ 1). absurd (false≢true (sym other ∙ eq-eqb m 1 e))) (λ (e : m ≢ 1). omega (arith, any, less, e)) (cases_eq m 1)
+
       times_here : (p n : ℕ) (owed : List ℕ) → times p (owed_then p n owed) ≡ times p owed + bit (n == 1)
       times_here p n owed = times_then p p n owed ∙ ap (λ (b : Bool). times p owed + bit (n == 1 && b)) (eq-eqb p p refl) ∙ both (n == 1)
         where

@@ -21,7 +21,7 @@ use Rattle.track_rule.specs.declared.view.Hand.{Hand}
 use Rattle.track_rule.specs.declared.view.View.{View}
 use Rattle.track_rule.specs.Layout.{gen_word, head_word, next_word, phase_at, phase_word, place_of, refs_word, turn_word, word_count}
 use Rattle.track_rule.specs.Opening.{IsWhole, first_slots}
-use Rattle.track_rule.specs.Passes.{IsPass, has_share}
+use Rattle.track_rule.specs.Passes.{IsPass, has_share, no_places}
 use Rattle.track_rule.specs.Chains.{chain_in, links_in, shuts_of}
 use Rattle.track_rule.specs.Phases.{of_both, of_place, shows, table_keeps}
 use Rattle.track_rule.specs.Links.{HasHooks}
@@ -122,6 +122,8 @@ starts z list table limits whole nothing room =
           few = one_view z (λ v. length v.places.held + length v.places.owed ≤ 4) (omega arith);
           clear = one_view z (λ v. (p : ℕ) → 0 < times p v.places.clear → (0 < times p v.places.owed) × (phase_at z ws p ≡ 0))
               (λ p any. absurd (omega (arith, any)));
+          owned = one_view z (λ v. (p : ℕ) → 0 < times p v.places.owned → (0 < held_times p v.places.held) × (phase_at z ws p ≡ 1))
+              (λ p any. absurd (omega (arith, any)));
         };
         records = record {
           turn = λ p below. word (turn_word z p);
@@ -152,7 +154,7 @@ starts z list table limits whole nothing room =
           heads = λ b below. omega (arith, word (head_word z b));
           nexts = λ x any below. omega (arith, word (next_word z x));
           gens = λ b below. omega (arith, word (gen_word z b));
-          hooks = one_view z (λ v. HasHooks z ws v.places.held v.buckets.hooks) (no_hooks z ws);
+          hooks = one_view z (λ v. HasHooks z ws v.places v.buckets.hooks) (no_hooks z ws);
         };
         walks = record { each = one_view z (λ v. (n : Walk) → v.walk ≡ Some n → IsWalk z ws l.chains v.seen.front n) (λ n e. absurd (none-some n e)) };
         readings = λ one. one_view z (λ v. 0 < v.passes.shares → (k : ℕ) → slice_index ws k ≡ last_read k v) (λ has k. word k);
@@ -165,8 +167,8 @@ starts z list table limits whole nothing room =
       },
     )
   where
-    no_hooks : (z : Sizes) (ws : List ℕ) → HasHooks z ws [] []
-    no_hooks z ws = record { each = λ i h at. absurd (some-ne-none h (sym at)); owned = λ link any. absurd (omega (arith, any)) }
+    no_hooks : (z : Sizes) (ws : List ℕ) → HasHooks z ws no_places []
+    no_hooks z ws = record { each = λ i h at. absurd (some-ne-none h (sym at)); held = λ link any. absurd (omega (arith, any)); linked = λ i h at. absurd (some-ne-none h (sym at)) }
 
     no_show : (id : ℕ) → shows 0 id ≡ 0
     no_show id = grind (arith, nat_tests)

@@ -73,7 +73,8 @@ module _ (l : Ledger) (s : State Slot View) (id : ℕ) (v : View) (h : IsKept v.
         away = λ other e. let shown : Some list.items ≡ Some other = e in some_same list.items other l.free shown same;
         few = h.free_list.few id v at;
         clear = λ q on. let c = h.free_list.clear id v at q on in (c.0, turn_phase v.passes.sizes s.words 1 q ∙ c.1);
-      }) h.free_list) (same_lines v.passes.sizes l s id v w h at refl (λ q. omega arith) refl refl)
+        owned = λ q on. let c = h.free_list.owned id v at q on in (c.0, turn_phase v.passes.sizes s.words 1 q ∙ c.1);
+      }) h.free_list) (same_lines v.passes.sizes l s id v w h at refl (λ q. omega arith) refl refl refl)
       (stored_on v.passes.sizes l.log s.words s.views id 1 1 v w h.passes at has_some long (record { reading = stored 1 1; more = refl; word = refl; value = refl }) h.readings)
     where
       some_same : (a b f : List ℕ) → Some a ≡ Some b → a ≡ f → b ≡ f
@@ -112,7 +113,7 @@ module _ (l : Ledger) (s : State Slot View) (id : ℕ) (v : View) (h : IsKept v.
       let p : IsPass v.passes.sizes l.log v = h.passes.each id v at in
       let m : Moves v w = record { made = record { passes = refl; own = refl; gathered = refl }; commit = refl; expected = refl } in
       reads v.passes.sizes l s id 1 v w h at m (pass_moved v.passes.sizes l.log v w p m.made has_some p.front p.told) refl refl
-      (same_lines v.passes.sizes l s id v w h at refl (λ q. omega arith) refl refl) has_some
+      (same_lines v.passes.sizes l s id v w h at refl (λ q. omega arith) refl refl refl) has_some
       (record { reading = found 1 1; more = refl; word = refl; value = omega (arith, other, h.free_list.single) })
 
   -- giving it back with this list
@@ -153,7 +154,8 @@ module _ (l : Ledger) (s : State Slot View) (id : ℕ) (v : View) (h : IsKept v.
             let c = h.free_list.clear id v at q (omega (arith, on, unlisted_out list.items q v.places.clear e)) in
             (omega (arith, c.0, unlisted_out list.items q v.places.owed e), turn_phase v.passes.sizes s.words 0 q ∙ c.1))
             (cases_Bool (is_among q list.items));
-      }) h.free_list) (same_lines v.passes.sizes l s id v w h at refl (λ q. omega arith) refl refl)
+        owned = λ q on. let c = h.free_list.owned id v at q on in (c.0, turn_phase v.passes.sizes s.words 0 q ∙ c.1);
+      }) h.free_list) (same_lines v.passes.sizes l s id v w h at refl (λ q. omega arith) refl refl refl)
       (stored_on v.passes.sizes l.log s.words s.views id 1 0 v w h.passes at has_some long (record { reading = stored 1 0; more = refl; word = refl; value = refl }) h.readings)
 
 -- taking the turn keeps the rule

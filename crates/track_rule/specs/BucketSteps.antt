@@ -13,6 +13,7 @@ use Rattle.track_rule.specs.declared.view.View.{View}
 use Rattle.track_rule.specs.declared.view.Walk.{Walk}
 use Rattle.track_rule.specs.Chains.{IsOrdered, bucket_of, chain_in, entry_of, shuts_of}
 use Rattle.track_rule.specs.Layout.{first_word, gen_word, head_word, next_word, place_of, second_word, side_of}
+use Rattle.track_rule.specs.Free.{is_among}
 use Rattle.track_rule.specs.Links.{hook_of, hooks_of, is_down, is_raised, last_gen, last_link}
 use Rattle.track_rule.specs.Notes.{link_note, note_then, tuple_note}
 use Rattle.track_rule.specs.Readings.{IsSole, found, last_read, noted, stored}
@@ -152,9 +153,10 @@ tuple_in z word to h =
     (if first_word z h.link == word then record h { pair = record h.pair { first = to } } else
     (if second_word z h.link == word then record h { pair = record h.pair { second = to } } else h))
 
--- it is a word of the tuple of a link of the pass that is not in a chain
-abbrev pub is_own_tuple : Sizes → ℕ → List Hook → Bool
-is_own_tuple z word hooks = list_any (λ (h : Hook). not h.up && (first_word z h.link == word || second_word z h.link == word)) hooks
+-- it is a word of the tuple of a link that is in no chain, of a place that the pass has set to OWNED
+abbrev pub is_own_tuple : Sizes → ℕ → HeldBuckets → List ℕ → Bool
+is_own_tuple z word buckets owned =
+    list_any (λ (h : Hook). (not h.up && (first_word z h.link == word || second_word z h.link == word)) && is_among (place_of h.link) owned) buckets.hooks
 
 -- the word of a tuple was stored
 abbrev pub tuple_stored : ℕ → ℕ → View → View
@@ -206,8 +208,8 @@ pub record Aims (word to : ℕ) (v : View) : Type 0 where
   pub word_is : word ≡ next_word v.passes.sizes link
   pub to_low : to ≤ last_link v.passes.sizes
 
--- Such a link, whose next one is the first of a chain of its bucket, which the pass has shut, may begin that chain. A reply
--- link does so before the original link of its place.
+-- Such a link, whose next one is the first of a chain of its bucket, which the pass has shut, may begin that chain, where the
+-- pass has set the phase of its place to OWNED. A reply link does so before the original link of its place.
 pub record Puts (word to : ℕ) (v : View) : Type 0 where
   pub bucket : ℕ
   pub below : bucket < v.passes.sizes.buckets
@@ -216,6 +218,7 @@ pub record Puts (word to : ℕ) (v : View) : Type 0 where
   pub down : is_down to v.buckets.hooks ≡ true
   pub next : (hook_of to v.buckets.hooks).next ≡ Some (first_of (chain_in bucket v.buckets.shut))
   pub placed : bucket_of v.passes.sizes (hook_of to v.buckets.hooks).pair ≡ bucket
+  pub owned : is_among (place_of to) v.places.owned ≡ true
   pub before : side_of to ≡ 1 → is_down (to - 1) v.buckets.hooks ≡ true
 
 -- A link of the pass is taken out of its chain, in a bucket that the pass has shut, where the link before it, or the head, gets

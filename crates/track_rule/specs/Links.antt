@@ -1,15 +1,16 @@
 -- The words of links, and the hooks of a pass. Each head and each word of a next link is 0 or a link of a place below the
 -- entries. A generation leaves room for one change more and back. A hook of a pass is of a place that it holds; the words of
 -- its tuple stand as the pass knows them, and so does the next link, where the pass stored it and the link is not in a chain.
-use Rattle.std.specs.Prelude.{◌≡◌, ℕ, ◌+◌, ◌-◌, ◌*◌, ◌%◌, ◌^◌, ◌<◌, ◌≤◌, ◌==◌, ◌&&◌, ◌||◌, nat_le, nat_lt, not, if◌then◌else◌, Bool, false, Option, Some, None, List, [], ◌∷◌, slice_index}
+use Rattle.std.specs.Prelude.{◌≡◌, ℕ, ◌+◌, ◌-◌, ◌*◌, ◌%◌, ◌^◌, ◌<◌, ◌≤◌, ◌==◌, ◌&&◌, ◌||◌, nat_le, nat_lt, not, if◌then◌else◌, Bool, true, false, Option, Some, None, List, [], ◌∷◌, slice_index}
 use Rattle.std.specs.List.{list_any}
 use Rattle.history_book.specs.declared.sizes.Sizes.{Sizes}
 use Rattle.track_rule.specs.declared.view.Hook.{Hook}
 use Rattle.track_rule.specs.declared.view.Keep.{Keep}
+use Rattle.track_rule.specs.declared.view.Places.{Places}
 use Rattle.track_rule.specs.declared.view.View.{View}
 use Rattle.track_rule.specs.Layout.{first_word, gen_at, head_word, next_word, place_of, second_word, word_count}
 use Rattle.track_rule.specs.References.{held_times}
-use Rattle.track_rule.specs.Sums.{Each, bit, total}
+use Rattle.track_rule.specs.Sums.{Each, bit, times, total}
 
 -- the greatest link
 abbrev pub last_link : Sizes → ℕ
@@ -66,12 +67,17 @@ pub record IsHook (z : Sizes) (words : List ℕ) (h : Hook) : Type 0 where
   pub second : slice_index words (second_word z h.link) ≡ h.pair.second
   pub next : (n : ℕ) → h.up ≡ false → h.next ≡ Some n → slice_index words (next_word z h.link) ≡ n
 
-pub record HasHooks (z : Sizes) (words : List ℕ) (held : List Keep) (hooks : List Hook) : Type 0 where
+-- where a hook is in a chain, the pass has set the phase of its place to OWNED
+abbrev pub IsOwned : List ℕ → Hook → Type 0
+IsOwned owned h = h.up ≡ true → 0 < times (place_of h.link) owned
+
+pub record HasHooks (z : Sizes) (words : List ℕ) (places : Places) (hooks : List Hook) : Type 0 where
   pub each : Each (IsHook z words) hooks
-  pub owned : (link : ℕ) → 0 < hooks_of link hooks → 0 < held_times (place_of link) held
+  pub held : (link : ℕ) → 0 < hooks_of link hooks → 0 < held_times (place_of link) places.held
+  pub linked : Each (IsOwned places.owned) hooks
 
 pub record AreLinks (z : Sizes) (words : List ℕ) (views : List View) : Type 0 where
   pub heads : (b : ℕ) → b < z.buckets → slice_index words (head_word z b) ≤ last_link z
   pub nexts : (x : ℕ) → 0 < x → x ≤ last_link z → slice_index words (next_word z x) ≤ last_link z
   pub gens : (b : ℕ) → b < z.buckets → gen_at z words b ≤ last_gen
-  pub hooks : Each (λ v. HasHooks z words v.places.held v.buckets.hooks) views
+  pub hooks : Each (λ v. HasHooks z words v.places v.buckets.hooks) views

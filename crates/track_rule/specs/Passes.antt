@@ -27,13 +27,14 @@ made_weight weight v = total weight v.seen.own + total weight v.seen.gathered
 
 -- no place is held or owed
 abbrev pub no_places : Places
-no_places = record { held = []; owed = []; clear = []; carried = [] }
+no_places = record { held = []; owed = []; clear = []; owned = []; carried = [] }
 
 -- the pass holds and owes no place, and has no turn and no bucket
 pub record HasNothing (v : View) : Type 0 where
   pub held : v.places.held ≡ []
   pub owed : v.places.owed ≡ []
   pub clear : v.places.clear ≡ []
+  pub owned : v.places.owned ≡ []
   pub carried : v.places.carried ≡ []
   pub free : v.free ≡ None
   pub shut : v.buckets.shut ≡ []

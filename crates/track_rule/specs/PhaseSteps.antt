@@ -21,18 +21,23 @@ phase_owned = 1
 abbrev pub may_store : ℕ → ℕ → View → Bool
 may_store place to v = (to == phase_free && is_among place v.places.owed) || (to == phase_owned && is_taken place v.places.held)
 
--- A load: a place of the free list under the pass's own turn is FREE, and so is one whose phase the pass has set to that.
+-- A load: a place of the free list under the pass's own turn is FREE, and so is one whose phase the pass has set to that. One
+-- that it has taken and set to OWNED is that.
 -- Under the turn of the place's record it is the one that the pass knows, where that is LIVE, and else none such.
 pub record LoadsPhase (place : ℕ) (v : View) (n : ℕ) (w : View) : Type 0 where
   pub view : w ≡ noted (found (phase_word v.passes.sizes place) n) v
   pub idle : 0 < times place (known_free v) + times place v.places.clear → n ≡ phase_free
+  pub owned : 0 < times place v.places.owned → n ≡ phase_owned
   pub sole : IsSole v → n ≡ last_read (phase_word v.passes.sizes place) v
   pub hand : (h : Hand) → v.commit.hand ≡ Some h → h.place ≡ place → (2 < h.phase → n ≡ h.phase) × (h.phase ≤ 2 → n ≤ 2)
 
--- the pass has stored it, and where it is FREE the place may be given to the free list
+-- the pass has stored it: a place that is FREE may be given to the free list, and links of one that is OWNED put in chains
 abbrev pub phase_stored : ℕ → ℕ → View → View
 phase_stored place to v = noted (stored (phase_word v.passes.sizes place) to) (record v {
-  places = record v.places { clear = (if to == phase_free then place ∷ v.places.clear else v.places.clear) };
+  places = record v.places {
+    clear = (if to == phase_free then place ∷ v.places.clear else v.places.clear);
+    owned = (if to == phase_owned then place ∷ v.places.owned else v.places.owned);
+  };
 })
 
 -- the word of the step is the phase of this place

@@ -1,5 +1,5 @@
 -- What the steps of a pass tell it: v is what it knew before, w what it knows after, n what the step found.
-use Rattle.std.specs.Prelude.{◌≡◌, ℕ, ◌+◌, ◌-◌, ◌*◌, ◌<◌, ◌≤◌, ◌==◌, ◌&&◌, ◌^◌, Bool, true, false, min, not, if◌then◌else◌, MatchBool, Option, Some, None, List, ◌∷◌, filter, length}
+use Rattle.std.specs.Prelude.{◌≡◌, ℕ, ◌+◌, ◌-◌, ◌*◌, ◌<◌, ◌≤◌, ◌==◌, ◌&&◌, ◌^◌, Bool, true, false, min, not, if◌then◌else◌, MatchBool, Option, Some, None, List, ◌∷◌, filter, length, []}
 use Rattle.atomic_table.specs.Table.{Me, Step, rest}
 use Rattle.room_list.specs.Roomed.{Roomed}
 use Rattle.history_book.specs.History.{is_legal}
@@ -203,7 +203,10 @@ RaisesRefs same place seen v n w = MatchBool same (RaisedRefs place seen v w) (M
 abbrev pub owed_then : ℕ → ℕ → List ℕ → List ℕ
 owed_then place n owed = (if n == 1 then place ∷ owed else owed)
 
--- A pass that gave up its last reference to a place has no hooks of it.
+-- It no longer owns the place of which it gave up its own last reference, and has no hooks of it.
+abbrev pub owned_then : ℕ → List Keep → List ℕ → List ℕ
+owned_then place held owned = (if held_times place held == 1 then unlisted (place ∷ []) owned else owned)
+
 abbrev pub hooks_then : ℕ → List Keep → List Hook → List Hook
 hooks_then place held hooks = (if held_times place held == 1 then filter (λ (h : Hook). not (place_of h.link == place)) hooks else hooks)
 
@@ -213,6 +216,7 @@ let_go_of carries place n v = noted (stored (refs_word v.passes.sizes place) (n 
   places = record v.places {
     held = (if carries then v.places.held else without place v.places.held);
     owed = (if carries then v.places.owed else owed_then place n v.places.owed);
+    owned = (if carries then v.places.owned else owned_then place v.places.held v.places.owned);
     carried = (if carries then taken_out place v.places.carried else v.places.carried);
   };
   buckets = record v.buckets { hooks = (if carries then v.buckets.hooks else hooks_then place v.places.held v.buckets.hooks) };

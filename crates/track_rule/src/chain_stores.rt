@@ -30,10 +30,10 @@ impl Play<Slot, View> for StoreLink {
 }
 
 impl<'b> Pass<'b> {
-    /// Stores a word of the tuple of a link of the pass that is in no chain.
+    /// Stores a word of the tuple of a link that is in no chain, of a place that the pass has set to `OWNED`.
     pub fn tuple_store(&mut self, word: u32, to: u64)
         requires tuple { is_tuple_word (sizes_of self.old) word ≡ true }
-        requires own { is_own_tuple (sizes_of self.old) word self.old.view.buckets.hooks ≡ true }
+        requires own { is_own_tuple (sizes_of self.old) word self.old.view.buckets self.old.view.places.owned ≡ true }
         ensures { self.new ≡ record self.old { view = tuple_stored word to self.old.view } }
     {
         self.shared

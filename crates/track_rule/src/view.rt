@@ -53,6 +53,8 @@ pub struct Places {
     pub owed: LinkedList<u32>,
     /// Those of the owed ones whose phase the pass has set to FREE.
     pub clear: LinkedList<u32>,
+    /// Places that the pass has taken and whose phase it has set to OWNED.
+    pub owned: LinkedList<u32>,
     /// Places of which the pass carries the table's reference, in the middle of a commit.
     pub carried: LinkedList<u32>,
 }

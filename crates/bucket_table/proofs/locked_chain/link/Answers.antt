@@ -3,6 +3,8 @@ use Rattle.std.specs.Prelude.{not}
 use Rattle.history_book.specs.declared.sizes.Sizes.{Sizes}
 use Rattle.track_rule.specs.BucketSteps.{put_in}
 use Rattle.track_rule.specs.Chains.{shuts_of}
+use Rattle.track_rule.specs.Free.{is_among}
+use Rattle.track_rule.specs.Layout.{place_of}
 use Rattle.track_rule.specs.Links.{hooks_of, is_down}
 use Rattle.track_rule.specs.Sights.{PassSight, sizes_of}
 use Rattle.track_rule.specs.declared.view.Hook.{Hook}
@@ -11,6 +13,12 @@ use Rattle.bucket_table.proofs.Pairs.{bucket_shut, put_keeps, second_of}
 use Rattle.bucket_table.proofs.Passing.{changes_join, loads_join}
 use Rattle.bucket_table.proofs.Stringing.{some_there}
 use Rattle.bucket_table.proofs.locked_chain.link.Goals as goal
+
+of_original : (p : ℕ) → place_of (original_link p) ≡ p
+of_original p = omega arith
+
+of_reply : (p : ℕ) → place_of (reply_link p) ≡ p
+of_reply p = omega arith
 
 pub bucket_of_link-first-requires-clause-own : goal.bucket_of_link-first-requires-clause-own
 bucket_of_link-first-requires-clause-own c = some_there (λ (h : Hook). not h.up) (original_link c.args.place) c.args.pass.now.view.buckets.hooks c.requires.original
@@ -59,3 +67,16 @@ returns c =
     ∙ (λ i. put_in (second i) (reply_link c.args.place) (ap (λ (k : PassSight). k.view.buckets) loads.same i)) in
     changes_join _ _ _ c.args.pass.now c.bucket_of_link-second.new.pass c.put_link.new.pass c.put_link-2.new.pass loads c.put_link.ensures c.put_link-2.ensures
     (λ i. put_in (c.bucket_of_link-first.ensures.bucket i) (original_link c.args.place) (between i))
+
+pub put_link-requires-clause-owned : goal.put_link-requires-clause-owned
+put_link-requires-clause-owned c =
+    let loads = loads_join c.args.pass.now c.bucket_of_link-first.new.pass c.bucket_of_link-second.new.pass c.bucket_of_link-first.ensures.loads c.bucket_of_link-second.ensures.loads in
+    ap (λ (x : PassSight). is_among (place_of (reply_link c.args.place)) x.view.places.owned) loads.same
+    ∙ ap (λ (p : ℕ). is_among p c.args.pass.now.view.places.owned) (of_reply c.args.place) ∙ c.requires.owned
+
+pub put_link-requires-2-clause-owned : goal.put_link-requires-2-clause-owned
+put_link-requires-2-clause-owned c =
+    let loads = loads_join c.args.pass.now c.bucket_of_link-first.new.pass c.bucket_of_link-second.new.pass c.bucket_of_link-first.ensures.loads c.bucket_of_link-second.ensures.loads in
+    ap (λ (x : PassSight). is_among (place_of (original_link c.args.place)) x.view.places.owned) c.put_link.ensures.same
+    ∙ ap (λ (x : PassSight). is_among (place_of (original_link c.args.place)) x.view.places.owned) loads.same
+    ∙ ap (λ (p : ℕ). is_among p c.args.pass.now.view.places.owned) (of_original c.args.place) ∙ c.requires.owned

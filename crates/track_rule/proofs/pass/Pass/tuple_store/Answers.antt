@@ -16,8 +16,8 @@ store-requires c =
     let h = c.self.invariant in
     let is : is_tuple_word p.seat.me.0.passes.sizes c.args.word ≡ true =
     subst (λ (x : PassSight). is_tuple_word (sizes_of x) c.args.word ≡ true) (sym c.self.view_is) c.requires.tuple in
-    let own : is_own_tuple p.seat.me.0.passes.sizes c.args.word p.seat.me.0.buckets.hooks ≡ true =
-    subst (λ (x : PassSight). is_own_tuple (sizes_of x) c.args.word x.view.buckets.hooks ≡ true) (sym c.self.view_is) c.requires.own in
+    let own : is_own_tuple p.seat.me.0.passes.sizes c.args.word p.seat.me.0.buckets p.seat.me.0.places.owned ≡ true =
+    subst (λ (x : PassSight). is_own_tuple (sizes_of x) c.args.word x.view.buckets x.view.places.owned ≡ true) (sym c.self.view_is) c.requires.own in
     let slots = p.shared.now.table_id.slots in (
       h.same,
       omega (arith, h.right.counts.words, ap (λ t. t.words) h.same, tuple_word_low p.seat.me.0.passes.sizes c.args.word is),
