@@ -6,3 +6,4 @@ pub mod Stringing
 pub mod Passing
 pub mod Pairs
 pub mod Locking
+pub mod Placing

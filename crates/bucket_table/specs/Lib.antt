@@ -3,3 +3,4 @@ pub mod Locks
 pub mod Following
 pub mod LockedChain
 pub mod Trying
+pub mod TestPlace

@@ -4,3 +4,5 @@
 pub mod lock;
 pub mod locked_chain;
 pub mod lookup;
+#[cfg(test)]
+mod tests;
