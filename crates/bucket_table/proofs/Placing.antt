@@ -131,7 +131,7 @@ module _ (place : ℕ) (v w : PassSight) (sizes : sizes_of w ≡ sizes_of v) (ow
         (some_there (λ (k : Hook). not k.up) (reply_link place) hooks h.reply);
     original_ready = ready_map z only_bucket (original_link place) hooks raised (raised_pair (original_link place)) h.original_ready;
     reply_ready = ready_map z only_bucket (reply_link place) hooks raised (raised_pair (reply_link place)) h.reply_ready;
-      owned = h.owned;
+    owned = h.owned;
   }
 
   pub place_raised : w.view.buckets.hooks ≡ raised → HasPlace is_down place v → HasPlace is_raised place w
@@ -159,7 +159,7 @@ module _ (place : ℕ) (v w : PassSight) (sizes : sizes_of w ≡ sizes_of v) (ow
         ));
     original_ready = ready_map z only_bucket (original_link place) hooks lowered (lowered_pair (original_link place)) h.original_ready;
     reply_ready = ready_map z only_bucket (reply_link place) hooks lowered (lowered_pair (reply_link place)) h.reply_ready;
-      owned = h.owned;
+    owned = h.owned;
   }
 
   pub place_lowered : w.view.buckets.hooks ≡ lowered → HasPlace is_raised place v → HasPlace is_down place w

@@ -1,7 +1,7 @@
 -- Links of a pass that are in no chain.
 use Rattle.std.specs.List.{list_any}
-use Rattle.std.specs.Prelude.{◌==◌, ◌&&◌, ◌||◌, not}
-use Rattle.std.proofs.Common.{◌≡◌, ℕ, Bool, true, false, List, [], ◌∷◌, filter, refl, sym, ap, subst, ◌∙◌}
+use Rattle.std.specs.Prelude.{◌==◌, ◌&&◌, not}
+use Rattle.std.proofs.Common.{◌≡◌, ℕ, Bool, true, false, List, [], ◌∷◌, filter, refl, sym, subst}
 use Rattle.std.proofs.lemmas.Bool.{cond_both, or_from, or_parts}
 use Rattle.track_rule.specs.declared.view.Hook.{Hook}
 use Rattle.track_rule.specs.declared.view.Keep.{Keep}

@@ -1,14 +1,13 @@
 -- What a pass knows after it gave up a reference.
-use Rattle.std.specs.Prelude.{◌==◌, if◌then◌else◌}
-use Rattle.std.proofs.Common.{◌≡◌, ◌≢◌, ℕ, ◌-◌, Bool, true, false, List, [], ◌∷◌, refl, sym, ap, subst, ◌∙◌, arith, eq-eqb, ne_eqb}
-use Rattle.track_rule.specs.declared.view.Hook.{Hook}
+use Rattle.std.specs.Prelude.{if◌then◌else◌}
+use Rattle.std.proofs.Common.{◌≡◌, ◌≢◌, ℕ, ◌-◌, Bool, false, ◌∷◌, sym, ap, subst, ◌∙◌, arith, eq-eqb, ne_eqb}
 use Rattle.track_rule.specs.declared.view.View.{View}
 use Rattle.track_rule.specs.Free.{is_among}
 use Rattle.track_rule.specs.Layout.{refs_word}
 use Rattle.track_rule.specs.Links.{RaisesNone}
 use Rattle.track_rule.specs.Readings.{noted, stored}
 use Rattle.track_rule.specs.Sights.{PassSight, sizes_of}
-use Rattle.track_rule.specs.Steps.{LowersRefs, hooks_then, let_go_of}
+use Rattle.track_rule.specs.Steps.{LowersRefs, let_go_of}
 use Rattle.entry_pool.specs.Hold.{KeepsNone, KeepsSome, gave_up}
 use Rattle.entry_pool.proofs.Hooks.{up_then}
 

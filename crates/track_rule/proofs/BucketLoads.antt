@@ -1,5 +1,5 @@
 -- Loads of a generation, of a link, and of a word of a tuple.
-use Rattle.std.proofs.Common.{◌≡◌, ◌≢◌, ℕ, ◌+◌, ◌-◌, ◌*◌, ◌/◌, ◌%◌, ◌<◌, ◌≤◌, Bool, true, false, Option, Some, None, List, [], ◌∷◌, length, refl, sym, ap, subst, ◌∙◌, ⊎_elim, arith, set}
+use Rattle.std.proofs.Common.{◌≡◌, ℕ, ◌+◌, ◌-◌, ◌*◌, ◌/◌, ◌%◌, ◌<◌, ◌≤◌, Bool, true, false, Option, Some, List, ◌∷◌, refl, sym, ap, subst, ◌∙◌, ⊎_elim, arith, set}
 use Rattle.std.specs.Prelude.{slice_index, slice_set, nat_le, nat_lt, ◌==◌, ◌&&◌, ◌||◌}
 use Rattle.std.proofs.lemmas.Bool.{and_from, and_parts, cases_Bool, eq-eqb, leb-true, ltb-true}
 use Rattle.std.proofs.lemmas.Bool.Decides.{nat_tests}
@@ -13,8 +13,8 @@ use Rattle.track_rule.specs.declared.view.Hook.{Hook}
 use Rattle.track_rule.specs.declared.view.Shut.{Shut}
 use Rattle.track_rule.specs.declared.view.View.{View}
 use Rattle.track_rule.specs.declared.view.Walk.{Walk}
-use Rattle.track_rule.specs.BucketSteps.{IsChainOf, IsNoteOf, IsShutAt, LoadGenStep, LoadLinkStep, LoadTupleStep, LoadsGen, LoadsLink, LoadsTuple, WasChain, end_word, first_of, has_link, is_up_in}
-use Rattle.track_rule.specs.Chains.{IsChain, IsLinked, bucket_of, chain_in, hooks_at, shuts_of}
+use Rattle.track_rule.specs.BucketSteps.{IsChainOf, IsShutAt, LoadGenStep, LoadLinkStep, LoadTupleStep, LoadsGen, end_word, has_link}
+use Rattle.track_rule.specs.Chains.{IsChain, bucket_of, hooks_at, shuts_of}
 use Rattle.track_rule.specs.Layout.{first_word, gen_at, gen_word, head_word, next_word, second_word, word_count}
 use Rattle.track_rule.specs.Links.{IsHook, hook_of, hooks_of, is_link_word, is_tuple_word, kind_of, last_link}
 use Rattle.track_rule.specs.Notes.{link_note, note_then, tuple_note}
@@ -23,7 +23,7 @@ use Rattle.track_rule.specs.Readings.{found, noted}
 use Rattle.track_rule.specs.Rule.{Holds, IsKept, Ledger}
 use Rattle.track_rule.specs.Sums.{bit, total}
 use Rattle.track_rule.specs.Walks.{IsWalk, rev_onto}
-use Rattle.track_rule.proofs.Balance.{Lines, Moves, pass_moved, bucket_lines}
+use Rattle.track_rule.proofs.Balance.{Moves, pass_moved, bucket_lines}
 use Rattle.track_rule.proofs.ChainLists.{chain_at, chain_first, chain_of, linked_up}
 use Rattle.track_rule.proofs.HookLists.{hook_test, hook_there, some_hook, test_there}
 use Rattle.track_rule.proofs.Loads.{others_there, reads}

@@ -1,7 +1,7 @@
 -- Steps that change a word of a bucket or of a link: what they leave. A generation is made odd, and even again.
-use Rattle.std.proofs.Common.{◌≡◌, ◌≢◌, ℕ, ◌+◌, ◌-◌, ◌*◌, ◌%◌, ◌^◌, ◌<◌, ◌≤◌, Bool, true, false, eqb, Option, Some, None, List, [], ◌∷◌, length, refl, sym, ap, subst, ◌∙◌, ⊎_elim, inl, arith, set}
-use Rattle.std.specs.Prelude.{slice_index, slice_set, ◌==◌, if◌then◌else◌, min}
-use Rattle.std.proofs.lemmas.Bool.{cases_eq, cond_both, eq-eqb, eqb-true, false≢true, ne_eqb}
+use Rattle.std.proofs.Common.{◌≡◌, ◌≢◌, ℕ, ◌+◌, ◌%◌, ◌^◌, ◌<◌, ◌≤◌, Bool, eqb, Option, Some, None, List, [], ◌∷◌, length, refl, sym, ap, subst, ◌∙◌, ⊎_elim, arith, set}
+use Rattle.std.specs.Prelude.{slice_index, slice_set, ◌==◌, if◌then◌else◌}
+use Rattle.std.proofs.lemmas.Bool.{cases_eq, cond_both, eq-eqb, eqb-true, ne_eqb}
 use Rattle.std.proofs.lemmas.List.{get_or-set_other, get_or-set_same, length-set}
 use prog.Atomic.{either}
 use mathlib.Core.Option.{none, some}
@@ -19,17 +19,15 @@ use Rattle.track_rule.specs.declared.view.Seen.{Seen}
 use Rattle.track_rule.specs.declared.view.Shut.{Shut}
 use Rattle.track_rule.specs.declared.view.View.{View}
 use Rattle.track_rule.specs.declared.view.Walk.{Walk}
-use Rattle.track_rule.specs.BucketSteps.{IsChainOf, MissesGen, OpenGenStep, OpensGen, ShutGenStep, ShutsGen, ShutsOrMisses, opened_of, shut_now}
+use Rattle.track_rule.specs.BucketSteps.{IsChainOf, OpenGenStep, OpensGen, ShutGenStep, ShutsGen, ShutsOrMisses, opened_of, shut_now}
 use Rattle.track_rule.specs.Chains.{AreChains, IsChain, chain_in, entry_of, hooks_at, links_in, loose_of, shuts_of, side}
 use Rattle.track_rule.specs.History.{records_after}
-use Rattle.track_rule.specs.Free.{has_turn, owes, turn_of}
-use Rattle.track_rule.specs.Layout.{first_word, gen_at, gen_word, head_word, next_word, phase_at, phase_word, refs_at, refs_word, second_word, turn_at, turn_word}
+use Rattle.track_rule.specs.Layout.{first_word, gen_at, gen_word, head_word, next_word, phase_word, refs_at, refs_word, second_word, turn_word}
 use Rattle.track_rule.specs.Links.{AreLinks, HasHooks, last_gen}
 use Rattle.track_rule.specs.Passes.{IsPass}
 use Rattle.track_rule.specs.Readings.{found, noted, stored}
-use Rattle.track_rule.specs.References.{held_times, keeps}
 use Rattle.track_rule.specs.Rule.{Holds, IsKept, Ledger}
-use Rattle.track_rule.specs.Sums.{Each, bit, times, total}
+use Rattle.track_rule.specs.Sums.{bit, total}
 use Rattle.track_rule.specs.Walks.{AreWalks, IsWalk}
 use Rattle.track_rule.proofs.Balance.{Moves, free_left, pass_moved, passes_moved, references_left}
 use Rattle.track_rule.specs.Readings.{AreRead}
@@ -39,7 +37,7 @@ use Rattle.track_rule.proofs.BucketLoads.{note_read, one_gen}
 use Rattle.track_rule.proofs.Carried.{carries_set}
 use Rattle.track_rule.proofs.ChainLists.{chain_of}
 use Rattle.track_rule.proofs.Frames.{SameLinks, Still, chain_stays, hooks_stay, kept, no_commit}
-use Rattle.track_rule.proofs.Lists.{other_bit, same_bit, total_rest}
+use Rattle.track_rule.proofs.Lists.{other_bit, same_bit}
 use Rattle.track_rule.proofs.Sums.{each_put, total_same, total_set, total_term}
 
 -- the words that are neither of a bucket nor of a link

@@ -1,31 +1,29 @@
 -- A pass that has shut a bucket takes a link of its own out of the chain. What a store of a link tells.
-use Rattle.std.proofs.Common.{◌⊎◌, ◌≡◌, ◌≢◌, ℕ, zero, suc, ◌+◌, ◌-◌, ◌*◌, ◌%◌, ◌<◌, ◌≤◌, Bool, true, false, cond, Option, Some, None, List, [], ◌∷◌, map, length, refl, sym, ap, subst, ◌∙◌, ⊎_elim, inl, inr, arith, set}
-use Rattle.std.specs.Prelude.{slice_index, slice_set, ◌==◌, ◌&&◌, ◌||◌, not, if◌then◌else◌}
-use Rattle.std.proofs.lemmas.Bool.{cases_eq, cond_both, eq-eqb, eqb-true, false≢true, ne_eqb}
+use Rattle.std.proofs.Common.{◌≡◌, ◌≢◌, ℕ, ◌+◌, ◌<◌, ◌≤◌, Bool, true, false, None, List, [], ◌∷◌, length, refl, sym, ap, subst, ◌∙◌, arith, set}
+use Rattle.std.specs.Prelude.{slice_index, slice_set, ◌==◌, if◌then◌else◌}
+use Rattle.std.proofs.lemmas.Bool.{cond_both, eq-eqb, false≢true, ne_eqb}
 use Rattle.std.proofs.lemmas.Option.{none-some}
-use mathlib.Core.Option.{none, some}
+use mathlib.Core.Option.{some}
 use lib.ListN.{get_elem?}
-use Rattle.atomic_table.specs.Table.{Allows, State, keeps as unchanged, step}
+use Rattle.atomic_table.specs.Table.{State}
 use Rattle.history_book.specs.declared.sizes.Sizes.{Sizes}
 use Rattle.track_rule.specs.declared.slot.Slot.{Slot}
 use Rattle.track_rule.specs.declared.view.Entry.{Entry}
 use Rattle.track_rule.specs.declared.view.Hook.{Hook}
-use Rattle.track_rule.specs.declared.view.HeldBuckets.{HeldBuckets}
 use Rattle.track_rule.specs.declared.view.View.{View}
-use Rattle.track_rule.specs.BucketSteps.{Aims, Cuts, IsShutAt, MayString, Puts, StoreLinkStep, Strings, aimed, end_word, first_of, lower, put_in, strung, taken_from, without_link}
-use Rattle.track_rule.specs.Chains.{IsChain, IsLinked, IsOrdered, bucket_of, chain_in, entry_of, hooks_at, is_at_link, loose_of, shuts_of, side}
+use Rattle.track_rule.specs.BucketSteps.{IsShutAt, end_word, first_of, lower, strung, taken_from, without_link}
+use Rattle.track_rule.specs.Chains.{IsChain, IsLinked, IsOrdered, bucket_of, chain_in, entry_of, hooks_at, is_at_link, loose_of, side}
 use Rattle.track_rule.specs.Layout.{first_word, head_word, next_word, place_of, second_word}
-use Rattle.track_rule.specs.Links.{IsHook, IsOwned, hook_of, hooks_of, is_down, is_raised, last_link}
-use Rattle.track_rule.specs.Rule.{Holds, IsKept, Ledger}
+use Rattle.track_rule.specs.Links.{IsHook, IsOwned, hook_of, hooks_of, is_raised, last_link}
+use Rattle.track_rule.specs.Rule.{IsKept, Ledger}
 use Rattle.track_rule.specs.Sums.{Each, bit, total}
 use Rattle.track_rule.specs.Walks.{rev_onto}
 use Rattle.track_rule.proofs.BucketLoads.{shut_chain}
 use Rattle.track_rule.proofs.ChainLists.{alone, chain_each, chain_first, total_rev, unlinked}
-use Rattle.track_rule.proofs.ChainStores.{down_at, puts_kept, rechained, restrung}
-use Rattle.track_rule.proofs.ChainWords.{IsPassed, IsString, NextElse, SameAt, bucket_there, chain_join, chain_local, chain_split, each_other_link, first_head, first_next, next_head, one_head, one_next, passed_to, second_head, second_next, string_head, string_next, word_else, word_here}
+use Rattle.track_rule.proofs.ChainStores.{down_at, rechained, restrung}
+use Rattle.track_rule.proofs.ChainWords.{IsPassed, IsString, bucket_there, chain_join, chain_local, chain_split, first_head, first_next, next_head, one_head, one_next, passed_to, second_head, second_next, string_head, string_next, word_else, word_here}
 use Rattle.track_rule.proofs.HookLists.{each_change, hook_test, hook_there, links_kept, ordered_rev, some_hook, total_change, with_else, with_here, with_shuts, without_first, without_rev}
 use Rattle.track_rule.proofs.Lists.{same_bit}
-use Rattle.track_rule.proofs.OwnWords.{aims_kept, own_link}
 use Rattle.track_rule.proofs.Sums.{total_term}
 
 -- what is so of each of two

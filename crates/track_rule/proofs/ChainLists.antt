@@ -1,8 +1,7 @@
 -- Chains as lists: where a chain goes on behind entries that were passed, how often a link stands in it, and how long it is.
-use Rattle.std.proofs.Common.{◌≡◌, ◌≢◌, ℕ, zero, suc, ◌+◌, ◌-◌, ◌*◌, ◌/◌, ◌<◌, ◌≤◌, Bool, true, false, List, [], ◌∷◌, length, map, refl, sym, ap, subst, ◌∙◌, ⊎_elim, arith}
+use Rattle.std.proofs.Common.{◌≡◌, ◌≢◌, ℕ, zero, suc, ◌+◌, ◌-◌, ◌*◌, ◌<◌, ◌≤◌, Bool, true, false, List, [], ◌∷◌, length, map, refl, sym, ap, subst, ◌∙◌, ⊎_elim, arith}
 use Rattle.std.specs.Prelude.{slice_index, ◌==◌, ◌&&◌, ◌||◌, not, if◌then◌else◌}
-use Rattle.std.specs.List.{list_any}
-use Rattle.std.proofs.lemmas.Bool.{and_parts, cases_Bool, cases_eq, eq-eqb, eqb-true, ne_eqb}
+use Rattle.std.proofs.lemmas.Bool.{and_parts, cases_Bool, cases_eq}
 use mathlib.Core.Option.{some, some-injective, some-ne-none}
 use lib.ListN.{get_elem?}
 use Rattle.history_book.specs.declared.event.Event.{Event}
@@ -12,7 +11,7 @@ use Rattle.track_rule.specs.declared.view.Entry.{Entry}
 use Rattle.track_rule.specs.declared.view.Hook.{Hook}
 use Rattle.track_rule.specs.declared.view.View.{View}
 use Rattle.track_rule.specs.BucketSteps.{IsChainOf, IsEntryOf, end_word, first_of, has_link, is_up_in}
-use Rattle.track_rule.specs.Chains.{AreChains, IsChain, IsLinked, IsOrdered, bucket_of, entry_of, hooks_at, is_at_link, links_in, loose_of, original_of, reply_of, side}
+use Rattle.track_rule.specs.Chains.{AreChains, IsChain, IsLinked, bucket_of, entry_of, hooks_at, is_at_link, links_in, loose_of, original_of, reply_of, side}
 use Rattle.track_rule.specs.History.{records_after}
 use Rattle.track_rule.specs.Layout.{next_word, place_of}
 use Rattle.track_rule.specs.Links.{is_down, last_link}
@@ -20,7 +19,7 @@ use Rattle.track_rule.specs.Phases.{of_place}
 use Rattle.track_rule.specs.Sums.{Each, bit, times, total}
 use Rattle.track_rule.specs.Walks.{rev_onto}
 use Rattle.track_rule.proofs.Counting.{few_places}
-use Rattle.track_rule.proofs.Lists.{bit_low, other_bit, same_bit, some_of, total_some}
+use Rattle.track_rule.proofs.Lists.{bit_low, other_bit, same_bit, some_of}
 use Rattle.track_rule.proofs.Sums.{total_gap, total_le, total_term}
 
 -- what entries weigh that were passed, and those after them

@@ -1,11 +1,9 @@
 -- A pass that has shut a bucket puts a link in at the head of its chain, or takes one out of it.
-use Rattle.std.proofs.Common.{◌⊎◌, ◌≡◌, ◌≢◌, ℕ, zero, suc, ◌+◌, ◌-◌, ◌*◌, ◌%◌, ◌<◌, ◌≤◌, Bool, true, false, cond, Option, Some, None, List, [], ◌∷◌, map, length, refl, sym, ap, subst, ◌∙◌, ⊎_elim, inl, inr, arith, set}
+use Rattle.std.proofs.Common.{◌≡◌, ◌≢◌, ℕ, zero, suc, ◌+◌, ◌-◌, ◌%◌, ◌<◌, ◌≤◌, Bool, true, false, Some, None, List, [], ◌∷◌, length, refl, sym, ap, subst, ◌∙◌, ⊎_elim, arith, set}
 use Rattle.std.specs.Prelude.{slice_index, slice_set, ◌==◌, ◌&&◌, ◌||◌, not, if◌then◌else◌}
-use Rattle.std.specs.List.{list_any}
-use Rattle.std.proofs.lemmas.Bool.{cases_Bool, cases_eq, cond_both, eq-eqb, eqb-true, false≢true, ne_eqb}
+use Rattle.std.proofs.lemmas.Bool.{cases_eq, cond_both, eq-eqb, eqb-true, false≢true, ne_eqb}
 use Rattle.std.proofs.lemmas.List.{length-set}
-use Rattle.std.proofs.lemmas.Option.{none-some}
-use mathlib.Core.Option.{none, some, some-injective, some-ne-none}
+use mathlib.Core.Option.{some, some-injective, some-ne-none}
 use lib.ListN.{get_elem?}
 use Rattle.atomic_table.specs.Table.{State}
 use Rattle.history_book.specs.declared.event.Event.{Event}
@@ -14,25 +12,24 @@ use Rattle.track_rule.specs.Free.{is_among}
 use Rattle.track_rule.specs.declared.slot.Slot.{Slot}
 use Rattle.track_rule.specs.declared.view.Entry.{Entry}
 use Rattle.track_rule.specs.declared.view.Hook.{Hook}
-use Rattle.track_rule.specs.declared.view.Shut.{Shut}
 use Rattle.track_rule.specs.declared.view.HeldBuckets.{HeldBuckets}
 use Rattle.track_rule.specs.declared.view.View.{View}
 use Rattle.track_rule.specs.declared.view.Walk.{Walk}
-use Rattle.track_rule.specs.BucketSteps.{IsShutAt, end_word, first_of, lower, put_in, raise, strung, taken_from, with_chain, without_link}
-use Rattle.track_rule.specs.Chains.{IsChain, IsLinked, IsOrdered, bucket_of, chain_in, entry_of, hooks_at, is_at_link, links_in, loose_of, shuts_of, side}
+use Rattle.track_rule.specs.BucketSteps.{first_of, put_in, raise, strung}
+use Rattle.track_rule.specs.Chains.{IsChain, IsOrdered, bucket_of, chain_in, entry_of, hooks_at, is_at_link, links_in, loose_of, shuts_of, side}
 use Rattle.track_rule.specs.History.{records_after}
 use Rattle.track_rule.specs.Layout.{first_word, gen_at, head_word, next_word, place_of, second_word, side_of}
-use Rattle.track_rule.specs.Links.{HasHooks, IsHook, IsOwned, hook_of, hooks_of, is_down, is_raised, last_link}
+use Rattle.track_rule.specs.Links.{HasHooks, IsHook, IsOwned, hook_of, hooks_of, is_down, last_link}
 use Rattle.track_rule.specs.Readings.{stored}
-use Rattle.track_rule.specs.Rule.{Holds, IsKept, Ledger}
-use Rattle.track_rule.specs.Sums.{Each, bit, total, times}
-use Rattle.track_rule.specs.Walks.{HasLive, IsWalk, Stands, rev_onto}
+use Rattle.track_rule.specs.Rule.{IsKept, Ledger}
+use Rattle.track_rule.specs.Sums.{Each, total, times}
+use Rattle.track_rule.specs.Walks.{HasLive, IsWalk, Stands}
 use Rattle.track_rule.proofs.LastRead.{stored_on}
 use Rattle.track_rule.proofs.BucketMoves.{bucket_moved}
-use Rattle.track_rule.proofs.ChainLists.{alone, chain_each, chain_first, total_rev, unlinked}
-use Rattle.track_rule.proofs.ChainWords.{IsPassed, IsString, SameAt, bucket_there, chain_join, chain_local, chain_split, each_other_link, first_head, first_next, next_head, one_head, one_next, passed_kept, second_head, second_next, string_gens, string_head, string_next, string_rest, word_else, word_here}
-use Rattle.track_rule.proofs.HookLists.{each_change, hook_test, hook_there, links_kept, ordered_rev, some_hook, total_change, with_else, with_here, with_shuts, without_first, without_rev}
-use Rattle.track_rule.proofs.Lists.{other_bit, same_bit, total_some}
+use Rattle.track_rule.proofs.ChainLists.{chain_first, unlinked}
+use Rattle.track_rule.proofs.ChainWords.{IsString, chain_local, first_head, next_head, one_head, second_head, string_gens, string_head, string_rest, word_else, word_here}
+use Rattle.track_rule.proofs.HookLists.{each_change, hook_there, links_kept, total_change, with_else, with_here, with_shuts}
+use Rattle.track_rule.proofs.Lists.{total_some}
 use Rattle.track_rule.proofs.OwnWords.{hook_stays, own_link}
 use Rattle.track_rule.proofs.Sums.{each_other, total_same, total_set, total_term, total_two}
 

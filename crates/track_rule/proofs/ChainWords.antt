@@ -1,16 +1,15 @@
 -- Words of heads and of links apart from all others, and a chain in words of which one changes.
-use Rattle.std.proofs.Common.{◌≡◌, ◌≢◌, ℕ, zero, suc, ◌+◌, ◌-◌, ◌*◌, ◌/◌, ◌%◌, ◌<◌, ◌≤◌, true, List, [], ◌∷◌, refl, sym, ap, subst, ◌∙◌, ⊎_elim, arith, length}
-use Rattle.std.specs.Prelude.{slice_index, slice_set, ◌==◌}
+use Rattle.std.proofs.Common.{◌≡◌, ◌≢◌, ℕ, zero, suc, ◌<◌, ◌≤◌, List, [], ◌∷◌, refl, sym, ap, subst, ◌∙◌, ⊎_elim, arith, length}
+use Rattle.std.specs.Prelude.{slice_index, slice_set}
 use Rattle.std.proofs.lemmas.Bool.{cases_eq}
 use Rattle.std.proofs.lemmas.List.{get_or-set_other, get_or-set_same}
-use mathlib.Core.Option.{some, some-injective, some-ne-none}
-use lib.ListN.{get_elem?}
+use mathlib.Core.Option.{some-injective, some-ne-none}
 use Rattle.history_book.specs.declared.sizes.Sizes.{Sizes}
 use Rattle.track_rule.specs.declared.view.Entry.{Entry}
-use Rattle.track_rule.specs.BucketSteps.{end_word, first_of}
+use Rattle.track_rule.specs.BucketSteps.{end_word}
 use Rattle.track_rule.specs.Chains.{IsChain, IsLinked, bucket_of, is_at_link}
-use Rattle.track_rule.specs.Layout.{first_word, gen_at, gen_word, head_word, next_word, phase_word, place_of, refs_word, second_word, side_of, turn_word}
-use Rattle.track_rule.specs.Sums.{Each, bit, total}
+use Rattle.track_rule.specs.Layout.{first_word, gen_at, gen_word, head_word, next_word, phase_word, refs_word, second_word, turn_word}
+use Rattle.track_rule.specs.Sums.{Each, total}
 use Rattle.track_rule.specs.Walks.{rev_onto}
 use Rattle.track_rule.proofs.BucketMoves.{SameRest}
 use Rattle.track_rule.proofs.Lists.{other_bit, same_bit}

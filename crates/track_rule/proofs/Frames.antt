@@ -1,5 +1,5 @@
 -- The parts of the rule that a step leaves. Steps on the pool change references words and the turn of the free list alone.
-use Rattle.std.proofs.Common.{length, ◌-◌, ◌%◌, ◌==◌, if◌then◌else◌, ◌≡◌, ◌≢◌, ℕ, ◌+◌, ◌<◌, ◌≤◌, Option, Some, None, List, [], ◌∷◌, refl, sym, ap, subst, ◌∙◌, arith}
+use Rattle.std.proofs.Common.{length, ◌-◌, ◌%◌, ◌==◌, ◌≡◌, ◌≢◌, ℕ, ◌+◌, ◌<◌, ◌≤◌, Option, Some, None, List, [], ◌∷◌, refl, sym, ap, subst, ◌∙◌, arith}
 use Rattle.std.specs.Prelude.{slice_index}
 use mathlib.Core.Option.{Option as Slotted}
 use lib.ListN.{get_elem?}
@@ -19,7 +19,6 @@ use Rattle.history_book.specs.State.{record_of}
 use Rattle.history_book.specs.declared.record.Record.{Record}
 use Rattle.track_rule.specs.declared.view.Hand.{Hand}
 use Rattle.track_rule.specs.declared.view.Hook.{Hook}
-use Rattle.track_rule.specs.declared.view.Keep.{Keep}
 use Rattle.track_rule.specs.declared.view.Shut.{Shut}
 use Rattle.track_rule.specs.Expected.{AreExpected, expected_turn}
 use Rattle.track_rule.specs.History.{IsHistory, records_after, state_after}

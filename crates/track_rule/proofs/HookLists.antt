@@ -1,21 +1,18 @@
 -- Hooks as lists: the one at a link, and what changes where it does. Chains of buckets that are shut, as lists.
-use Rattle.std.proofs.Common.{◌≡◌, ◌≢◌, ℕ, zero, suc, ◌+◌, ◌-◌, ◌<◌, ◌≤◌, Bool, true, false, cond, List, [], ◌∷◌, map, refl, sym, ap, subst, ◌∙◌, ⊎_elim, arith}
+use Rattle.std.proofs.Common.{◌≡◌, ◌≢◌, ℕ, zero, suc, ◌+◌, ◌-◌, ◌<◌, ◌≤◌, Bool, true, false, List, [], ◌∷◌, map, refl, sym, ap, subst, ◌∙◌, ⊎_elim, arith}
 use Rattle.std.specs.Prelude.{◌==◌, ◌&&◌, ◌||◌, if◌then◌else◌}
 use Rattle.std.specs.List.{list_any}
-use Rattle.std.proofs.lemmas.Bool.{and_parts, cases_Bool, cases_eq, cond_both, eq-eqb, eqb-true, false≢true, ne_eqb}
-use mathlib.Core.Option.{some, some-injective, some-ne-none}
-use lib.ListN.{get_elem?}
+use Rattle.std.proofs.lemmas.Bool.{and_parts, cases_Bool, cond_both, eq-eqb, eqb-true, false≢true, ne_eqb}
+use mathlib.Core.Option.{some-injective, some-ne-none}
 use Rattle.track_rule.specs.declared.view.Entry.{Entry}
 use Rattle.track_rule.specs.declared.view.Hook.{Hook}
 use Rattle.track_rule.specs.declared.view.Shut.{Shut}
 use Rattle.track_rule.specs.BucketSteps.{with_chain, without_link}
 use Rattle.track_rule.specs.Chains.{IsOrdered, chain_in, is_at_link}
-use Rattle.track_rule.specs.Layout.{side_of}
 use Rattle.track_rule.specs.Links.{hook_of, hooks_of}
 use Rattle.track_rule.specs.Sums.{Each, bit, total}
 use Rattle.track_rule.specs.Walks.{rev_onto}
-use Rattle.track_rule.proofs.Lists.{other_bit, same_bit}
-use Rattle.track_rule.proofs.Sums.{total_term}
+use Rattle.track_rule.proofs.Lists.{same_bit}
 
 module _ (x : ℕ) where
   -- a hook that passes a test is there

@@ -1,18 +1,15 @@
 -- The hooks of a pass: those of a place that it takes, and those that it gives up with its last reference.
-use Rattle.std.proofs.Common.{◌≡◌, ◌≢◌, ℕ, zero, suc, ◌+◌, ◌*◌, ◌<◌, ◌≤◌, Bool, true, false, cond, Option, Some, None, List, [], ◌∷◌, filter, refl, sym, ap, subst, ◌∙◌, ⊎_elim, arith, set}
+use Rattle.std.proofs.Common.{◌≡◌, ◌≢◌, ℕ, zero, suc, ◌+◌, ◌*◌, ◌<◌, ◌≤◌, Bool, true, false, cond, None, List, [], ◌∷◌, filter, refl, sym, ap, subst, ◌∙◌, ⊎_elim, arith}
 use Rattle.std.specs.Prelude.{slice_index, ◌==◌, ◌&&◌, ◌||◌, not, if◌then◌else◌}
-use Rattle.std.proofs.lemmas.Bool.{and_cases, cases_Bool, cases_eq, cond_both, eq-eqb, eqb-true, false≢true, ne_eqb, not_from_false, or_parts}
+use Rattle.std.proofs.lemmas.Bool.{cases_eq, cond_both, eq-eqb, false≢true, ne_eqb, or_parts}
 use Rattle.std.proofs.lemmas.Option.{none-some}
 use mathlib.Core.Option.{some, some-injective, some-ne-none}
 use lib.ListN.{get_elem?}
 use Rattle.atomic_table.specs.Table.{State}
-use Rattle.history_book.specs.declared.record.Record.{Record}
 use Rattle.history_book.specs.declared.sizes.Sizes.{Sizes}
 use Rattle.track_rule.specs.declared.slot.Slot.{Slot}
-use Rattle.track_rule.specs.declared.view.Entry.{Entry}
 use Rattle.track_rule.specs.declared.view.Hook.{Hook}
 use Rattle.track_rule.specs.declared.view.Keep.{Keep}
-use Rattle.track_rule.specs.declared.view.Middle.{Middle}
 use Rattle.track_rule.specs.declared.view.View.{View}
 use Rattle.track_rule.specs.Chains.{entry_of, hooks_at, loose_of, side}
 use Rattle.track_rule.specs.Free.{unlisted}
@@ -22,10 +19,10 @@ use Rattle.track_rule.specs.Links.{HasHooks, IsHook, IsOwned, hooks_of, is_up, l
 use Rattle.track_rule.specs.Phases.{middle_of, middle_weight, of_place}
 use Rattle.track_rule.specs.References.{held_times, keeps}
 use Rattle.track_rule.specs.Rule.{IsKept, Ledger}
-use Rattle.track_rule.specs.Steps.{NewHooks, hooks_then, let_go_of, opened, owned_then}
+use Rattle.track_rule.specs.Steps.{NewHooks, let_go_of, opened, owned_then}
 use Rattle.track_rule.specs.Sums.{Each, bit, times, total}
 use Rattle.track_rule.proofs.Balance.{Lines}
-use Rattle.track_rule.proofs.Lists.{other_bit, other_without, same_bit, same_without, unlisted_in, unlisted_out}
+use Rattle.track_rule.proofs.Lists.{other_bit, same_bit, unlisted_in, unlisted_out}
 use Rattle.track_rule.proofs.Sums.{total_only, total_set, total_term}
 
 -- a link of a place that is not in a chain, with what stands in its words

@@ -1,5 +1,5 @@
 -- A store of a link keeps the rule, and tells which of three it was: no word and value are of two kinds at once.
-use Rattle.std.proofs.Common.{◌⊎◌, ◌≡◌, ◌≢◌, ℕ, ◌+◌, ◌-◌, ◌<◌, ◌≤◌, true, List, [], ◌∷◌, length, refl, sym, ap, subst, ◌∙◌, ⊎_elim, arith, set}
+use Rattle.std.proofs.Common.{◌⊎◌, ◌≡◌, ℕ, ◌+◌, ◌<◌, ◌≤◌, true, List, [], ◌∷◌, refl, sym, ap, subst, ◌∙◌, ⊎_elim, arith, set}
 use Rattle.std.specs.Prelude.{slice_index, slice_set}
 use mathlib.Core.Option.{none, some}
 use lib.ListN.{get_elem?}
@@ -9,12 +9,11 @@ use Rattle.track_rule.specs.declared.slot.Slot.{Slot}
 use Rattle.track_rule.specs.declared.view.Entry.{Entry}
 use Rattle.track_rule.specs.declared.view.View.{View}
 use Rattle.track_rule.specs.BucketSteps.{Aims, Cuts, IsShutAt, MayString, Puts, StoreLinkStep, Strings, aimed, end_word, first_of, put_in, strung, taken_from}
-use Rattle.track_rule.specs.Chains.{IsChain, IsLinked, bucket_of, is_at_link}
+use Rattle.track_rule.specs.Chains.{bucket_of, is_at_link}
 use Rattle.track_rule.specs.Layout.{first_word, head_word, next_word, second_word}
 use Rattle.track_rule.specs.Links.{is_down}
 use Rattle.track_rule.specs.Rule.{Holds, IsKept, Ledger}
 use Rattle.track_rule.specs.Sums.{total}
-use Rattle.track_rule.specs.Walks.{rev_onto}
 use Rattle.track_rule.proofs.BucketLoads.{chain_rest, shut_chain}
 use Rattle.track_rule.proofs.ChainCuts.{cuts_kept}
 use Rattle.track_rule.proofs.ChainLists.{total_rev, unlinked}

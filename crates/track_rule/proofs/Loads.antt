@@ -1,7 +1,7 @@
 -- Steps that change no word: a load, and an exchange that fails. What a load tells of the history and of the references.
-use Rattle.std.specs.Prelude.{min, nat_lt}
+use Rattle.std.specs.Prelude.{nat_lt}
 use Rattle.track_rule.proofs.Lists.{bit_low}
-use Rattle.std.proofs.Common.{◌≡◌, ℕ, ◌+◌, ◌-◌, ◌*◌, ◌/◌, ◌%◌, ◌^◌, ◌<◌, ◌≤◌, suc, Option, Some, None, List, [], ◌∷◌, length, refl, sym, ap, subst, ◌∙◌, ⊎_elim, inl, arith, set, append-nil}
+use Rattle.std.proofs.Common.{◌≡◌, ℕ, ◌+◌, ◌-◌, ◌*◌, ◌/◌, ◌%◌, ◌^◌, ◌<◌, ◌≤◌, suc, Option, Some, None, List, [], ◌∷◌, length, refl, sym, ap, subst, ◌∙◌, ⊎_elim, arith, set, append-nil}
 use Rattle.std.specs.Prelude.{slice_index, slice_set}
 use Rattle.std.proofs.lemmas.Bool.{cases_lt}
 use Rattle.std.proofs.lemmas.List.{set-get_or}
@@ -18,9 +18,8 @@ use Rattle.track_rule.specs.declared.view.Places.{Places}
 use Rattle.track_rule.specs.declared.view.View.{View}
 use Rattle.track_rule.specs.declared.view.Walk.{Walk}
 use Rattle.track_rule.specs.Walks.{IsWalk}
-use Rattle.track_rule.specs.Free.{turn_of}
 use Rattle.track_rule.specs.History.{events_in, live_in, records_after}
-use Rattle.track_rule.specs.Layout.{phase_at, refs_at, refs_word}
+use Rattle.track_rule.specs.Layout.{phase_at, refs_word}
 use Rattle.track_rule.specs.Passes.{ArePasses, HasNothing, IsPass, IsSpent, made_weight, shares_of}
 use Rattle.track_rule.specs.Phases.{middle_of, middle_weight, of_place}
 use Rattle.track_rule.specs.Readings.{found, noted}

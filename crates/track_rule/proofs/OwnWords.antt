@@ -1,5 +1,5 @@
 -- A pass stores in the words of a link of its own that is in no chain: a word of the tuple, or the next link.
-use Rattle.std.proofs.Common.{◌⊎◌, ◌≡◌, ◌≢◌, ℕ, zero, suc, ◌+◌, ◌-◌, ◌*◌, ◌%◌, ◌<◌, ◌≤◌, Bool, true, false, cond, Option, Some, None, List, [], ◌∷◌, map, length, refl, sym, ap, subst, ◌∙◌, ⊎_elim, inl, inr, arith, set}
+use Rattle.std.proofs.Common.{◌⊎◌, ◌≡◌, ◌≢◌, ℕ, ◌+◌, ◌%◌, ◌<◌, ◌≤◌, Bool, true, false, cond, Some, List, [], ◌∷◌, map, length, refl, sym, ap, subst, ◌∙◌, ⊎_elim, inl, inr, arith, set}
 use Rattle.std.specs.Prelude.{slice_index, slice_set, ◌==◌, ◌&&◌, ◌||◌, not, if◌then◌else◌}
 use Rattle.std.specs.List.{list_any}
 use Rattle.std.proofs.lemmas.Bool.{and_parts, cases_Bool, cases_eq, cond_both, eq-eqb, eqb-true, false≢true, ne_eqb}
@@ -12,17 +12,15 @@ use Rattle.history_book.specs.declared.sizes.Sizes.{Sizes}
 use Rattle.track_rule.specs.declared.slot.Slot.{Slot}
 use Rattle.track_rule.specs.declared.view.Entry.{Entry}
 use Rattle.track_rule.specs.declared.view.Hook.{Hook}
-use Rattle.track_rule.specs.declared.view.Keep.{Keep}
 use Rattle.track_rule.specs.declared.view.View.{View}
 use Rattle.track_rule.specs.declared.view.Walk.{Walk}
 use Rattle.track_rule.specs.BucketSteps.{StoreTupleStep, aim, aimed, is_own_tuple, strung, tuple_in, tuple_stored}
-use Rattle.track_rule.specs.Chains.{IsChain, IsLinked, chain_in, entry_of, hooks_at, links_in, loose_of, shuts_of, side}
+use Rattle.track_rule.specs.Chains.{IsChain, chain_in, entry_of, hooks_at, links_in, loose_of, shuts_of, side}
 use Rattle.track_rule.specs.History.{records_after}
 use Rattle.track_rule.specs.Free.{is_among}
-use Rattle.track_rule.specs.Layout.{first_word, gen_at, head_word, next_word, place_of, second_word, word_count}
+use Rattle.track_rule.specs.Layout.{first_word, gen_at, head_word, next_word, place_of, second_word}
 use Rattle.track_rule.specs.Links.{HasHooks, IsHook, IsOwned, hook_of, hooks_of, is_down, last_link}
-use Rattle.track_rule.specs.Readings.{noted, stored}
-use Rattle.track_rule.specs.References.{held_times}
+use Rattle.track_rule.specs.Readings.{stored}
 use Rattle.track_rule.specs.Rule.{Holds, IsKept, Ledger}
 use Rattle.track_rule.specs.Sums.{Each, bit, total, times}
 use Rattle.track_rule.specs.Walks.{IsWalk}

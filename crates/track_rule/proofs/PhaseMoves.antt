@@ -1,18 +1,14 @@
 -- The phase of a place: it is loaded, and FREE and OWNED are stored.
-use Rattle.std.proofs.Common.{◌⊎◌, ◌≡◌, ◌≢◌, ℕ, zero, suc, ◌+◌, ◌-◌, ◌*◌, ◌<◌, ◌≤◌, Bool, true, false, cond, min, Option, Some, None, List, [], ◌∷◌, length, refl, sym, ap, subst, ◌∙◌, ⊎_elim, inl, inr, arith, set}
-use Rattle.std.specs.Prelude.{slice_index, slice_set, ◌==◌, ◌&&◌, ◌||◌, if◌then◌else◌, nat_lt}
-use Rattle.std.specs.List.{list_any}
-use Rattle.std.proofs.lemmas.Bool.{and_parts, cases_Bool, cases_eq, cases_lt, eq-eqb, eqb-true, ne_eqb}
+use Rattle.std.proofs.Common.{◌⊎◌, ◌≡◌, ◌≢◌, ℕ, zero, suc, ◌+◌, ◌<◌, ◌≤◌, Bool, true, false, min, Option, Some, None, List, [], ◌∷◌, length, refl, sym, ap, subst, ◌∙◌, ⊎_elim, inl, inr, arith, set}
+use Rattle.std.specs.Prelude.{slice_index, slice_set, ◌==◌, ◌&&◌, ◌||◌, if◌then◌else◌}
+use Rattle.std.proofs.lemmas.Bool.{and_parts, cases_Bool, cases_eq, cases_lt, eqb-true}
 use Rattle.std.proofs.lemmas.Bool.Decides.{nat_tests}
 use Rattle.std.proofs.lemmas.List.{get_or-set_other, get_or-set_same, length-set}
-use mathlib.Core.Option.{Option as Slotted, none, some}
+use mathlib.Core.Option.{none, some}
 use lib.ListN.{get_elem?}
 use Rattle.atomic_table.specs.Table.{Allows, State, keeps as unchanged, step}
-use Rattle.history_book.specs.State.{record_of}
-use Rattle.history_book.specs.declared.event.Event.{Event}
 use Rattle.history_book.specs.declared.sizes.Sizes.{Sizes}
 use Rattle.track_rule.specs.declared.slot.Slot.{Slot}
-use Rattle.track_rule.specs.declared.view.Commit.{Commit}
 use Rattle.track_rule.specs.declared.view.Keep.{Keep}
 use Rattle.track_rule.specs.declared.view.Middle.TheVariants.{Calm}
 use Rattle.track_rule.specs.declared.view.Hand.{Hand}
@@ -22,23 +18,23 @@ use Rattle.track_rule.specs.Chains.{hooks_at, loose_of}
 use Rattle.expect_table.specs.declared.expectation.Expectation.{Expectation}
 use Rattle.track_rule.specs.Expected.{has_expected}
 use Rattle.track_rule.specs.Free.{IsFreeList, has_turn, is_among, known_free, owes}
-use Rattle.track_rule.specs.History.{IsHistory, state_after}
-use Rattle.track_rule.specs.Layout.{first_word, gen_at, gen_word, head_word, next_word, phase_at, phase_word, refs_at, refs_word, second_word, turn_at, turn_word, place_of}
+use Rattle.track_rule.specs.History.{state_after}
+use Rattle.track_rule.specs.Layout.{first_word, gen_word, head_word, next_word, phase_at, phase_word, refs_at, refs_word, second_word, turn_at, turn_word, place_of}
 use Rattle.track_rule.specs.Links.{HasHooks}
 use Rattle.track_rule.specs.Passes.{IsPass}
 use Rattle.track_rule.specs.PhaseSteps.{LoadPhaseStep, LoadsPhase, StorePhaseStep, may_store, phase_stored}
 use Rattle.track_rule.specs.Phases.{ArePhases, middle_of, of_both, of_place, shows, table_keeps}
 use Rattle.track_rule.specs.Readings.{found, noted, stored}
-use Rattle.track_rule.specs.Records.{AreRecords, IsHand, has_hand, record_in}
+use Rattle.track_rule.specs.Records.{AreRecords, IsHand, has_hand}
 use Rattle.track_rule.specs.References.{AreKept, AreReferences, held_times, is_at, is_for_new, is_taken, keeps, takes}
 use Rattle.track_rule.specs.Rule.{Holds, IsKept, Ledger}
 use Rattle.track_rule.specs.Sights.{AreOfPool}
-use Rattle.track_rule.specs.Sums.{Each, bit, times, total}
+use Rattle.track_rule.specs.Sums.{bit, times, total}
 use Rattle.track_rule.specs.Walks.{IsWalk}
-use Rattle.track_rule.proofs.Balance.{Lines, Moves, free_moved, pass_moved, passes_moved, references_moved, same_lines}
+use Rattle.track_rule.proofs.Balance.{Moves, pass_moved, passes_moved, same_lines}
 use Rattle.track_rule.proofs.Carried.{carries_set}
-use Rattle.track_rule.proofs.Frames.{SameChains, Stays, chains_stay, hooks_stay, links_stay, no_commit, walk_stays}
-use Rattle.track_rule.proofs.Lists.{other_bit, same_bit, total_some, some_of}
+use Rattle.track_rule.proofs.Frames.{SameChains, chains_stay, hooks_stay, links_stay, walk_stays}
+use Rattle.track_rule.proofs.Lists.{other_bit, total_some, some_of}
 use Rattle.track_rule.proofs.Seats.{held_below, owed_below}
 use Rattle.track_rule.proofs.Loads.{reads}
 use Rattle.track_rule.proofs.LastRead.{stored_on}

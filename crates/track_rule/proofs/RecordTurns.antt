@@ -1,5 +1,5 @@
 -- The turn of a record: it is taken, and given back.
-use Rattle.std.proofs.Common.{◌≡◌, ◌≢◌, ℕ, suc, ◌+◌, ◌-◌, ◌<◌, ◌≤◌, eqb, true, false, Bool, Option, Some, None, List, [], ◌∷◌, length, refl, sym, ap, subst, ◌∙◌, ⊎_elim, arith, set, eq-eqb, ne_eqb}
+use Rattle.std.proofs.Common.{◌≡◌, ◌≢◌, ℕ, ◌+◌, ◌-◌, ◌<◌, ◌≤◌, eqb, true, Bool, Option, Some, None, List, [], ◌∷◌, length, refl, sym, ap, subst, ◌∙◌, ⊎_elim, arith, set, eq-eqb, ne_eqb}
 use Rattle.std.specs.Prelude.{slice_index, slice_set, ◌==◌}
 use Rattle.std.proofs.lemmas.Bool.{cases_eq, cases_lt, false≢true}
 use Rattle.std.proofs.lemmas.List.{get_or-set_other, get_or-set_same, length-set}
@@ -7,11 +7,10 @@ use Rattle.std.proofs.lemmas.Option.{none-some}
 use prog.Atomic.{either}
 use mathlib.Core.Option.{Option as Slotted, none, some}
 use lib.ListN.{get_elem?}
-use Rattle.atomic_table.specs.Table.{Act, Allows, Me, State, Valid, carried_after, gives, keeps as unchanged, rest, step, stepped, takes}
+use Rattle.atomic_table.specs.Table.{Act, Allows, State, Valid, carried_after, gives, keeps as unchanged, step, stepped, takes}
 use Rattle.atomic_table.proofs.Lists.{exchanged, set_else, set_here}
 use Rattle.expect_table.specs.declared.expectation.Expectation.{Expectation}
 use Rattle.history_book.specs.State.{record_of}
-use Rattle.history_book.specs.declared.record.Record.{Record}
 use Rattle.history_book.specs.declared.sizes.Sizes.{Sizes}
 use Rattle.track_rule.specs.declared.slot.Slot.{Slot}
 use Rattle.track_rule.specs.declared.slot.Slot.TheVariants.{Vacant, Free, Expects, Subject}
@@ -30,13 +29,13 @@ use Rattle.track_rule.specs.Phases.{middle_of, of_both, of_place, shows, table_k
 use Rattle.track_rule.specs.Readings.{found, noted, stored}
 use Rattle.track_rule.specs.Records.{AreRecords, IsHand, IsRecordHome, has_hand, is_hand_of, is_records, record_in, slot_of_record}
 use Rattle.track_rule.specs.Rule.{Holds, IsKept, Ledger}
-use Rattle.track_rule.specs.Sums.{Each, bit, total}
-use Rattle.track_rule.specs.TurnSteps.{CanGiveTurn, GiveTurnStep, TakeTurnStep, TakesTurn, TookTurn, gave_turn, subject_in, with_hand}
+use Rattle.track_rule.specs.Sums.{bit, total}
+use Rattle.track_rule.specs.TurnSteps.{CanGiveTurn, GiveTurnStep, TakeTurnStep, TakesTurn, gave_turn, with_hand}
 use Rattle.track_rule.specs.Walks.{IsWalk}
 use Rattle.track_rule.proofs.Balance.{MakesNone, Moves, free_left, pass_moved, passes_moved, references_left, same_lines}
 use Rattle.track_rule.proofs.Carried.{carries_set}
 use Rattle.track_rule.proofs.Frames.{SameChains, chains_stay, hooks_stay, links_stay, walk_stays}
-use Rattle.track_rule.proofs.Lists.{bit_low, other_bit, same_bit}
+use Rattle.track_rule.proofs.Lists.{other_bit, same_bit}
 use Rattle.track_rule.proofs.Loads.{others_there, reads}
 use Rattle.track_rule.proofs.LastRead.{ReadsAt, stored_on}
 use Rattle.track_rule.proofs.Sums.{each_put, total_same, total_set, total_term}

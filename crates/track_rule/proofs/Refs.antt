@@ -3,7 +3,7 @@ use Rattle.std.specs.Prelude.{if◌then◌else◌, ◌&&◌, not}
 use Rattle.std.proofs.lemmas.Bool.{false≢true}
 use Rattle.history_book.specs.Point.{StartsWith}
 use Rattle.track_rule.specs.declared.view.Seen.{Seen}
-use Rattle.track_rule.specs.declared.view.Purpose.TheVariants.{Taken, Testing}
+use Rattle.track_rule.specs.declared.view.Purpose.TheVariants.{Taken}
 use Rattle.std.proofs.Common.{◌⊎◌, ◌≡◌, ◌≢◌, ℕ, ◌+◌, ◌-◌, ◌%◌, ◌^◌, ◌<◌, ◌≤◌, zero, suc, eqb, true, false, Bool, Option, Some, None, List, [], ◌∷◌, length, refl, sym, ap, subst, ◌∙◌, ⊎_elim, inl, inr, arith, set, eq-eqb, ne_eqb}
 use Rattle.std.specs.Prelude.{slice_index, slice_set, min, unwrap_or, ◌==◌}
 use Rattle.std.proofs.lemmas.Bool.{and_parts, cases_eq, not-true}

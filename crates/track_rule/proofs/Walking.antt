@@ -1,7 +1,7 @@
 -- What a walk notes stays true at its loads.
-use Rattle.std.proofs.Common.{◌≡◌, ◌≢◌, ℕ, ◌+◌, ◌%◌, ◌<◌, ◌≤◌, Bool, true, false, cond, Option, Some, None, List, [], ◌∷◌, length, refl, sym, ap, subst, ◌∙◌, ⊎_elim, arith}
-use Rattle.std.specs.Prelude.{slice_index, ◌==◌, ◌&&◌, ◌||◌, not, if◌then◌else◌}
-use Rattle.std.proofs.lemmas.Bool.{and_parts, cases_Bool, cases_eq, cases_lt, cond_both, eq-eqb, eqb-true, eqb-false, false≢true}
+use Rattle.std.proofs.Common.{◌≡◌, ◌≢◌, ℕ, ◌%◌, ◌<◌, ◌≤◌, Bool, true, false, cond, Option, Some, None, List, [], ◌∷◌, refl, sym, ap, subst, ◌∙◌, ⊎_elim, arith}
+use Rattle.std.specs.Prelude.{slice_index, ◌==◌, ◌&&◌, ◌||◌, not}
+use Rattle.std.proofs.lemmas.Bool.{and_parts, cases_Bool, cases_eq, cond_both, eq-eqb, eqb-true, false≢true}
 use Rattle.std.proofs.lemmas.Option.{none-some}
 use Rattle.history_book.specs.declared.event.Event.{Event}
 use Rattle.history_book.specs.declared.sizes.Sizes.{Sizes}
@@ -9,9 +9,9 @@ use Rattle.track_rule.specs.declared.view.Entry.{Entry}
 use Rattle.track_rule.specs.declared.view.Met.{Met}
 use Rattle.track_rule.specs.declared.view.View.{View}
 use Rattle.track_rule.specs.declared.view.Walk.{Walk}
-use Rattle.track_rule.specs.BucketSteps.{IsNoteOf, WasChain, end_word, first_of}
+use Rattle.track_rule.specs.BucketSteps.{IsNoteOf, WasChain, end_word}
 use Rattle.track_rule.specs.Chains.{AreChains, IsChain}
-use Rattle.track_rule.specs.Layout.{first_word, gen_at, gen_word, head_word, next_word, second_word}
+use Rattle.track_rule.specs.Layout.{first_word, gen_at, head_word, next_word, second_word}
 use Rattle.track_rule.specs.Notes.{fresh_walk, is_after, is_changed, is_note_of, is_other, just_met, link_note, link_noted, met_read, met_then, note_then, read_then, tuple_note, tuple_noted}
 use Rattle.track_rule.specs.Walks.{IsRead, IsWalk, Matches, Stands, rev_onto}
 use Rattle.track_rule.proofs.ChainLists.{chain_at, chain_of}

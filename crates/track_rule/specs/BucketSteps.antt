@@ -1,5 +1,5 @@
 -- What the steps on the buckets tell a pass: v is what it knew before, w what it knows after, n what the step found.
-use Rattle.std.specs.Prelude.{◌⊎◌, ◌≡◌, ℕ, ◌+◌, ◌-◌, ◌%◌, ◌<◌, ◌≤◌, ◌==◌, ◌&&◌, ◌||◌, not, Bool, true, false, if◌then◌else◌, MatchBool, Option, Some, None, List, [], ◌∷◌, map, length}
+use Rattle.std.specs.Prelude.{◌⊎◌, ◌≡◌, ℕ, ◌+◌, ◌-◌, ◌%◌, ◌<◌, ◌≤◌, ◌==◌, ◌&&◌, ◌||◌, not, Bool, true, false, if◌then◌else◌, MatchBool, Some, None, List, [], ◌∷◌, map, length}
 use Rattle.std.specs.List.{list_any}
 use Rattle.atomic_table.specs.Table.{Me, Step}
 use Rattle.history_book.specs.declared.event.Event.{Event}

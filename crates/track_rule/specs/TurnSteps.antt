@@ -1,6 +1,6 @@
 -- What the steps on the turn of a record tell a pass: v is what it knew before, w what it knows after. The record's slot is the
 -- first that the pass has out, since the free list's is not out then.
-use Rattle.std.specs.Prelude.{◌≡◌, ℕ, ◌<◌, ◌≤◌, ◌==◌, Bool, MatchBool, Option, Some, None, List, [], ◌∷◌}
+use Rattle.std.specs.Prelude.{◌≡◌, ℕ, ◌≤◌, ◌==◌, Bool, MatchBool, Option, Some, None, List, [], ◌∷◌}
 use Rattle.atomic_table.specs.Table.{Me, Step, rest}
 use Rattle.history_book.specs.declared.record.Record.{Record}
 use Rattle.track_rule.specs.declared.slot.Slot.{Slot}

@@ -8,7 +8,6 @@ use Rattle.track_rule.specs.BucketSteps.{LoadGenStep, LoadsGen}
 use Rattle.track_rule.proofs.Seats.{StaysAt, allowed, kept_at, same_at, stays_at}
 use Rattle.std.proofs.Common.{refl}
 use Rattle.track_rule.proofs.BucketLoads.{loads_gen}
-use Rattle.track_rule.specs.Slots.{numbers_of}
 use Rattle.track_rule.proofs.pass.Pass.gen_load.Goals as goal
 
 pub load-requires : goal.load-requires

@@ -6,7 +6,6 @@ use Rattle.track_rule.specs.BucketSteps.{OpenGenStep, OpensGen}
 use Rattle.track_rule.specs.Chains.{shuts_of}
 use Rattle.track_rule.specs.Layout.{gen_word}
 use Rattle.track_rule.specs.Sights.{PassSight, sizes_of}
-use Rattle.track_rule.specs.Slots.{numbers_of}
 use Rattle.track_rule.proofs.Seats.{StaysAt, allowed, kept_at, same_at, stays_at}
 use Rattle.track_rule.proofs.BucketMoves.{opening_gen}
 use Rattle.track_rule.proofs.pass.Pass.gen_open.Goals as goal

@@ -1,4 +1,4 @@
-use Rattle.std.proofs.Common.{Bool, true, false, eqb, ◌≡◌, ℕ, ◌+◌, ◌%◌, ◌<◌, ap, arith, subst, sym, refl, ◌∙◌}
+use Rattle.std.proofs.Common.{Bool, true, false, eqb, ◌≡◌, ℕ, ◌+◌, ◌<◌, ap, arith, subst, sym, refl, ◌∙◌}
 use Rattle.std.specs.Prelude.{◌==◌}
 use Rattle.atomic_table.specs.Table.{step}
 use mathlib.Core.Option.{none}
@@ -8,7 +8,6 @@ use Rattle.track_rule.specs.declared.view.View.{View}
 use Rattle.track_rule.specs.BucketSteps.{ShutGenStep, ShutsOrMisses}
 use Rattle.track_rule.specs.Layout.{gen_word}
 use Rattle.track_rule.specs.Sights.{PassSight, sizes_of}
-use Rattle.track_rule.specs.Slots.{numbers_of}
 use Rattle.track_rule.proofs.Seats.{StaysAt, allowed, kept_at, same_at, stays_at}
 use Rattle.track_rule.proofs.BucketMoves.{shutting}
 use Rattle.track_rule.proofs.pass.Pass.gen_shut.Goals as goal

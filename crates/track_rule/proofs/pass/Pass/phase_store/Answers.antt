@@ -8,7 +8,6 @@ use Rattle.track_rule.specs.Sights.{PassSight}
 use Rattle.track_rule.specs.PhaseSteps.{StorePhaseStep, may_store, phase_stored}
 use Rattle.track_rule.proofs.Seats.{StaysAt, allowed, kept_at, same_at, stays_at}
 use Rattle.track_rule.proofs.PhaseMoves.{may_below, stores_phase}
-use Rattle.track_rule.specs.Slots.{numbers_of}
 use Rattle.track_rule.proofs.pass.Pass.phase_store.Goals as goal
 
 pub store-requires : goal.store-requires

@@ -6,12 +6,11 @@ use Rattle.track_rule.specs.Layout.{refs_word}
 use Rattle.track_rule.specs.Free.{is_among}
 use Rattle.track_rule.specs.Links.{is_up}
 use Rattle.track_rule.specs.References.{is_held}
-use Rattle.track_rule.specs.Sights.{PassSight, sizes_of}
+use Rattle.track_rule.specs.Sights.{PassSight}
 use Rattle.track_rule.specs.Steps.{LowerStep, LowersRefs}
 use Rattle.track_rule.proofs.Seats.{StaysAt, allowed, held_below, kept_at, pool_less, same_at, stays_at}
 use Rattle.std.proofs.Common.{refl}
 use Rattle.track_rule.proofs.Refs.{lowering}
-use Rattle.track_rule.specs.Slots.{numbers_of}
 use Rattle.track_rule.proofs.pass.Pass.ref_down.Goals as goal
 
 pub fetch_sub-requires : goal.fetch_sub-requires

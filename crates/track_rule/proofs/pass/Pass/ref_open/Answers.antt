@@ -8,7 +8,6 @@ use Rattle.track_rule.specs.Sights.{PassSight, sizes_of}
 use Rattle.track_rule.specs.Steps.{OpenStep, Opens}
 use Rattle.track_rule.proofs.Seats.{StaysAt, allowed, kept_at, opened_at, stays_at}
 use Rattle.track_rule.proofs.Refs.{opening}
-use Rattle.track_rule.specs.Slots.{numbers_of}
 use Rattle.track_rule.proofs.pass.Pass.ref_open.Goals as goal
 
 pub store-requires : goal.store-requires

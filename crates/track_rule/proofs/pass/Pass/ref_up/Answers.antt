@@ -9,7 +9,6 @@ use Rattle.track_rule.specs.Sights.{PassSight, sizes_of}
 use Rattle.track_rule.specs.Steps.{RaiseStep, RaisesRefs, is_second}
 use Rattle.track_rule.proofs.Seats.{StaysAt, allowed, kept_at, raised_at, stays_at}
 use Rattle.track_rule.proofs.Refs.{raising}
-use Rattle.track_rule.specs.Slots.{numbers_of}
 use Rattle.track_rule.proofs.pass.Pass.ref_up.Goals as goal
 
 pub compare_exchange-found-requires : goal.compare_exchange-found-requires

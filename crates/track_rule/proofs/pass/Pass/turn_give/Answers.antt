@@ -1,14 +1,11 @@
-use Rattle.std.proofs.Common.{◌≡◌, ℕ, ◌<◌, None, ap, arith, eqb, subst, sym, refl, rules, ◌∙◌}
+use Rattle.std.proofs.Common.{◌≡◌, ℕ, ◌<◌, None, ap, arith, subst, sym, ◌∙◌}
 use Rattle.atomic_table.specs.Table.{Allows, rest, step}
 use mathlib.Core.Option.{none}
-use prog.Atomic.{either}
 use Rattle.history_book.specs.declared.sizes.Sizes.{Sizes}
-use Rattle.track_rule.specs.declared.view.View.{View}
-use Rattle.track_rule.specs.Layout.{record_slot, turn_word}
+use Rattle.track_rule.specs.Layout.{turn_word}
 use Rattle.track_rule.specs.Records.{has_hand}
 use Rattle.track_rule.specs.Rule.{Holds}
 use Rattle.track_rule.specs.Sights.{PassSight, sizes_of}
-use Rattle.track_rule.specs.Slots.{numbers_of}
 use Rattle.track_rule.specs.declared.slot.Slot.{Slot}
 use Rattle.std.proofs.Common.{List}
 use Rattle.track_rule.specs.TurnSteps.{CanGiveTurn, GiveTurnStep}
