@@ -27,7 +27,8 @@ pub record Ledger : Type 0 where
   pub free : List ℕ
   pub chains : ℕ → List Entry
 
--- The nine parts of the rule. What it says of chains is in two parts here: of the chains, and of the words of links.
+-- The nine parts of the rule. What it says of chains is in two parts here: of the chains, and of the words of links. One more
+-- part says of readings what holds where the table has one pass.
 pub record IsKept (z : Sizes) (l : Ledger) (s : State Slot View) : Type 0 where
   pub limits : AreWithinLimits z
   pub count : length s.words ≡ word_count z
