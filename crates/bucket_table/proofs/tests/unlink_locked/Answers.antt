@@ -1,6 +1,5 @@
 use Rattle.std.proofs.Common.{ap, ◌∙◌}
 use Rattle.track_rule.specs.Chains.{shuts_of}
-use Rattle.track_rule.specs.Links.{is_down}
 use Rattle.track_rule.specs.Sights.{PassSight, sizes_of}
 use Rattle.bucket_table.specs.TestPlace.{only_bucket}
 use Rattle.bucket_table.proofs.Placing.{unlinked_shuts, place_lowered, shut_stays}

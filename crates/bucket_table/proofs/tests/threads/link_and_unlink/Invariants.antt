@@ -1,5 +1,4 @@
 use Rattle.track_rule.specs.Links.{is_down}
-use Rattle.track_rule.specs.Sights.{sizes_of}
 use Rattle.bucket_table.specs.TestPlace.{HasPlace}
 use Rattle.bucket_table.proofs.tests.threads.link_and_unlink.Given as goal
 
