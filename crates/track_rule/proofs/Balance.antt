@@ -21,14 +21,15 @@ use Rattle.track_rule.specs.declared.view.Shares.{Shares}
 use Rattle.track_rule.specs.declared.view.HeldBuckets.{HeldBuckets}
 use Rattle.track_rule.specs.declared.view.View.{View}
 use Rattle.track_rule.specs.declared.view.Walk.{Walk}
-use Rattle.track_rule.specs.Chains.{entry_of, hooks_at, loose_of, side}
+use Rattle.track_rule.specs.Chains.{each_link, entry_of, hooks_at, loose_of, shuts_of, side}
+use Rattle.track_rule.specs.Commits.{IsMiddleOf, shuts_in}
 use Rattle.track_rule.specs.Free.{IsFreeList, IsHome, has_turn, owes, turn_of}
 use Rattle.track_rule.specs.History.{records_after}
 use Rattle.track_rule.specs.Layout.{phase_at, place_of, refs_at}
 use Rattle.track_rule.specs.Links.{HasHooks, IsOwned, hooks_of}
 use Rattle.track_rule.specs.Phases.{of_place, table_keeps}
 use Rattle.track_rule.specs.Passes.{ArePasses, IsPass, has_share, made_weight, shares_of}
-use Rattle.track_rule.specs.References.{AreKept, AreReferences, held_times, is_at, is_for_new, keeps, takes}
+use Rattle.track_rule.specs.References.{AreKept, AreReferences, held_times, is_at, is_for_new, keeps, takes, taken_times}
 use Rattle.track_rule.specs.Readings.{AreRead}
 use Rattle.track_rule.specs.Rule.{IsKept, Ledger}
 use Rattle.track_rule.specs.Sums.{Each, bit, times, total}
@@ -124,9 +125,9 @@ passes_moved z log vs i v w at m p h = record {
 pub moved : (z : Sizes) (l : Ledger) (s : State Slot View) (id : ℕ) (v w : View) (ws' : List ℕ) (hs' : List (Slotted Slot)) (free' : List ℕ)
     → IsKept z l s → get_elem? s.views id ≡ some v → Moves v w → IsPass z l.log w
     → Quiet z s.words ws' → length ws' ≡ length s.words → Stays s.homes hs'
-    → AreReferences z l.log ws' (set s.views id w) → IsFreeList z ws' hs' (set s.views id w) free' → Lines z l s id v w → AreRead z ws' (set s.views id w)
+    → AreReferences z l.log ws' (set s.views id w) → IsFreeList z ws' hs' (set s.views id w) free' → Lines z l s id v w → AreRead z ws' (set s.views id w) → IsMiddleOf z l.log w
     → IsKept z (record l { free = free' }) (record { words = ws'; homes = hs'; views = set s.views id w })
-moved z l s id v w ws' hs' free' h at m p quiet long homes references free_list lines readings =
+moved z l s id v w ws' hs' free' h at m p quiet long homes references free_list lines readings middle =
     let same : SameChains z s.words ws' = quiet_chains z s.words ws' quiet in
     kept z l s ws' hs' (set s.views id w) free' l.chains h (quiet_still z s.words ws' quiet) long homes
     (record {
@@ -136,7 +137,10 @@ moved z l s id v w ws' hs' free' h at m p quiet long homes references free_list 
     (passes_moved z l.log s.views id v w at m.made p h.passes) references free_list
     (chains_stay z s.words ws' same l.log s.views (set s.views id w) l.chains
     (carries_set (λ (u : View). u.buckets.shut) [] s.views id v w at lines.shut)
-    (λ b weight. total_same (loose_of z b weight) s.views id v w at (lines.loose b weight)) lines.lone h.chains)
+    (λ b weight. total_same (loose_of z b weight) s.views id v w at (lines.loose b weight))
+    (each_put (λ (u : View). (b : ℕ) → b < z.buckets → 0 < loose_of z b each_link u → 0 < shuts_of b u) s.views id w h.chains.home
+    (λ b below any.
+    omega (arith, h.chains.home id v at b below (omega (arith, any, lines.loose b each_link)), ap (shuts_in b) lines.shut))) lines.lone h.chains)
     (links_stay z s.words ws' same s.views (set s.views id w)
     (each_put (λ (u : View). HasHooks z ws' u.places u.buckets.hooks) s.views id w
     (λ i u at'. hooks_stay z s.words ws' same.links u.places u.buckets.hooks (h.links.hooks i u at'))
@@ -146,6 +150,7 @@ moved z l s id v w ws' hs' free' h at m p quiet long homes references free_list 
           (λ i u at' n e. walk_stays z s.words ws' same l.chains u.seen.front n (h.walks.each i u at' n e))
           (λ n e. walk_stays z s.words ws' same l.chains w.seen.front n (lines.walk n e));
     }) readings
+    (each_put (IsMiddleOf z l.log) s.views id w h.commits middle)
 
 -- what a step does to the references: a balance for each place
 pub record RefsStep (z : Sizes) (log : List Event) (ws ws' : List ℕ) (vs : List View) (v w : View) : Type 0 where
@@ -196,7 +201,7 @@ pub record FreeStep (z : Sizes) (ws ws' : List ℕ) (hs' : List (Slotted Slot)) 
   pub away : (list : List ℕ) → w.free ≡ Some list → list ≡ free'
   pub few : length w.places.held + length w.places.owed ≤ 4
   pub clear : (p : ℕ) → 0 < times p w.places.clear → (0 < times p w.places.owed) × (phase_at z ws' p ≡ 0)
-  pub owned : (p : ℕ) → 0 < times p w.places.owned → (0 < held_times p w.places.held) × (phase_at z ws' p ≡ 1)
+  pub owned : (p : ℕ) → 0 < times p w.places.owned → (0 < takes p w) × (phase_at z ws' p ≡ 1)
 
 pub free_moved : (z : Sizes) (ws ws' : List ℕ) (hs hs' : List (Slotted Slot)) (vs : List View) (i : ℕ) (v w : View) (free free' : List ℕ)
     → get_elem? vs i ≡ some v → FreeStep z ws ws' hs' vs v w free free' → IsFreeList z ws hs vs free
@@ -216,7 +221,7 @@ free_moved z ws ws' hs hs' vs i v w free free' at t h = record {
   few = each_put (λ u. length u.places.held + length u.places.owed ≤ 4) vs i w h.few t.few;
   clear = each_put (λ u. (p : ℕ) → 0 < times p u.places.clear → (0 < times p u.places.owed) × (phase_at z ws' p ≡ 0)) vs i w
       (λ j u at' p some. let c = h.clear j u at' p some in (c.0, t.phases p ∙ c.1)) t.clear;
-  owned = each_put (λ u. (p : ℕ) → 0 < times p u.places.owned → (0 < held_times p u.places.held) × (phase_at z ws' p ≡ 1)) vs i w
+  owned = each_put (λ u. (p : ℕ) → 0 < times p u.places.owned → (0 < takes p u) × (phase_at z ws' p ≡ 1)) vs i w
       (λ j u at' p some. let c = h.owned j u at' p some in (c.0, t.phases p ∙ c.1)) t.owned;
 }
 
@@ -239,7 +244,7 @@ free_left z ws ws' hs hs' vs i v w free at places turn refs phases word home h =
       few = omega (arith, h.few i v at, ap (λ (x : Places). length x.held + length x.owed) places);
       clear = subst (λ (x : Places). (p : ℕ) → 0 < times p x.clear → (0 < times p x.owed) × (phase_at z ws' p ≡ 0)) (sym places)
           (λ p on. let c = h.clear i v at p on in (c.0, phases p ∙ c.1));
-      owned = subst (λ (x : Places). (p : ℕ) → 0 < times p x.owned → (0 < held_times p x.held) × (phase_at z ws' p ≡ 1)) (sym places)
+      owned = subst (λ (x : Places). (p : ℕ) → 0 < times p x.owned → (0 < taken_times p x.held) × (phase_at z ws' p ≡ 1)) (sym places)
           (λ p on. let c = h.owned i v at p on in (c.0, phases p ∙ c.1));
     }) h
 

@@ -20,7 +20,7 @@ use Rattle.track_rule.specs.declared.view.Shut.{Shut}
 use Rattle.track_rule.specs.declared.view.View.{View}
 use Rattle.track_rule.specs.declared.view.Walk.{Walk}
 use Rattle.track_rule.specs.BucketSteps.{IsChainOf, OpenGenStep, OpensGen, ShutGenStep, ShutsGen, ShutsOrMisses, opened_of, shut_now}
-use Rattle.track_rule.specs.Chains.{AreChains, IsChain, chain_in, entry_of, hooks_at, links_in, loose_of, shuts_of, side}
+use Rattle.track_rule.specs.Chains.{AreChains, IsChain, chain_in, entry_of, hooks_at, links_in, loose_of, shuts_of, side, each_link}
 use Rattle.track_rule.specs.History.{records_after}
 use Rattle.track_rule.specs.Layout.{first_word, gen_at, gen_word, head_word, next_word, phase_word, refs_at, refs_word, second_word, turn_word}
 use Rattle.track_rule.specs.Links.{AreLinks, HasHooks, last_gen}
@@ -36,8 +36,11 @@ use Rattle.track_rule.proofs.LastRead.{ReadsAt, stored_on}
 use Rattle.track_rule.proofs.BucketLoads.{note_read, one_gen}
 use Rattle.track_rule.proofs.Carried.{carries_set}
 use Rattle.track_rule.proofs.ChainLists.{chain_of}
-use Rattle.track_rule.proofs.Frames.{SameLinks, Still, chain_stays, hooks_stay, kept, no_commit}
+use Rattle.track_rule.proofs.Frames.{SameLinks, Still, chain_stays, hooks_stay, kept, no_commit, middle_more}
 use Rattle.track_rule.proofs.Lists.{other_bit, same_bit}
+use Rattle.track_rule.specs.declared.view.Middle.{Middle}
+use Rattle.track_rule.specs.declared.view.Middle.TheVariants.{Calm}
+use Rattle.track_rule.specs.Commits.{IsMiddle, IsMiddleOf}
 use Rattle.track_rule.proofs.Sums.{each_put, total_same, total_set, total_term}
 
 -- the words that are neither of a bucket nor of a link
@@ -50,9 +53,9 @@ pub record SameRest (z : Sizes) (ws ws' : List ℕ) : Type 0 where
 pub bucket_moved : (z : Sizes) (l : Ledger) (s : State Slot View) (id : ℕ) (v w : View) (ws' : List ℕ) (chains' : ℕ → List Entry)
     → IsKept z l s → get_elem? s.views id ≡ some v → Moves v w → 0 < v.passes.shares → w.seen ≡ v.seen → w.places ≡ v.places → w.free ≡ v.free
     → SameRest z s.words ws' → length ws' ≡ length s.words
-    → AreChains z l.log ws' (set s.views id w) chains' → AreLinks z ws' (set s.views id w) → AreWalks z ws' (set s.views id w) chains' → AreRead z ws' (set s.views id w)
+    → AreChains z l.log ws' (set s.views id w) chains' → AreLinks z ws' (set s.views id w) → AreWalks z ws' (set s.views id w) chains' → AreRead z ws' (set s.views id w) → IsMiddleOf z l.log w
     → IsKept z (record l { chains = chains' }) (record { words = ws'; homes = s.homes; views = set s.views id w })
-bucket_moved z l s id v w ws' chains' h at m has_some seen places free rest long chains links walks readings =
+bucket_moved z l s id v w ws' chains' h at m has_some seen places free rest long chains links walks readings middle =
     let one : IsPass z l.log v = h.passes.each id v at in
     kept z l s ws' s.homes (set s.views id w) l.free chains' h rest.still long (λ k other. refl)
     (record {
@@ -65,7 +68,7 @@ bucket_moved z l s id v w ws' chains' h at m has_some seen places free rest long
     (references_left z l.log s.words ws' s.views id v w at (ap (λ (x : Places). x.held) places) (ap (λ (x : Places). x.carried) places) rest.refs
     rest.still.phases h.references)
     (free_left z s.words ws' s.homes s.homes s.views id v w l.free at places free rest.refs rest.still.phases rest.free refl h.free_list)
-    chains links walks readings
+    chains links walks readings (each_put (IsMiddleOf z l.log) s.views id w h.commits middle)
 
 -- one generation changes
 module _ (z : Sizes) (ws : List ℕ) (b n : ℕ) (below : b < z.buckets) where
@@ -159,8 +162,9 @@ module _ (l : Ledger) (s : State Slot View) (id b : ℕ) (v : View) (h : IsKept 
       → ((c : ℕ) → c < v.passes.sizes.buckets → 0 < shuts_of c w → chain_in c w.buckets.shut ≡ l.chains c)
       → ((m : Walk) → m.generation ≤ gen_at v.passes.sizes s.words b → n ≡ m.generation → m.generation % 2 ≡ 0 → ⊥)
       → ReadsAt (gen_word v.passes.sizes b) n v w
+      → ((c : ℕ) → c < v.passes.sizes.buckets → 0 < loose_of v.passes.sizes c each_link w → 0 < shuts_of c w) → IsMiddleOf v.passes.sizes l.log w
       → IsKept v.passes.sizes l (record { words = slice_set s.words (gen_word v.passes.sizes b) n; homes = s.homes; views = set s.views id w })
-  regen n w m seen places free hooks walk more low parity others mine never read =
+  regen n w m seen places free hooks walk more low parity others mine never read home middle =
       let z : Sizes = v.passes.sizes in
       let new : List ℕ = slice_set s.words (gen_word z b) n in
       let here : gen_at z new b ≡ n = gen_here z s.words b n below long in
@@ -194,6 +198,7 @@ module _ (l : Ledger) (s : State Slot View) (id b : ℕ) (v : View) (h : IsKept 
           h.chains.lone link any,
           total_same (hooks_at link) s.views id v w at (ap (λ (xs : List Hook). total (λ (x : Hook). bit (x.link == link)) xs) hooks),
         );
+        home = each_put (λ (u : View). (c : ℕ) → c < z.buckets → 0 < loose_of z c each_link u → 0 < shuts_of c u) s.views id w h.chains.home home;
       })
       (record {
         heads = λ c under. omega (arith, h.links.heads c under, same.heads c under);
@@ -214,7 +219,7 @@ module _ (l : Ledger) (s : State Slot View) (id b : ℕ) (v : View) (h : IsKept 
             (subst (λ (x : Seen). (m : Walk) → v.walk ≡ Some m → IsWalk z new l.chains x.front m) (sym seen)
             (λ m e. raised m v.seen.front (h.walks.each id v at m e))));
       })
-      (stored_on z l.log s.words s.views id (gen_word z b) n v w h.passes at has_some long read h.readings)
+      (stored_on z l.log s.words s.views id (gen_word z b) n v w h.passes at has_some long read h.readings) middle
     where
       raised : (m : Walk) (front : List Event) → IsWalk v.passes.sizes s.words l.chains front m
           → IsWalk v.passes.sizes (slice_set s.words (gen_word v.passes.sizes b) n) l.chains front m
@@ -243,6 +248,8 @@ module _ (l : Ledger) (s : State Slot View) (id b : ℕ) (v : View) (h : IsKept 
       (λ e. h.chains.mine c under id v at (omega (arith, any, ap bit e))))
       (λ m least same even_half. omega (arith, same, even_half, half))
       (record { reading = stored (gen_word v.passes.sizes b) (even + 1); more = refl; word = refl; value = refl })
+      (λ c under any. omega (arith, h.chains.home id v at c under any))
+      (middle_more v.passes.sizes l.log v w refl (λ p. omega arith) (λ c. omega arith) (h.commits id v at))
 
   shuts_told : (even : ℕ) → gen_at v.passes.sizes s.words b ≡ even → even % 2 ≡ 0
       → ShutsGen b even v (noted (stored (gen_word v.passes.sizes b) (even + 1)) (record v { buckets = shut_now b (l.chains b) v.buckets }))
@@ -266,13 +273,13 @@ module _ (l : Ledger) (s : State Slot View) (id b : ℕ) (v : View) (h : IsKept 
       half : (n : ℕ) → n % 2 < 2
       half n = omega arith
 
-  opens : 0 < shuts_of b v
+  opens : 0 < shuts_of b v → loose_of v.passes.sizes b each_link v ≡ 0 → v.commit.middle ≡ Calm
       → IsKept v.passes.sizes l (record {
         words = slice_set s.words (gen_word v.passes.sizes b) (gen_at v.passes.sizes s.words b + 1);
         homes = s.homes;
         views = set s.views id (noted (stored (gen_word v.passes.sizes b) (gen_at v.passes.sizes s.words b + 1)) (record v { buckets = record v.buckets { shut = opened_of b v.buckets.shut } }));
       })
-  opens any =
+  opens any nothing calm =
       let n : ℕ = gen_at v.passes.sizes s.words b in
       let w : View = noted (stored (gen_word v.passes.sizes b) (n + 1)) (record v { buckets = record v.buckets { shut = opened_of b v.buckets.shut } }) in
       let once = once_shut any in
@@ -285,6 +292,12 @@ module _ (l : Ledger) (s : State Slot View) (id b : ℕ) (v : View) (h : IsKept 
       (λ (e : c ≢ b). chain_else b c e v.buckets.shut ∙ h.chains.mine c under id v at (omega (arith, more, opened_else b c e v.buckets.shut)))
       (cases_eq c b))
       (λ m least same even. omega (arith, least, same)) (record { reading = stored (gen_word v.passes.sizes b) (n + 1); more = refl; word = refl; value = refl })
+      (λ c under loose.
+      ⊎_elim
+      (λ (e : c ≡ b). absurd (omega (arith, loose, nothing, ap (λ (k : ℕ). loose_of v.passes.sizes k each_link v) e)))
+      (λ (e : c ≢ b). omega (arith, h.chains.home id v at c under loose, opened_else b c e v.buckets.shut))
+      (cases_eq c b))
+      (subst (λ (m : Middle). IsMiddle v.passes.sizes l.log m v.commit.hand v.places.carried (opened_of b v.buckets.shut)) (sym calm) tt)
 
 -- shutting a bucket keeps the rule
 pub shutting : (slots id b even : ℕ) (v : View) (c : List (ℕ × Slot)) → b < v.passes.sizes.buckets → 0 < v.passes.shares → even % 2 ≡ 0 → even < last_gen
@@ -328,9 +341,10 @@ shutting slots id b even v c below has_some half low s (l, h) long at range =
 
 -- opening it keeps the rule
 pub opening_gen : (slots id b : ℕ) (v : View) (c : List (ℕ × Slot)) → b < v.passes.sizes.buckets → 0 < v.passes.shares → 0 < shuts_of b v
+    → loose_of v.passes.sizes b each_link v ≡ 0 → v.commit.middle ≡ Calm
     → Allows (Holds v.passes.sizes) slots id (v, c) (gen_word v.passes.sizes b) (λ n. (n + 1) % 2 ^ 64)
     (OpenGenStep (step slots (gen_word v.passes.sizes b) 1 0 none) (v, c))
-opening_gen slots id b v c below has_some any s (l, h) long at range =
+opening_gen slots id b v c below has_some any nothing calm s (l, h) long at range =
     let z : Sizes = v.passes.sizes in
     let n : ℕ = gen_at z s.words b in
     let w : View = noted (stored (gen_word z b) (n + 1)) (record v { buckets = record v.buckets { shut = opened_of b v.buckets.shut } }) in
@@ -350,7 +364,7 @@ opening_gen slots id b v c below has_some any s (l, h) long at range =
       (
         l,
         subst (λ (k : ℕ). IsKept z l (record { words = slice_set s.words (gen_word z b) k; homes = s.homes; views = set s.views id w })) (sym next)
-            (opens l s id b v h at has_some below any),
+            (opens l s id b v h at has_some below any nothing calm),
       ),
       λ a same. subst (λ (k : ℕ). OpensGen k v w × (c ≡ c)) (one_gen z b a same) (told, refl),
     )

@@ -16,7 +16,7 @@ use Rattle.track_rule.specs.declared.view.HeldBuckets.{HeldBuckets}
 use Rattle.track_rule.specs.declared.view.View.{View}
 use Rattle.track_rule.specs.declared.view.Walk.{Walk}
 use Rattle.track_rule.specs.BucketSteps.{first_of, put_in, raise, strung}
-use Rattle.track_rule.specs.Chains.{IsChain, IsOrdered, bucket_of, chain_in, entry_of, hooks_at, is_at_link, links_in, loose_of, shuts_of, side}
+use Rattle.track_rule.specs.Chains.{IsChain, IsOrdered, bucket_of, chain_in, entry_of, hooks_at, is_at_link, links_in, loose_of, shuts_of, side, each_link}
 use Rattle.track_rule.specs.History.{records_after}
 use Rattle.track_rule.specs.Layout.{first_word, gen_at, head_word, next_word, place_of, second_word, side_of}
 use Rattle.track_rule.specs.Links.{HasHooks, IsHook, IsOwned, hook_of, hooks_of, is_down, last_link}
@@ -25,13 +25,14 @@ use Rattle.track_rule.specs.Rule.{IsKept, Ledger}
 use Rattle.track_rule.specs.Sums.{Each, total, times}
 use Rattle.track_rule.specs.Walks.{HasLive, IsWalk, Stands}
 use Rattle.track_rule.proofs.LastRead.{stored_on}
+use Rattle.track_rule.proofs.Frames.{middle_more}
 use Rattle.track_rule.proofs.BucketMoves.{bucket_moved}
 use Rattle.track_rule.proofs.ChainLists.{chain_first, unlinked}
 use Rattle.track_rule.proofs.ChainWords.{IsString, chain_local, first_head, next_head, one_head, second_head, string_gens, string_head, string_rest, word_else, word_here}
 use Rattle.track_rule.proofs.HookLists.{each_change, hook_there, links_kept, total_change, with_else, with_here, with_shuts}
 use Rattle.track_rule.proofs.Lists.{total_some}
 use Rattle.track_rule.proofs.OwnWords.{hook_stays, own_link}
-use Rattle.track_rule.proofs.Sums.{each_other, total_same, total_set, total_term, total_two}
+use Rattle.track_rule.proofs.Sums.{each_put, each_other, total_same, total_set, total_term, total_two}
 
 -- a hook that is in no chain is one at its link
 pub down_at : (hooks : List Hook) (i : ℕ) (k : Hook) → get_elem? hooks i ≡ some k → k.up ≡ false → is_down k.link hooks ≡ true
@@ -155,6 +156,12 @@ module _ (l : Ledger) (s : State Slot View) (id b : ℕ) (v : View) (h : IsKept 
               h.chains.chained c under g
               ∙ ap (λ (k : ℕ). total (links_in z c g) (records_after l.log) + k) (sym (total_same (loose_of z c g) s.views id v w at (t.elsewhere c other g))));
           lone = λ link any. omega (arith, h.chains.lone link any, total_same (hooks_at link) s.views id v w at (t.links link));
+          home = each_put (λ (u : View). (c : ℕ) → c < z.buckets → 0 < loose_of z c each_link u → 0 < shuts_of c u) s.views id w h.chains.home
+              (λ c under any.
+              ⊎_elim
+              (λ (e : c ≡ b). subst (λ (k : ℕ). 0 < shuts_of k w) (sym e) (omega (arith, mine, t.shuts b)))
+              (λ (e : c ≢ b). omega (arith, t.shuts c, h.chains.home id v at c under (omega (arith, any, t.elsewhere c e each_link))))
+              (cases_eq c b));
         })
         (record {
           heads = λ c under.
@@ -188,6 +195,7 @@ module _ (l : Ledger) (s : State Slot View) (id b : ℕ) (v : View) (h : IsKept 
               (λ m e. walk_kept m v.seen.front (h.walks.each id v at m e));
         })
         (stored_on z l.log s.words s.views id word to v w h.passes at has_some t.long (record { reading = stored word to; more = refl; word = refl; value = refl }) h.readings)
+        (middle_more z l.log v w refl (λ p. omega arith) (λ c. omega (arith, t.shuts c)) (h.commits id v at))
 
 -- a link is put in at the head
 module _ (l : Ledger) (s : State Slot View) (id b x : ℕ) (v : View) (h : IsKept v.passes.sizes l s) (at : get_elem? s.views id ≡ some v)

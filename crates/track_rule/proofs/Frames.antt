@@ -10,11 +10,13 @@ use Rattle.track_rule.specs.declared.view.Places.{Places}
 use Rattle.track_rule.specs.declared.slot.Slot.{Slot}
 use Rattle.track_rule.specs.declared.view.Commit.{Commit}
 use Rattle.track_rule.specs.declared.view.Entry.{Entry}
-use Rattle.track_rule.specs.declared.view.Middle.TheVariants.{Calm}
+use Rattle.track_rule.specs.declared.view.Middle.{Middle}
+use Rattle.track_rule.specs.declared.view.Middle.TheVariants.{Calm, Born, Dying}
 use Rattle.track_rule.specs.declared.view.HeldBuckets.{HeldBuckets}
 use Rattle.track_rule.specs.declared.view.View.{View}
 use Rattle.track_rule.specs.declared.view.Walk.{Walk}
-use Rattle.track_rule.specs.Chains.{AreChains, IsChain, chain_in, hooks_at, links_in, loose_of}
+use Rattle.track_rule.specs.Chains.{AreChains, IsChain, chain_in, bucket_of, each_link, hooks_at, links_in, loose_of, pair_of, shuts_of}
+use Rattle.track_rule.specs.Commits.{AreCommits, IsCommitting, IsMiddle, IsMiddleOf, shuts_in}
 use Rattle.history_book.specs.State.{record_of}
 use Rattle.history_book.specs.declared.record.Record.{Record}
 use Rattle.track_rule.specs.declared.view.Hand.{Hand}
@@ -30,7 +32,7 @@ use Rattle.track_rule.specs.Records.{AreRecords, IsHand, has_hand, is_hand_of, r
 use Rattle.track_rule.specs.References.{AreReferences}
 use Rattle.track_rule.specs.Free.{IsFreeList}
 use Rattle.track_rule.specs.Rule.{IsKept, Ledger}
-use Rattle.track_rule.specs.Sums.{Each, bit, total}
+use Rattle.track_rule.specs.Sums.{Each, bit, times, total}
 use Rattle.track_rule.specs.Links.{AreLinks, HasHooks}
 use Rattle.track_rule.specs.Walks.{AreWalks, IsWalk}
 use Rattle.std.proofs.lemmas.Option.{none-some}
@@ -137,8 +139,6 @@ module _ (z : Sizes) (ws ws' : List ℕ) (still : Still z ws ws') where
         h.used p below
         ∙ ap (λ (ph : ℕ). table_keeps ph + total (middle_of (of_place p)) vs) (sym (still.phases p))
         ∙ ap (λ (n : ℕ). table_keeps (phase_at z ws' p) + n) (sym (middles (of_place p)));
-    low = λ p below. omega (arith, h.low p below, still.phases p);
-    calm = leaves.commit.each (λ (c : Commit). c.middle ≡ Calm) refl h.calm;
   }
     where
       middles : (weight : Record → ℕ) → total (middle_of weight) vs' ≡ total (middle_of weight) vs
@@ -190,9 +190,10 @@ module _ (z : Sizes) (ws ws' : List ℕ) (same : SameChains z ws ws') where
   -- the chains, where all views together have shut the same, and as much of links that no record has
   pub chains_stay : (log : List Event) (vs vs' : List View) (chains : ℕ → List Entry) → Carries (λ (v : View). v.buckets.shut) [] vs vs'
       → ((b : ℕ) (weight : Entry → ℕ) → total (loose_of z b weight) vs' ≡ total (loose_of z b weight) vs)
+      → Each (λ v. (b : ℕ) → b < z.buckets → 0 < loose_of z b each_link v → 0 < shuts_of b v) vs'
       → ((link : ℕ) → 0 < link → total (hooks_at link) vs' + total (of_place (place_of link)) (records_after log) ≤ 1)
       → AreChains z log ws vs chains → AreChains z log ws' vs' chains
-  chains_stay log vs vs' chains shut loose lone h = record {
+  chains_stay log vs vs' chains shut loose home lone h = record {
     linked = λ b below.
         subst (λ (n : ℕ). IsChain z ws' b n (chains b)) (sym (same.links.heads b below))
         (chain_stays z ws ws' same.links b (slice_index ws (head_word z b)) (chains b) (h.linked b below));
@@ -205,6 +206,7 @@ module _ (z : Sizes) (ws ws' : List ℕ) (same : SameChains z ws ws') where
         (λ some. absurd (omega (arith, some))) (h.mine b below);
     chained = λ b below weight.
         h.chained b below weight ∙ ap (λ (n : ℕ). total (links_in z b weight) (records_after log) + n) (sym (loose b weight));
+    home = home;
     lone = lone;
   }
 
@@ -231,9 +233,9 @@ module _ (z : Sizes) (ws ws' : List ℕ) (same : SameChains z ws ws') where
 pub kept : (z : Sizes) (l : Ledger) (s : State Slot View) (ws' : List ℕ) (hs' : List (Slotted Slot)) (vs' : List View) (free' : List ℕ) (chains' : ℕ → List Entry)
     → IsKept z l s → Still z s.words ws' → length ws' ≡ length s.words → Stays s.homes hs' → Leaves s.views vs'
     → ArePasses z l.log vs' → AreReferences z l.log ws' vs' → IsFreeList z ws' hs' vs' free'
-    → AreChains z l.log ws' vs' chains' → AreLinks z ws' vs' → AreWalks z ws' vs' chains' → AreRead z ws' vs'
+    → AreChains z l.log ws' vs' chains' → AreLinks z ws' vs' → AreWalks z ws' vs' chains' → AreRead z ws' vs' → AreCommits z l.log vs'
     → IsKept z (record l { free = free'; chains = chains' }) (record { words = ws'; homes = hs'; views = vs' })
-kept z l s ws' hs' vs' free' chains' h still long homes leaves passes references free_list chains links walks readings = record {
+kept z l s ws' hs' vs' free' chains' h still long homes leaves passes references free_list chains links walks readings commits = record {
   limits = h.limits;
   count = long ∙ h.count;
   passes = passes;
@@ -242,9 +244,42 @@ kept z l s ws' hs' vs' free' chains' h still long homes leaves passes references
   free_list = free_list;
   records = records_stay z s.words ws' still l.log s.homes hs' s.views vs' homes leaves h.records;
   phases = phases_stay z s.words ws' still l.log s.views vs' leaves h.phases;
+  commits = commits;
   chains = chains;
   links = links;
   walks = walks;
   readings = readings;
   expected = expected_stay z s.words ws' still l.log s.homes hs' s.views vs' homes leaves h.expected;
 }
+
+-- the middle of a commit, where the pass has the same turn, carries no less and has no fewer buckets shut
+pub middle_more : (z : Sizes) (log : List Event) (v w : View) → w.commit ≡ v.commit → ((p : ℕ) → times p v.places.carried ≤ times p w.places.carried)
+    → ((b : ℕ) → shuts_of b v ≤ shuts_of b w) → IsMiddleOf z log v → IsMiddleOf z log w
+middle_more z log v w commit carried shut h =
+    subst (λ (c : Commit). IsMiddle z log c.middle c.hand w.places.carried w.buckets.shut) (sym commit) (by_middle v.commit.middle h)
+  where
+    more : (r : Record) → IsCommitting z log v.commit.hand v.places.carried v.buckets.shut r → IsCommitting z log v.commit.hand w.places.carried w.buckets.shut r
+    more r k = record {
+      turn = k.turn;
+      reference = omega (arith, k.reference, carried r.place);
+      original = omega (arith, k.original, shut (bucket_of z (pair_of r.original)));
+      reply = omega (arith, k.reply, shut (bucket_of z (pair_of r.reply)));
+      live = k.live;
+    }
+
+    by_middle : (m : Middle) → IsMiddle z log m v.commit.hand v.places.carried v.buckets.shut → IsMiddle z log m v.commit.hand w.places.carried w.buckets.shut
+    by_middle Calm k = tt
+    by_middle (Born r) k = more r k
+    by_middle (Dying r) k = more r k
+
+pub middle_left : (z : Sizes) (log : List Event) (v w : View) → w.commit ≡ v.commit → w.places.carried ≡ v.places.carried → w.buckets.shut ≡ v.buckets.shut
+    → IsMiddleOf z log v → IsMiddleOf z log w
+middle_left z log v w commit carried shut h =
+    middle_more z log v w commit (λ p. omega (arith, ap (times p) carried)) (λ b. omega (arith, ap (shuts_in b) shut)) h
+
+-- a pass that has no turn of a record is in the middle of no commit
+pub middle_calm : (z : Sizes) (log : List Event) (m : Middle) (carried : List ℕ) (shut : List Shut) (hand : Option Hand) → hand ≡ None
+    → IsMiddle z log m hand carried shut → m ≡ Calm
+middle_calm z log Calm carried shut hand none h = refl
+middle_calm z log (Born r) carried shut hand none h = absurd (omega (arith, h.turn, ap (is_hand_of r.place) none))
+middle_calm z log (Dying r) carried shut hand none h = absurd (omega (arith, h.turn, ap (is_hand_of r.place) none))

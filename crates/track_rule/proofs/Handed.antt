@@ -20,13 +20,15 @@ use Rattle.track_rule.specs.declared.view.Hook.{Hook}
 use Rattle.track_rule.specs.declared.view.HeldBuckets.{HeldBuckets}
 use Rattle.track_rule.specs.declared.view.View.{View}
 use Rattle.track_rule.specs.declared.view.Walk.{Walk}
-use Rattle.track_rule.specs.Chains.{entry_of, side}
+use Rattle.track_rule.specs.declared.view.Commit.{Commit}
+use Rattle.track_rule.specs.Chains.{each_link, entry_of, side}
+use Rattle.track_rule.specs.Commits.{IsMiddle, shuts_in}
 use Rattle.track_rule.specs.Free.{IsFreeList, owes, turn_of}
 use Rattle.track_rule.specs.History.{events_in, live_in, records_after}
 use Rattle.track_rule.specs.Layout.{phase_at}
 use Rattle.track_rule.specs.Links.{HasHooks, hooks_of}
 use Rattle.track_rule.specs.Passes.{ArePasses, HasNothing, IsPass, IsSpent, has_share, made_weight, no_places, shares_of}
-use Rattle.track_rule.specs.References.{AreKept, AreReferences, held_times, is_at, is_for_new, keeps}
+use Rattle.track_rule.specs.References.{AreKept, AreReferences, held_times, is_at, is_for_new, keeps, taken_times}
 use Rattle.track_rule.specs.Phases.{table_keeps}
 use Rattle.track_rule.specs.Readings.{AreRead}
 use Rattle.track_rule.specs.Rule.{Holds, IsKept, Ledger}
@@ -64,7 +66,7 @@ free_carry z ws hs vs vs' free c t h = record {
   away = t.each (λ (o : Option (List ℕ)). (list : List ℕ) → o ≡ Some list → list ≡ free) (λ list e. absurd (none-some list e)) h.away;
   few = c.each (λ (x : Places). length x.held + length x.owed ≤ 4) (omega arith) h.few;
   clear = c.each (λ (x : Places). (p : ℕ) → 0 < times p x.clear → (0 < times p x.owed) × (phase_at z ws p ≡ 0)) (λ p any. absurd (omega (arith, any))) h.clear;
-  owned = c.each (λ (x : Places). (p : ℕ) → 0 < times p x.owned → (0 < held_times p x.held) × (phase_at z ws p ≡ 1)) (λ p any. absurd (omega (arith, any))) h.owned;
+  owned = c.each (λ (x : Places). (p : ℕ) → 0 < times p x.owned → (0 < taken_times p x.held) × (phase_at z ws p ≡ 1)) (λ p any. absurd (omega (arith, any))) h.owned;
 }
   where
     owed_by : (p : ℕ) → total (owes p) vs' ≡ total (owes p) vs
@@ -74,10 +76,11 @@ free_carry z ws hs vs vs' free c t h = record {
 handed : (z : Sizes) (l : Ledger) (s : State Slot View) (vs' : List View) → IsKept z l s → ArePasses z l.log vs' → Leaves s.views vs'
     → Carries (λ (v : View). v.places) no_places s.views vs' → Carries (λ (v : View). v.free) None s.views vs'
     → Carries {X = Places × HeldBuckets} (λ (v : View). (v.places, v.buckets)) (no_places, no_buckets) s.views vs'
+    → Carries {X = Commit × Places × HeldBuckets} (λ (v : View). (v.commit, v.places, v.buckets)) (no_commit, no_places, no_buckets) s.views vs'
     → ((P : List Event → Option Walk → Type 0) → ((front : List Event) → P front None) → Each (λ v. P v.seen.front v.walk) s.views → Each (λ v. P v.seen.front v.walk) vs')
     → AreRead z s.words vs'
     → IsKept z l (record { words = s.words; homes = s.homes; views = vs' })
-handed z l s vs' h passes leaves places free buckets walk readings =
+handed z l s vs' h passes leaves places free buckets commits walk readings =
     let quiet : Quiet z s.words s.words = λ k a b. refl in
     let same : SameChains z s.words s.words = quiet_chains z s.words s.words quiet in
     let shut : Carries (λ (v : View). v.buckets.shut) [] s.views vs' = record {
@@ -89,10 +92,14 @@ handed z l s vs' h passes leaves places free buckets walk readings =
     (free_carry z s.words s.homes s.views vs' l.free places free h.free_list)
     (chains_stay z s.words s.words same l.log s.views vs' l.chains shut
     (λ b weight. buckets.sums (λ (x : Places × HeldBuckets). total (λ (y : Hook). (if y.up then side z b weight (entry_of y) else 0)) x.1.hooks) refl)
+    (buckets.each (λ (x : Places × HeldBuckets). (b : ℕ) → b < z.buckets
+    → 0 < total (λ (y : Hook). (if y.up then side z b each_link (entry_of y) else 0)) x.1.hooks → 0 < shuts_in b x.1.shut)
+    (λ b below any. absurd (omega (arith, any))) h.chains.home)
     (λ link some. omega (arith, h.chains.lone link some, buckets.sums (λ (x : Places × HeldBuckets). hooks_of link x.1.hooks) refl)) h.chains)
     (links_stay z s.words s.words same s.views vs'
     (buckets.each (λ (x : Places × HeldBuckets). HasHooks z s.words x.0 x.1.hooks) (no_hooks z s.words) h.links.hooks) h.links)
     (record { each = walk (λ front o. (n : Walk) → o ≡ Some n → IsWalk z s.words l.chains front n) (λ front n e. absurd (none-some n e)) h.walks.each }) readings
+    (commits.each (λ (x : Commit × Places × HeldBuckets). IsMiddle z l.log x.0.middle x.0.hand x.1.carried x.2.shut) tt h.commits)
   where
     no_hooks : (z : Sizes) (ws : List ℕ) → HasHooks z ws no_places []
     no_hooks z ws = record { each = λ i h at. absurd (some-ne-none h (sym at)); held = λ link any. absurd (omega (arith, any)); linked = λ i h at. absurd (some-ne-none h (sym at)) }
@@ -170,6 +177,7 @@ splits z id shares v has_some fewer s (l, h) at =
           (carries_cut (λ (u : View). u.places) no_places s.views id v left right at refl refl)
           (carries_cut (λ (u : View). u.free) None s.views id v left right at refl refl)
           (carries_cut {X = Places × HeldBuckets} (λ (u : View). (u.places, u.buckets)) (no_places, no_buckets) s.views id v left right at refl refl)
+          (carries_cut {X = Commit × Places × HeldBuckets} (λ (u : View). (u.commit, u.places, u.buckets)) (no_commit, no_places, no_buckets) s.views id v left right at refl refl)
           (λ P base all. each_more (λ (u : View). P u.seen.front u.walk) (set s.views id left) right
           (each_put (λ (u : View). P u.seen.front u.walk) s.views id left all (all id v at)) (base v.seen.front))
           (λ one. absurd (many one)),
@@ -281,6 +289,12 @@ joins z id other v w has_some has_other none s (l, h) at apart at' =
           (carries_join (λ (u : View). u.free) None s.views id other v w both spent_view at at' refl none.free refl)
           (carries_join {X = Places × HeldBuckets} (λ (u : View). (u.places, u.buckets)) (no_places, no_buckets) s.views id other v w both spent_view at at' refl
           (λ k. (record { held = none.held k; owed = none.owed k; clear = none.clear k; owned = none.owned k; carried = none.carried k }, record { shut = none.shut k; hooks = none.hooks k })) refl)
+          (carries_join {X = Commit × Places × HeldBuckets} (λ (u : View). (u.commit, u.places, u.buckets)) (no_commit, no_places, no_buckets) s.views id other v w both spent_view at at' refl
+          (λ k. (
+            record { hand = none.hand k; middle = none.middle k },
+            record { held = none.held k; owed = none.owed k; clear = none.clear k; owned = none.owned k; carried = none.carried k },
+            record { shut = none.shut k; hooks = none.hooks k },
+          )) refl)
           (λ P base all. each_put (λ (u : View). P u.seen.front u.walk) vs other spent_view
           (each_put (λ (u : View). P u.seen.front u.walk) s.views id both all (all id v at)) (base []))
           (λ one. absurd (many one)),

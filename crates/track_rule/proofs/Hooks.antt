@@ -7,23 +7,27 @@ use mathlib.Core.Option.{some, some-injective, some-ne-none}
 use lib.ListN.{get_elem?}
 use Rattle.atomic_table.specs.Table.{State}
 use Rattle.history_book.specs.declared.sizes.Sizes.{Sizes}
+use Rattle.history_book.specs.declared.record.Record.{Record}
 use Rattle.track_rule.specs.declared.slot.Slot.{Slot}
 use Rattle.track_rule.specs.declared.view.Hook.{Hook}
 use Rattle.track_rule.specs.declared.view.Keep.{Keep}
 use Rattle.track_rule.specs.declared.view.View.{View}
 use Rattle.track_rule.specs.Chains.{entry_of, hooks_at, loose_of, side}
 use Rattle.track_rule.specs.Free.{unlisted}
+use Rattle.track_rule.specs.declared.view.Middle.{Middle}
+use Rattle.track_rule.specs.declared.view.Middle.TheVariants.{Calm, Born, Dying}
+use Rattle.track_rule.specs.Commits.{IsCommitting, IsMiddle}
 use Rattle.track_rule.specs.History.{records_after}
 use Rattle.track_rule.specs.Layout.{first_word, place_of, refs_at, second_word}
 use Rattle.track_rule.specs.Links.{HasHooks, IsHook, IsOwned, hooks_of, is_up, last_link}
 use Rattle.track_rule.specs.Phases.{middle_of, middle_weight, of_place}
-use Rattle.track_rule.specs.References.{held_times, keeps}
+use Rattle.track_rule.specs.References.{held_times, keeps, is_taken, without}
 use Rattle.track_rule.specs.Rule.{IsKept, Ledger}
 use Rattle.track_rule.specs.Steps.{NewHooks, let_go_of, opened, owned_then}
 use Rattle.track_rule.specs.Sums.{Each, bit, times, total}
 use Rattle.track_rule.proofs.Balance.{Lines}
 use Rattle.track_rule.proofs.Lists.{other_bit, same_bit, unlisted_in, unlisted_out}
-use Rattle.track_rule.proofs.Sums.{total_only, total_set, total_term}
+use Rattle.track_rule.proofs.Sums.{total_only, total_set, total_term, total_le}
 
 -- a link of a place that is not in a chain, with what stands in its words
 abbrev pub new_hook : Sizes → List ℕ → ℕ → Hook
@@ -70,9 +74,25 @@ module _ (z : Sizes) (l : Ledger) (s : State Slot View) (h : IsKept z l s) (id :
 
   pub no_record_there : total (of_place p) (records_after l.log) ≡ 0
   no_record_there =
-      let calm = total_only (middle_of (of_place p)) (keeps p) s.views id v at none_keeps
-      (λ i u at' none. ap (middle_weight (of_place p)) (h.phases.calm i u at')) in
-      omega (arith, h.phases.used p below, h.references.counted p below, nobody, calm, ap (middle_weight (of_place p)) (h.phases.calm id v at))
+      omega (
+        arith,
+        h.phases.used p below,
+        h.references.counted p below,
+        nobody,
+        total_le (middle_of (of_place p)) (keeps p) s.views (λ i u at'. middle_kept p u.commit.middle u (h.commits i u at')),
+      )
+    where
+      -- who is in the middle of a commit at a place keeps a reference to it
+      committing : (p : ℕ) (u : View) (r : Record) → IsCommitting z l.log u.commit.hand u.places.carried u.buckets.shut r → of_place p r ≤ keeps p u
+      committing p u r k =
+          ⊎_elim
+          (λ (e : r.place ≡ p). omega (arith, same_bit r.place p e, subst (λ (x : ℕ). 0 < times x u.places.carried) e k.reference))
+          (λ (e : r.place ≢ p). omega (arith, other_bit r.place p e)) (cases_eq r.place p)
+
+      middle_kept : (p : ℕ) (m : Middle) (u : View) → IsMiddle z l.log m u.commit.hand u.places.carried u.buckets.shut → middle_weight (of_place p) m ≤ keeps p u
+      middle_kept p Calm u k = omega arith
+      middle_kept p (Born r) u k = committing p u r k
+      middle_kept p (Dying r) u k = committing p u r k
 
   no_hook : (v : View) → HasHooks z s.words v.places v.buckets.hooks → keeps p v ≡ 0
       → HasHooks z s.words (opened p (new_hooks z s.words p v.buckets.hooks) v).places (new_hooks z s.words p v.buckets.hooks)
@@ -208,12 +228,13 @@ module _ (p : ℕ) where
       more xs f r zero x at = subst F (some-injective h x at) f
       more xs f r (suc i) x at = r i x at
 
--- a place that stays owned where a reference to one is given up: if it is that one, then it was not the last reference
+-- a place that stays owned where a reference to one is given up: if it is that one, it is still taken
 pub still_owned : (p q : ℕ) (held : List Keep) (owned : List ℕ) → 0 < times q (owned_then p held owned)
-    → (0 < times q owned) × (q ≡ p → (held_times p held == 1) ≡ false)
+    → (0 < times q owned) × (q ≡ p → is_taken p (without p held) ≡ true)
 still_owned p q held owned =
-    cond_both (held_times p held == 1) (unlisted (p ∷ []) owned) owned
-    (λ xs. 0 < times q xs → (0 < times q owned) × (q ≡ p → (held_times p held == 1) ≡ false))
+    cond_both (is_taken p (without p held)) owned (unlisted (p ∷ []) owned)
+    (λ xs. 0 < times q xs → (0 < times q owned) × (q ≡ p → is_taken p (without p held) ≡ true))
+    (λ t some_left. (some_left, λ e. t))
     (λ t some_left.
     ⊎_elim
     (λ (e : q ≡ p). absurd (omega (arith, some_left, unlisted_in (p ∷ []) q owned (ap (λ b. b || false) (eq-eqb p q (sym e))))))
@@ -222,7 +243,6 @@ still_owned p q held owned =
       λ same. absurd (e same),
     ))
     (cases_eq q p))
-    (λ t some_left. (some_left, λ e. t))
 
 -- the places of links in chains stay owned where no such link is of the place of that reference
 stays_linked : (p : ℕ) (held : List Keep) (owned : List ℕ) (hooks : List Hook) → is_up p hooks ≡ false → Each (IsOwned owned) hooks
@@ -233,9 +253,9 @@ stays_linked p held owned (k ∷ ks) down each (suc i) h at =
 stays_linked p held owned (k ∷ ks) down each zero h at =
     subst (IsOwned (owned_then p held owned)) (some-injective k h at)
     (λ up.
-    cond_both (held_times p held == 1) (unlisted (p ∷ []) owned) owned (λ xs. 0 < times (place_of k.link) xs)
-    (λ t. omega (arith, each 0 k refl up, unlisted_out (p ∷ []) (place_of k.link) owned (ap (λ b. b || false) (ne_eqb p (place_of k.link) (elsewhere up)))))
-    (λ t. each 0 k refl up))
+    cond_both (is_taken p (without p held)) owned (unlisted (p ∷ []) owned) (λ xs. 0 < times (place_of k.link) xs)
+    (λ t. each 0 k refl up)
+    (λ t. omega (arith, each 0 k refl up, unlisted_out (p ∷ []) (place_of k.link) owned (ap (λ b. b || false) (ne_eqb p (place_of k.link) (elsewhere up))))))
   where
     elsewhere : k.up ≡ true → p ≢ place_of k.link
     elsewhere up e =

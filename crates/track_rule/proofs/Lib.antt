@@ -21,8 +21,14 @@ pub mod Turns
 pub mod Refs
 pub mod PhaseMoves
 pub mod RecordTurns
+pub mod Events
 pub mod Handed
 pub mod Start
 pub mod Seats
 pub mod Columns
 pub mod AllPasses
+pub mod Confirming
+pub mod Confirms
+pub mod Born
+pub mod Confirmations
+pub mod Living

@@ -6,7 +6,7 @@ use Rattle.std.proofs.lemmas.Bool.{cases_Bool, cases_eq, cond_both, eq-eqb, eqb-
 use Rattle.history_book.specs.declared.event.Event.{Event}
 use Rattle.track_rule.specs.declared.view.Keep.{Keep}
 use Rattle.track_rule.specs.Free.{is_among, taken_out, unlisted}
-use Rattle.track_rule.specs.References.{AreKept, held_times, is_at, is_for_new, is_held, without}
+use Rattle.track_rule.specs.References.{AreKept, held_times, is_at, is_for_new, is_held, without, taken_times}
 use Rattle.track_rule.specs.Sums.{bit, times, total}
 use Rattle.track_rule.proofs.Sums.{total_append}
 
@@ -120,6 +120,18 @@ takes_without a p (k ∷ ks) =
     (λ e. omega arith) (λ e. omega (arith, takes_without a p ks))
 
 -- and the others are for what they were
+-- another place is taken as often
+pub taken_else : (a p : ℕ) (held : List Keep) → is_held a held ≡ true → p ≢ a → taken_times p (without a held) ≡ taken_times p held
+taken_else a p held h e =
+    omega (
+      arith,
+      total_rest (is_at a) (without a) (λ x xs. refl) (λ k. bit (is_at p k && is_for_new k.purpose)) 0
+          (λ k at. takes_none k (ne_eqb k.place p (λ x. e (sym x ∙ eqb-true k.place a at)))) held h,
+    )
+  where
+    takes_none : (k : Keep) → is_at p k ≡ false → bit (is_at p k && is_for_new k.purpose) ≡ 0
+    takes_none k none = ap (λ (b : Bool). bit (b && is_for_new k.purpose)) none
+
 pub kept_without : (log : List Event) (p : ℕ) (held : List Keep) → AreKept log held → AreKept log (without p held)
 kept_without log p [] h = tt
 kept_without log p (k ∷ ks) h = cond_both (is_at p k) ks (k ∷ without p ks) (AreKept log) (λ e. h.1) (λ e. (h.0, kept_without log p ks h.1))

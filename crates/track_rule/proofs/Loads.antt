@@ -28,6 +28,7 @@ use Rattle.track_rule.specs.Rule.{Holds, IsKept, Ledger}
 use Rattle.track_rule.specs.Steps.{AreAll, HasOthers, IsCount, LoadStep, LoadsRefs, LookStep, at_point, found_history, saw}
 use Rattle.track_rule.specs.Sums.{Each, times, total}
 use Rattle.track_rule.proofs.LastRead.{ReadsAt, read_on}
+use Rattle.track_rule.proofs.Frames.{middle_left}
 use Rattle.track_rule.proofs.Balance.{Lines, Moves, few_references, free_left, moved, pass_moved, references_left, same_lines, bucket_lines}
 use Rattle.track_rule.proofs.Sums.{length_total, total_gap, total_only, total_term, total_times}
 
@@ -42,7 +43,8 @@ reads z l s id i v w h at m p places free lines has_some read =
     (references_left z l.log s.words s.words s.views id v w at (ap (λ (x : Places). x.held) places) (ap (λ (x : Places). x.carried) places) (λ p. refl)
     (λ p. refl) h.references)
     (free_left z s.words s.words s.homes s.homes s.views id v w l.free at places free (λ p. refl) (λ p. refl) refl refl h.free_list) lines
-    (read_on z l.log s.words s.words s.views id i (slice_index s.words i) v w h.passes at has_some refl (λ k other. refl) read h.readings))
+    (read_on z l.log s.words s.words s.views id i (slice_index s.words i) v w h.passes at has_some refl (λ k other. refl) read h.readings)
+    (middle_left z l.log v w m.commit (ap (λ (x : Places). x.carried) places) lines.shut (h.commits id v at)))
 
 -- as many notes as events
 pub length-notes : (k : ℕ) (es : List Event) → length (notes_from k es) ≡ length es
@@ -135,7 +137,7 @@ others_there l s id v h at has_some f nothing more =
     let fewer = fewer_shares v.passes.sizes l s id v h at f nothing more in (fewer, omega (arith, fewer, has_some))
 
 -- all events, as a pass knows them
-all_events : (l : Ledger) (s : State Slot View) (id : ℕ) (v : View) → IsKept v.passes.sizes l s → get_elem? s.views id ≡ some v → 0 < v.passes.shares
+pub all_events : (l : Ledger) (s : State Slot View) (id : ℕ) (v : View) → IsKept v.passes.sizes l s → get_elem? s.views id ≡ some v → 0 < v.passes.shares
     → AreAll v l.log
 all_events l s id v h at has_some =
     let p : IsPass v.passes.sizes l.log v = h.passes.each id v at in

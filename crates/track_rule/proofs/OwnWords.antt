@@ -2,7 +2,7 @@
 use Rattle.std.proofs.Common.{◌⊎◌, ◌≡◌, ◌≢◌, ℕ, ◌+◌, ◌%◌, ◌<◌, ◌≤◌, Bool, true, false, cond, Some, List, [], ◌∷◌, map, length, refl, sym, ap, subst, ◌∙◌, ⊎_elim, inl, inr, arith, set}
 use Rattle.std.specs.Prelude.{slice_index, slice_set, ◌==◌, ◌&&◌, ◌||◌, not, if◌then◌else◌}
 use Rattle.std.specs.List.{list_any}
-use Rattle.std.proofs.lemmas.Bool.{and_parts, cases_Bool, cases_eq, cond_both, eq-eqb, eqb-true, false≢true, ne_eqb}
+use Rattle.std.proofs.lemmas.Bool.{and_parts, cases_Bool, cases_eq, cond_both, eq-eqb, eqb-true, false≢true, ne_eqb, or_parts}
 use Rattle.std.proofs.lemmas.List.{length-set}
 use mathlib.Core.Option.{none, some}
 use lib.ListN.{get_elem?}
@@ -15,11 +15,11 @@ use Rattle.track_rule.specs.declared.view.Hook.{Hook}
 use Rattle.track_rule.specs.declared.view.View.{View}
 use Rattle.track_rule.specs.declared.view.Walk.{Walk}
 use Rattle.track_rule.specs.BucketSteps.{StoreTupleStep, aim, aimed, is_own_tuple, strung, tuple_in, tuple_stored}
-use Rattle.track_rule.specs.Chains.{IsChain, chain_in, entry_of, hooks_at, links_in, loose_of, shuts_of, side}
+use Rattle.track_rule.specs.Chains.{IsChain, chain_in, entry_of, hooks_at, links_in, loose_of, shuts_of, side, each_link}
 use Rattle.track_rule.specs.History.{records_after}
 use Rattle.track_rule.specs.Free.{is_among}
 use Rattle.track_rule.specs.Layout.{first_word, gen_at, head_word, next_word, place_of, second_word}
-use Rattle.track_rule.specs.Links.{HasHooks, IsHook, IsOwned, hook_of, hooks_of, is_down, last_link}
+use Rattle.track_rule.specs.Links.{HasHooks, IsHook, IsOwned, hook_of, hooks_of, is_down, last_link, is_up}
 use Rattle.track_rule.specs.Readings.{stored}
 use Rattle.track_rule.specs.Rule.{Holds, IsKept, Ledger}
 use Rattle.track_rule.specs.Sums.{Each, bit, total, times}
@@ -139,6 +139,8 @@ module _ (l : Ledger) (s : State Slot View) (id : ℕ) (v : View) (h : IsKept v.
           h.chains.lone link any,
           total_same (hooks_at link) s.views id v w at (links_kept link f (λ k. (keeps_link k).0) v.buckets.hooks),
         );
+        home = each_put (λ (u : View). (c : ℕ) → c < z.buckets → 0 < loose_of z c each_link u → 0 < shuts_of c u) s.views id w h.chains.home
+            (λ c under any. omega (arith, h.chains.home id v at c under (omega (arith, any, loose_stays c each_link))));
       })
       (record {
         heads = λ b below. omega (arith, h.links.heads b below, word_else z s.words word to (head_word z b) (of.heads b below));
@@ -167,6 +169,7 @@ module _ (l : Ledger) (s : State Slot View) (id : ℕ) (v : View) (h : IsKept v.
             (λ m e. walk_gens z s.words new l.chains v.seen.front m (string_gens z s.words word to of.string) (h.walks.each id v at m e));
       })
       (stored_on z l.log s.words s.views id word to v w h.passes at has_some low (record { reading = stored word to; more = refl; word = refl; value = refl }) h.readings)
+      (h.commits id v at)
     where
       loose_stays : (b : ℕ) (weight : Entry → ℕ)
           → total (λ (k : Hook). (if k.up then side v.passes.sizes b weight (entry_of k) else 0)) (map f v.buckets.hooks)
@@ -254,25 +257,36 @@ tuple_hook z ws word to low apart k is =
     }))
 
 -- the link of such a word
-own_tuple : (z : Sizes) (ws : List ℕ) (word : ℕ) (owned : List ℕ) (hooks : List Hook)
-    → list_any (λ (h : Hook). (not h.up && (first_word z h.link == word || second_word z h.link == word)) && is_among (place_of h.link) owned) hooks ≡ true
+own_tuple : (z : Sizes) (ws : List ℕ) (word : ℕ) (owned : List ℕ) (all hooks : List Hook) → ((q : ℕ) → is_up q all ≡ false → is_up q hooks ≡ false)
+    → list_any (λ (h : Hook). (not (is_up (place_of h.link) all) && (first_word z h.link == word || second_word z h.link == word)) && is_among (place_of h.link) owned) hooks ≡ true
     → (x : ℕ) × (is_down x hooks ≡ true) × ((word ≡ first_word z x) ⊎ (word ≡ second_word z x))
-own_tuple z ws word owned [] e = absurd (false≢true e)
-own_tuple z ws word owned (k ∷ ks) e =
+own_tuple z ws word owned all [] within e = absurd (false≢true e)
+own_tuple z ws word owned all (k ∷ ks) within e =
     ⊎_elim
-    (λ (t : ((not k.up && (first_word z k.link == word || second_word z k.link == word)) && is_among (place_of k.link) owned) ≡ true).
-    let parts = and_parts (not k.up) (first_word z k.link == word || second_word z k.link == word)
-    (and_parts (not k.up && (first_word z k.link == word || second_word z k.link == word)) (is_among (place_of k.link) owned) t).0 in (
+    (λ (t : ((not (is_up (place_of k.link) all) && (first_word z k.link == word || second_word z k.link == word)) && is_among (place_of k.link) owned) ≡ true).
+    let parts = and_parts (not (is_up (place_of k.link) all)) (first_word z k.link == word || second_word z k.link == word)
+    (and_parts (not (is_up (place_of k.link) all) && (first_word z k.link == word || second_word z k.link == word)) (is_among (place_of k.link) owned) t).0 in
+    let down : not k.up ≡ true = ap not (down_here (within (place_of k.link) (was_false (is_up (place_of k.link) all) parts.0))) in (
       k.link,
-      ap (λ (b : Bool). (k.link == k.link && b) || is_down k.link ks) parts.0 ∙ ap (λ (b : Bool). (b && true) || is_down k.link ks) (eq-eqb k.link k.link refl),
+      ap (λ (b : Bool). (k.link == k.link && b) || is_down k.link ks) down ∙ ap (λ (b : Bool). (b && true) || is_down k.link ks) (eq-eqb k.link k.link refl),
       either_word (first_word z k.link) (second_word z k.link) word parts.1,
     ))
-    (λ (t : ((not k.up && (first_word z k.link == word || second_word z k.link == word)) && is_among (place_of k.link) owned) ≡ false).
-    let rest = own_tuple z ws word owned ks (sym (ap (λ (b : Bool). b || list_any
-    (λ (h : Hook). (not h.up && (first_word z h.link == word || second_word z h.link == word)) && is_among (place_of h.link) owned) ks) t) ∙ e) in
+    (λ (t : ((not (is_up (place_of k.link) all) && (first_word z k.link == word || second_word z k.link == word)) && is_among (place_of k.link) owned) ≡ false).
+    let rest = own_tuple z ws word owned all ks (λ q calm. (or_parts (place_of k.link == q && k.up) (is_up q ks) (within q calm)).1)
+    (sym (ap (λ (b : Bool). b || list_any
+    (λ (h : Hook). (not (is_up (place_of h.link) all) && (first_word z h.link == word || second_word z h.link == word)) && is_among (place_of h.link) owned) ks) t) ∙ e) in
     (rest.0, down_more rest.0 k.link (not k.up) ks rest.1, rest.2))
-    (cases_Bool ((not k.up && (first_word z k.link == word || second_word z k.link == word)) && is_among (place_of k.link) owned))
+    (cases_Bool ((not (is_up (place_of k.link) all) && (first_word z k.link == word || second_word z k.link == word)) && is_among (place_of k.link) owned))
   where
+    was_false : (b : Bool) → not b ≡ true → b ≡ false
+    was_false true h = absurd (false≢true h)
+    was_false false h = refl
+
+    down_here : is_up (place_of k.link) (k ∷ ks) ≡ false → k.up ≡ false
+    down_here calm =
+        let both : (place_of k.link == place_of k.link && k.up) ≡ false = (or_parts (place_of k.link == place_of k.link && k.up) (is_up (place_of k.link) ks) calm).0 in
+        sym (ap (λ (b : Bool). b && k.up) (eq-eqb (place_of k.link) (place_of k.link) refl)) ∙ both
+
     either_word : (a b w : ℕ) → (a == w || b == w) ≡ true → (w ≡ a) ⊎ (w ≡ b)
     either_word a b w e =
         ⊎_elim (λ (t : (a == w) ≡ true). inl (sym (eqb-true a w t)))
@@ -315,7 +329,7 @@ stores_tuple slots id word to v c own has_some s (l, h) long at range = (
   tuple_stored word to v,
   unchanged,
   tt,
-  (l, of_word (own_tuple v.passes.sizes s.words word v.places.owned v.buckets.hooks own)),
+  (l, of_word (own_tuple v.passes.sizes s.words word v.places.owned v.buckets.hooks v.buckets.hooks (λ q calm. calm) own)),
   (refl, refl),
 )
   where

@@ -1,5 +1,5 @@
 -- The phase of a place: it is loaded, and FREE and OWNED are stored.
-use Rattle.std.proofs.Common.{◌⊎◌, ◌≡◌, ◌≢◌, ℕ, zero, suc, ◌+◌, ◌<◌, ◌≤◌, Bool, true, false, min, Option, Some, None, List, [], ◌∷◌, length, refl, sym, ap, subst, ◌∙◌, ⊎_elim, inl, inr, arith, set}
+use Rattle.std.proofs.Common.{◌⊎◌, ◌≡◌, ◌≢◌, ℕ, zero, suc, ◌+◌, ◌-◌, ◌<◌, ◌≤◌, Bool, true, false, min, Option, Some, None, List, [], ◌∷◌, length, refl, sym, ap, subst, ◌∙◌, ⊎_elim, inl, inr, arith, set}
 use Rattle.std.specs.Prelude.{slice_index, slice_set, ◌==◌, ◌&&◌, ◌||◌, if◌then◌else◌}
 use Rattle.std.proofs.lemmas.Bool.{and_parts, cases_Bool, cases_eq, cases_lt, eqb-true}
 use Rattle.std.proofs.lemmas.Bool.Decides.{nat_tests}
@@ -8,13 +8,14 @@ use mathlib.Core.Option.{none, some}
 use lib.ListN.{get_elem?}
 use Rattle.atomic_table.specs.Table.{Allows, State, keeps as unchanged, step}
 use Rattle.history_book.specs.declared.sizes.Sizes.{Sizes}
+use Rattle.history_book.specs.State.{record_of}
 use Rattle.track_rule.specs.declared.slot.Slot.{Slot}
 use Rattle.track_rule.specs.declared.view.Keep.{Keep}
-use Rattle.track_rule.specs.declared.view.Middle.TheVariants.{Calm}
 use Rattle.track_rule.specs.declared.view.Hand.{Hand}
 use Rattle.track_rule.specs.declared.view.View.{View}
 use Rattle.track_rule.specs.declared.view.Walk.{Walk}
-use Rattle.track_rule.specs.Chains.{hooks_at, loose_of}
+use Rattle.track_rule.specs.Chains.{each_link, hooks_at, loose_of, shuts_of}
+use Rattle.track_rule.specs.Commits.{IsMiddleOf}
 use Rattle.expect_table.specs.declared.expectation.Expectation.{Expectation}
 use Rattle.track_rule.specs.Expected.{has_expected}
 use Rattle.track_rule.specs.Free.{IsFreeList, has_turn, is_among, known_free, owes}
@@ -25,16 +26,16 @@ use Rattle.track_rule.specs.Passes.{IsPass}
 use Rattle.track_rule.specs.PhaseSteps.{LoadPhaseStep, LoadsPhase, StorePhaseStep, may_store, phase_stored}
 use Rattle.track_rule.specs.Phases.{ArePhases, middle_of, of_both, of_place, shows, table_keeps}
 use Rattle.track_rule.specs.Readings.{found, noted, stored}
-use Rattle.track_rule.specs.Records.{AreRecords, IsHand, has_hand}
+use Rattle.track_rule.specs.Records.{AreRecords, IsHand, has_hand, record_in}
 use Rattle.track_rule.specs.References.{AreKept, AreReferences, held_times, is_at, is_for_new, is_taken, keeps, takes}
 use Rattle.track_rule.specs.Rule.{Holds, IsKept, Ledger}
 use Rattle.track_rule.specs.Sights.{AreOfPool}
-use Rattle.track_rule.specs.Sums.{bit, times, total}
+use Rattle.track_rule.specs.Sums.{times, total}
 use Rattle.track_rule.specs.Walks.{IsWalk}
 use Rattle.track_rule.proofs.Balance.{Moves, pass_moved, passes_moved, same_lines}
 use Rattle.track_rule.proofs.Carried.{carries_set}
 use Rattle.track_rule.proofs.Frames.{SameChains, chains_stay, hooks_stay, links_stay, walk_stays}
-use Rattle.track_rule.proofs.Lists.{other_bit, total_some, some_of}
+use Rattle.track_rule.proofs.Lists.{other_bit, total_some, some_of, takes_held}
 use Rattle.track_rule.proofs.Seats.{held_below, owed_below}
 use Rattle.track_rule.proofs.Loads.{reads}
 use Rattle.track_rule.proofs.LastRead.{stored_on}
@@ -93,10 +94,10 @@ loads_phase slots id p v c below has_some s (l, h) long at range =
 
 -- the phase of one place
 module _ (z : Sizes) (ws : List ℕ) (p n : ℕ) where
-  phase_else : (q : ℕ) → q ≢ p → phase_at z (slice_set ws (phase_word z p) n) q ≡ phase_at z ws q
+  pub phase_else : (q : ℕ) → q ≢ p → phase_at z (slice_set ws (phase_word z p) n) q ≡ phase_at z ws q
   phase_else q other = get_or-set_other ws (phase_word z p) (phase_word z q) n 0 (λ e. other (one_phase z q p e))
 
-  phase_same : SameChains z ws (slice_set ws (phase_word z p) n)
+  pub phase_same : SameChains z ws (slice_set ws (phase_word z p) n)
   phase_same = record {
     gens = λ b below. get_or-set_other ws (phase_word z p) (gen_word z b) n 0 (λ e. omega (arith, e, below));
     links = record {
@@ -107,33 +108,31 @@ module _ (z : Sizes) (ws : List ℕ) (p n : ℕ) where
     };
   }
 
-  phase_refs : (q : ℕ) → refs_at z (slice_set ws (phase_word z p) n) q ≡ refs_at z ws q
+  pub phase_refs : (q : ℕ) → refs_at z (slice_set ws (phase_word z p) n) q ≡ refs_at z ws q
   phase_refs q = get_or-set_other ws (phase_word z p) (refs_word z q) n 0 (λ e. omega (arith, e))
 
-  phase_turn : (q : ℕ) → turn_at z (slice_set ws (phase_word z p) n) q ≡ turn_at z ws q
+  pub phase_turn : (q : ℕ) → turn_at z (slice_set ws (phase_word z p) n) q ≡ turn_at z ws q
   phase_turn q = get_or-set_other ws (phase_word z p) (turn_word z q) n 0 (λ e. omega (arith, e))
 
-  phase_first : (k : ℕ) → k < 3 → slice_index (slice_set ws (phase_word z p) n) k ≡ slice_index ws k
+  pub phase_first : (k : ℕ) → k < 3 → slice_index (slice_set ws (phase_word z p) n) k ≡ slice_index ws k
   phase_first k low = get_or-set_other ws (phase_word z p) k n 0 (λ e. omega (arith, e, low))
 
 -- a low phase is of no live entry
 low_keeps : (n : ℕ) → n < 2 → table_keeps n ≡ 0
 low_keeps n low = grind (arith, nat_tests)
 
-low_shows : (n id : ℕ) → n < 2 → shows n id ≡ 0
+pub few_keeps : (n : ℕ) → table_keeps n ≡ 0 → n ≤ 2
+few_keeps n idle = grind (arith, nat_tests, idle)
+
+pub low_shows : (n id : ℕ) → n ≤ 2 → shows n id ≡ 0
 low_shows n id low = other_bit n (3 + id) (λ e. omega (arith, e, low))
 
 -- what a pass may store: of a place that it owes, or holds
 MayStore : ℕ → ℕ → View → Type 0
-MayStore p to v = ((to ≡ 0) × (0 < owes p v)) ⊎ ((to ≡ 1) × (0 < held_times p v.places.held))
+MayStore p to v = ((to ≡ 0) × (0 < owes p v)) ⊎ ((to ≡ 1) × (0 < takes p v))
 
 taken_held : (p : ℕ) (held : List Keep) → is_taken p held ≡ true → 1 ≤ held_times p held
-taken_held p [] e = cc
-taken_held p (k ∷ ks) e =
-    ⊎_elim
-    (λ (here : is_at p k ≡ true). omega (arith, ap bit here))
-    (λ (other : is_at p k ≡ false). omega (arith, taken_held p ks (sym (ap (λ (b : Bool). (b && is_for_new k.purpose) || is_taken p ks) other) ∙ e)))
-    (cases_Bool (is_at p k))
+taken_held p held e = omega (arith, total_some (λ k. is_at p k && is_for_new k.purpose) held e, takes_held p held)
 
 storing : (p to : ℕ) (v : View) → may_store p to v ≡ true → MayStore p to v
 unfolding MayStore
@@ -145,7 +144,7 @@ storing p to v e =
     (λ (t : (to == 0 && is_among p v.places.owed) ≡ false).
     let rest : (to == 1 && is_taken p v.places.held) ≡ true = sym (ap (λ (b : Bool). b || (to == 1 && is_taken p v.places.held)) t) ∙ e in
     let parts = and_parts (to == 1) (is_taken p v.places.held) rest in
-    inr (eqb-true to 1 parts.0, taken_held p v.places.held parts.1))
+    inr (eqb-true to 1 parts.0, total_some (λ k. is_at p k && is_for_new k.purpose) v.places.held parts.1))
     (cases_Bool (to == 0 && is_among p v.places.owed))
 
 -- that place is one of the pool
@@ -177,7 +176,7 @@ module _ (l : Ledger) (s : State Slot View) (id p to : ℕ) (v : View) (h : IsKe
   unfolding MayStore
   unlisted =
       let any : (0 < owes p v) ⊎ (0 < keeps p v) =
-      ⊎_elim (λ (t : (to ≡ 0) × (0 < owes p v)). inl t.1) (λ (t : (to ≡ 1) × (0 < held_times p v.places.held)). inr (omega (arith, t.1))) may in
+      ⊎_elim (λ (t : (to ≡ 0) × (0 < owes p v)). inl t.1) (λ (t : (to ≡ 1) × (0 < takes p v)). inr (omega (arith, t.1, takes_held p v.places.held))) may in
       none_listed (times p l.free) (total (owes p) s.views) (owes p v) (refs_at v.passes.sizes s.words p) (keeps p v) (h.free_list.once p below)
       (total_term (owes p) s.views id v at) mine any
 
@@ -186,26 +185,56 @@ module _ (l : Ledger) (s : State Slot View) (id p to : ℕ) (v : View) (h : IsKe
   unfolding MayStore
   cleared i u at' owed =
       ⊎_elim (λ (t : (to ≡ 0) × (0 < owes p v)). t.0)
-      (λ (t : (to ≡ 1) × (0 < held_times p v.places.held)).
+      (λ (t : (to ≡ 1) × (0 < takes p v)).
       absurd (omega (
         arith,
         owed,
         none_owed (times p l.free) (total (owes p) s.views) (owes p u) (refs_at v.passes.sizes s.words p) (keeps p v) (h.free_list.once p below)
-            (total_term (owes p) s.views i u at') mine (omega (arith, t.1)),
+            (total_term (owes p) s.views i u at') mine (omega (arith, t.1, takes_held p v.places.held)),
       )))
       may
 
   low : to < 2
   unfolding MayStore
-  low = ⊎_elim (λ (t : (to ≡ 0) × (0 < owes p v)). omega (arith, t.0)) (λ (t : (to ≡ 1) × (0 < held_times p v.places.held)). omega (arith, t.0)) may
+  low = ⊎_elim (λ (t : (to ≡ 0) × (0 < owes p v)). omega (arith, t.0)) (λ (t : (to ≡ 1) × (0 < takes p v)). omega (arith, t.0)) may
 
   here : phase_at v.passes.sizes (slice_set s.words (phase_word v.passes.sizes p) to) p ≡ to
   here = get_or-set_same s.words (phase_word v.passes.sizes p) to 0 (omega (arith, h.count, below))
 
-  low_phase : (q : ℕ) → q < v.passes.sizes.entries → phase_at v.passes.sizes (slice_set s.words (phase_word v.passes.sizes p) to) q < 2
-  low_phase q under =
-      ⊎_elim (λ (e : q ≡ p). omega (arith, low, here, ap (phase_at v.passes.sizes (slice_set s.words (phase_word v.passes.sizes p) to)) e))
-      (λ (e : q ≢ p). omega (arith, phase_else v.passes.sizes s.words p to q e, h.phases.low q under)) (cases_eq q p)
+  -- no entry is live at the place
+  idle_place : table_keeps (phase_at v.passes.sizes s.words p) ≡ 0
+  unfolding MayStore
+  idle_place =
+      ⊎_elim
+      (λ (t : (to ≡ 0) × (0 < owes p v)).
+      none_left (times p l.free) (total (owes p) s.views) (owes p v) (refs_at v.passes.sizes s.words p) (table_keeps (phase_at v.passes.sizes s.words p)) (h.free_list.once p below)
+      (total_term (owes p) s.views id v at) t.1 (omega (arith, h.references.counted p below)))
+      (λ (t : (to ≡ 1) × (0 < takes p v)).
+      omega (arith, t.1, h.references.taken p, total_term (takes p) s.views id v at, h.phases.used p below)) may
+    where
+      none_left : (f o d n k : ℕ) → f + o + min n 1 ≡ 1 → d ≤ o → 0 < d → k ≤ n → k ≡ 0
+      none_left f o d zero k all small any less = omega (arith, less)
+      none_left f o d (suc n) k all small any less = absurd (omega (arith, all, small, any))
+
+  idle_phase : phase_at v.passes.sizes s.words p ≤ 2
+  idle_phase = few_keeps (phase_at v.passes.sizes s.words p) idle_place
+
+  -- what the table keeps, and shows, is as it was
+  same_keeps : (q : ℕ) → table_keeps (phase_at v.passes.sizes (slice_set s.words (phase_word v.passes.sizes p) to) q) ≡ table_keeps (phase_at v.passes.sizes s.words q)
+  same_keeps q =
+      ⊎_elim
+      (λ (e : q ≡ p).
+      subst (λ (k : ℕ). table_keeps (phase_at v.passes.sizes (slice_set s.words (phase_word v.passes.sizes p) to) k) ≡ table_keeps (phase_at v.passes.sizes s.words k)) (sym e)
+      (ap table_keeps here ∙ low_keeps to low ∙ sym idle_place))
+      (λ (e : q ≢ p). ap table_keeps (phase_else v.passes.sizes s.words p to q e)) (cases_eq q p)
+
+  same_shows : (q i : ℕ) → shows (phase_at v.passes.sizes (slice_set s.words (phase_word v.passes.sizes p) to) q) i ≡ shows (phase_at v.passes.sizes s.words q) i
+  same_shows q i =
+      ⊎_elim
+      (λ (e : q ≡ p).
+      subst (λ (k : ℕ). shows (phase_at v.passes.sizes (slice_set s.words (phase_word v.passes.sizes p) to) k) i ≡ shows (phase_at v.passes.sizes s.words k) i) (sym e)
+      (ap (λ (ph : ℕ). shows ph i) here ∙ low_shows to i (omega (arith, low)) ∙ sym (low_shows (phase_at v.passes.sizes s.words p) i idle_phase)))
+      (λ (e : q ≢ p). ap (λ (ph : ℕ). shows ph i) (phase_else v.passes.sizes s.words p to q e)) (cases_eq q p)
 
   stored_references : AreReferences v.passes.sizes l.log (slice_set s.words (phase_word v.passes.sizes p) to) (set s.views id (phase_stored p to v))
   stored_references = record {
@@ -214,8 +243,7 @@ module _ (l : Ledger) (s : State Slot View) (id p to : ℕ) (v : View) (h : IsKe
       h.references.counted q under,
       phase_refs v.passes.sizes s.words p to q,
       total_same (keeps q) s.views id v (phase_stored p to v) at refl,
-      low_keeps (phase_at v.passes.sizes s.words q) (h.phases.low q under),
-      low_keeps (phase_at v.passes.sizes (slice_set s.words (phase_word v.passes.sizes p) to) q) (low_phase q under),
+      same_keeps q,
     );
     beyond = λ q above. omega (arith, h.references.beyond q above, total_same (keeps q) s.views id v (phase_stored p to v) at refl);
     carried = each_put (λ u. (q : ℕ) → times q u.places.carried ≤ held_times q u.places.held) s.views id (phase_stored p to v) h.references.carried
@@ -233,7 +261,7 @@ module _ (l : Ledger) (s : State Slot View) (id p to : ℕ) (v : View) (h : IsKe
 
   is_owed : (to == 0) ≡ true → 0 < owes p v
   unfolding MayStore
-  is_owed e = ⊎_elim (λ (t : (to ≡ 0) × (0 < owes p v)). t.1) (λ (t : (to ≡ 1) × (0 < held_times p v.places.held)). absurd (omega (arith, t.0, eqb-true to 0 e))) may
+  is_owed e = ⊎_elim (λ (t : (to ≡ 0) × (0 < owes p v)). t.1) (λ (t : (to ≡ 1) × (0 < takes p v)). absurd (omega (arith, t.0, eqb-true to 0 e))) may
 
   still_clear : (i : ℕ) (u : View) → get_elem? s.views i ≡ some u → (q : ℕ) → 0 < times q u.places.clear
       → (0 < times q u.places.owed) × (phase_at v.passes.sizes (slice_set s.words (phase_word v.passes.sizes p) to) q ≡ 0)
@@ -261,10 +289,10 @@ module _ (l : Ledger) (s : State Slot View) (id p to : ℕ) (v : View) (h : IsKe
   -- a place that a pass owns is held by it, so OWNED is stored
   set_owned : 0 < held_times p v.places.held → to ≡ 1
   unfolding MayStore
-  set_owned mine' = ⊎_elim (λ (t : (to ≡ 0) × (0 < owes p v)). absurd (held_and_owed id v at mine' t.1)) (λ (t : (to ≡ 1) × (0 < held_times p v.places.held)). t.0) may
+  set_owned mine' = ⊎_elim (λ (t : (to ≡ 0) × (0 < owes p v)). absurd (held_and_owed id v at mine' t.1)) (λ (t : (to ≡ 1) × (0 < takes p v)). t.0) may
 
   still_owned : (i : ℕ) (u : View) → get_elem? s.views i ≡ some u → (q : ℕ) → 0 < times q u.places.owned
-      → (0 < held_times q u.places.held) × (phase_at v.passes.sizes (slice_set s.words (phase_word v.passes.sizes p) to) q ≡ 1)
+      → (0 < takes q u) × (phase_at v.passes.sizes (slice_set s.words (phase_word v.passes.sizes p) to) q ≡ 1)
   unfolding MayStore
   still_owned i u at' q on =
       let c = h.free_list.owned i u at' q on in (
@@ -272,20 +300,20 @@ module _ (l : Ledger) (s : State Slot View) (id p to : ℕ) (v : View) (h : IsKe
         ⊎_elim
             (λ (e : q ≡ p).
             ap (phase_at v.passes.sizes (slice_set s.words (phase_word v.passes.sizes p) to)) e ∙ here
-            ∙ ⊎_elim (λ (t : (to ≡ 0) × (0 < owes p v)). absurd (held_and_owed i u at' (subst (λ (x : ℕ). 0 < held_times x u.places.held) e c.0) t.1))
-            (λ (t : (to ≡ 1) × (0 < held_times p v.places.held)). t.0) may)
+            ∙ ⊎_elim (λ (t : (to ≡ 0) × (0 < owes p v)). absurd (held_and_owed i u at' (subst (λ (x : ℕ). 0 < held_times x u.places.held) e (omega (arith, c.0, takes_held q u.places.held))) t.1))
+            (λ (t : (to ≡ 1) × (0 < takes p v)). t.0) may)
             (λ (e : q ≢ p). phase_else v.passes.sizes s.words p to q e ∙ c.1) (cases_eq q p),
       )
 
-  owned_then : (b : Bool) → (q : ℕ) → 0 < times q (if b then p ∷ v.places.owned else v.places.owned) → (b ≡ true → 0 < held_times p v.places.held)
-      → (0 < times q v.places.owned) ⊎ ((q ≡ p) × (0 < held_times p v.places.held))
+  owned_then : (b : Bool) → (q : ℕ) → 0 < times q (if b then p ∷ v.places.owned else v.places.owned) → (b ≡ true → 0 < takes p v)
+      → (0 < times q v.places.owned) ⊎ ((q ≡ p) × (0 < takes p v))
   owned_then false q any holds = inl any
   owned_then true q any holds =
       ⊎_elim (λ (e : p ≡ q). inr (sym e, holds refl)) (λ (e : p ≢ q). inl (omega (arith, any, other_bit p q e))) (cases_eq p q)
 
-  is_held_one : (to == 1) ≡ true → 0 < held_times p v.places.held
+  is_held_one : (to == 1) ≡ true → 0 < takes p v
   unfolding MayStore
-  is_held_one e = ⊎_elim (λ (t : (to ≡ 0) × (0 < owes p v)). absurd (omega (arith, t.0, eqb-true to 1 e))) (λ (t : (to ≡ 1) × (0 < held_times p v.places.held)). t.1) may
+  is_held_one e = ⊎_elim (λ (t : (to ≡ 0) × (0 < owes p v)). absurd (omega (arith, t.0, eqb-true to 1 e))) (λ (t : (to ≡ 1) × (0 < takes p v)). t.1) may
 
   owned_more : HasHooks v.passes.sizes (slice_set s.words (phase_word v.passes.sizes p) to) v.places v.buckets.hooks
       → HasHooks v.passes.sizes (slice_set s.words (phase_word v.passes.sizes p) to) (phase_stored p to v).places v.buckets.hooks
@@ -322,12 +350,12 @@ module _ (l : Ledger) (s : State Slot View) (id p to : ℕ) (v : View) (h : IsKe
               ap (phase_at z new) t.0 ∙ here ∙ cleared id v at t.1,
             ))
             (clear_then (to == 0) q on is_owed));
-        owned = each_put (λ u. (q : ℕ) → 0 < times q u.places.owned → (0 < held_times q u.places.held) × (phase_at z new q ≡ 1)) s.views id w still_owned
+        owned = each_put (λ u. (q : ℕ) → 0 < times q u.places.owned → (0 < takes q u) × (phase_at z new q ≡ 1)) s.views id w still_owned
             (λ q on.
             ⊎_elim (λ (t : 0 < times q v.places.owned). still_owned id v at q t)
-            (λ (t : (q ≡ p) × (0 < held_times p v.places.held)). (
-              subst (λ (x : ℕ). 0 < held_times x v.places.held) (sym t.0) t.1,
-              ap (phase_at z new) t.0 ∙ here ∙ set_owned t.1,
+            (λ (t : (q ≡ p) × (0 < takes p v)). (
+              subst (λ (x : ℕ). 0 < takes x v) (sym t.0) t.1,
+              ap (phase_at z new) t.0 ∙ here ∙ set_owned (omega (arith, t.1, takes_held p v.places.held)),
             ))
             (owned_then (to == 1) q on is_held_one));
       }
@@ -341,17 +369,34 @@ module _ (l : Ledger) (s : State Slot View) (id p to : ℕ) (v : View) (h : IsKe
         single = λ q. omega (arith, h.records.single q, total_same (has_hand q) s.views id v w at refl);
         home = λ q under calm.
             let r = h.records.home q under (sym (phase_turn z s.words p to q) ∙ calm) in
-            record { slot = r.slot; there = r.there; kind = r.kind; live = λ live. absurd (omega (arith, live, low_phase q under)) };
+            record { slot = r.slot; there = r.there; kind = r.kind; live = home_live q r.slot r.live };
         away = each_put (λ u. (x : Hand) → u.commit.hand ≡ Some x → IsHand z l.log (slice_set s.words (phase_word v.passes.sizes p) to) x) s.views id w
             (λ i u at' x e. low_hand x (h.records.away i u at' x e)) (λ x e. low_hand x (h.records.away id v at x e));
       }
     where
-      -- no phase is LIVE
+      home_live : (q : ℕ) (x : Slot) → (3 ≤ phase_at v.passes.sizes s.words q → record_in x ≡ record_of (phase_at v.passes.sizes s.words q - 3) (state_after l.log))
+          → 3 ≤ phase_at v.passes.sizes (slice_set s.words (phase_word v.passes.sizes p) to) q
+          → record_in x ≡ record_of (phase_at v.passes.sizes (slice_set s.words (phase_word v.passes.sizes p) to) q - 3) (state_after l.log)
+      home_live q x live shown =
+          ⊎_elim
+          (λ (e : q ≡ p).
+          absurd (omega (arith, shown, ap (phase_at v.passes.sizes (slice_set s.words (phase_word v.passes.sizes p) to)) e, here, low)))
+          (λ (e : q ≢ p).
+          let same = phase_else v.passes.sizes s.words p to q e in
+          live (omega (arith, shown, same)) ∙ ap (λ (ph : ℕ). record_of (ph - 3) (state_after l.log)) (sym same)) (cases_eq q p)
+
+      -- what passes know of a phase under its turn
       low_hand : (x : Hand) → IsHand v.passes.sizes l.log s.words x → IsHand v.passes.sizes l.log (slice_set s.words (phase_word v.passes.sizes p) to) x
       low_hand x k = record {
         below = k.below;
-        shown = λ some. absurd (omega (arith, some, k.shown some, h.phases.low x.place k.below));
-        idle = λ low. omega (arith, low_phase x.place k.below);
+        shown = λ some_shown.
+            ⊎_elim
+            (λ (e : x.place ≡ p). absurd (omega (arith, some_shown, k.shown some_shown, ap (phase_at v.passes.sizes s.words) e, idle_phase)))
+            (λ (e : x.place ≢ p). phase_else v.passes.sizes s.words p to x.place e ∙ k.shown some_shown) (cases_eq x.place p);
+        idle = λ few.
+            ⊎_elim
+            (λ (e : x.place ≡ p). omega (arith, ap (phase_at v.passes.sizes (slice_set s.words (phase_word v.passes.sizes p) to)) e, here, low))
+            (λ (e : x.place ≢ p). omega (arith, phase_else v.passes.sizes s.words p to x.place e, k.idle few)) (cases_eq x.place p);
         live = k.live;
       }
 
@@ -364,18 +409,14 @@ module _ (l : Ledger) (s : State Slot View) (id p to : ℕ) (v : View) (h : IsKe
           arith,
           h.phases.shown q i under,
           total_same (middle_of (of_both q i)) s.views id v w at refl,
-          low_shows (phase_at z s.words q) i (h.phases.low q under),
-          low_shows (phase_at z (slice_set s.words (phase_word v.passes.sizes p) to) q) i (low_phase q under),
+          same_shows q i,
         );
         used = λ q under. omega (
           arith,
           h.phases.used q under,
           total_same (middle_of (of_place q)) s.views id v w at refl,
-          low_keeps (phase_at z s.words q) (h.phases.low q under),
-          low_keeps (phase_at z (slice_set s.words (phase_word v.passes.sizes p) to) q) (low_phase q under),
+          same_keeps q,
         );
-        low = low_phase;
-        calm = each_put (λ u. u.commit.middle ≡ Calm) s.views id w h.phases.calm (h.phases.calm id v at);
       }
 
   phase_kept : IsKept v.passes.sizes l (record { words = slice_set s.words (phase_word v.passes.sizes p) to; homes = s.homes; views = set s.views id (phase_stored p to v) })
@@ -396,8 +437,10 @@ module _ (l : Ledger) (s : State Slot View) (id p to : ℕ) (v : View) (h : IsKe
         free_list = stored_free;
         records = stored_records;
         phases = stored_phases;
+        commits = each_put (IsMiddleOf z l.log) s.views id w h.commits (h.commits id v at);
         chains = chains_stay z s.words new same l.log s.views (set s.views id w) l.chains (carries_set (λ (u : View). u.buckets.shut) [] s.views id v w at refl)
             (λ b weight. total_same (loose_of z b weight) s.views id v w at refl)
+            (each_put (λ (u : View). (c : ℕ) → c < z.buckets → 0 < loose_of z c each_link u → 0 < shuts_of c u) s.views id w h.chains.home (h.chains.home id v at))
             (λ link any. omega (arith, h.chains.lone link any, total_same (hooks_at link) s.views id v w at refl)) h.chains;
         links = links_stay z s.words new same s.views (set s.views id w)
             (each_put (λ u. HasHooks z new u.places u.buckets.hooks) s.views id w

@@ -15,11 +15,13 @@ use Rattle.history_book.specs.declared.sizes.Sizes.{Sizes}
 use Rattle.track_rule.specs.declared.slot.Slot.{Slot}
 use Rattle.track_rule.specs.declared.slot.Slot.TheVariants.{Vacant, Free, Expects, Subject}
 use Rattle.track_rule.specs.declared.view.Hand.{Hand}
+use Rattle.track_rule.specs.declared.view.Middle.{Middle}
 use Rattle.track_rule.specs.declared.view.Middle.TheVariants.{Calm}
 use Rattle.track_rule.specs.declared.view.Reading.{Reading}
 use Rattle.track_rule.specs.declared.view.View.{View}
 use Rattle.track_rule.specs.declared.view.Walk.{Walk}
-use Rattle.track_rule.specs.Chains.{hooks_at, loose_of}
+use Rattle.track_rule.specs.Chains.{each_link, hooks_at, loose_of, shuts_of}
+use Rattle.track_rule.specs.Commits.{IsMiddle, IsMiddleOf}
 use Rattle.track_rule.specs.Expected.{has_expected}
 use Rattle.track_rule.specs.History.{state_after}
 use Rattle.track_rule.specs.Layout.{first_word, gen_word, head_word, next_word, phase_at, phase_word, record_slot, refs_at, refs_word, second_word, turn_at, turn_word}
@@ -34,7 +36,7 @@ use Rattle.track_rule.specs.TurnSteps.{CanGiveTurn, GiveTurnStep, TakeTurnStep, 
 use Rattle.track_rule.specs.Walks.{IsWalk}
 use Rattle.track_rule.proofs.Balance.{MakesNone, Moves, free_left, pass_moved, passes_moved, references_left, same_lines}
 use Rattle.track_rule.proofs.Carried.{carries_set}
-use Rattle.track_rule.proofs.Frames.{SameChains, chains_stay, hooks_stay, links_stay, walk_stays}
+use Rattle.track_rule.proofs.Frames.{SameChains, chains_stay, hooks_stay, links_stay, walk_stays, middle_calm}
 use Rattle.track_rule.proofs.Lists.{other_bit, same_bit}
 use Rattle.track_rule.proofs.Loads.{others_there, reads}
 use Rattle.track_rule.proofs.LastRead.{ReadsAt, stored_on}
@@ -78,8 +80,9 @@ module _ (l : Ledger) (s : State Slot View) (id p : ℕ) (v : View) (h : IsKept 
   turn_kept : (n : ℕ) (hand : Option Hand) (r : Reading) (hs' : List (Slotted Slot)) → get_elem? hs' 0 ≡ get_elem? s.homes 0 → get_elem? hs' 1 ≡ get_elem? s.homes 1
       → AreRecords v.passes.sizes l.log (slice_set s.words (turn_word v.passes.sizes p) n) hs' (set s.views id (with_hand hand r v))
       → ReadsAt (turn_word v.passes.sizes p) n v (with_hand hand r v)
+      → IsMiddleOf v.passes.sizes l.log (with_hand hand r v)
       → IsKept v.passes.sizes l (record { words = slice_set s.words (turn_word v.passes.sizes p) n; homes = hs'; views = set s.views id (with_hand hand r v) })
-  turn_kept n hand r hs' first second records read =
+  turn_kept n hand r hs' first second records read middle =
       let z : Sizes = v.passes.sizes in
       let w : View = with_hand hand r v in
       let new : List ℕ = slice_set s.words (turn_word v.passes.sizes p) n in
@@ -109,11 +112,11 @@ module _ (l : Ledger) (s : State Slot View) (id p : ℕ) (v : View) (h : IsKept 
             ap table_keeps (turn_phase z s.words p n q),
             total_same (middle_of (of_place q)) s.views id v w at refl,
           );
-          low = λ q under. omega (arith, h.phases.low q under, turn_phase z s.words p n q);
-          calm = each_put (λ u. u.commit.middle ≡ Calm) s.views id w h.phases.calm (h.phases.calm id v at);
         };
+        commits = each_put (IsMiddleOf z l.log) s.views id w h.commits middle;
         chains = chains_stay z s.words new same l.log s.views (set s.views id w) l.chains (carries_set (λ (u : View). u.buckets.shut) [] s.views id v w at refl)
             (λ b weight. total_same (loose_of z b weight) s.views id v w at refl)
+            (each_put (λ (u : View). (c : ℕ) → c < z.buckets → 0 < loose_of z c each_link u → 0 < shuts_of c u) s.views id w h.chains.home (h.chains.home id v at))
             (λ link any. omega (arith, h.chains.lone link any, total_same (hooks_at link) s.views id v w at refl)) h.chains;
         links = links_stay z s.words new same s.views (set s.views id w)
             (each_put (λ u. HasHooks z new u.places u.buckets.hooks) s.views id w
@@ -241,7 +244,9 @@ taking_turn slots id p v c below has_some calm s (l, h) sized at range =
         turn_kept l s id p v h at has_some below 1 (Some hand) (stored (turn_word z p) 1) (slice_set s.homes (record_slot p) none)
             (set_else s.homes (record_slot p) 0 none (λ e. omega (arith, e))) (set_else s.homes (record_slot p) 1 none (λ e. omega (arith, e)))
             (taken_records l s id p v h at has_some below calm hit (stored (turn_word z p) 1) hand refl)
-            (record { reading = stored (turn_word z p) 1; more = refl; word = refl; value = refl }),
+            (record { reading = stored (turn_word z p) 1; more = refl; word = refl; value = refl })
+            (subst (λ (m : Middle). IsMiddle z l.log m (Some hand) v.places.carried v.buckets.shut)
+            (sym (middle_calm z l.log v.commit.middle v.places.carried v.buckets.shut v.commit.hand calm (h.commits id v at))) tt),
       ),
       λ q same. subst (λ (k : ℕ). TakesTurn (slice_index s.words (turn_word z p) == 0) k v c w ((record_slot p, x) ∷ c)) (one_turn z p q same)
           (subst (λ (b : Bool). TakesTurn b p v c w ((record_slot p, x) ∷ c)) (sym (eq-eqb (slice_index s.words (turn_word z p)) 0 hit)) (record {
@@ -280,17 +285,17 @@ taking_turn slots id p v c below has_some calm s (l, h) sized at range =
     ))
 
 -- a pass that has the turn has it of this place
-hand_there : (p : ℕ) (o : Option Hand) → is_hand_of p o ≡ 1 → (x : Hand) × (o ≡ Some x) × (x.place ≡ p)
+pub hand_there : (p : ℕ) (o : Option Hand) → is_hand_of p o ≡ 1 → (x : Hand) × (o ≡ Some x) × (x.place ≡ p)
 hand_there p None e = absurd (omega (arith, e))
 hand_there p (Some x) e =
     (x, refl, ⊎_elim (λ (t : x.place ≡ p). t) (λ (t : x.place ≢ p). absurd (omega (arith, e, other_bit x.place p t))) (cases_eq x.place p))
 
 -- giving it back keeps the rule
 pub giving_turn : (slots id p : ℕ) (v : View) (x : Slot) (c : List (ℕ × Slot)) → p < v.passes.sizes.entries → 2 + v.passes.sizes.entries ≤ slots → 0 < v.passes.shares
-    → has_hand p v ≡ 1 → is_records x ≡ true → CanGiveTurn v ((record_slot p, x) ∷ c)
+    → has_hand p v ≡ 1 → v.commit.middle ≡ Calm → is_records x ≡ true → CanGiveTurn v ((record_slot p, x) ∷ c)
     → Allows (Holds v.passes.sizes) slots id (v, (record_slot p, x) ∷ c) (turn_word v.passes.sizes p) (λ _. 0)
     (λ _. GiveTurnStep (step slots (turn_word v.passes.sizes p) 0 0 none) (v, (record_slot p, x) ∷ c) 0)
-giving_turn slots id p v x c below some_slots has_some mine kind can s (l, h) sized at range =
+giving_turn slots id p v x c below some_slots has_some mine calm kind can s (l, h) sized at range =
     let z : Sizes = v.passes.sizes in (
       gave_turn p v,
       gives,
@@ -299,7 +304,8 @@ giving_turn slots id p v x c below some_slots has_some mine kind can s (l, h) si
         l,
         turn_kept l s id p v h at has_some below 0 None (stored (turn_word z p) 0) (slice_set s.homes (record_slot p) (some x))
             (set_else s.homes (record_slot p) 0 (some x) (λ e. omega (arith, e))) (set_else s.homes (record_slot p) 1 (some x) (λ e. omega (arith, e)))
-            given_records (record { reading = stored (turn_word z p) 0; more = refl; word = refl; value = refl }),
+            given_records (record { reading = stored (turn_word z p) 0; more = refl; word = refl; value = refl })
+            (subst (λ (m : Middle). IsMiddle z l.log m None v.places.carried v.buckets.shut) (sym calm) tt),
       ),
       λ q same. subst (λ (k : ℕ). (gave_turn p v ≡ gave_turn k v) × (c ≡ c)) (one_turn z p q same) (refl, refl),
     )

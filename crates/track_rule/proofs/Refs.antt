@@ -23,13 +23,16 @@ use Rattle.track_rule.specs.Readings.{found, noted, stored}
 use Rattle.track_rule.specs.History.{records_after}
 use Rattle.track_rule.specs.Phases.{of_place}
 use Rattle.track_rule.specs.Records.{has_hand}
-use Rattle.track_rule.specs.References.{AreKept, held_times, is_at, is_for_new, is_held, is_taken, keeps, takes, without}
+use Rattle.track_rule.specs.References.{AreKept, held_times, is_at, is_for_new, is_held, is_taken, keeps, takes, without, taken_times}
 use Rattle.track_rule.specs.Rule.{Holds, IsKept, Ledger}
 use Rattle.track_rule.specs.Steps.{IsCount, LowerStep, LowersRefs, OpenStep, Opens, RaiseStep, RaisedRefs, RaisesRefs, is_second, keep, let_go, let_go_of, opened, owed_then, raised}
 use Rattle.track_rule.specs.Sums.{bit, times, total}
-use Rattle.track_rule.proofs.Frames.{Quiet}
+use Rattle.track_rule.proofs.Frames.{Quiet, middle_more}
 use Rattle.track_rule.proofs.LastRead.{ReadsAt, stored_on}
-use Rattle.track_rule.proofs.Lists.{bit_low, kept_without, length_without, other_bit, other_taken, other_without, same_bit, same_taken, same_without, takes_held, takes_other, takes_testing, takes_without, total_none, total_some}
+use Rattle.track_rule.specs.declared.view.Middle.{Middle}
+use Rattle.track_rule.specs.declared.view.Middle.TheVariants.{Calm}
+use Rattle.track_rule.specs.Commits.{IsMiddle, IsMiddleOf}
+use Rattle.track_rule.proofs.Lists.{bit_low, kept_without, length_without, other_bit, other_taken, other_without, same_bit, same_taken, same_without, takes_held, takes_other, takes_testing, takes_without, total_none, total_some, taken_else}
 use Rattle.track_rule.proofs.Loads.{one_place, reads, refs_told}
 use Rattle.track_rule.proofs.Balance.{Lines, Moves, free_moved, moved, pass_moved, references_moved, same_lines}
 use Rattle.track_rule.proofs.Hooks.{hooks_new, lowered_lines, new_hooks, no_record_there, opened_lines, still_owned}
@@ -69,15 +72,15 @@ pub record RefsMove (v w : View) (p n : ℕ) (free free' : List ℕ) (before : �
   pub few : length w.places.held + length w.places.owed ≤ 4
   pub clear : w.places.clear ≡ v.places.clear
   pub owed : (q : ℕ) → 0 < times q v.places.owed → 0 < times q w.places.owed
-  pub owned : (q : ℕ) → 0 < times q w.places.owned → (0 < held_times q w.places.held) × (0 < times q v.places.owned)
+  pub owned : (q : ℕ) → 0 < times q w.places.owned → (0 < takes q w) × (0 < times q v.places.owned)
 
 -- a references word becomes n, and the view changes so
 pub counts : (z : Sizes) (l : Ledger) (s : State Slot View) (id p n : ℕ) (v w : View) (free' : List ℕ) → IsKept z l s → get_elem? s.views id ≡ some v
     → 0 < v.passes.shares → p < z.entries → RefsMove v w p n l.free free' (refs_at z s.words p) → Lines z l s id v w
-    → ((q : ℕ) → total (takes q) s.views + total (of_place q) (records_after l.log) + takes q w ≤ 1 + takes q v) → AreKept l.log w.places.held
+    → ((q : ℕ) → total (takes q) s.views + total (of_place q) (records_after l.log) + takes q w ≤ 1 + takes q v) → AreKept l.log w.places.held → IsMiddleOf z l.log w
     → ReadsAt (refs_word z p) n v w
     → IsKept z (record l { free = free' }) (record { words = slice_set s.words (refs_word z p) n; homes = s.homes; views = set s.views id w })
-counts z l s id p n v w free' h at has_some below t lines taken purposes read =
+counts z l s id p n v w free' h at has_some below t lines taken purposes middle read =
     let one : IsPass z l.log v = h.passes.each id v at in
     let ws : List ℕ = s.words in
     let now : refs_at z (slice_set ws (refs_word z p) n) p ≡ n = refs_here z ws p n (omega (arith, h.count, below)) in
@@ -126,7 +129,7 @@ counts z l s id p n v w free' h at has_some below t lines taken purposes read =
       owned = λ q on.
           let c = t.owned q on in
           (c.0, refs_phase z ws p n q ∙ (h.free_list.owned id v at q c.1).1);
-    }) h.free_list) lines (stored_on z l.log ws s.views id (refs_word z p) n v w h.passes at has_some (omega (arith, h.count, below)) read h.readings)
+    }) h.free_list) lines (stored_on z l.log ws s.views id (refs_word z p) n v w h.passes at has_some (omega (arith, h.count, below)) read h.readings) middle
 
 -- the first reference to a place from the free list
 pub opening : (slots id p : ℕ) (v : View) (c : List (ℕ × Slot)) → p < v.passes.sizes.entries → 0 < v.passes.shares
@@ -182,7 +185,7 @@ opening slots id p v c below has_some on room s (l, h) sized at range =
               bit_low (is_at p (keep p Taken) && is_for_new Taken),
             )))
             (λ (e : p ≢ q). omega (arith, h.references.taken q, takes_other q p true e)) (cases_eq p q))
-            (tt, h.references.purposes id v at) (record { reading = stored (refs_word z p) 1; more = refl; word = refl; value = refl }),
+            (tt, h.references.purposes id v at) (h.commits id v at) (record { reading = stored (refs_word z p) 1; more = refl; word = refl; value = refl }),
       ),
       λ q same. subst (λ (k : ℕ). Opens k v w × (c ≡ c)) (one_place z p q same)
           (record { view = refl; hooks = hooks_new z s.words p v.buckets.hooks; held = omega (arith, not_held); owed = not_owed }, refl),
@@ -260,7 +263,9 @@ module _ (slots id p seen : ℕ) (v : View) (c : List (ℕ × Slot)) (below : p 
         owed = λ q any. any;
         owned = λ q on. ((h.free_list.owned id v at q on).0, on);
       }) (same_lines v.passes.sizes l s id v (raised true p seen v) h at refl (λ q. omega arith) refl refl refl)
-      (λ q. omega (arith, h.references.taken q)) (h.references.purposes id v at) (record { reading = stored (refs_word v.passes.sizes p) (seen + 1); more = refl; word = refl; value = refl })
+      (λ q. omega (arith, h.references.taken q)) (h.references.purposes id v at)
+      (middle_more v.passes.sizes l.log v (raised true p seen v) refl (λ q. omega arith) (λ b. omega arith) (h.commits id v at))
+      (record { reading = stored (refs_word v.passes.sizes p) (seen + 1); more = refl; word = refl; value = refl })
   raised_hit false is room hit =
       counts v.passes.sizes l s id p (seen + 1) v (raised false p seen v) l.free h at has_some below (record {
         moves = record { made = record { passes = refl; own = refl; gathered = refl }; commit = refl; expected = refl };
@@ -280,7 +285,7 @@ module _ (slots id p seen : ℕ) (v : View) (c : List (ℕ × Slot)) (below : p 
         owed = λ q any. any;
         owned = λ q on. (omega (arith, (h.free_list.owned id v at q on).0), on);
       }) (same_lines v.passes.sizes l s id v (raised false p seen v) h at refl (λ q. omega arith) refl refl refl)
-      (λ q. omega (arith, h.references.taken q, takes_testing q p)) (tt, h.references.purposes id v at) (record { reading = stored (refs_word v.passes.sizes p) (seen + 1); more = refl; word = refl; value = refl })
+      (λ q. omega (arith, h.references.taken q, takes_testing q p)) (tt, h.references.purposes id v at) (h.commits id v at) (record { reading = stored (refs_word v.passes.sizes p) (seen + 1); more = refl; word = refl; value = refl })
 
   raised_tells : refs_at v.passes.sizes s.words p ≡ seen → RaisedRefs p seen v (raised (is_second p v) p seen v)
   raised_tells hit = record {
@@ -362,7 +367,7 @@ last_balance f d (suc zero) has_some = omega arith
 last_balance f d (suc (suc n)) has_some = omega (arith, other_bit (suc (suc n)) 1 (λ e. omega (arith, e)))
 
 module _ (id p : ℕ) (v : View) (below : p < v.passes.sizes.entries) (has_some : 0 < v.passes.shares) (held : is_held p v.places.held ≡ true)
-    (down : is_up p v.buckets.hooks ≡ false) (s : State Slot View) (l : Ledger) (h : IsKept v.passes.sizes l s) (at : get_elem? s.views id ≡ some v)
+    (down : is_up p v.buckets.hooks ≡ false) (calm : is_among p v.places.carried ≡ true → v.commit.middle ≡ Calm) (s : State Slot View) (l : Ledger) (h : IsKept v.passes.sizes l s) (at : get_elem? s.views id ≡ some v)
     (some_left : 0 < refs_at v.passes.sizes s.words p) where
   -- the table's reference, or one of the pass's own
   lowered : (carries : Bool) → is_among p v.places.carried ≡ carries → IsKept v.passes.sizes l (record {
@@ -396,7 +401,9 @@ module _ (id p : ℕ) (v : View) (below : p < v.passes.sizes.entries) (has_some 
         owed = λ q any. any;
         owned = λ q on. ((h.free_list.owned id v at q on).0, on);
       }) (same_lines v.passes.sizes l s id v (let_go_of true p n v) h at refl (λ q. omega arith) refl refl refl)
-      (λ q. omega (arith, h.references.taken q)) (h.references.purposes id v at) (record { reading = stored (refs_word v.passes.sizes p) (n - 1); more = refl; word = refl; value = refl })
+      (λ q. omega (arith, h.references.taken q)) (h.references.purposes id v at)
+      (subst (λ (m : Middle). IsMiddle v.passes.sizes l.log m v.commit.hand (taken_out p v.places.carried) v.buckets.shut) (sym (calm is)) tt)
+      (record { reading = stored (refs_word v.passes.sizes p) (n - 1); more = refl; word = refl; value = refl })
   lowered false is =
       let n : ℕ = refs_at v.passes.sizes s.words p in
       let some_held : 1 ≤ held_times p v.places.held = total_some (is_at p) v.places.held held in
@@ -423,18 +430,15 @@ module _ (id p : ℕ) (v : View) (below : p < v.passes.sizes.entries) (has_some 
         owned = λ q on.
             let o = still_owned p q v.places.held v.places.owned on in (
               ⊎_elim
-                  (λ (e : q ≡ p). subst (λ (k : ℕ). 0 < held_times k (without p v.places.held)) (sym e) (left_held (held_times p v.places.held) some_held less (o.1 e)))
-                  (λ (e : q ≢ p). omega (arith, other_without p q v.places.held held (λ x. e (sym x)), (h.free_list.owned id v at q o.0).0))
+                  (λ (e : q ≡ p). subst (λ (k : ℕ). 0 < taken_times k (without p v.places.held)) (sym e)
+                  (total_some (λ k. is_at p k && is_for_new k.purpose) (without p v.places.held) (o.1 e)))
+                  (λ (e : q ≢ p). omega (arith, taken_else p q v.places.held held e, (h.free_list.owned id v at q o.0).0))
                   (cases_eq q p),
               o.0,
             );
       }) (lowered_lines v.passes.sizes l s id p n v h at some_held less (λ q other. other_without p q v.places.held held (λ e. other (sym e))) down)
-      (λ q. omega (arith, h.references.taken q, takes_without q p v.places.held)) (kept_without l.log p v.places.held (h.references.purposes id v at)) (record { reading = stored (refs_word v.passes.sizes p) (n - 1); more = refl; word = refl; value = refl })
+      (λ q. omega (arith, h.references.taken q, takes_without q p v.places.held)) (kept_without l.log p v.places.held (h.references.purposes id v at)) (h.commits id v at) (record { reading = stored (refs_word v.passes.sizes p) (n - 1); more = refl; word = refl; value = refl })
     where
-      left_held : (m : ℕ) → 1 ≤ m → held_times p (without p v.places.held) + 1 ≡ m → (m == 1) ≡ false → 0 < held_times p (without p v.places.held)
-      left_held m any less other =
-          ⊎_elim (λ (e : m ≡ 1). absurd (false≢true (sym other ∙ eq-eqb m 1 e))) (λ (e : m ≢ 1). omega (arith, any, less, e)) (cases_eq m 1)
-
       times_here : (p n : ℕ) (owed : List ℕ) → times p (owed_then p n owed) ≡ times p owed + bit (n == 1)
       times_here p n owed = times_then p p n owed ∙ ap (λ (b : Bool). times p owed + bit (n == 1 && b)) (eq-eqb p p refl) ∙ both (n == 1)
         where
@@ -450,10 +454,10 @@ module _ (id p : ℕ) (v : View) (below : p < v.passes.sizes.entries) (has_some 
           neither false = omega arith
 
 pub lowering : (slots id p : ℕ) (v : View) (c : List (ℕ × Slot)) → p < v.passes.sizes.entries → 0 < v.passes.shares
-    → is_held p v.places.held ≡ true → is_up p v.buckets.hooks ≡ false
+    → is_held p v.places.held ≡ true → is_up p v.buckets.hooks ≡ false → (is_among p v.places.carried ≡ true → v.commit.middle ≡ Calm)
     → Allows (Holds v.passes.sizes) slots id (v, c) (refs_word v.passes.sizes p) (λ n. (n + (2 ^ 64 - 1)) % 2 ^ 64)
     (LowerStep (step slots (refs_word v.passes.sizes p) 1 0 none) (v, c))
-lowering slots id p v c below has_some held down s (l, h) sized at range =
+lowering slots id p v c below has_some held down calm s (l, h) sized at range =
     let z : Sizes = v.passes.sizes in
     let n : ℕ = slice_index s.words (refs_word z p) in
     let w : View = let_go p n v in
@@ -469,7 +473,7 @@ lowering slots id p v c below has_some held down s (l, h) sized at range =
       (
         l,
         subst (λ (k : ℕ). IsKept z l (record { words = slice_set s.words (refs_word z p) k; homes = s.homes; views = set s.views id w })) (sym next)
-            (lowered id p v below has_some held down s l h at some_left (is_among p v.places.carried) refl),
+            (lowered id p v below has_some held down calm s l h at some_left (is_among p v.places.carried) refl),
       ),
       λ q same. subst (λ (k : ℕ). LowersRefs k v n w × (c ≡ c)) (one_place z p q same)
           (record { view = refl; some = some_left; count = told; mine = some_held; owed = not_owed }, refl),

@@ -22,13 +22,13 @@ use Rattle.track_rule.specs.declared.view.View.{View}
 use Rattle.track_rule.specs.Layout.{gen_word, head_word, next_word, phase_at, phase_word, place_of, refs_word, turn_word, word_count}
 use Rattle.track_rule.specs.Opening.{IsWhole, first_slots}
 use Rattle.track_rule.specs.Passes.{IsPass, has_share, no_places}
-use Rattle.track_rule.specs.Chains.{chain_in, links_in, shuts_of}
+use Rattle.track_rule.specs.Chains.{chain_in, links_in, shuts_of, each_link, loose_of}
+use Rattle.track_rule.specs.Commits.{IsMiddleOf}
 use Rattle.track_rule.specs.Phases.{of_both, of_place, shows, table_keeps}
 use Rattle.track_rule.specs.Links.{HasHooks}
 use Rattle.track_rule.specs.Walks.{IsWalk}
-use Rattle.track_rule.specs.declared.view.Middle.TheVariants.{Calm}
 use Rattle.track_rule.specs.declared.view.Walk.{Walk}
-use Rattle.track_rule.specs.References.{AreKept, held_times}
+use Rattle.track_rule.specs.References.{AreKept, held_times, takes}
 use Rattle.track_rule.specs.Readings.{last_read}
 use Rattle.track_rule.specs.Records.{IsHand}
 use Rattle.track_rule.specs.Rule.{Holds, Ledger, first_view}
@@ -122,7 +122,7 @@ starts z list table limits whole nothing room =
           few = one_view z (λ v. length v.places.held + length v.places.owed ≤ 4) (omega arith);
           clear = one_view z (λ v. (p : ℕ) → 0 < times p v.places.clear → (0 < times p v.places.owed) × (phase_at z ws p ≡ 0))
               (λ p any. absurd (omega (arith, any)));
-          owned = one_view z (λ v. (p : ℕ) → 0 < times p v.places.owned → (0 < held_times p v.places.held) × (phase_at z ws p ≡ 1))
+          owned = one_view z (λ v. (p : ℕ) → 0 < times p v.places.owned → (0 < takes p v) × (phase_at z ws p ≡ 1))
               (λ p any. absurd (omega (arith, any)));
         };
         records = record {
@@ -139,15 +139,15 @@ starts z list table limits whole nothing room =
         phases = record {
           shown = λ p id below. omega (arith, ap (total (of_both p id)) no_records, ap (λ (ph : ℕ). shows ph id) (word (phase_word z p)), no_show id);
           used = λ p below. omega (arith, ap (total (of_place p)) no_records, ap table_keeps (word (phase_word z p)));
-          low = λ p below. omega (arith, word (phase_word z p));
-          calm = one_view z (λ v. v.commit.middle ≡ Calm) refl;
         };
+        commits = one_view z (IsMiddleOf z []) tt;
         chains = record {
           linked = λ b below. word (head_word z b);
           ordered = λ b below. tt;
           gens = λ b below. ap (λ (n : ℕ). n % 2) (word (gen_word z b));
           mine = λ b below. one_view z (λ v. 0 < shuts_of b v → chain_in b v.buckets.shut ≡ []) (λ any. absurd (omega (arith, any)));
           chained = λ b below weight. omega (arith, ap (total (links_in z b weight)) no_records);
+          home = one_view z (λ v. (b : ℕ) → b < z.buckets → 0 < loose_of z b each_link v → 0 < shuts_of b v) (λ b below any. absurd (omega (arith, any)));
           lone = λ link any. omega (arith, ap (total (of_place (place_of link))) no_records);
         };
         links = record {

@@ -75,7 +75,7 @@ module _ (l : Ledger) (s : State Slot View) (id : ℕ) (v : View) (h : IsKept v.
         clear = λ q on. let c = h.free_list.clear id v at q on in (c.0, turn_phase v.passes.sizes s.words 1 q ∙ c.1);
         owned = λ q on. let c = h.free_list.owned id v at q on in (c.0, turn_phase v.passes.sizes s.words 1 q ∙ c.1);
       }) h.free_list) (same_lines v.passes.sizes l s id v w h at refl (λ q. omega arith) refl refl refl)
-      (stored_on v.passes.sizes l.log s.words s.views id 1 1 v w h.passes at has_some long (record { reading = stored 1 1; more = refl; word = refl; value = refl }) h.readings)
+      (stored_on v.passes.sizes l.log s.words s.views id 1 1 v w h.passes at has_some long (record { reading = stored 1 1; more = refl; word = refl; value = refl }) h.readings) (h.commits id v at)
     where
       some_same : (a b f : List ℕ) → Some a ≡ Some b → a ≡ f → b ≡ f
       some_same a b f e x = cc
@@ -156,7 +156,7 @@ module _ (l : Ledger) (s : State Slot View) (id : ℕ) (v : View) (h : IsKept v.
             (cases_Bool (is_among q list.items));
         owned = λ q on. let c = h.free_list.owned id v at q on in (c.0, turn_phase v.passes.sizes s.words 0 q ∙ c.1);
       }) h.free_list) (same_lines v.passes.sizes l s id v w h at refl (λ q. omega arith) refl refl refl)
-      (stored_on v.passes.sizes l.log s.words s.views id 1 0 v w h.passes at has_some long (record { reading = stored 1 0; more = refl; word = refl; value = refl }) h.readings)
+      (stored_on v.passes.sizes l.log s.words s.views id 1 0 v w h.passes at has_some long (record { reading = stored 1 0; more = refl; word = refl; value = refl }) h.readings) (h.commits id v at)
 
 -- taking the turn keeps the rule
 pub taking : (slots id : ℕ) (v : View) (c : List (ℕ × Slot)) → 0 < v.passes.shares → v.free ≡ None

@@ -14,7 +14,7 @@ use Rattle.track_rule.specs.declared.view.Walk.{Walk}
 use Rattle.track_rule.specs.Chains.{IsOrdered, bucket_of, chain_in, entry_of, shuts_of}
 use Rattle.track_rule.specs.Layout.{first_word, gen_word, head_word, next_word, place_of, second_word, side_of}
 use Rattle.track_rule.specs.Free.{is_among}
-use Rattle.track_rule.specs.Links.{hook_of, hooks_of, is_down, is_raised, last_gen, last_link}
+use Rattle.track_rule.specs.Links.{hook_of, hooks_of, is_down, is_up, is_raised, last_gen, last_link}
 use Rattle.track_rule.specs.Notes.{link_note, note_then, tuple_note}
 use Rattle.track_rule.specs.Readings.{IsSole, found, last_read, noted, stored}
 use Rattle.track_rule.specs.Steps.{HasOthers}
@@ -48,8 +48,8 @@ pub record IsNoteOf (bucket generation : ℕ) (m : Walk) : Type 0 where
   pub bucket_is : m.bucket ≡ bucket
   pub generation_is : m.generation ≡ generation
 
--- A load of a generation. It is the noted one of the bucket or a later one. Where it is that, and even, the note stays and is
--- true, and nothing was met that shows that it has passed; else there is a new note.
+-- A load of a generation. It is the noted one of the bucket or a later one. Where it is that, the note stays, and where it is
+-- even besides, the note is true, and nothing was met that shows that it has passed. Else there is a new note.
 pub record LoadsGen (bucket : ℕ) (v : View) (n : ℕ) (w : View) : Type 0 where
   pub view : w ≡ noted (found (gen_word v.passes.sizes bucket) n) (record v { walk = Some (note_then bucket n v.walk) })
   pub walk : IsNoteOf bucket n (note_then bucket n v.walk)
@@ -153,10 +153,11 @@ tuple_in z word to h =
     (if first_word z h.link == word then record h { pair = record h.pair { first = to } } else
     (if second_word z h.link == word then record h { pair = record h.pair { second = to } } else h))
 
--- it is a word of the tuple of a link that is in no chain, of a place that the pass has set to OWNED
+-- it is a word of the tuple of a link of the pass, of a place that it has set to OWNED and of which no link is in a chain
 abbrev pub is_own_tuple : Sizes → ℕ → HeldBuckets → List ℕ → Bool
 is_own_tuple z word buckets owned =
-    list_any (λ (h : Hook). (not h.up && (first_word z h.link == word || second_word z h.link == word)) && is_among (place_of h.link) owned) buckets.hooks
+    list_any (λ (h : Hook). (not (is_up (place_of h.link) buckets.hooks) && (first_word z h.link == word || second_word z h.link == word))
+    && is_among (place_of h.link) owned) buckets.hooks
 
 -- the word of a tuple was stored
 abbrev pub tuple_stored : ℕ → ℕ → View → View

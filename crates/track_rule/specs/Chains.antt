@@ -1,9 +1,8 @@
 -- The chains of the buckets. A chain is a list of links, each of a place below the entries and each with the two words of
 -- its tuple, which belongs to the bucket. While a generation is odd, one pass has the bucket, and knows its chain. However
 -- tuples are weighed, the chain of a bucket weighs what the live records weigh in it, and the tuples of places that a pass
--- has linked and not yet confirmed, or not yet unlinked. So it has each of these once, and no other. Where both links of a
--- place are in one chain, that of its original tuple comes first. So at an even generation a chain may still have links of a
--- place that is not confirmed: who finds one reads the phase of its place, and goes on.
+-- has linked and not yet confirmed, or not yet unlinked. So it has each of these once, and no other. Such tuples are in
+-- buckets that the pass has shut. Where both links of a place are in one chain, that of its original tuple comes first.
 use Rattle.std.specs.Prelude.{◌≡◌, ℕ, ◌+◌, ◌-◌, ◌*◌, ◌%◌, ◌<◌, ◌≤◌, ◌==◌, if◌then◌else◌, bit_xor, List, [], ◌∷◌, slice_index}
 use Rattle.tuple_core.specs.Hash.{mix}
 use Rattle.tuple_core.specs.Words.{address_word, flow_word}
@@ -73,6 +72,10 @@ links_in z bucket weight r = side z bucket weight (original_of r) + side z bucke
 abbrev pub loose_of : Sizes → ℕ → (Entry → ℕ) → View → ℕ
 loose_of z bucket weight v = total (λ (h : Hook). (if h.up then side z bucket weight (entry_of h) else 0)) v.buckets.hooks
 
+-- each link weighs one
+abbrev pub each_link : Entry → ℕ
+each_link e = 1
+
 -- how often a pass has shut the bucket, and how many hooks it has at a link
 abbrev pub shuts_of : ℕ → View → ℕ
 shuts_of bucket v = total (λ (s : Shut). bit (s.bucket == bucket)) v.buckets.shut
@@ -91,4 +94,5 @@ pub record AreChains (z : Sizes) (log : List Event) (words : List ℕ) (views : 
   pub gens : (b : ℕ) → b < z.buckets → gen_at z words b % 2 ≡ total (shuts_of b) views
   pub mine : (b : ℕ) → b < z.buckets → Each (λ v. 0 < shuts_of b v → chain_in b v.buckets.shut ≡ chains b) views
   pub chained : (b : ℕ) → b < z.buckets → (weight : Entry → ℕ) → total weight (chains b) ≡ total (links_in z b weight) (records_after log) + total (loose_of z b weight) views
+  pub home : Each (λ v. (b : ℕ) → b < z.buckets → 0 < loose_of z b each_link v → 0 < shuts_of b v) views
   pub lone : (link : ℕ) → 0 < link → total (hooks_at link) views + total (of_place (place_of link)) (records_after log) ≤ 1

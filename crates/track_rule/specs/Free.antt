@@ -1,6 +1,6 @@
 -- The free list. A place on it has no reference and is owed by nobody, and its phase is FREE. Every other place has a
 -- reference, or is owed by exactly one pass. A place that a pass has set to FREE it owes, and one that it has set to OWNED it
--- holds; so they still are. A pass holds and owes four places at most. At most one pass has the turn of the
+-- has taken; so they still are. A pass holds and owes four places at most. At most one pass has the turn of the
 -- list; that one knows the list, and while none has it the list is at home.
 use Rattle.std.specs.Prelude.{◌≡◌, ℕ, ◌+◌, ◌<◌, ◌≤◌, ◌==◌, Bool, min, not, if◌then◌else◌, Option, Some, None, List, [], ◌∷◌, filter, length, slice_index, unwrap_or}
 use Rattle.std.specs.List.{list_any}
@@ -8,7 +8,7 @@ use mathlib.Core.Option.{Option as Slotted, some}
 use lib.ListN.{get_elem?}
 use Rattle.room_list.specs.Roomed.{Roomed}
 use Rattle.history_book.specs.declared.sizes.Sizes.{Sizes}
-use Rattle.track_rule.specs.References.{held_times}
+use Rattle.track_rule.specs.References.{taken_times}
 use Rattle.track_rule.specs.declared.slot.Slot.{Slot}
 use Rattle.track_rule.specs.declared.slot.Slot.TheVariants.{Free}
 use Rattle.track_rule.specs.declared.view.View.{View}
@@ -61,4 +61,4 @@ pub record IsFreeList (z : Sizes) (words : List ℕ) (homes : List (Slotted Slot
   pub away : Each (λ v. (list : List ℕ) → v.free ≡ Some list → list ≡ free) views
   pub few : Each (λ v. length v.places.held + length v.places.owed ≤ 4) views
   pub clear : Each (λ v. (p : ℕ) → 0 < times p v.places.clear → (0 < times p v.places.owed) × (phase_at z words p ≡ 0)) views
-  pub owned : Each (λ v. (p : ℕ) → 0 < times p v.places.owned → (0 < held_times p v.places.held) × (phase_at z words p ≡ 1)) views
+  pub owned : Each (λ v. (p : ℕ) → 0 < times p v.places.owned → (0 < taken_times p v.places.held) × (phase_at z words p ≡ 1)) views

@@ -9,6 +9,7 @@ pub mod Free
 pub mod Records
 pub mod Phases
 pub mod Chains
+pub mod Commits
 pub mod Links
 pub mod Walks
 pub mod Expected
@@ -19,6 +20,7 @@ pub mod Steps
 pub mod Shares
 pub mod PhaseSteps
 pub mod TurnSteps
+pub mod CommitSteps
 pub mod Notes
 pub mod BucketSteps
 pub mod Laws

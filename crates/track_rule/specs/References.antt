@@ -49,8 +49,11 @@ abbrev pub is_taken : ℕ → List Keep → Bool
 is_taken place held = list_any (λ k. is_at place k && is_for_new k.purpose) held
 
 -- how often it did
+abbrev pub taken_times : ℕ → List Keep → ℕ
+taken_times place held = total (λ k. bit (is_at place k && is_for_new k.purpose)) held
+
 abbrev pub takes : ℕ → View → ℕ
-takes place v = total (λ k. bit (is_at place k && is_for_new k.purpose)) v.places.held
+takes place v = taken_times place v.places.held
 
 -- the entry of this id was confirmed at this place
 pub record WasConfirmed (log : List Event) (id place : ℕ) : Type 0 where

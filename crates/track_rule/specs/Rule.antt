@@ -16,6 +16,7 @@ use Rattle.track_rule.specs.Free.{IsFreeList}
 use Rattle.track_rule.specs.Records.{AreRecords}
 use Rattle.track_rule.specs.Phases.{ArePhases}
 use Rattle.track_rule.specs.Chains.{AreChains}
+use Rattle.track_rule.specs.Commits.{AreCommits}
 use Rattle.track_rule.specs.Links.{AreLinks}
 use Rattle.track_rule.specs.Readings.{AreRead}
 use Rattle.track_rule.specs.Walks.{AreWalks}
@@ -27,8 +28,9 @@ pub record Ledger : Type 0 where
   pub free : List ℕ
   pub chains : ℕ → List Entry
 
--- The nine parts of the rule. What it says of chains is in two parts here: of the chains, and of the words of links. One more
--- part says of readings what holds where the table has one pass.
+-- The nine parts of the rule. What it says of phases is in two here, of the phases and of the middle of a commit, and so is
+-- what it says of chains, of the chains and of the words of links. One more says of readings what holds where the table has one
+-- pass.
 pub record IsKept (z : Sizes) (l : Ledger) (s : State Slot View) : Type 0 where
   pub limits : AreWithinLimits z
   pub count : length s.words ≡ word_count z
@@ -38,6 +40,7 @@ pub record IsKept (z : Sizes) (l : Ledger) (s : State Slot View) : Type 0 where
   pub free_list : IsFreeList z s.words s.homes s.views l.free
   pub records : AreRecords z l.log s.words s.homes s.views
   pub phases : ArePhases z l.log s.words s.views
+  pub commits : AreCommits z l.log s.views
   pub chains : AreChains z l.log s.words s.views l.chains
   pub links : AreLinks z s.words s.views
   pub walks : AreWalks z s.words s.views l.chains

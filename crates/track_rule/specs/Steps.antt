@@ -86,7 +86,7 @@ with_turn free v = noted (stored 1 1) (record v { free = Some free })
 
 -- The turn was free, and the pass has it now, with the list out of its slot. There is room for all places. No place that
 -- the pass holds or owes is on the list, which has only places below the entries; and what it owes is owed once. There is
--- room on the list for what it owes.
+-- room on the list for what it owes. What it has set to FREE it owes.
 pub record TookFree (v : View) (slots : List (ℕ × Slot)) (w : View) (slots' : List (ℕ × Slot)) : Type 0 where
   pub view : w ≡ with_turn (list_in slots').items v
   pub out : slots' ≡ (0, Free (list_in slots')) ∷ slots
@@ -203,10 +203,11 @@ RaisesRefs same place seen v n w = MatchBool same (RaisedRefs place seen v w) (M
 abbrev pub owed_then : ℕ → ℕ → List ℕ → List ℕ
 owed_then place n owed = (if n == 1 then place ∷ owed else owed)
 
--- It no longer owns the place of which it gave up its own last reference, and has no hooks of it.
+-- It no longer owns the place where it gave up the reference with which it took it.
 abbrev pub owned_then : ℕ → List Keep → List ℕ → List ℕ
-owned_then place held owned = (if held_times place held == 1 then unlisted (place ∷ []) owned else owned)
+owned_then place held owned = (if is_taken place (without place held) then owned else unlisted (place ∷ []) owned)
 
+-- A pass that gave up its last reference to a place has no hooks of it.
 abbrev pub hooks_then : ℕ → List Keep → List Hook → List Hook
 hooks_then place held hooks = (if held_times place held == 1 then filter (λ (h : Hook). not (place_of h.link == place)) hooks else hooks)
 

@@ -3,7 +3,8 @@
 
 ghost use Rattle.std.specs.Prelude.{◌≡◌, ◌%◌, ◌<◌, true, OnOk, IfErr};
 ghost use Rattle.track_rule.specs.BucketSteps.{LoadsGen, LoadsLink, LoadsTuple, MissesGen, OpensGen, ShutsGen};
-ghost use Rattle.track_rule.specs.Chains.{shuts_of};
+ghost use Rattle.track_rule.specs.declared.view.Middle.TheVariants.{Calm};
+ghost use Rattle.track_rule.specs.Chains.{each_link, loose_of, shuts_of};
 ghost use Rattle.track_rule.specs.Links.{is_link_word, is_tuple_word, last_gen};
 ghost use Rattle.track_rule.specs.Sights.{sizes_of};
 
@@ -88,10 +89,13 @@ impl<'b> Pass<'b> {
         if found == even { Ok(()) } else { Err(found) }
     }
 
-    /// Opens a bucket that the pass has shut.
+    /// Opens a bucket that the pass has shut, where its chain has the links of live entries alone and the pass is in the middle
+    /// of no commit.
     pub fn gen_open(&mut self, bucket: u32)
         requires bucket { bucket < (sizes_of self.old).buckets }
         requires mine { 0 < shuts_of bucket self.old.view }
+        requires whole { loose_of (sizes_of self.old) bucket each_link self.old.view ≡ 0 }
+        requires calm { self.old.view.commit.middle ≡ Calm }
         ensures opens { OpensGen bucket self.old.view self.new.view }
         ensures kept { self.new ≡ record self.old { view = self.new.view } }
     {

@@ -30,7 +30,7 @@ impl Play<Slot, View> for StoreLink {
 }
 
 impl<'b> Pass<'b> {
-    /// Stores a word of the tuple of a link that is in no chain, of a place that the pass has set to `OWNED`.
+    /// Stores a word of the tuple of a place that the pass has set to `OWNED` and of which no link is in a chain.
     pub fn tuple_store(&mut self, word: u32, to: u64)
         requires tuple { is_tuple_word (sizes_of self.old) word ≡ true }
         requires own { is_own_tuple (sizes_of self.old) word self.old.view.buckets self.old.view.places.owned ≡ true }

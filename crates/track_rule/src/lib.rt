@@ -5,6 +5,7 @@
 pub mod board;
 pub mod bucket_steps;
 pub mod chain_stores;
+pub mod commits;
 pub mod free_list;
 pub mod laws;
 pub mod layout;

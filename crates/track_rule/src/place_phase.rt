@@ -38,7 +38,7 @@ impl Play<Slot, View> for StorePhase {
 }
 
 /// The word of the phase of a place.
-fn phase_word(sizes: &Sizes, place: u32) -> usize
+pub fn phase_word(sizes: &Sizes, place: u32) -> usize
     requires limits { AreWithinLimits sizes.now }
     requires place { place < sizes.now.entries }
     ensures word { result ≡ phase_word sizes.now place }

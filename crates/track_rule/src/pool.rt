@@ -4,6 +4,7 @@
 
 ghost use Rattle.std.specs.Prelude.{◌≡◌, ◌+◌, ◌<◌, ◌≤◌, true, false, length, None, IfErr, OnOk, is_some};
 ghost use Rattle.atomic_table.specs.Table.{rest};
+ghost use Rattle.track_rule.specs.declared.view.Middle.TheVariants.{Calm};
 ghost use Rattle.track_rule.specs.Free.{is_among, known_free};
 ghost use Rattle.track_rule.specs.Links.{is_up};
 ghost use Rattle.track_rule.specs.References.{is_held};
@@ -108,6 +109,7 @@ impl<'b> Pass<'b> {
     pub fn ref_down(&mut self, place: u32) -> u64
         requires held { is_held place self.old.view.places.held ≡ true }
         requires down { is_up place self.old.view.buckets.hooks ≡ false }
+        requires calm { is_among place self.old.view.places.carried ≡ true → self.old.view.commit.middle ≡ Calm }
         ensures lowers { LowersRefs place self.old.view result self.new.view }
         ensures kept { self.new ≡ record self.old { view = self.new.view } }
     {

@@ -3,7 +3,8 @@ use Rattle.atomic_table.specs.Table.{step}
 use mathlib.Core.Option.{none}
 use Rattle.history_book.specs.declared.sizes.Sizes.{Sizes}
 use Rattle.track_rule.specs.BucketSteps.{OpenGenStep, OpensGen}
-use Rattle.track_rule.specs.Chains.{shuts_of}
+use Rattle.track_rule.specs.declared.view.Middle.TheVariants.{Calm}
+use Rattle.track_rule.specs.Chains.{each_link, loose_of, shuts_of}
 use Rattle.track_rule.specs.Layout.{gen_word}
 use Rattle.track_rule.specs.Sights.{PassSight, sizes_of}
 use Rattle.track_rule.proofs.Seats.{StaysAt, allowed, kept_at, same_at, stays_at}
@@ -19,12 +20,15 @@ fetch_add-requires c =
     let slots = p.shared.now.table_id.slots in
     let word : c.gen_word-word.result ≡ gen_word z bucket = c.gen_word-word.ensures ∙ ap (λ (y : Sizes). gen_word y bucket) h.sizes_are in
     let below : bucket < z.buckets = subst (λ (x : PassSight). bucket < (sizes_of x).buckets) (sym c.self.view_is) c.requires.bucket in
-    let mine : 0 < shuts_of bucket p.seat.me.0 = subst (λ (x : PassSight). 0 < shuts_of bucket x.view) (sym c.self.view_is) c.requires.mine in (
+    let mine : 0 < shuts_of bucket p.seat.me.0 = subst (λ (x : PassSight). 0 < shuts_of bucket x.view) (sym c.self.view_is) c.requires.mine in
+    let nothing : loose_of z bucket each_link p.seat.me.0 ≡ 0 =
+    subst (λ (x : PassSight). loose_of (sizes_of x) bucket each_link x.view ≡ 0) (sym c.self.view_is) c.requires.whole in
+    let calm : p.seat.me.0.commit.middle ≡ Calm = subst (λ (x : PassSight). x.view.commit.middle ≡ Calm) (sym c.self.view_is) c.requires.calm in (
       h.same,
       omega (arith, h.right.counts.words, ap (λ t. t.words) h.same, word, below),
       allowed z p.shared.now.key slots p.seat.id p.seat.me (gen_word z bucket) c.gen_word-word.result (λ n. (n + 1) % 2 ^ 64)
           (λ w. OpenGenStep (step slots w 1 0 none) p.seat.me) h.key_is word
-          (opening_gen slots p.seat.id bucket p.seat.me.0 p.seat.me.1 below h.right.some mine),
+          (opening_gen slots p.seat.id bucket p.seat.me.0 p.seat.me.1 below h.right.some mine nothing calm),
     )
 
 pub invariant_of-self : goal.invariant_of-self

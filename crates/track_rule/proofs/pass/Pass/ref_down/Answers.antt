@@ -3,6 +3,7 @@ use Rattle.atomic_table.specs.Table.{step}
 use mathlib.Core.Option.{none}
 use Rattle.history_book.specs.declared.sizes.Sizes.{Sizes}
 use Rattle.track_rule.specs.Layout.{refs_word}
+use Rattle.track_rule.specs.declared.view.Middle.TheVariants.{Calm}
 use Rattle.track_rule.specs.Free.{is_among}
 use Rattle.track_rule.specs.Links.{is_up}
 use Rattle.track_rule.specs.References.{is_held}
@@ -23,12 +24,14 @@ fetch_sub-requires c =
     let word : c.refs_word-word.result ≡ refs_word z place = c.refs_word-word.ensures.word ∙ ap (λ (y : Sizes). refs_word y place) h.sizes_are in
     let held : is_held place p.seat.me.0.places.held ≡ true = subst (λ (x : PassSight). is_held place x.view.places.held ≡ true) (sym c.self.view_is) c.requires.held in
     let below : place < z.entries = held_below z.entries place p.seat.me.0.places.held h.right.pool.held held in
-    let down : is_up place p.seat.me.0.buckets.hooks ≡ false = subst (λ (x : PassSight). is_up place x.view.buckets.hooks ≡ false) (sym c.self.view_is) c.requires.down in (
+    let down : is_up place p.seat.me.0.buckets.hooks ≡ false = subst (λ (x : PassSight). is_up place x.view.buckets.hooks ≡ false) (sym c.self.view_is) c.requires.down in
+    let calm : is_among place p.seat.me.0.places.carried ≡ true → p.seat.me.0.commit.middle ≡ Calm =
+    subst (λ (x : PassSight). is_among place x.view.places.carried ≡ true → x.view.commit.middle ≡ Calm) (sym c.self.view_is) c.requires.calm in (
       h.same,
       omega (arith, h.right.counts.words, ap (λ t. t.words) h.same, word, below),
       allowed z p.shared.now.key slots p.seat.id p.seat.me (refs_word z place) c.refs_word-word.result (λ n. (n + (2 ^ 64 - 1)) % 2 ^ 64)
           (λ w. LowerStep (step slots w 1 0 none) p.seat.me) h.key_is word
-          (lowering slots p.seat.id place p.seat.me.0 p.seat.me.1 below h.right.some held down),
+          (lowering slots p.seat.id place p.seat.me.0 p.seat.me.1 below h.right.some held down calm),
     )
 
 pub refs_word-word-requires-clause-place : goal.refs_word-word-requires-clause-place

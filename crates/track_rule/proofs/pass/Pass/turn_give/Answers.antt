@@ -3,6 +3,7 @@ use Rattle.atomic_table.specs.Table.{Allows, rest, step}
 use mathlib.Core.Option.{none}
 use Rattle.history_book.specs.declared.sizes.Sizes.{Sizes}
 use Rattle.track_rule.specs.Layout.{turn_word}
+use Rattle.track_rule.specs.declared.view.Middle.TheVariants.{Calm}
 use Rattle.track_rule.specs.Records.{has_hand}
 use Rattle.track_rule.specs.Rule.{Holds}
 use Rattle.track_rule.specs.Sights.{PassSight, sizes_of}
@@ -33,7 +34,7 @@ store-requires c =
           (subst (λ (d : List (ℕ × Slot)). Allows (Holds z) slots p.seat.id (p.seat.me.0, d) (turn_word z place) (λ _. 0)
           (λ _. GiveTurnStep (step slots (turn_word z place) 0 0 none) (p.seat.me.0, d) 0)) (sym out.1)
           (giving_turn slots p.seat.id place p.seat.me.0 out.0 (rest p.seat.me.1) below (omega (arith, h.right.counts.slots, ap (λ t. t.slots) h.same)) h.right.some turn
-          out.2 (subst (λ (d : List (ℕ × Slot)). CanGiveTurn p.seat.me.0 d) out.1 whole))),
+          (subst (λ (x : PassSight). x.view.commit.middle ≡ Calm) (sym c.self.view_is) c.requires.calm) out.2 (subst (λ (d : List (ℕ × Slot)). CanGiveTurn p.seat.me.0 d) out.1 whole))),
     )
 
 pub invariant_of-self : goal.invariant_of-self

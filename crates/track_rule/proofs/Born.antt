@@ -1,0 +1,470 @@
+-- A Confirm keeps the rule: the record is live from then on, and its links are those of a live record.
+use Rattle.std.proofs.Common.{◌≡◌, ◌≢◌, ℕ, ◌+◌, ◌-◌, ◌*◌, ◌%◌, ◌<◌, ◌≤◌, Bool, true, false, Some, List, [], ◌∷◌, ◌++◌, length, refl, sym, ap, subst, ◌∙◌, ⊎_elim, arith, set, eq-eqb, ne_eqb}
+use Rattle.std.specs.Prelude.{slice_index, slice_set, ◌==◌, ◌||◌, if◌then◌else◌, find, min}
+use Rattle.std.specs.List.{All}
+use Rattle.std.proofs.lemmas.Bool.{cases_eq}
+use Rattle.std.proofs.lemmas.List.{get_or-set_other, get_or-set_same, length-set}
+use Rattle.std.proofs.lemmas.Option.{none-some}
+use mathlib.Core.Option.{some}
+use lib.ListN.{get_elem?}
+use Rattle.atomic_table.specs.Table.{State}
+use Rattle.expect_table.specs.declared.expectation.Expectation.{Expectation}
+use Rattle.history_book.specs.Laws.{LegalHistoriesGoOn, LiveRecordsAreConfirmed, StatesFollow}
+use Rattle.history_book.specs.Record.{has_id}
+use Rattle.history_book.specs.State.{record_of}
+use Rattle.history_book.specs.declared.event.Event.{Event}
+use Rattle.history_book.specs.declared.event.Event.TheVariants.{Confirm}
+use Rattle.history_book.specs.declared.record.Record.{Record}
+use Rattle.history_book.specs.declared.sizes.Sizes.{Sizes}
+use Rattle.tuple_core.specs.declared.Tuple.{Tuple}
+use Rattle.track_rule.specs.declared.slot.Slot.{Slot}
+use Rattle.track_rule.specs.declared.view.Entry.{Entry}
+use Rattle.track_rule.specs.declared.view.Hand.{Hand}
+use Rattle.track_rule.specs.declared.view.Hook.{Hook}
+use Rattle.track_rule.specs.declared.view.Middle.{Middle}
+use Rattle.track_rule.specs.declared.view.Middle.TheVariants.{Calm, Born, Dying}
+use Rattle.track_rule.specs.declared.view.View.{View}
+use Rattle.track_rule.specs.declared.view.Walk.{Walk}
+use Rattle.track_rule.specs.Chains.{AreChains, IsChain, chain_in, each_link, entry_of, hooks_at, links_in, loose_of, original_of, reply_of, shuts_of, side}
+use Rattle.track_rule.specs.CommitSteps.{CanConfirm, HasLink, born, confirmed, dropped, with_confirm}
+use Rattle.track_rule.specs.Commits.{IsMiddle, IsMiddleOf}
+use Rattle.track_rule.specs.Expected.{has_expected}
+use Rattle.track_rule.specs.Free.{IsFreeList, has_turn, owes, unlisted}
+use Rattle.track_rule.specs.History.{packed, records_after, state_after}
+use Rattle.track_rule.specs.Layout.{first_word, gen_word, head_word, next_word, phase_at, phase_word, place_of, refs_at, refs_word, second_word, turn_at, turn_word}
+use Rattle.track_rule.specs.Links.{AreLinks, HasHooks, IsHook, IsOwned, hook_of, hooks_of}
+use Rattle.track_rule.specs.Phases.{ArePhases, middle_of, middle_weight, of_both, of_place, shows, table_keeps}
+use Rattle.track_rule.specs.Readings.{stored}
+use Rattle.track_rule.specs.Records.{AreRecords, IsHand, has_hand, record_in}
+use Rattle.track_rule.specs.References.{AreKept, AreReferences, held_times, keeps, takes}
+use Rattle.track_rule.specs.Rule.{IsKept, Ledger}
+use Rattle.track_rule.specs.Sums.{Each, bit, times, total}
+use Rattle.track_rule.specs.Walks.{AreWalks, IsWalk}
+use Rattle.track_rule.proofs.Confirming.{each_dropped, find_last, find_more, find_same, held_kept, held_long, held_taken, hook_else, kept_for, low_both, low_ids, total_dropped}
+use Rattle.track_rule.proofs.Confirms.{lawful, state_on}
+use Rattle.track_rule.proofs.Events.{get_last, kept_on, passes_made}
+use Rattle.track_rule.proofs.Frames.{SameChains, chain_stays, hooks_stay, links_stay, walk_stays}
+use Rattle.track_rule.proofs.HookLists.{hook_test, hook_there, some_hook}
+use Rattle.track_rule.proofs.LastRead.{stored_on}
+use Rattle.track_rule.proofs.Lists.{other_bit, same_bit, unlisted_in, unlisted_out}
+use Rattle.track_rule.proofs.Sums.{each_put, total_append, total_same, total_set, total_term}
+
+-- the history word alone changes
+module _ (z : Sizes) (ws : List ℕ) (n : ℕ) where
+  word_same : SameChains z ws (slice_set ws 0 n)
+  word_same = record {
+    gens = λ b below. get_or-set_other ws 0 (gen_word z b) n 0 (λ e. omega (arith, e));
+    links = record {
+      heads = λ b below. get_or-set_other ws 0 (head_word z b) n 0 (λ e. omega (arith, e));
+      firsts = λ x. get_or-set_other ws 0 (first_word z x) n 0 (λ e. omega (arith, e));
+      seconds = λ x. get_or-set_other ws 0 (second_word z x) n 0 (λ e. omega (arith, e));
+      nexts = λ x. get_or-set_other ws 0 (next_word z x) n 0 (λ e. omega (arith, e));
+    };
+  }
+
+  word_refs : (q : ℕ) → refs_at z (slice_set ws 0 n) q ≡ refs_at z ws q
+  word_refs q = get_or-set_other ws 0 (refs_word z q) n 0 (λ e. omega (arith, e))
+
+  word_phase : (q : ℕ) → phase_at z (slice_set ws 0 n) q ≡ phase_at z ws q
+  word_phase q = get_or-set_other ws 0 (phase_word z q) n 0 (λ e. omega (arith, e))
+
+  word_turn : (q : ℕ) → turn_at z (slice_set ws 0 n) q ≡ turn_at z ws q
+  word_turn q = get_or-set_other ws 0 (turn_word z q) n 0 (λ e. omega (arith, e))
+
+  word_other : (k : ℕ) → 0 < k → slice_index (slice_set ws 0 n) k ≡ slice_index ws k
+  word_other k some_k = get_or-set_other ws 0 k n 0 (λ e. omega (arith, e, some_k))
+
+-- the two links of a place
+two_links : (p link : ℕ) → 0 < link → bit (1 + 2 * p == link) + bit (2 + 2 * p == link) ≡ bit (p == place_of link)
+two_links p link some_link =
+    ⊎_elim
+    (λ (e : 1 + 2 * p ≡ link).
+    omega (arith, same_bit (1 + 2 * p) link e, other_bit (2 + 2 * p) link (λ x. omega (arith, x, e)), same_bit p (place_of link) (omega (arith, e))))
+    (λ (e : 1 + 2 * p ≢ link).
+    ⊎_elim
+    (λ (f : 2 + 2 * p ≡ link). omega (arith, other_bit (1 + 2 * p) link e, same_bit (2 + 2 * p) link f, same_bit p (place_of link) (omega (arith, f))))
+    (λ (f : 2 + 2 * p ≢ link).
+    omega (arith, other_bit (1 + 2 * p) link e, other_bit (2 + 2 * p) link f, other_bit p (place_of link) (λ x. neither p link some_link e f x)))
+    (cases_eq (2 + 2 * p) link))
+    (cases_eq (1 + 2 * p) link)
+  where
+    neither : (p link : ℕ) → 0 < link → 1 + 2 * p ≢ link → 2 + 2 * p ≢ link → p ≡ place_of link → ⊥
+    neither p link some_link e f x = omega (arith, some_link, e, f, x)
+
+-- what is still owned
+unlisted_less : (p q : ℕ) (owned : List ℕ) → 0 < times q (unlisted (p ∷ []) owned) → (0 < times q owned) × (q ≢ p)
+unlisted_less p q owned some_left =
+    ⊎_elim
+    (λ (e : q ≡ p). absurd (omega (arith, some_left, unlisted_in (p ∷ []) q owned (ap (λ b. b || false) (eq-eqb p q (sym e))))))
+    (λ (e : q ≢ p). (omega (arith, some_left, unlisted_out (p ∷ []) q owned (ap (λ b. b || false) (ne_eqb p q (λ x. e (sym x))))), e))
+    (cases_eq q p)
+
+module _ (l : Ledger) (s : State Slot View) (id : ℕ) (v : View) (r : Record) (h : IsKept v.passes.sizes l s) (at : get_elem? s.views id ≡ some v)
+    (has_some : 0 < v.passes.shares) (can : CanConfirm r v) (follow : StatesFollow) (go_on : LegalHistoriesGoOn) (confirmed_low : LiveRecordsAreConfirmed) where
+  abbrev subject : Record
+  subject = born (length l.log) r
+
+  abbrev made : List Event
+  made = with_confirm l.log r
+
+  abbrev after_it : View
+  after_it = confirmed l.log r v
+
+  abbrev words : List ℕ
+  words = slice_set s.words 0 (packed (with_confirm l.log r))
+
+  records_on : records_after made ≡ records_after l.log ++ subject ∷ []
+  records_on = ap (λ st. st.records) (state_on follow l.log (Confirm subject))
+
+  expects_on : (state_after made).expects ≡ (state_after l.log).expects
+  expects_on = ap (λ st. st.expects) (state_on follow l.log (Confirm subject))
+
+  -- a sum over the live records has one more
+  weighs : (f : Record → ℕ) → total f (records_after made) ≡ total f (records_after l.log) + f subject
+  weighs f = omega (arith, ap (total f) records_on, total_append f (records_after l.log) (subject ∷ []))
+
+  low : All (λ x. x.id < length l.log) (records_after l.log)
+  low = (confirmed_low v.passes.sizes l.log (length l.log) h.history.legal).1
+
+  -- a record that was live with another id is
+  record_stays : (i : ℕ) → i < length l.log → record_of i (state_after made) ≡ record_of i (state_after l.log)
+  record_stays i small =
+      ap (find (has_id i)) records_on
+      ∙ find_same (has_id i) (records_after l.log) subject (ne_eqb (length l.log) i (λ e. omega (arith, small, e)))
+
+  record_more : (i : ℕ) (x : Record) → record_of i (state_after l.log) ≡ Some x → record_of i (state_after made) ≡ Some x
+  record_more i x live = ap (find (has_id i)) records_on ∙ find_more (has_id i) (records_after l.log) (subject ∷ []) x live
+
+  -- ids that phases show are low
+  shown_low : (p : ℕ) → p < v.passes.sizes.entries → 3 ≤ phase_at v.passes.sizes s.words p → phase_at v.passes.sizes s.words p - 3 < length l.log
+  shown_low p below shown =
+      let ph : ℕ = phase_at v.passes.sizes s.words p in
+      low_both (length l.log) p (ph - 3) (records_after l.log) low (omega (
+        arith,
+        h.phases.shown p (ph - 3) below,
+        same_bit ph (3 + (ph - 3)) (omega (arith, shown)),
+      ))
+
+  -- THE LINKS
+
+  raised_hook : (link : ℕ) (t : Tuple) → HasLink link t v → 0 < link
+      → (0 < hooks_of link v.buckets.hooks) × (hooks_of link v.buckets.hooks ≤ 1) × ((hook_of link v.buckets.hooks).up ≡ true) × ((hook_of link v.buckets.hooks).link ≡ link)
+  raised_hook link t has some_link =
+      let any : 0 < hooks_of link v.buckets.hooks = some_hook link (λ (k : Hook). k.up) v.buckets.hooks has.up in
+      let one : hooks_of link v.buckets.hooks ≤ 1 = omega (arith, h.chains.lone link some_link, total_term (hooks_at link) s.views id v at) in (
+        any,
+        one,
+        hook_test link (λ (k : Hook). k.up) v.buckets.hooks one has.up,
+        (hook_there link (IsHook v.passes.sizes s.words) v.buckets.hooks any (h.links.hooks id v at).each).1,
+      )
+
+  abbrev first_link : ℕ
+  first_link = 1 + 2 * r.place
+
+  abbrev second_link : ℕ
+  second_link = 2 + 2 * r.place
+
+  one_hook : (0 < hooks_of (1 + 2 * r.place) v.buckets.hooks) × (hooks_of (1 + 2 * r.place) v.buckets.hooks ≤ 1)
+      × ((hook_of (1 + 2 * r.place) v.buckets.hooks).up ≡ true) × ((hook_of (1 + 2 * r.place) v.buckets.hooks).link ≡ 1 + 2 * r.place)
+  one_hook = raised_hook (1 + 2 * r.place) r.original can.original (omega arith)
+
+  two_hook : (0 < hooks_of (2 + 2 * r.place) v.buckets.hooks) × (hooks_of (2 + 2 * r.place) v.buckets.hooks ≤ 1)
+      × ((hook_of (2 + 2 * r.place) v.buckets.hooks).up ≡ true) × ((hook_of (2 + 2 * r.place) v.buckets.hooks).link ≡ 2 + 2 * r.place)
+  two_hook = raised_hook (2 + 2 * r.place) r.reply can.reply (omega arith)
+
+  -- a sum over the hooks without these two
+  total_left : (f : Hook → ℕ)
+      → total f after_it.buckets.hooks + f (hook_of (1 + 2 * r.place) v.buckets.hooks) + f (hook_of (2 + 2 * r.place) v.buckets.hooks) ≡ total f v.buckets.hooks
+  total_left f =
+      let hooks : List Hook = v.buckets.hooks in
+      let left : List Hook = dropped (1 + 2 * r.place) v.buckets.hooks in
+      let other : hook_of (2 + 2 * r.place) (dropped (1 + 2 * r.place) v.buckets.hooks) ≡ hook_of (2 + 2 * r.place) v.buckets.hooks =
+      hook_else (1 + 2 * r.place) (2 + 2 * r.place) (λ e. omega (arith, e)) v.buckets.hooks in
+      let still : 0 < hooks_of (2 + 2 * r.place) (dropped (1 + 2 * r.place) v.buckets.hooks) = omega (
+        arith,
+        two_hook.0,
+        total_dropped (λ (k : Hook). bit (k.link == 2 + 2 * r.place)) (1 + 2 * r.place) v.buckets.hooks one_hook.0,
+        other_bit (hook_of (1 + 2 * r.place) v.buckets.hooks).link (2 + 2 * r.place) (λ e. omega (arith, e, one_hook.3)),
+      ) in
+      omega (
+        arith,
+        total_dropped f (1 + 2 * r.place) v.buckets.hooks one_hook.0,
+        total_dropped f (2 + 2 * r.place) (dropped (1 + 2 * r.place) v.buckets.hooks) still,
+        ap f other,
+      )
+
+  -- what a hook weighs that is in its chain
+  weighs_up : (b : ℕ) (f : Entry → ℕ) (k : Hook) (e : Entry) → k.up ≡ true → k.link ≡ e.link → k.pair ≡ e.pair
+      → (if k.up then side v.passes.sizes b f (entry_of k) else 0) ≡ side v.passes.sizes b f e
+  weighs_up b f k e up link pair =
+      ap (λ (t : Bool). if t then side v.passes.sizes b f (entry_of k) else 0) up ∙ (λ i. side v.passes.sizes b f (record { link = link i; pair = pair i }))
+
+  loose_left : (b : ℕ) (f : Entry → ℕ) → loose_of v.passes.sizes b f after_it + links_in v.passes.sizes b f subject ≡ loose_of v.passes.sizes b f v
+  loose_left b f = omega (
+    arith,
+    total_left (λ (k : Hook). (if k.up then side v.passes.sizes b f (entry_of k) else 0)),
+    weighs_up b f (hook_of (1 + 2 * r.place) v.buckets.hooks) (original_of subject) one_hook.2 one_hook.3 can.original.pair,
+    weighs_up b f (hook_of (2 + 2 * r.place) v.buckets.hooks) (reply_of subject) two_hook.2 two_hook.3 can.reply.pair,
+  )
+
+  hooks_left : (link : ℕ) → 0 < link → hooks_at link after_it + bit (r.place == place_of link) ≡ hooks_at link v
+  hooks_left link some_link = omega (
+    arith,
+    total_left (λ (k : Hook). bit (k.link == link)),
+    ap (λ (n : ℕ). bit (n == link)) one_hook.3,
+    ap (λ (n : ℕ). bit (n == link)) two_hook.3,
+    two_links r.place link some_link,
+  )
+
+  fewer_hooks : (link : ℕ) → hooks_of link after_it.buckets.hooks ≤ hooks_of link v.buckets.hooks
+  fewer_hooks link = omega (arith, total_left (λ (k : Hook). bit (k.link == link)))
+
+  each_left : (F : Hook → Type 0) → Each F v.buckets.hooks → Each F after_it.buckets.hooks
+  each_left F all = each_dropped F (2 + 2 * r.place) (dropped (1 + 2 * r.place) v.buckets.hooks) (each_dropped F (1 + 2 * r.place) v.buckets.hooks all)
+
+  -- THE PARTS
+
+  born_chains : AreChains v.passes.sizes made words (set s.views id after_it) l.chains
+  born_chains =
+      let z : Sizes = v.passes.sizes in
+      let same : SameChains z s.words words = word_same z s.words (packed made) in
+      record {
+        linked = λ b below.
+            subst (λ (n : ℕ). IsChain z words b n (l.chains b)) (sym (same.links.heads b below))
+            (chain_stays z s.words words same.links b (slice_index s.words (head_word z b)) (l.chains b) (h.chains.linked b below));
+        ordered = h.chains.ordered;
+        gens = λ b below. ap (λ (n : ℕ). n % 2) (same.gens b below) ∙ h.chains.gens b below ∙ sym (total_same (shuts_of b) s.views id v after_it at refl);
+        mine = λ b below. each_put (λ u. 0 < shuts_of b u → chain_in b u.buckets.shut ≡ l.chains b) s.views id after_it (h.chains.mine b below) (h.chains.mine b below id v at);
+        chained = λ b below f. omega (
+          arith,
+          h.chains.chained b below f,
+          weighs (links_in z b f),
+          loose_left b f,
+          total_set (loose_of z b f) s.views id v after_it at,
+        );
+        home = each_put (λ (u : View). (c : ℕ) → c < z.buckets → 0 < loose_of z c each_link u → 0 < shuts_of c u) s.views id after_it h.chains.home
+            (λ c below some_loose. h.chains.home id v at c below (omega (arith, some_loose, loose_left c each_link)));
+        lone = λ link some_link. omega (
+          arith,
+          h.chains.lone link some_link,
+          weighs (of_place (place_of link)),
+          hooks_left link some_link,
+          total_set (hooks_at link) s.views id v after_it at,
+        );
+      }
+
+  -- no link of the place is left
+  no_link : (link : ℕ) → 0 < link → r.place ≡ place_of link → hooks_of link after_it.buckets.hooks ≡ 0
+  no_link link some_link e = omega (
+    arith,
+    hooks_left link some_link,
+    same_bit r.place (place_of link) e,
+    h.chains.lone link some_link,
+    total_term (hooks_at link) s.views id v at,
+  )
+
+  -- links in chains are of places that the pass still owns
+  born_linked : Each (IsOwned after_it.places.owned) after_it.buckets.hooks
+  born_linked i k at' up =
+      let is : IsHook v.passes.sizes s.words k = each_left (IsHook v.passes.sizes s.words) (h.links.hooks id v at).each i k at' in
+      let owned : 0 < times (place_of k.link) v.places.owned = each_left (IsOwned v.places.owned) (h.links.hooks id v at).linked i k at' up in
+      ⊎_elim
+      (λ (e : r.place ≡ place_of k.link).
+      absurd (omega (arith, no_link k.link is.some e, total_term (λ (x : Hook). bit (x.link == k.link)) after_it.buckets.hooks i k at', same_bit k.link k.link refl)))
+      (λ (e : r.place ≢ place_of k.link).
+      omega (arith, owned, unlisted_out (r.place ∷ []) (place_of k.link) v.places.owned (ap (λ b. b || false) (ne_eqb r.place (place_of k.link) e))))
+      (cases_eq r.place (place_of k.link))
+
+  born_links : AreLinks v.passes.sizes words (set s.views id after_it)
+  born_links =
+      let z : Sizes = v.passes.sizes in
+      let same : SameChains z s.words words = word_same z s.words (packed made) in
+      let mine = h.links.hooks id v at in
+      links_stay z s.words words same s.views (set s.views id after_it)
+      (each_put (λ u. HasHooks z words u.places u.buckets.hooks) s.views id after_it
+      (λ i u at'. hooks_stay z s.words words same.links u.places u.buckets.hooks (h.links.hooks i u at'))
+      (hooks_stay z s.words words same.links after_it.places after_it.buckets.hooks (record {
+        each = each_left (IsHook z s.words) mine.each;
+        held = λ link any. omega (
+          arith,
+          mine.held link (omega (arith, any, fewer_hooks link)),
+          held_kept r.place (length l.log) (place_of link) v.places.held,
+        );
+        linked = born_linked;
+      }))) h.links
+
+  born_references : AreReferences v.passes.sizes made words (set s.views id after_it)
+  born_references =
+      let z : Sizes = v.passes.sizes in
+      let same : (q : ℕ) → keeps q after_it ≡ keeps q v = λ q. omega (arith, held_kept r.place (length l.log) q v.places.held) in
+      record {
+        counted = λ q below. omega (
+          arith,
+          h.references.counted q below,
+          word_refs z s.words (packed made) q,
+          ap table_keeps (word_phase z s.words (packed made) q),
+          total_same (keeps q) s.views id v after_it at (same q),
+        );
+        beyond = λ q above. total_same (keeps q) s.views id v after_it at (same q) ∙ h.references.beyond q above;
+        carried = each_put (λ u. (q : ℕ) → times q u.places.carried ≤ held_times q u.places.held) s.views id after_it h.references.carried
+            (λ q. omega (arith, h.references.carried id v at q, held_kept r.place (length l.log) q v.places.held));
+        taken = λ q. omega (
+          arith,
+          h.references.taken q,
+          weighs (of_place q),
+          held_taken r.place (length l.log) q v.places.held can.taken,
+          total_set (takes q) s.views id v after_it at,
+        );
+        purposes = each_put (λ u. AreKept made u.places.held) s.views id after_it
+            (λ i u at'. kept_on l.log (Confirm subject) u.places.held (h.references.purposes i u at'))
+            (kept_for made r.place (length l.log) v.places.held subject (get_last l.log (Confirm subject)) refl
+            (kept_on l.log (Confirm subject) v.places.held (h.references.purposes id v at)));
+      }
+
+  born_free : IsFreeList v.passes.sizes words s.homes (set s.views id after_it) l.free
+  born_free =
+      let z : Sizes = v.passes.sizes in
+      let turn : slice_index words 1 ≡ slice_index s.words 1 = word_other z s.words (packed made) 1 (omega arith) in
+      record {
+        once = λ q below. omega (
+          arith,
+          h.free_list.once q below,
+          ap (λ (k : ℕ). min k 1) (word_refs z s.words (packed made) q),
+          total_same (owes q) s.views id v after_it at refl,
+        );
+        beyond = λ q above. omega (arith, h.free_list.beyond q above, total_same (owes q) s.views id v after_it at refl);
+        idle = λ q on. word_phase z s.words (packed made) q ∙ h.free_list.idle q on;
+        turn = turn ∙ h.free_list.turn ∙ sym (total_same has_turn s.views id v after_it at refl);
+        single = omega (arith, turn, h.free_list.single);
+        home = λ calm. h.free_list.home (sym turn ∙ calm);
+        away = each_put (λ u. (list : List ℕ) → u.free ≡ Some list → list ≡ l.free) s.views id after_it h.free_list.away (h.free_list.away id v at);
+        few = each_put (λ u. length u.places.held + length u.places.owed ≤ 4) s.views id after_it h.free_list.few
+            (omega (arith, h.free_list.few id v at, held_long r.place (length l.log) v.places.held));
+        clear = each_put (λ u. (q : ℕ) → 0 < times q u.places.clear → (0 < times q u.places.owed) × (phase_at z words q ≡ 0)) s.views id after_it
+            (λ i u at' q on. let c = h.free_list.clear i u at' q on in (c.0, word_phase z s.words (packed made) q ∙ c.1))
+            (λ q on. let c = h.free_list.clear id v at q on in (c.0, word_phase z s.words (packed made) q ∙ c.1));
+        owned = each_put (λ u. (q : ℕ) → 0 < times q u.places.owned → (0 < takes q u) × (phase_at z words q ≡ 1)) s.views id after_it
+            (λ i u at' q on. let c = h.free_list.owned i u at' q on in (c.0, word_phase z s.words (packed made) q ∙ c.1))
+            (λ q on.
+            let o = unlisted_less r.place q v.places.owned on in
+            let c = h.free_list.owned id v at q o.0 in (
+              omega (arith, c.0, held_taken r.place (length l.log) q v.places.held can.taken, other_bit r.place q (λ e. o.1 (sym e))),
+              word_phase z s.words (packed made) q ∙ c.1,
+            ));
+      }
+
+  born_phases : ArePhases v.passes.sizes made words (set s.views id after_it)
+  born_phases =
+      let z : Sizes = v.passes.sizes in
+      let calm : (f : Record → ℕ) → middle_of f v ≡ 0 = λ f. ap (middle_weight f) can.calm in
+      record {
+        shown = λ q i below. omega (
+          arith,
+          h.phases.shown q i below,
+          ap (λ (ph : ℕ). shows ph i) (word_phase z s.words (packed made) q),
+          weighs (of_both q i),
+          calm (of_both q i),
+          total_set (middle_of (of_both q i)) s.views id v after_it at,
+        );
+        used = λ q below. omega (
+          arith,
+          h.phases.used q below,
+          ap table_keeps (word_phase z s.words (packed made) q),
+          weighs (of_place q),
+          calm (of_place q),
+          total_set (middle_of (of_place q)) s.views id v after_it at,
+        );
+      }
+
+  -- what a pass knows of a record
+  hand_on : (x : Hand) → IsHand v.passes.sizes l.log s.words x → IsHand v.passes.sizes made words x
+  hand_on x k = record {
+    below = k.below;
+    shown = λ some_shown. word_phase v.passes.sizes s.words (packed made) x.place ∙ k.shown some_shown;
+    idle = λ idle. omega (arith, k.idle idle, word_phase v.passes.sizes s.words (packed made) x.place);
+    live = λ live.
+        k.live live ∙ sym (record_stays (x.phase - 3) (omega (
+          arith,
+          live,
+          k.shown (omega (arith, live)),
+          shown_low x.place k.below (omega (arith, live, k.shown (omega (arith, live)))),
+        )));
+  }
+
+  born_records : AreRecords v.passes.sizes made words s.homes (set s.views id after_it)
+  born_records =
+      let z : Sizes = v.passes.sizes in
+      record {
+        turn = λ q below. word_turn z s.words (packed made) q ∙ h.records.turn q below ∙ sym (total_same (has_hand q) s.views id v after_it at refl);
+        single = λ q. omega (arith, h.records.single q, total_same (has_hand q) s.views id v after_it at refl);
+        home = λ q below calm.
+            let k = h.records.home q below (sym (word_turn z s.words (packed made) q) ∙ calm) in
+            record {
+              slot = k.slot;
+              there = k.there;
+              kind = k.kind;
+              live = subst (λ (ph : ℕ). 3 ≤ ph → record_in k.slot ≡ record_of (ph - 3) (state_after made)) (sym (word_phase z s.words (packed made) q))
+                  (λ live. k.live live ∙ sym (record_stays (phase_at z s.words q - 3) (shown_low q below live)));
+            };
+        away = each_put (λ u. (x : Hand) → u.commit.hand ≡ Some x → IsHand z made words x) s.views id after_it
+            (λ i u at' x e. hand_on x (h.records.away i u at' x e)) (λ x e. hand_on x (h.records.away id v at x e));
+      }
+
+  -- other passes are where they were
+  middle_on : (u : View) (m : Middle) → IsMiddle v.passes.sizes l.log m u.commit.hand u.places.carried u.buckets.shut
+      → IsMiddle v.passes.sizes made m u.commit.hand u.places.carried u.buckets.shut
+  middle_on u Calm k = tt
+  middle_on u (Born x) k = record { turn = k.turn; reference = k.reference; original = k.original; reply = k.reply; live = record_more x.id x k.live }
+  middle_on u (Dying x) k = record { turn = k.turn; reference = k.reference; original = k.original; reply = k.reply; live = record_more x.id x k.live }
+
+  born_commits : Each (IsMiddleOf v.passes.sizes made) (set s.views id after_it)
+  born_commits = each_put (IsMiddleOf v.passes.sizes made) s.views id after_it (λ i u at'. middle_on u u.commit.middle (h.commits i u at')) (record {
+    turn = can.turn;
+    reference = can.reference;
+    original = can.original.shut;
+    reply = can.reply.shut;
+    live = ap (find (has_id (length l.log))) records_on
+        ∙ find_last (has_id (length l.log)) (records_after l.log) subject (low_ids (length l.log) (records_after l.log) low) (eq-eqb (length l.log) (length l.log) refl);
+  })
+
+  born_walks : AreWalks v.passes.sizes words (set s.views id after_it) l.chains
+  born_walks = record {
+    each = each_put (λ (u : View). (n : Walk) → u.walk ≡ Some n → IsWalk v.passes.sizes words l.chains u.seen.front n) s.views id after_it
+        (λ i u at' n e. walk_stays v.passes.sizes s.words words (word_same v.passes.sizes s.words (packed made)) l.chains u.seen.front n (h.walks.each i u at' n e))
+        (λ n e. absurd (none-some n e));
+  }
+
+  pub born_kept : IsKept v.passes.sizes (record l { log = with_confirm l.log r })
+      (record { words = slice_set s.words 0 (packed (with_confirm l.log r)); homes = s.homes; views = set s.views id (confirmed l.log r v) })
+  born_kept =
+      let z : Sizes = v.passes.sizes in
+      let expected : slice_index words 2 ≡ slice_index s.words 2 = word_other z s.words (packed made) 2 (omega arith) in
+      let long : 0 < length s.words = omega (arith, h.count) in
+      record {
+        limits = h.limits;
+        count = length-set s.words 0 (packed made) ∙ h.count;
+        passes = passes_made z l.log (Confirm subject) s.views id v after_it at has_some can.few refl refl h.passes;
+        history = record {
+          legal = go_on z l.log (Confirm subject) h.history.legal (lawful l s id v r h at has_some can);
+          word = get_or-set_same s.words 0 (packed made) 0 long;
+        };
+        references = born_references;
+        free_list = born_free;
+        records = born_records;
+        phases = born_phases;
+        commits = born_commits;
+        chains = born_chains;
+        links = born_links;
+        walks = born_walks;
+        readings = stored_on z l.log s.words s.views id 0 (packed made) v after_it h.passes at has_some long
+            (record { reading = stored 0 (packed made); more = refl; word = refl; value = refl }) h.readings;
+        expected = record {
+          turn = expected ∙ h.expected.turn ∙ sym (total_same has_expected s.views id v after_it at refl);
+          single = omega (arith, expected, h.expected.single);
+          home = λ calm.
+              let k = h.expected.home (sym expected ∙ calm) in
+              record { table = k.table; there = k.there; same = k.same ∙ sym expects_on; room = k.room };
+          away = each_put (λ (u : View). (list : List Expectation) → u.expected ≡ Some list → list ≡ (state_after made).expects) s.views id after_it
+              (λ i u at' list e. h.expected.away i u at' list e ∙ sym expects_on) (λ list e. h.expected.away id v at list e ∙ sym expects_on);
+        };
+      }
