@@ -49,8 +49,8 @@ TryHoldSays Held place v w = HoldsMore place v w
 TryHoldSays Zero place v w = ReadsZero place v w
 TryHoldSays (Moved was now) place v w = ReadsTwo place was now v w
 
--- The pass gave up its newest reference to the place. With its last one it no longer owns the place, and has none of its links;
--- no link came into a chain.
+-- The pass gave up its newest reference to the place. It no longer owns the place where that was the one with which it took it,
+-- and with its last one it has none of its links; no link came into a chain.
 abbrev pub gave_up : ℕ → PassSight → View
 gave_up place v = record v.view {
   places = record v.view.places {

@@ -17,7 +17,7 @@ pub record Waits (old new : List Reading) : Type 0 where
   pub own : changes (λ word. not (word == 1)) more ≡ false
 
 -- There is room on the list for all places. No place that the pass holds or owes is on it; it has only places below the
--- entries, none twice, and there is room for what the pass owes, which is owed once.
+-- entries, none twice, and there is room for what the pass owes, which is owed once. What it has set to FREE it owes.
 pub record IsListOf (v : PassSight) (list : Roomed ℕ) : Type 0 where
   pub room : (sizes_of v).entries ≤ list.room
   pub fits : length list.items + length v.view.places.owed ≤ (sizes_of v).entries
