@@ -1,17 +1,19 @@
 -- Buckets are locked and given back.
-use Rattle.std.proofs.Common.{◌≡◌, ◌≢◌, ℕ, ◌<◌, Bool, true, false, refl, sym, ap, subst, ◌∙◌, arith}
+use Rattle.std.proofs.Common.{◌≡◌, ◌≢◌, ℕ, ◌<◌, Bool, true, false, [], ◌∷◌, ◌++◌, refl, sym, ap, subst, ◌∙◌, arith}
 use Rattle.std.specs.Prelude.{◌==◌, ◌||◌, not, if◌then◌else◌}
-use Rattle.std.proofs.lemmas.Bool.{eq-eqb, false≢true, ne_eqb}
+use Rattle.std.proofs.lemmas.Bool.{cond_both, eq-eqb, false≢true, ne_eqb}
 use Rattle.history_book.specs.declared.sizes.Sizes.{Sizes}
 use Rattle.track_rule.specs.BucketSteps.{IsChainOf, shut_now}
 use Rattle.track_rule.specs.Chains.{chain_in, shuts_of}
 use Rattle.track_rule.specs.Layout.{gen_word}
+use Rattle.track_rule.specs.Readings.{added}
 use Rattle.track_rule.specs.Sights.{PassSight, sizes_of}
 use Rattle.track_rule.specs.Sums.{bit}
+use Rattle.track_rule.specs.declared.view.HeldBuckets.{HeldBuckets}
 use Rattle.bucket_table.specs.LockedChain.{OnlyLoads}
-use Rattle.bucket_table.specs.Locks.{Buckets, Locks, LocksTwo, is_else}
+use Rattle.bucket_table.specs.Locks.{Buckets, Locks, LocksTwo, changed, is_else, shut_both}
 use Rattle.bucket_table.proofs.Passing.{loads_more}
-use Rattle.bucket_table.proofs.Reading.{More, more_join, more_of, more_own, more_stand, more_weak}
+use Rattle.bucket_table.proofs.Reading.{More, added_join, changed_append, changed_none, more_join, more_of, more_own, more_stand, more_weak}
 
 -- a word is not the generation of this bucket
 abbrev is_not : Sizes → ℕ → ℕ → Bool
@@ -42,6 +44,10 @@ locks_after b u v w loads locks =
       before = ap (λ (x : PassSight). shuts_of b x.view) (sym loads.same) ∙ locks.before;
       stand = more_stand (is_not (sizes_of u) b) u.view.readings w.view.readings more;
       own = more_own (is_not (sizes_of u) b) u.view.readings w.view.readings more;
+      order = ap changed (added_join u.view.readings v.view.readings w.view.readings loads.stand locks.stand)
+          ∙ changed_append (added u.view v.view) (added v.view w.view)
+          ∙ ap (λ ws. ws ++ changed (added v.view w.view)) (changed_none (added u.view v.view) loads.own)
+          ∙ locks.order ∙ ap (λ (z : Sizes). gen_word z b ∷ []) sizes;
     }
 
 -- TWO BUCKETS
@@ -74,6 +80,13 @@ upper_more locked v w locks =
 -- a bucket that was locked is shut
 shut_self : (b : ℕ) (v w : PassSight) → Locks b v w → 0 < shuts_of b w.view
 shut_self b v w locks = omega (arith, ap (λ (x : PassSight). shuts_of b x.view) locks.same, ap bit (eq-eqb b b refl))
+
+-- the links of the pass stay
+pub both_hooks : (locked : Buckets) (after before : HeldBuckets) → (shut_both locked after before).hooks ≡ before.hooks
+both_hooks locked after before =
+    cond_both (locked.lower == locked.upper) (shut_now locked.lower (chain_in locked.lower after.shut) before)
+    (shut_now locked.upper (chain_in locked.upper after.shut) (shut_now locked.lower (chain_in locked.lower after.shut) before))
+    (λ (s : HeldBuckets). s.hooks ≡ before.hooks) (λ e. refl) (λ e. refl)
 
 -- the lower one first
 pub locks_two : (locked : Buckets) (v u w : PassSight) → locked.lower ≢ locked.upper → Locks locked.lower v u → Locks locked.upper u w → LocksTwo locked v w
@@ -115,4 +128,9 @@ locks_two locked v u w other first second =
       };
       stand = more_stand (is_else (sizes_of v) locked) v.view.readings w.view.readings more;
       own = more_own (is_else (sizes_of v) locked) v.view.readings w.view.readings more;
+      order = ap changed (added_join v.view.readings u.view.readings w.view.readings first.stand second.stand)
+          ∙ changed_append (added v.view u.view) (added u.view w.view)
+          ∙ ap (λ ws. ws ++ changed (added u.view w.view)) first.order
+          ∙ ap (λ ws. gen_word (sizes_of v) locked.lower ∷ ws) (second.order ∙ ap (λ (z : Sizes). gen_word z locked.upper ∷ []) sizes)
+          ∙ ap (λ (b : Bool). gen_word (sizes_of v) locked.lower ∷ (if b then [] else gen_word (sizes_of v) locked.upper ∷ [])) (sym (ne_eqb locked.lower locked.upper other));
     }

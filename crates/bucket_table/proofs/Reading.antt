@@ -1,10 +1,11 @@
 -- The readings that calls add, one after the other.
 use Rattle.std.proofs.Common.{◌≡◌, ℕ, Bool, true, false, List, [], ◌∷◌, ◌++◌, length, drop, refl, sym, ap, ◌∙◌, append_assoc}
-use Rattle.std.specs.Prelude.{◌&&◌, ◌||◌}
+use Rattle.std.specs.Prelude.{◌&&◌, ◌||◌, map, filter, if◌then◌else◌}
 use Rattle.std.proofs.Math.Seq.{drop-append_seam}
-use Rattle.std.proofs.lemmas.Bool.{false≢true, or_from, or_parts}
+use Rattle.std.proofs.lemmas.Bool.{cond_both, false≢true, or_from, or_parts}
 use Rattle.track_rule.specs.Readings.{changes, found, stored}
 use Rattle.track_rule.specs.declared.view.Reading.{Reading}
+use Rattle.bucket_table.specs.Locks.{changed}
 
 -- further readings came, and none is an own change of a word that passes the test
 pub record More (test : ℕ → Bool) (old new : List Reading) : Type 0 where
@@ -55,3 +56,30 @@ more_own test old new m = ap (changes test) (ap (drop (length old)) m.all ∙ dr
 
 pub more_of : (test : ℕ → Bool) (old new : List Reading) → new ≡ old ++ drop (length old) new → changes test (drop (length old) new) ≡ false → More test old new
 more_of test old new stand own = record { more = drop (length old) new; all = stand; own = own }
+
+-- the words of own changes, of two calls
+pub changed_append : (xs ys : List Reading) → changed (xs ++ ys) ≡ changed xs ++ changed ys
+changed_append [] ys = refl
+changed_append (r ∷ rs) ys =
+    cond_both r.own (r ∷ filter (λ (x : Reading). x.own) rs) (filter (λ (x : Reading). x.own) rs)
+    (λ zs. map (λ (x : Reading). x.word) (if r.own then r ∷ filter (λ (x : Reading). x.own) (rs ++ ys) else filter (λ (x : Reading). x.own) (rs ++ ys)) ≡ map (λ (x : Reading). x.word) zs ++ changed ys)
+    (λ e. ap (λ (b : Bool). map (λ (x : Reading). x.word) (if b then r ∷ filter (λ (x : Reading). x.own) (rs ++ ys) else filter (λ (x : Reading). x.own) (rs ++ ys))) e
+    ∙ ap (λ ws. r.word ∷ ws) (changed_append rs ys))
+    (λ e. ap (λ (b : Bool). map (λ (x : Reading). x.word) (if b then r ∷ filter (λ (x : Reading). x.own) (rs ++ ys) else filter (λ (x : Reading). x.own) (rs ++ ys))) e
+    ∙ changed_append rs ys)
+
+pub changed_none : (rs : List Reading) → changes (λ word. true) rs ≡ false → changed rs ≡ []
+changed_none [] e = refl
+changed_none (r ∷ rs) e =
+    let p = or_parts (r.own && true) (changes (λ word. true) rs) e in
+    ap (λ (b : Bool). map (λ (x : Reading). x.word) (if b then r ∷ filter (λ (x : Reading). x.own) rs else filter (λ (x : Reading). x.own) rs)) (off r.own p.0)
+    ∙ changed_none rs p.1
+  where
+    off : (b : Bool) → (b && true) ≡ false → b ≡ false
+    off true h = h
+    off false h = refl
+
+pub added_join : (a b c : List Reading) → b ≡ a ++ drop (length a) b → c ≡ b ++ drop (length b) c → drop (length a) c ≡ drop (length a) b ++ drop (length b) c
+added_join a b c e f =
+    ap (drop (length a)) (f ∙ ap (λ (rs : List Reading). rs ++ drop (length b) c) e ∙ append_assoc a (drop (length a) b) (drop (length b) c))
+    ∙ drop-append_seam a (drop (length a) b ++ drop (length b) c)

@@ -1,11 +1,12 @@
 -- Two locked buckets, which may be one.
-use Rattle.std.specs.Prelude.{◌≡◌, ℕ, ◌<◌, ◌==◌, ◌||◌, not, Bool, false, if◌then◌else◌, max, min, List}
+use Rattle.std.specs.Prelude.{◌≡◌, ℕ, ◌<◌, ◌==◌, ◌||◌, not, Bool, false, if◌then◌else◌, max, min, map, filter, List, [], ◌∷◌}
 use Rattle.history_book.specs.declared.sizes.Sizes.{Sizes}
 use Rattle.track_rule.specs.BucketSteps.{IsChainOf, opened_of, shut_now}
-use Rattle.track_rule.specs.Chains.{chain_in, shuts_of}
+use Rattle.track_rule.specs.Chains.{chain_in, each_link, loose_of, shuts_of}
 use Rattle.track_rule.specs.Layout.{gen_word}
 use Rattle.track_rule.specs.Readings.{added, changes}
 use Rattle.track_rule.specs.Sights.{PassSight, sizes_of}
+use Rattle.track_rule.specs.declared.view.Reading.{Reading}
 use Rattle.track_rule.specs.declared.view.Shut.{Shut}
 use Rattle.track_rule.specs.declared.view.HeldBuckets.{HeldBuckets}
 use Rattle.track_rule.specs.declared.view.View.{View}
@@ -30,6 +31,15 @@ pub record AreOpen (locked : Buckets) (v : View) : Type 0 where
   pub lower : shuts_of locked.lower v ≡ 0
   pub upper : shuts_of locked.upper v ≡ 0
 
+-- the words that the pass changed itself, in order
+abbrev pub changed : List Reading → List ℕ
+changed readings = map (λ (r : Reading). r.word) (filter (λ (r : Reading). r.own) readings)
+
+-- no link of the pass that is not of a live entry stands in their chains
+pub record AreWhole (z : Sizes) (locked : Buckets) (v : View) : Type 0 where
+  pub lower : loose_of z locked.lower each_link v ≡ 0
+  pub upper : loose_of z locked.upper each_link v ≡ 0
+
 -- The bucket is shut, and the pass knows its chain. It had not shut it before. All else is as it was, but the note of a walk and
 -- the readings, which come after those before the call. It changed no word but the generation of the bucket.
 pub record Locks (bucket : ℕ) (v w : PassSight) : Type 0 where
@@ -44,6 +54,7 @@ pub record Locks (bucket : ℕ) (v w : PassSight) : Type 0 where
   pub before : shuts_of bucket v.view ≡ 0
   pub stand : ReadingsStand v w
   pub own : changes (λ word. not (word == gen_word (sizes_of v) bucket)) (added v.view w.view) ≡ false
+  pub order : changed (added v.view w.view) ≡ gen_word (sizes_of v) bucket ∷ []
 
 -- a word that is not the generation of either bucket
 abbrev pub is_else : Sizes → Buckets → ℕ → Bool
@@ -55,8 +66,12 @@ shut_both locked after before =
     (if locked.lower == locked.upper then shut_now locked.lower (chain_in locked.lower after.shut) before else
     shut_now locked.upper (chain_in locked.upper after.shut) (shut_now locked.lower (chain_in locked.lower after.shut) before))
 
+-- the generations of both, the lower one first; where both are one it stands once
+abbrev pub gens_of : Sizes → Buckets → List ℕ
+gens_of z locked = gen_word z locked.lower ∷ (if locked.lower == locked.upper then [] else gen_word z locked.upper ∷ [])
+
 -- Both are shut, and the pass knows their chains. It had shut neither before. All else is as it was, but the note of a walk and
--- the readings, which come after those before the call. It changed no word but the two generations.
+-- the readings, which come after those before the call. It changed the two generations, the lower one first, and no other word.
 pub record LocksTwo (locked : Buckets) (v w : PassSight) : Type 0 where
   pub same : w ≡ record v {
     view = record v.view {
@@ -71,6 +86,7 @@ pub record LocksTwo (locked : Buckets) (v w : PassSight) : Type 0 where
   pub before : AreOpen locked v.view
   pub stand : ReadingsStand v w
   pub own : changes (is_else (sizes_of v) locked) (added v.view w.view) ≡ false
+  pub order : changed (added v.view w.view) ≡ gens_of (sizes_of v) locked
 
 -- without both
 abbrev pub open_both : Buckets → List Shut → List Shut

@@ -1,8 +1,9 @@
 //! The locks of buckets: a pass that has one may change the chain, and no other pass has it.
 
 ghost use Rattle.std.specs.Prelude.{◌≡◌, ◌<◌};
-ghost use Rattle.bucket_table.specs.Locks.{AreShut, Locks, LocksTwo, UnlocksTwo, buckets_of};
+ghost use Rattle.bucket_table.specs.Locks.{AreOpen, AreShut, AreWhole, Locks, LocksTwo, UnlocksTwo, buckets_of};
 ghost use Rattle.bucket_table.specs.Trying.{TriesLock};
+ghost use Rattle.track_rule.specs.declared.view.Middle.TheVariants.{Calm};
 ghost use Rattle.track_rule.specs.Chains.{shuts_of};
 ghost use Rattle.track_rule.specs.Sights.{sizes_of};
 
@@ -46,7 +47,8 @@ fn try_lock(pass: &mut Pass, bucket: u32) -> bool
 
 /// Waits for a bucket, and shuts it. It waits on where the generation has reached its last value.
 fn lock<R: Wait>(rt: &R, pass: &mut Pass, bucket: u32)
-    requires { bucket < (sizes_of pass.old).buckets }
+    requires bucket { bucket < (sizes_of pass.old).buckets }
+    requires open { shuts_of bucket pass.old.view ≡ 0 }
     ensures { Locks bucket pass.old pass.new }
 {
     'tries: for _ in rt.forever() {
@@ -58,21 +60,11 @@ fn lock<R: Wait>(rt: &R, pass: &mut Pass, bucket: u32)
     unreachable!()
 }
 
-/// Waits for the upper one of two buckets, of which the lower one is locked, and shuts it.
-fn lock_above<R: Wait>(rt: &R, pass: &mut Pass, lower: u32, upper: u32)
-    requires order { lower < upper }
-    requires bucket { upper < (sizes_of pass.old).buckets }
-    requires shut { 0 < shuts_of lower pass.old.view }
-    ensures { Locks upper pass.old pass.new }
-{
-    let _ = lower;
-    lock(rt, pass, upper);
-}
-
 /// Waits for two buckets, and locks them, the lower one first. Where both are one it locks that.
 pub fn lock_two<R: Wait>(rt: &R, pass: &mut Pass, a: u32, b: u32) -> Locked
     requires a { a < (sizes_of pass.old).buckets }
     requires b { b < (sizes_of pass.old).buckets }
+    requires open { AreOpen (buckets_of a b) pass.old.view }
     ensures buckets { result ≡ buckets_of a b }
     ensures locks { LocksTwo result pass.old pass.new }
 {
@@ -82,14 +74,16 @@ pub fn lock_two<R: Wait>(rt: &R, pass: &mut Pass, a: u32, b: u32) -> Locked
     if lower == upper {
         return Locked { lower, upper };
     }
-    lock_above(rt, pass, lower, upper);
+    lock(rt, pass, upper);
     Locked { lower, upper }
 }
 
-/// Gives both buckets back.
+/// Gives both buckets back, where their chains have the links of live entries alone and the pass is in the middle of no commit.
 pub fn unlock_two(pass: &mut Pass, locked: Locked)
     requires below { locked.upper < (sizes_of pass.old).buckets }
     requires shut { AreShut locked pass.old.view }
+    requires whole { AreWhole (sizes_of pass.old) locked pass.old.view }
+    requires calm { pass.old.view.commit.middle ≡ Calm }
     ensures { UnlocksTwo locked pass.old pass.new }
 {
     let Locked { lower, upper } = locked;

@@ -3,5 +3,5 @@ use Rattle.bucket_table.proofs.lock.lock_two.Goals as goal
 
 pub returns-clause-locks : goal.returns-clause-locks
 returns-clause-locks g c =
-    locks_two (record { lower = c.min-lower.result; upper = c.max-upper.result }) c.args.pass.now c.lock.new.pass c.lock_above.new.pass c.if-lower-upper.false
-    c.lock.ensures c.lock_above.ensures
+    locks_two (record { lower = c.min-lower.result; upper = c.max-upper.result }) c.args.pass.now c.lock.new.pass c.lock-2.new.pass c.if-lower-upper.false
+    c.lock.ensures c.lock-2.ensures
