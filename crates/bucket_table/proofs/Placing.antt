@@ -1,26 +1,29 @@
 -- The place of a test: its tuples are stored, and its links go into their chains and out of them.
-use Rattle.std.proofs.Common.{◌≡◌, ◌≢◌, ℕ, suc, ◌<◌, Bool, true, false, Some, None, List, [], ◌∷◌, map, refl, sym, ap, subst, ◌∙◌, ⊎_elim, arith}
-use Rattle.std.specs.Prelude.{◌==◌, ◌&&◌, ◌||◌, not, if◌then◌else◌}
+use Rattle.std.proofs.Common.{◌⊎◌, ◌≡◌, ◌≢◌, ℕ, suc, ◌+◌, ◌%◌, ◌<◌, Bool, true, false, Some, None, List, [], ◌∷◌, map, refl, sym, ap, subst, ◌∙◌, ⊎_elim, arith}
+use Rattle.std.specs.Prelude.{◌==◌, ◌&&◌, ◌||◌, not, if◌then◌else◌, bit_xor}
+use Rattle.tuple_core.specs.Hash.{mix}
 use Rattle.std.specs.List.{list_any, slice_get}
-use Rattle.std.proofs.lemmas.Bool.{and_parts, cases_Bool, cond_both, eq-eqb, eqb-true, ne_eqb}
+use Rattle.std.proofs.lemmas.Bool.{and_from, cond_both, eq-eqb, ne_eqb}
 use Rattle.history_book.specs.declared.sizes.Sizes.{Sizes}
+use Rattle.tuple_core.specs.Tuple.{is_valid}
+use Rattle.tuple_core.specs.declared.Tuple.{Tuple}
 use Rattle.track_rule.specs.BucketSteps.{is_own_tuple, lower, put_in, raise, taken_from, tuple_in, tuple_stored}
-use Rattle.track_rule.specs.Chains.{bucket_of, shuts_of}
+use Rattle.track_rule.specs.Chains.{bucket_of, each_link, entry_of, loose_of, pair_of, shuts_of, side}
 use Rattle.track_rule.specs.Free.{is_among}
 use Rattle.track_rule.specs.Layout.{first_word, place_of, second_word}
-use Rattle.track_rule.specs.Links.{hook_of, hooks_of, is_down, is_raised}
+use Rattle.track_rule.specs.Links.{hook_of, is_down, is_raised, is_up}
 use Rattle.track_rule.specs.Sights.{PassSight, sizes_of}
 use Rattle.track_rule.specs.Sums.{bit, total}
-use Rattle.track_rule.specs.declared.view.Hook.{Hook}
 use Rattle.track_rule.specs.declared.view.HeldBuckets.{HeldBuckets}
+use Rattle.track_rule.specs.declared.view.Hook.{Hook}
 use Rattle.track_rule.specs.declared.view.Pair.{Pair}
 use Rattle.track_rule.specs.declared.view.Shut.{Shut}
 use Rattle.track_rule.specs.declared.view.View.{View}
 use Rattle.bucket_table.specs.LockedChain.{IsReady, IsTuple, has_bucket, linked_buckets, original_link, reply_link, unlinked_buckets}
 use Rattle.bucket_table.specs.Locks.{AreShut, Buckets}
-use Rattle.bucket_table.specs.TestPlace.{HasPlace, only_bucket}
+use Rattle.bucket_table.specs.TestPlace.{HasLinks, HasOriginal, HasPlace, only_bucket}
 use Rattle.bucket_table.proofs.Pairs.{put_keeps, take_keeps}
-use Rattle.bucket_table.proofs.Stringing.{count_map, hook_is_at, hook_map, lower_else, lower_link, raise_else, raise_link, some_there, test_map}
+use Rattle.bucket_table.proofs.Stringing.{lower_else, lower_link, raise_else, raise_link}
 
 -- the first place of a list is on it
 pub listed : (place : ℕ) (list : List ℕ) → slice_get list 0 ≡ Some place → is_among place list ≡ true
@@ -32,40 +35,6 @@ listed place (x ∷ xs) e =
 or_true : (a b : Bool) → b ≡ true → (a || b) ≡ true
 or_true true b e = refl
 or_true false b e = e
-
-any_more : (t u : Hook → Bool) → ((h : Hook) → t h ≡ true → u h ≡ true) → (hooks : List Hook) → list_any t hooks ≡ true → list_any u hooks ≡ true
-any_more t u more [] e = cc
-any_more t u more (h ∷ hs) e =
-    ⊎_elim
-    (λ (f : t h ≡ true). (λ i. more h f i || list_any u hs))
-    (λ (f : t h ≡ false). or_true (u h) (list_any u hs) (any_more t u more hs (sym (ap (λ (k : Bool). k || list_any t hs) f) ∙ e)))
-    (cases_Bool (t h))
-
--- hooks that change, but not in their links
-module _ (f : Hook → Hook) (links : (h : Hook) → (f h).link ≡ h.link) (x : ℕ) where
-  pair_map : ((h : Hook) → h.link ≡ x → (f h).pair ≡ h.pair) → (hooks : List Hook) → (hook_of x (map f hooks)).pair ≡ (hook_of x hooks).pair
-  pair_map pairs [] = refl
-  pair_map pairs (h ∷ hs) =
-      ap (λ (k : ℕ). (if k == x then f h else hook_of x (map f hs)).pair) (links h)
-      ∙ one (h.link == x) (λ e. pairs h (eqb-true h.link x e)) (pair_map pairs hs)
-    where
-      one : (b : Bool) → (b ≡ true → (f h).pair ≡ h.pair) → (hook_of x (map f hs)).pair ≡ (hook_of x hs).pair
-          → (if b then f h else hook_of x (map f hs)).pair ≡ (if b then h else hook_of x hs).pair
-      one true here rest = here refl
-      one false here rest = rest
-
-  -- a test that each changed hook at the link passes
-  pass_now : (t : Hook → Bool) → ((h : Hook) → h.link ≡ x → t (f h) ≡ true) → (hooks : List Hook) → 0 < hooks_of x hooks
-      → list_any (λ (h : Hook). h.link == x && t h) (map f hooks) ≡ true
-  pass_now t here [] any = absurd (omega (arith, any))
-  pass_now t here (h ∷ hs) any =
-      ⊎_elim
-      (λ (e : (h.link == x) ≡ true).
-      let at : h.link ≡ x = eqb-true h.link x e in
-      (λ i. (eq-eqb (f h).link x (links h ∙ at) i && here h at i) || list_any (λ (k : Hook). k.link == x && t k) (map f hs)))
-      (λ (e : (h.link == x) ≡ false).
-      or_true ((f h).link == x && t (f h)) (list_any (λ (k : Hook). k.link == x && t k) (map f hs)) (pass_now t here hs (omega (arith, any, ap bit e))))
-      (cases_Bool (h.link == x))
 
 raise_pair : (x : ℕ) (h : Hook) → (raise x h).pair ≡ h.pair
 raise_pair x h = cond_both (h.link == x) (record h { next = None; up = true }) h (λ (t : Hook). t.pair ≡ h.pair) (λ e. refl) (λ e. refl)
@@ -79,97 +48,56 @@ raise_up x h e = ap (λ (b : Bool). (if b then record h { next = None; up = true
 lower_up : (x : ℕ) (h : Hook) → h.link ≡ x → not (lower x h).up ≡ true
 lower_up x h e = ap (λ (b : Bool). not (if b then record h { next = None; up = false } else h).up) (eq-eqb h.link x e)
 
--- READY
+-- what a store leaves of a hook, by whether the word is its first or its second one
+abbrev stored_by : Bool → Bool → ℕ → Hook → Hook
+stored_by b c to h = (if b then record h { pair = record h.pair { first = to } } else (if c then record h { pair = record h.pair { second = to } } else h))
 
-ready_map : (z : Sizes) (locked : Buckets) (link : ℕ) (hooks hooks' : List Hook) → (hook_of link hooks').pair ≡ (hook_of link hooks).pair → IsReady z locked link hooks → IsReady z locked link hooks'
-ready_map z locked link hooks hooks' e h = record {
-  tuple = subst (λ (k : Pair). IsTuple k.first k.second) (sym e) h.tuple;
-  its_bucket = subst (λ (k : Pair). has_bucket locked (bucket_of z k) ≡ true) (sym e) h.its_bucket;
-}
+tuple_link : (z : Sizes) (word to : ℕ) (h : Hook) → (tuple_in z word to h).link ≡ h.link
+tuple_link z word to h = one (first_word z h.link == word) (second_word z h.link == word)
+  where
+    one : (b c : Bool) → (stored_by b c to h).link ≡ h.link
+    one true c = refl
+    one false true = refl
+    one false false = refl
 
--- LINKED, AND UNLINKED
+tuple_up : (z : Sizes) (word to : ℕ) (h : Hook) → (tuple_in z word to h).up ≡ h.up
+tuple_up z word to h = one (first_word z h.link == word) (second_word z h.link == word)
+  where
+    one : (b c : Bool) → (stored_by b c to h).up ≡ h.up
+    one true c = refl
+    one false true = refl
+    one false false = refl
 
-module _ (place : ℕ) (v w : PassSight) (sizes : sizes_of w ≡ sizes_of v) (owned : w.view.places.owned ≡ v.view.places.owned) where
-  abbrev hooks : List Hook
-  hooks = v.view.buckets.hooks
+-- the words of the tuple of one link are not those of another one
+firsts : (z : Sizes) (x y : ℕ) → 0 < x → 0 < y → x ≢ y → first_word z x ≢ first_word z y
+firsts z x y some some' other e = other (omega (arith, e, some, some'))
 
-  abbrev z : Sizes
-  z = sizes_of v
+seconds : (z : Sizes) (x y : ℕ) → 0 < x → 0 < y → x ≢ y → second_word z x ≢ second_word z y
+seconds z x y some some' other e = other (omega (arith, e, some, some'))
 
-  apart : original_link place ≢ reply_link place
-  apart e = omega (arith, e)
+never : (z : Sizes) (x y : ℕ) → first_word z x ≢ second_word z y
+never z x y e = omega (arith, e)
 
-  abbrev raised : List Hook
-  raised = map (raise (original_link place)) (map (raise (reply_link place)) hooks)
+-- both words of the tuple of a link, stored
+module _ (z : Sizes) (x a b : ℕ) where
+  pub one_pair : (k : Hook) → k.link ≡ x → (tuple_in z (second_word z x) b (tuple_in z (first_word z x) a k)).pair ≡ record { first = a; second = b }
+  one_pair k at =
+      let first : tuple_in z (first_word z x) a k ≡ record k { pair = record k.pair { first = a } } =
+      ap (λ (t : Bool). stored_by t (second_word z k.link == first_word z x) a k) (eq-eqb (first_word z k.link) (first_word z x) (ap (first_word z) at)) in
+      ap (λ (y : Hook). (tuple_in z (second_word z x) b y).pair) first
+      ∙ (λ i. (stored_by (ne_eqb (first_word z k.link) (second_word z x) (never z k.link x) i)
+      (eq-eqb (second_word z k.link) (second_word z x) (ap (second_word z) at) i) b (record k { pair = record k.pair { first = a } })).pair)
 
-  abbrev lowered : List Hook
-  lowered = map (lower (reply_link place)) (map (lower (original_link place)) hooks)
+  one_else : (word to : ℕ) (k : Hook) → first_word z k.link ≢ word → second_word z k.link ≢ word → (tuple_in z word to k).pair ≡ k.pair
+  one_else word to k f g = (λ i. (stored_by (ne_eqb (first_word z k.link) word f i) (ne_eqb (second_word z k.link) word g i) to k).pair)
 
-  raised_pair : (x : ℕ) → (hook_of x raised).pair ≡ (hook_of x hooks).pair
-  raised_pair x =
-      pair_map (raise (original_link place)) (raise_link (original_link place)) x (λ h e. raise_pair (original_link place) h) (map (raise (reply_link place)) hooks)
-      ∙ pair_map (raise (reply_link place)) (raise_link (reply_link place)) x (λ h e. raise_pair (reply_link place) h) hooks
-
-  lowered_pair : (x : ℕ) → (hook_of x lowered).pair ≡ (hook_of x hooks).pair
-  lowered_pair x =
-      pair_map (lower (reply_link place)) (lower_link (reply_link place)) x (λ h e. lower_pair (reply_link place) h) (map (lower (original_link place)) hooks)
-      ∙ pair_map (lower (original_link place)) (lower_link (original_link place)) x (λ h e. lower_pair (original_link place) h) hooks
-
-  place_raised_all : HasPlace is_down place v → HasPlace is_raised place (record w { view = record w.view { passes = record w.view.passes { sizes = z }; places = record w.view.places { owned = v.view.places.owned }; buckets = record w.view.buckets { hooks = raised } } })
-  place_raised_all h = record {
-    below = h.below;
-    buckets = h.buckets;
-    original = pass_now (raise (original_link place)) (raise_link (original_link place)) (original_link place) (λ (k : Hook). k.up) (raise_up (original_link place)) (map (raise (reply_link place)) hooks)
-        (omega (
-          arith,
-          count_map (raise (reply_link place)) (raise_link (reply_link place)) (original_link place) hooks,
-          some_there (λ (k : Hook). not k.up) (original_link place) hooks h.original,
-        ));
-    reply = test_map (raise (original_link place)) (raise_link (original_link place)) (λ (k : Hook). k.up) (reply_link place)
-        (λ k e. ap (λ (y : Hook). y.up) (raise_else (original_link place) k (λ o. apart (sym o ∙ e)))) (map (raise (reply_link place)) hooks)
-        ∙ pass_now (raise (reply_link place)) (raise_link (reply_link place)) (reply_link place) (λ (k : Hook). k.up) (raise_up (reply_link place)) hooks
-        (some_there (λ (k : Hook). not k.up) (reply_link place) hooks h.reply);
-    original_ready = ready_map z only_bucket (original_link place) hooks raised (raised_pair (original_link place)) h.original_ready;
-    reply_ready = ready_map z only_bucket (reply_link place) hooks raised (raised_pair (reply_link place)) h.reply_ready;
-    owned = h.owned;
-  }
-
-  pub place_raised : w.view.buckets.hooks ≡ raised → HasPlace is_down place v → HasPlace is_raised place w
-  place_raised same h = subst (HasPlace is_raised place) (λ i. record w {
-    view = record w.view {
-      passes = record w.view.passes { sizes = sym sizes i };
-      places = record w.view.places { owned = sym owned i };
-      buckets = record w.view.buckets { hooks = sym same i };
-    };
-  }) (place_raised_all h)
-
-  place_lowered_all : HasPlace is_raised place v → HasPlace is_down place (record w { view = record w.view { passes = record w.view.passes { sizes = z }; places = record w.view.places { owned = v.view.places.owned }; buckets = record w.view.buckets { hooks = lowered } } })
-  place_lowered_all h = record {
-    below = h.below;
-    buckets = h.buckets;
-    original = test_map (lower (reply_link place)) (lower_link (reply_link place)) (λ (k : Hook). not k.up) (original_link place)
-        (λ k e. ap (λ (y : Hook). not y.up) (lower_else (reply_link place) k (λ r. apart (sym e ∙ r)))) (map (lower (original_link place)) hooks)
-        ∙ pass_now (lower (original_link place)) (lower_link (original_link place)) (original_link place) (λ (k : Hook). not k.up) (lower_up (original_link place)) hooks
-        (some_there (λ (k : Hook). k.up) (original_link place) hooks h.original);
-    reply = pass_now (lower (reply_link place)) (lower_link (reply_link place)) (reply_link place) (λ (k : Hook). not k.up) (lower_up (reply_link place)) (map (lower (original_link place)) hooks)
-        (omega (
-          arith,
-          count_map (lower (original_link place)) (lower_link (original_link place)) (reply_link place) hooks,
-          some_there (λ (k : Hook). k.up) (reply_link place) hooks h.reply,
-        ));
-    original_ready = ready_map z only_bucket (original_link place) hooks lowered (lowered_pair (original_link place)) h.original_ready;
-    reply_ready = ready_map z only_bucket (reply_link place) hooks lowered (lowered_pair (reply_link place)) h.reply_ready;
-    owned = h.owned;
-  }
-
-  pub place_lowered : w.view.buckets.hooks ≡ lowered → HasPlace is_raised place v → HasPlace is_down place w
-  place_lowered same h = subst (HasPlace is_down place) (λ i. record w {
-    view = record w.view {
-      passes = record w.view.passes { sizes = sym sizes i };
-      places = record w.view.places { owned = sym owned i };
-      buckets = record w.view.buckets { hooks = sym same i };
-    };
-  }) (place_lowered_all h)
+  pub other_pair : (k : Hook) → 0 < x → 0 < k.link → k.link ≢ x → (tuple_in z (second_word z x) b (tuple_in z (first_word z x) a k)).pair ≡ k.pair
+  other_pair k some_x some_k other =
+      let link : (tuple_in z (first_word z x) a k).link ≡ k.link = tuple_link z (first_word z x) a k in
+      one_else (second_word z x) b (tuple_in z (first_word z x) a k)
+      (λ e. never z k.link x (ap (first_word z) (sym link) ∙ e))
+      (λ e. seconds z k.link x some_k some_x other (ap (second_word z) (sym link) ∙ e))
+      ∙ one_else (first_word z x) a k (firsts z k.link x some_k some_x other) (λ e. never z x k.link (sym e))
 
 -- the buckets that are shut stay so
 next_other : (x : ℕ) → suc x ≢ x
@@ -193,123 +121,267 @@ shut_stays locked v w e h = record {
   upper = omega (arith, e locked.upper, h.upper);
 }
 
--- TUPLES ARE STORED
+-- THE TWO LINKS OF A PLACE
 
-own_first : (z : Sizes) (x : ℕ) (buckets : HeldBuckets) (owned : List ℕ) → is_down x buckets.hooks ≡ true → is_among (place_of x) owned ≡ true
-    → is_own_tuple z (first_word z x) buckets owned ≡ true
-own_first z x buckets owned e o =
-    any_more (λ (h : Hook). h.link == x && not h.up)
-    (λ (h : Hook). (not h.up && (first_word z h.link == first_word z x || second_word z h.link == first_word z x)) && is_among (place_of h.link) owned)
-    (λ h k.
-    let p = and_parts (h.link == x) (not h.up) k in
-    let at : h.link ≡ x = eqb-true h.link x p.0 in
-    (λ i. (p.1 i && (eq-eqb (first_word z h.link) (first_word z x) (ap (first_word z) at) i || second_word z h.link == first_word z x))
-    && (ap (λ (y : ℕ). is_among (place_of y) owned) at ∙ o) i))
-    buckets.hooks e
+module _ (place : ℕ) (k : Hook) where
+  is_original : k.link ≡ original_link place → ((k.link == original_link place) ≡ true) × ((k.link == reply_link place) ≡ false) × (place_of k.link ≡ place)
+  is_original e = (eq-eqb k.link (original_link place) e, ne_eqb k.link (reply_link place) (λ f. omega (arith, e, f)), omega (arith, e))
 
-own_second : (z : Sizes) (x : ℕ) (buckets : HeldBuckets) (owned : List ℕ) → is_down x buckets.hooks ≡ true → is_among (place_of x) owned ≡ true
-    → is_own_tuple z (second_word z x) buckets owned ≡ true
-own_second z x buckets owned e o =
-    any_more (λ (h : Hook). h.link == x && not h.up)
-    (λ (h : Hook). (not h.up && (first_word z h.link == second_word z x || second_word z h.link == second_word z x)) && is_among (place_of h.link) owned)
-    (λ h k.
-    let p = and_parts (h.link == x) (not h.up) k in
-    let at : h.link ≡ x = eqb-true h.link x p.0 in
-    (λ i. (p.1 i && or_true (first_word z h.link == second_word z x) (second_word z h.link == second_word z x)
-    (eq-eqb (second_word z h.link) (second_word z x) (ap (second_word z) at)) i)
-    && (ap (λ (y : ℕ). is_among (place_of y) owned) at ∙ o) i))
-    buckets.hooks e
+  is_reply : k.link ≡ reply_link place → ((k.link == original_link place) ≡ false) × ((k.link == reply_link place) ≡ true) × (place_of k.link ≡ place)
+  is_reply e = (ne_eqb k.link (original_link place) (λ f. omega (arith, e, f)), eq-eqb k.link (reply_link place) e, omega (arith, e))
 
--- what a store leaves of a hook, by whether the word is its first or its second one
-abbrev stored_by : Bool → Bool → ℕ → Hook → Hook
-stored_by b c to h = (if b then record h { pair = record h.pair { first = to } } else (if c then record h { pair = record h.pair { second = to } } else h))
+or_none : (b : Bool) → (b || false) ≡ b
+or_none true = refl
+or_none false = refl
 
-tuple_link : (z : Sizes) (word to : ℕ) (h : Hook) → (tuple_in z word to h).link ≡ h.link
-tuple_link z word to h = one (first_word z h.link == word) (second_word z h.link == word)
+module _ (place : ℕ) (o r : Hook) (lo : o.link ≡ original_link place) (lr : r.link ≡ reply_link place) where
+  at_original : hook_of (original_link place) (o ∷ r ∷ []) ≡ o
+  at_original = ap (λ (b : Bool). if b then o else hook_of (original_link place) (r ∷ [])) (is_original place o lo).0
+
+  at_reply : hook_of (reply_link place) (o ∷ r ∷ []) ≡ r
+  at_reply =
+      ap (λ (b : Bool). if b then o else hook_of (reply_link place) (r ∷ [])) (is_original place o lo).1
+      ∙ ap (λ (b : Bool). if b then r else hook_of (reply_link place) []) (is_reply place r lr).1
+
+  any_original : (t : Hook → Bool) → t o ≡ true → list_any (λ (h : Hook). h.link == original_link place && t h) (o ∷ r ∷ []) ≡ true
+  any_original t e = (λ i. ((is_original place o lo).0 i && e i) || list_any (λ (h : Hook). h.link == original_link place && t h) (r ∷ []))
+
+  any_reply : (t : Hook → Bool) → t r ≡ true → list_any (λ (h : Hook). h.link == reply_link place && t h) (o ∷ r ∷ []) ≡ true
+  any_reply t e =
+      (λ i. ((is_original place o lo).1 i && t o) || (((is_reply place r lr).1 i && e i) || false))
+
+  -- no link of a place is in a chain where neither is
+  none_up : o.up ≡ false → r.up ≡ false → (q : ℕ) → is_up q (o ∷ r ∷ []) ≡ false
+  none_up f g q = (λ i. (place_of o.link == q && f i) || ((place_of r.link == q && g i) || false)) ∙ dead (place_of o.link == q) (place_of r.link == q)
+    where
+      dead : (a b : Bool) → ((a && false) || ((b && false) || false)) ≡ false
+      dead true true = refl
+      dead true false = refl
+      dead false true = refl
+      dead false false = refl
+
+-- a word of a tuple of the place may be stored
+module _ (place : ℕ) (v : PassSight) (h : HasLinks false place v) where
+  calm_links : (q : ℕ) → is_up q v.view.buckets.hooks ≡ false
+  calm_links q = ap (is_up q) h.all ∙ none_up place h.original h.reply h.links.0 h.links.1 h.ups.0 h.ups.1 q
+
+  abbrev test : ℕ → Hook → Bool
+  test word k =
+      (not (is_up (place_of k.link) v.view.buckets.hooks) && (first_word (sizes_of v) k.link == word || second_word (sizes_of v) k.link == word)) && is_among (place_of k.link) v.view.places.owned
+
+  passes : (word : ℕ) (k : Hook) → place_of k.link ≡ place → (first_word (sizes_of v) k.link == word || second_word (sizes_of v) k.link == word) ≡ true → test word k ≡ true
+  passes word k at is =
+      and_from (not (is_up (place_of k.link) v.view.buckets.hooks) && (first_word (sizes_of v) k.link == word || second_word (sizes_of v) k.link == word))
+      (is_among (place_of k.link) v.view.places.owned)
+      (and_from (not (is_up (place_of k.link) v.view.buckets.hooks)) (first_word (sizes_of v) k.link == word || second_word (sizes_of v) k.link == word)
+      (ap not (calm_links (place_of k.link))) is)
+      (ap (λ (q : ℕ). is_among q v.view.places.owned) at ∙ h.owned)
+
+  either : (word link : ℕ) → (word ≡ first_word (sizes_of v) link) ⊎ (word ≡ second_word (sizes_of v) link)
+      → (first_word (sizes_of v) link == word || second_word (sizes_of v) link == word) ≡ true
+  either word link e =
+      ⊎_elim
+      (λ (f : word ≡ first_word (sizes_of v) link). ap (λ (b : Bool). b || second_word (sizes_of v) link == word) (eq-eqb (first_word (sizes_of v) link) word (sym f)))
+      (λ (f : word ≡ second_word (sizes_of v) link).
+      or_true (first_word (sizes_of v) link == word) (second_word (sizes_of v) link == word) (eq-eqb (second_word (sizes_of v) link) word (sym f)))
+      e
+
+  pub own_original : (word : ℕ) → (word ≡ first_word (sizes_of v) (original_link place)) ⊎ (word ≡ second_word (sizes_of v) (original_link place))
+      → is_own_tuple (sizes_of v) word v.view.buckets v.view.places.owned ≡ true
+  own_original word e =
+      ap (list_any (test word)) h.all
+      ∙ ap (λ (b : Bool). b || (test word h.reply || false)) (passes word h.original (is_original place h.original h.links.0).2
+      (either word h.original.link (subst (λ (x : ℕ). (word ≡ first_word (sizes_of v) x) ⊎ (word ≡ second_word (sizes_of v) x)) (sym h.links.0) e)))
+
+  pub own_reply : (word : ℕ) → (word ≡ first_word (sizes_of v) (reply_link place)) ⊎ (word ≡ second_word (sizes_of v) (reply_link place))
+      → is_own_tuple (sizes_of v) word v.view.buckets v.view.places.owned ≡ true
+  own_reply word e =
+      ap (list_any (test word)) h.all
+      ∙ or_true (test word h.original) (test word h.reply || false)
+      (ap (λ (b : Bool). b || false) (passes word h.reply (is_reply place h.reply h.links.1).2
+      (either word h.reply.link (subst (λ (x : ℕ). (word ≡ first_word (sizes_of v) x) ⊎ (word ≡ second_word (sizes_of v) x)) (sym h.links.1) e))))
+
+  -- what is there after a store
+  pub links_stored : (word to : ℕ) (w : PassSight) → w ≡ record v { view = tuple_stored word to v.view } → HasLinks false place w
+  links_stored word to w e =
+      let z : Sizes = sizes_of v in
+      record {
+        below = subst (λ (y : Sizes). place < y.entries) (sym (ap sizes_of e)) h.below;
+        buckets = ap (λ (x : PassSight). (sizes_of x).buckets) e ∙ h.buckets;
+        owned = ap (λ (x : PassSight). is_among place x.view.places.owned) e ∙ h.owned;
+        calm = ap (λ (x : PassSight). x.view.commit.middle) e ∙ h.calm;
+        original = tuple_in z word to h.original;
+        reply = tuple_in z word to h.reply;
+        all = ap (λ (x : PassSight). x.view.buckets.hooks) e ∙ ap (map (tuple_in z word to)) h.all;
+        links = (tuple_link z word to h.original ∙ h.links.0, tuple_link z word to h.reply ∙ h.links.1);
+        ups = (tuple_up z word to h.original ∙ h.ups.0, tuple_up z word to h.reply ∙ h.ups.1);
+      }
+
+  -- both links are ready
+  pub down_original : is_down (original_link place) v.view.buckets.hooks ≡ true
+  down_original = ap (is_down (original_link place)) h.all ∙ any_original place h.original h.reply h.links.0 h.links.1 (λ (k : Hook). not k.up) (ap not h.ups.0)
+
+  pub down_reply : is_down (reply_link place) v.view.buckets.hooks ≡ true
+  down_reply = ap (is_down (reply_link place)) h.all ∙ any_reply place h.original h.reply h.links.0 h.links.1 (λ (k : Hook). not k.up) (ap not h.ups.1)
+
+  -- nothing that is not of a live entry is in the chains
+  pub whole_links : (b : ℕ) → loose_of (sizes_of v) b each_link v.view ≡ 0
+  whole_links b =
+      ap (total (λ (k : Hook). (if k.up then side (sizes_of v) b each_link (entry_of k) else 0))) h.all
+      ∙ (λ i. (if h.ups.0 i then side (sizes_of v) b each_link (entry_of h.original) else 0) + ((if h.ups.1 i then side (sizes_of v) b each_link (entry_of h.reply) else 0) + 0))
+
+-- the only bucket
+only_one : (z : Sizes) (p : Pair) → z.buckets ≡ 1 → has_bucket only_bucket (bucket_of z p) ≡ true
+only_one z p e = ap (has_bucket only_bucket) (lone (mix (bit_xor (mix (bit_xor p.first z.seed)) p.second)) z.buckets e)
   where
-    one : (b c : Bool) → (stored_by b c to h).link ≡ h.link
-    one true c = refl
-    one false true = refl
-    one false false = refl
+    lone : (n m : ℕ) → m ≡ 1 → n % m ≡ 0
+    lone n m one = ap (λ (k : ℕ). n % k) one ∙ omega arith
 
-tuple_up : (z : Sizes) (word to : ℕ) (h : Hook) → (tuple_in z word to h).up ≡ h.up
-tuple_up z word to h = one (first_word z h.link == word) (second_word z h.link == word)
-  where
-    one : (b c : Bool) → (stored_by b c to h).up ≡ h.up
-    one true c = refl
-    one false true = refl
-    one false false = refl
+-- LINKED, AND UNLINKED
 
-tuple_down : (z : Sizes) (word to x : ℕ) (hooks : List Hook) → is_down x (map (tuple_in z word to) hooks) ≡ is_down x hooks
-tuple_down z word to x hooks = test_map (tuple_in z word to) (tuple_link z word to) (λ (h : Hook). not h.up) x (λ h e. ap not (tuple_up z word to h)) hooks
+module _ (up : Bool) (place : ℕ) (v : PassSight) (h : HasPlace up place v) where
+  pub ready_original : IsReady (sizes_of v) only_bucket (original_link place) v.view.buckets.hooks
+  ready_original =
+      let here : hook_of (original_link place) v.view.buckets.hooks ≡ h.has.original =
+      ap (hook_of (original_link place)) h.has.all ∙ at_original place h.has.original h.has.reply h.has.links.0 h.has.links.1 in
+      record {
+        tuple = subst (λ (k : Hook). IsTuple k.pair.first k.pair.second) (sym here) h.original;
+        its_bucket = only_one (sizes_of v) (hook_of (original_link place) v.view.buckets.hooks).pair h.has.buckets;
+      }
 
--- the words of the tuple of one link are not those of another one
-firsts : (z : Sizes) (x y : ℕ) → 0 < x → 0 < y → x ≢ y → first_word z x ≢ first_word z y
-firsts z x y some some' other e = other (omega (arith, e, some, some'))
+  pub ready_reply : IsReady (sizes_of v) only_bucket (reply_link place) v.view.buckets.hooks
+  ready_reply =
+      let here : hook_of (reply_link place) v.view.buckets.hooks ≡ h.has.reply =
+      ap (hook_of (reply_link place)) h.has.all ∙ at_reply place h.has.original h.has.reply h.has.links.0 h.has.links.1 in
+      record {
+        tuple = subst (λ (k : Hook). IsTuple k.pair.first k.pair.second) (sym here) h.reply;
+        its_bucket = only_one (sizes_of v) (hook_of (reply_link place) v.view.buckets.hooks).pair h.has.buckets;
+      }
 
-seconds : (z : Sizes) (x y : ℕ) → 0 < x → 0 < y → x ≢ y → second_word z x ≢ second_word z y
-seconds z x y some some' other e = other (omega (arith, e, some, some'))
+module _ (place : ℕ) (v : PassSight) (h : HasPlace true place v) where
+  pub raised_original : is_raised (original_link place) v.view.buckets.hooks ≡ true
+  raised_original =
+      ap (is_raised (original_link place)) h.has.all
+      ∙ any_original place h.has.original h.has.reply h.has.links.0 h.has.links.1 (λ (k : Hook). k.up) h.has.ups.0
 
-never : (z : Sizes) (x y : ℕ) → first_word z x ≢ second_word z y
-never z x y e = omega (arith, e)
+  pub raised_reply : is_raised (reply_link place) v.view.buckets.hooks ≡ true
+  raised_reply =
+      ap (is_raised (reply_link place)) h.has.all ∙ any_reply place h.has.original h.has.reply h.has.links.0 h.has.links.1 (λ (k : Hook). k.up) h.has.ups.1
 
-module _ (z : Sizes) (x a b : ℕ) where
-  abbrev both : List Hook → List Hook
-  both hooks = map (tuple_in z (second_word z x) b) (map (tuple_in z (first_word z x) a) hooks)
+-- what changes both hooks, but neither their links nor their pairs
+module _ (old new : Bool) (place : ℕ) (v w : PassSight) (f : Hook → Hook) (same : (k : Hook) → ((f k).link ≡ k.link) × ((f k).pair ≡ k.pair))
+    (first : (k : Hook) → k.link ≡ original_link place → (f k).up ≡ new) (second : (k : Hook) → k.link ≡ reply_link place → (f k).up ≡ new)
+    (sizes : sizes_of w ≡ sizes_of v) (owned : w.view.places.owned ≡ v.view.places.owned) (calm : w.view.commit.middle ≡ v.view.commit.middle)
+    (hooks : w.view.buckets.hooks ≡ map f v.view.buckets.hooks) where
+  place_changed : HasPlace old place v → HasPlace new place w
+  place_changed h = record {
+    has = record {
+      below = subst (λ (y : Sizes). place < y.entries) (sym sizes) h.has.below;
+      buckets = ap (λ (y : Sizes). y.buckets) sizes ∙ h.has.buckets;
+      owned = ap (is_among place) owned ∙ h.has.owned;
+      calm = calm ∙ h.has.calm;
+      original = f h.has.original;
+      reply = f h.has.reply;
+      all = hooks ∙ ap (map f) h.has.all;
+      links = ((same h.has.original).0 ∙ h.has.links.0, (same h.has.reply).0 ∙ h.has.links.1);
+      ups = (first h.has.original h.has.links.0, second h.has.reply h.has.links.1);
+    };
+    original = subst (λ (p : Pair). IsTuple p.first p.second) (sym (same h.has.original).1) h.original;
+    reply = subst (λ (p : Pair). IsTuple p.first p.second) (sym (same h.has.reply).1) h.reply;
+  }
 
-  pub both_down : (y : ℕ) (hooks : List Hook) → is_down y (both hooks) ≡ is_down y hooks
-  both_down y hooks = tuple_down z (second_word z x) b y (map (tuple_in z (first_word z x) a) hooks) ∙ tuple_down z (first_word z x) a y hooks
+-- two maps are one
+map_twice : (f g : Hook → Hook) (hooks : List Hook) → map f (map g hooks) ≡ map (λ (k : Hook). f (g k)) hooks
+map_twice f g [] = refl
+map_twice f g (k ∷ ks) = ap (λ (xs : List Hook). f (g k) ∷ xs) (map_twice f g ks)
 
-  one_pair : (k : Hook) → k.link ≡ x → (tuple_in z (second_word z x) b (tuple_in z (first_word z x) a k)).pair ≡ record { first = a; second = b }
-  one_pair k at =
-      let first : tuple_in z (first_word z x) a k ≡ record k { pair = record k.pair { first = a } } =
-      ap (λ (t : Bool). stored_by t (second_word z k.link == first_word z x) a k) (eq-eqb (first_word z k.link) (first_word z x) (ap (first_word z) at)) in
-      ap (λ (y : Hook). (tuple_in z (second_word z x) b y).pair) first
-      ∙ (λ i. (stored_by (ne_eqb (first_word z k.link) (second_word z x) (never z k.link x) i)
-      (eq-eqb (second_word z k.link) (second_word z x) (ap (second_word z) at) i) b (record k { pair = record k.pair { first = a } })).pair)
+module _ (place : ℕ) (v w : PassSight) (sizes : sizes_of w ≡ sizes_of v) (owned : w.view.places.owned ≡ v.view.places.owned)
+    (calm : w.view.commit.middle ≡ v.view.commit.middle) where
+  apart : original_link place ≢ reply_link place
+  apart e = omega (arith, e)
 
-  pub both_pair : (hooks : List Hook) → is_down x hooks ≡ true → (hook_of x (both hooks)).pair ≡ record { first = a; second = b }
-  both_pair hooks down =
-      let any : 0 < hooks_of x hooks = some_there (λ (h : Hook). not h.up) x hooks down in
-      ap (λ (h : Hook). h.pair)
-      (hook_map (tuple_in z (second_word z x) b) (tuple_link z (second_word z x) b) x (map (tuple_in z (first_word z x) a) hooks)
-      (omega (arith, any, count_map (tuple_in z (first_word z x) a) (tuple_link z (first_word z x) a) x hooks)))
-      ∙ ap (λ (h : Hook). (tuple_in z (second_word z x) b h).pair) (hook_map (tuple_in z (first_word z x) a) (tuple_link z (first_word z x) a) x hooks any)
-      ∙ one_pair (hook_of x hooks) (hook_is_at x hooks any)
+  pub place_raised : w.view.buckets.hooks ≡ map (raise (original_link place)) (map (raise (reply_link place)) v.view.buckets.hooks)
+      → HasPlace false place v → HasPlace true place w
+  place_raised hooks =
+      place_changed false true place v w (λ (k : Hook). raise (original_link place) (raise (reply_link place) k))
+      (λ k. (
+        raise_link (original_link place) (raise (reply_link place) k) ∙ raise_link (reply_link place) k,
+        raise_pair (original_link place) (raise (reply_link place) k) ∙ raise_pair (reply_link place) k,
+      ))
+      (λ k e. raise_up (original_link place) (raise (reply_link place) k) (raise_link (reply_link place) k ∙ e))
+      (λ k e.
+      ap (λ (y : Hook). y.up) (raise_else (original_link place) (raise (reply_link place) k) (λ o. apart (sym o ∙ raise_link (reply_link place) k ∙ e)))
+      ∙ raise_up (reply_link place) k e)
+      sizes owned calm (hooks ∙ map_twice (raise (original_link place)) (raise (reply_link place)) v.view.buckets.hooks)
 
-  pub both_others : (y : ℕ) (hooks : List Hook) → 0 < x → 0 < y → y ≢ x → (hook_of y (both hooks)).pair ≡ (hook_of y hooks).pair
-  both_others y hooks some some' other =
-      pair_map (tuple_in z (second_word z x) b) (tuple_link z (second_word z x) b) y
-      (λ h e. (λ i. (stored_by (ne_eqb (first_word z h.link) (second_word z x) (never z h.link x) i)
-      (ne_eqb (second_word z h.link) (second_word z x) (λ k. seconds z y x some' some other (ap (second_word z) (sym e) ∙ k)) i) b h).pair))
-      (map (tuple_in z (first_word z x) a) hooks)
-      ∙ pair_map (tuple_in z (first_word z x) a) (tuple_link z (first_word z x) a) y
-      (λ h e. (λ i. (stored_by (ne_eqb (first_word z h.link) (first_word z x) (λ k. firsts z y x some' some other (ap (first_word z) (sym e) ∙ k)) i)
-      (ne_eqb (second_word z h.link) (first_word z x) (λ k. never z x h.link (sym k)) i) a h).pair))
-      hooks
+  pub place_lowered : w.view.buckets.hooks ≡ map (lower (reply_link place)) (map (lower (original_link place)) v.view.buckets.hooks)
+      → HasPlace true place v → HasPlace false place w
+  place_lowered hooks =
+      place_changed true false place v w (λ (k : Hook). lower (reply_link place) (lower (original_link place) k))
+      (λ k. (
+        lower_link (reply_link place) (lower (original_link place) k) ∙ lower_link (original_link place) k,
+        lower_pair (reply_link place) (lower (original_link place) k) ∙ lower_pair (original_link place) k,
+      ))
+      (λ k e.
+      ap (λ (y : Hook). y.up) (lower_else (reply_link place) (lower (original_link place) k) (λ o. apart (sym e ∙ sym (lower_link (original_link place) k) ∙ o)))
+      ∙ lowered_up (original_link place) k e)
+      (λ k e. lowered_up (reply_link place) (lower (original_link place) k) (lower_link (original_link place) k ∙ e))
+      sizes owned calm (hooks ∙ map_twice (lower (reply_link place)) (lower (original_link place)) v.view.buckets.hooks)
+    where
+      lowered_up : (x : ℕ) (k : Hook) → k.link ≡ x → (lower x k).up ≡ false
+      lowered_up x k e = ap (λ (b : Bool). (if b then record k { next = None; up = false } else k).up) (eq-eqb k.link x e)
 
-pub own_at_first : (z : Sizes) (x word : ℕ) (v : PassSight) → z ≡ sizes_of v → word ≡ first_word z x → is_down x v.view.buckets.hooks ≡ true
-    → is_among (place_of x) v.view.places.owned ≡ true → is_own_tuple (sizes_of v) word v.view.buckets v.view.places.owned ≡ true
-own_at_first z x word v same first down owned =
-    (λ i. is_own_tuple (sizes_of v) ((first ∙ ap (λ (y : Sizes). first_word y x) same) i) v.view.buckets v.view.places.owned)
-    ∙ own_first (sizes_of v) x v.view.buckets v.view.places.owned down owned
+-- BOTH TUPLES
 
--- two stores, one after the other
-module _ (z : Sizes) (x a b word word' : ℕ) (v u : PassSight) (same : z ≡ sizes_of v) (first : word ≡ first_word z x) (second : word' ≡ second_word z x)
-    (stores : u ≡ record v { view = tuple_stored word a v.view }) where
-  once : u.view.buckets.hooks ≡ map (tuple_in z (first_word z x) a) v.view.buckets.hooks
-  once = ap (λ (y : PassSight). y.view.buckets.hooks) stores ∙ (λ i. map (tuple_in (sym same i) (first i) a) v.view.buckets.hooks)
+-- the words of the first tuple
+pub first_stored : (place : ℕ) (t : Tuple) (a b word word' : ℕ) (v u w : PassSight) → pair_of t ≡ record { first = a; second = b }
+    → word ≡ first_word (sizes_of v) (original_link place) → word' ≡ second_word (sizes_of v) (original_link place) → HasLinks false place v
+    → u ≡ record v { view = tuple_stored word a v.view } → w ≡ record u { view = tuple_stored word' b u.view } → HasOriginal t place w
+unfolding links_stored
+first_stored place t a b word word' v u w words first second h e f =
+    let one = links_stored place v h word a u e in
+    let two = links_stored place u one word' b w f in
+    let z : Sizes = sizes_of v in
+    record {
+      has = two;
+      pair = (λ i. (tuple_in (ap sizes_of e i) (second i) b (tuple_in z (first i) a h.original)).pair) ∙ one_pair z (original_link place) a b h.original h.links.0 ∙ sym words;
+    }
 
-  sizes_once : sizes_of u ≡ z
-  sizes_once = ap sizes_of stores ∙ sym same
+-- those of the second one
+pub second_stored : (place : ℕ) (t y : Tuple) (a b word word' : ℕ) (v u w : PassSight) → pair_of y ≡ record { first = a; second = b } → is_valid t ≡ true
+    → is_valid y ≡ true → word ≡ first_word (sizes_of v) (reply_link place) → word' ≡ second_word (sizes_of v) (reply_link place) → HasOriginal t place v
+    → u ≡ record v { view = tuple_stored word a v.view } → w ≡ record u { view = tuple_stored word' b u.view } → HasPlace false place w
+unfolding links_stored
+second_stored place t y a b word word' v u w words valid valid' first second h e f =
+    let one = links_stored place v h.has word a u e in
+    let two = links_stored place u one word' b w f in
+    let z : Sizes = sizes_of v in
+    record {
+      has = two;
+      original = subst (λ (p : Pair). IsTuple p.first p.second)
+          (sym ((λ i. (tuple_in (ap sizes_of e i) (second i) b (tuple_in z (first i) a h.has.original)).pair)
+          ∙ other_pair z (reply_link place) a b h.has.original (omega arith) (omega (arith, h.has.links.0)) (λ x. omega (arith, x, h.has.links.0)) ∙ h.pair))
+          (record { tuple = t; valid = valid; words = refl });
+      reply = subst (λ (p : Pair). IsTuple p.first p.second)
+          (sym ((λ i. (tuple_in (ap sizes_of e i) (second i) b (tuple_in z (first i) a h.has.reply)).pair) ∙ one_pair z (reply_link place) a b h.has.reply h.has.links.1 ∙ sym words))
+          (record { tuple = y; valid = valid'; words = refl });
+    }
 
-  pub own_at_second : is_down x v.view.buckets.hooks ≡ true → is_among (place_of x) v.view.places.owned ≡ true
-      → is_own_tuple (sizes_of u) word' u.view.buckets u.view.places.owned ≡ true
-  own_at_second down owned =
-      (λ i. is_own_tuple (sizes_once i) (second i) u.view.buckets u.view.places.owned)
-      ∙ own_second z x u.view.buckets u.view.places.owned
-      (ap (is_down x) once ∙ tuple_down z (first_word z x) a x v.view.buckets.hooks ∙ down)
-      (ap (λ (y : PassSight). is_among (place_of x) y.view.places.owned) stores ∙ owned)
-
-  pub twice : (w : PassSight) → w ≡ record u { view = tuple_stored word' b u.view } → w.view.buckets.hooks ≡ both z x a b v.view.buckets.hooks
-  twice w stores' = ap (λ (y : PassSight). y.view.buckets.hooks) stores' ∙ (λ i. map (tuple_in (sizes_once i) (second i) b) (once i))
+-- what leaves the hooks
+pub place_stays : (up : Bool) (place : ℕ) (v w : PassSight) → sizes_of w ≡ sizes_of v → w.view.places.owned ≡ v.view.places.owned
+    → w.view.commit.middle ≡ v.view.commit.middle → w.view.buckets.hooks ≡ v.view.buckets.hooks → HasPlace up place v → HasPlace up place w
+place_stays up place v w sizes owned calm hooks h = record {
+  has = record {
+    below = subst (λ (y : Sizes). place < y.entries) (sym sizes) h.has.below;
+    buckets = ap (λ (y : Sizes). y.buckets) sizes ∙ h.has.buckets;
+    owned = ap (is_among place) owned ∙ h.has.owned;
+    calm = calm ∙ h.has.calm;
+    original = h.has.original;
+    reply = h.has.reply;
+    all = hooks ∙ h.has.all;
+    links = h.has.links;
+    ups = h.has.ups;
+  };
+  original = h.original;
+  reply = h.reply;
+}

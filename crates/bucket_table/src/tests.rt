@@ -1,14 +1,12 @@
-//! One flow in a table of one bucket: before it is linked, while its bucket is locked, while it is linked, and after.
+//! One flow in a table of one bucket: before it is linked, while it is linked, which it may be only as long as the bucket is
+//! locked, and after it was taken out again.
 
-ghost use Rattle.std.specs.Prelude.{◌≡◌, ◌≢◌, ◌<◌, ◌≤◌, None, [], true};
+ghost use Rattle.std.specs.Prelude.{◌≡◌, ◌<◌, None, [], false, true};
 ghost use Rattle.history_book.specs.Sizes.{AreWithinLimits};
-ghost use Rattle.bucket_table.specs.LockedChain.{original_link, reply_link};
-ghost use Rattle.bucket_table.specs.Locks.{AreShut};
-ghost use Rattle.bucket_table.specs.TestPlace.{HasPlace, only_bucket};
-ghost use Rattle.track_rule.specs.Chains.{pair_of};
+ghost use Rattle.bucket_table.specs.Locks.{AreOpen, AreShut};
+ghost use Rattle.bucket_table.specs.TestPlace.{HasLinks, HasOriginal, HasPlace, only_bucket};
+ghost use Rattle.track_rule.specs.declared.view.Middle.TheVariants.{Calm};
 ghost use Rattle.track_rule.specs.Free.{is_among, known_free};
-ghost use Rattle.track_rule.specs.Layout.{place_of};
-ghost use Rattle.track_rule.specs.Links.{hook_of, is_down, is_raised, last_link};
 ghost use Rattle.track_rule.specs.Passes.{no_places};
 ghost use Rattle.track_rule.specs.Sights.{sizes_of};
 ghost use Rattle.tuple_core.specs.Tuple.{is_valid};
@@ -77,6 +75,7 @@ fn free_place<R: Abort>(rt: &R, pass: &mut Pass) -> u32
     ensures sizes { sizes_of pass.new ≡ sizes_of pass.old }
     ensures places { pass.new.view.places ≡ pass.old.view.places }
     ensures buckets { pass.new.view.buckets ≡ pass.old.view.buckets }
+    ensures commit { pass.new.view.commit ≡ pass.old.view.commit }
 {
     if !pass.free_take() {
         panic!(rt; "no other pass has the turn");
@@ -96,14 +95,14 @@ fn free_place<R: Abort>(rt: &R, pass: &mut Pass) -> u32
 /// Takes a place for a new entry, and makes its phase `OWNED`.
 fn take_place<R: Abort>(rt: &R, pass: &mut Pass) -> u32
     requires entries { (sizes_of pass.old).entries ≡ 2 }
+    requires buckets { (sizes_of pass.old).buckets ≡ 1 }
     requires free { pass.old.view.free ≡ None }
     requires places { pass.old.view.places ≡ no_places }
     requires hooks { pass.old.view.buckets.hooks ≡ [] }
-    ensures below { result < 2 }
-    ensures original { is_down (original_link result) pass.new.view.buckets.hooks ≡ true }
-    ensures reply { is_down (reply_link result) pass.new.view.buckets.hooks ≡ true }
-    ensures owned { is_among result pass.new.view.places.owned ≡ true }
-    ensures sizes { sizes_of pass.new ≡ sizes_of pass.old }
+    requires calm { pass.old.view.commit.middle ≡ Calm }
+    requires open { AreOpen only_bucket pass.old.view }
+    ensures links { HasLinks false result pass.new }
+    ensures open { AreOpen only_bucket pass.new.view }
 {
     let place = free_place(rt, pass);
     pass.ref_open(place);
@@ -111,20 +110,33 @@ fn take_place<R: Abort>(rt: &R, pass: &mut Pass) -> u32
     place
 }
 
-/// Stores the tuple of a link in no chain, of a place that the pass owns.
-fn store_tuple(pass: &mut Pass, link: u64, t: &Tuple)
-    requires some { 0 < link }
-    requires below { link ≤ last_link (sizes_of pass.old) }
-    requires down { is_down link pass.old.view.buckets.hooks ≡ true }
-    requires owned { is_among (place_of link) pass.old.view.places.owned ≡ true }
-    ensures pair { (hook_of link pass.new.view.buckets.hooks).pair ≡ pair_of t.now }
-    ensures others { (x : _) → 0 < x → x ≢ link → (hook_of x pass.new.view.buckets.hooks).pair ≡ (hook_of x pass.old.view.buckets.hooks).pair }
-    ensures downs { (x : _) → is_down x pass.new.view.buckets.hooks ≡ is_down x pass.old.view.buckets.hooks }
-    ensures owned { pass.new.view.places.owned ≡ pass.old.view.places.owned }
-    ensures sizes { sizes_of pass.new ≡ sizes_of pass.old }
+/// Stores the original tuple of a place.
+fn store_original(pass: &mut Pass, place: u32, t: &Tuple)
+    requires links { HasLinks false place pass.old }
+    requires open { AreOpen only_bucket pass.old.view }
+    ensures tuple { HasOriginal t.now place pass.new }
+    ensures open { AreOpen only_bucket pass.new.view }
 {
     let sizes = pass.sizes();
+    let link = 1 + 2 * place as u64;
     let [first, second] = words(t);
+    pass.tuple_store(first_word(&sizes, link), first);
+    pass.tuple_store(second_word(&sizes, link), second);
+}
+
+/// Stores the reply tuple of a place.
+fn store_reply(pass: &mut Pass, place: u32, t: &Tuple, u: &Tuple)
+    requires original { HasOriginal t.now place pass.old }
+    requires valid { is_valid t.now ≡ true }
+    requires reply { is_valid u.now ≡ true }
+    requires open { AreOpen only_bucket pass.old.view }
+    ensures place { HasPlace false place pass.new }
+    ensures open { AreOpen only_bucket pass.new.view }
+{
+    let _ = t;
+    let sizes = pass.sizes();
+    let link = 2 + 2 * place as u64;
+    let [first, second] = words(u);
     pass.tuple_store(first_word(&sizes, link), first);
     pass.tuple_store(second_word(&sizes, link), second);
 }
@@ -136,25 +148,28 @@ fn place_of_flow<R: Abort>(rt: &R, pass: &mut Pass, t: &Tuple, u: &Tuple) -> u32
     requires free { pass.old.view.free ≡ None }
     requires places { pass.old.view.places ≡ no_places }
     requires hooks { pass.old.view.buckets.hooks ≡ [] }
+    requires calm { pass.old.view.commit.middle ≡ Calm }
+    requires open { AreOpen only_bucket pass.old.view }
     requires original { is_valid t.now ≡ true }
     requires reply { is_valid u.now ≡ true }
-    ensures { HasPlace is_down result pass.new }
+    ensures place { HasPlace false result pass.new }
+    ensures open { AreOpen only_bucket pass.new.view }
 {
     let place = take_place(rt, pass);
-    store_tuple(pass, 1 + 2 * place as u64, t);
-    store_tuple(pass, 2 + 2 * place as u64, u);
+    store_original(pass, place, t);
+    store_reply(pass, place, t, u);
     place
 }
 
 /// Locks the only bucket.
-fn lock_only<R: Wait>(rt: &R, pass: &mut Pass) -> Locked
-    requires { (sizes_of pass.old).buckets ≡ 1 }
+fn lock_only<R: Wait>(rt: &R, pass: &mut Pass, place: u32) -> Locked
+    requires place { HasPlace false place pass.old }
+    requires open { AreOpen only_bucket pass.old.view }
     ensures locked { result ≡ only_bucket }
     ensures shut { AreShut only_bucket pass.new.view }
-    ensures sizes { sizes_of pass.new ≡ sizes_of pass.old }
-    ensures owned { pass.new.view.places.owned ≡ pass.old.view.places.owned }
-    ensures hooks { pass.new.view.buckets.hooks ≡ pass.old.view.buckets.hooks }
+    ensures place { HasPlace false place pass.new }
 {
+    let _ = place;
     lock_two(rt, pass, 0, 0)
 }
 
@@ -162,9 +177,9 @@ fn lock_only<R: Wait>(rt: &R, pass: &mut Pass) -> Locked
 fn link_locked(pass: &mut Pass, locked: &Locked, place: u32)
     requires locked { locked.now ≡ only_bucket }
     requires shut { AreShut only_bucket pass.old.view }
-    requires place { HasPlace is_down place pass.old }
+    requires place { HasPlace false place pass.old }
     ensures shut { AreShut only_bucket pass.new.view }
-    ensures place { HasPlace is_raised place pass.new }
+    ensures place { HasPlace true place pass.new }
 {
     link(pass, locked, place);
 }
@@ -173,42 +188,42 @@ fn link_locked(pass: &mut Pass, locked: &Locked, place: u32)
 fn unlink_locked(pass: &mut Pass, locked: &Locked, place: u32)
     requires locked { locked.now ≡ only_bucket }
     requires shut { AreShut only_bucket pass.old.view }
-    requires place { HasPlace is_raised place pass.old }
+    requires place { HasPlace true place pass.old }
     ensures shut { AreShut only_bucket pass.new.view }
-    ensures place { HasPlace is_down place pass.new }
+    ensures place { HasPlace false place pass.new }
 {
     unlink(pass, locked, place);
 }
 
 /// What a walk along the only bucket, which is locked, finds.
-fn walk_locked(pass: &mut Pass, locked: &Locked, t: &Tuple) -> Option<(u32, Direction)>
-    requires buckets { (sizes_of pass.old).buckets ≡ 1 }
+fn walk_locked(pass: &mut Pass, locked: &Locked, place: u32, t: &Tuple) -> Option<(u32, Direction)>
     requires locked { locked.now ≡ only_bucket }
     requires shut { AreShut only_bucket pass.old.view }
+    requires place { HasPlace true place pass.old }
     ensures shut { AreShut only_bucket pass.new.view }
-    ensures sizes { sizes_of pass.new ≡ sizes_of pass.old }
-    ensures owned { pass.new.view.places.owned ≡ pass.old.view.places.owned }
-    ensures hooks { pass.new.view.buckets.hooks ≡ pass.old.view.buckets.hooks }
+    ensures place { HasPlace true place pass.new }
 {
+    let _ = place;
     walk(pass, locked, t)
 }
 
-/// Gives the only bucket back.
-fn unlock_only(pass: &mut Pass, locked: Locked)
-    requires buckets { (sizes_of pass.old).buckets ≡ 1 }
+/// Gives the only bucket back, where the flow is not linked.
+fn unlock_only(pass: &mut Pass, locked: Locked, place: u32)
     requires locked { locked ≡ only_bucket }
     requires shut { AreShut only_bucket pass.old.view }
-    ensures sizes { sizes_of pass.new ≡ sizes_of pass.old }
-    ensures owned { pass.new.view.places.owned ≡ pass.old.view.places.owned }
-    ensures hooks { pass.new.view.buckets.hooks ≡ pass.old.view.buckets.hooks }
+    requires place { HasPlace false place pass.old }
+    ensures open { AreOpen only_bucket pass.new.view }
+    ensures place { HasPlace false place pass.new }
 {
+    let _ = place;
     unlock_two(pass, locked);
 }
 
 /// What a pass that has shut no bucket finds without a lock.
 fn look(pass: &mut Pass, t: &Tuple) -> Followed
     requires { pass.old.view.buckets.shut ≡ [] }
-    ensures { pass.new.view.buckets.shut ≡ [] }
+    ensures open { pass.new.view.buckets.shut ≡ [] }
+    ensures sizes { sizes_of pass.new ≡ sizes_of pass.old }
 {
     follow(pass, t)
 }
@@ -230,19 +245,7 @@ fn is_same(a: Direction, b: Direction) -> bool {
     }
 }
 
-/// This place was found, in this direction.
-fn is_link(found: Followed, expected: u32, way: Direction) -> bool {
-    match found {
-        Followed::Link {
-            place,
-            direction,
-            ..
-        } => place == expected && is_same(direction, way),
-        _ => false,
-    }
-}
-
-/// The same, by a walk.
+/// A walk found this place, in this direction.
 fn is_there(found: Option<(u32, Direction)>, expected: u32, way: Direction) -> bool {
     match found {
         Some((place, direction)) => place == expected && is_same(direction, way),
@@ -267,45 +270,36 @@ fn show_locked<R: Abort>(
     place: u32,
     flow: &Flow,
 )
-    requires buckets { (sizes_of one.old).buckets ≡ 1 }
     requires locked { locked.now ≡ only_bucket }
     requires shut { AreShut only_bucket one.old.view }
+    requires place { HasPlace true place one.old }
     requires open { two.old.view.buckets.shut ≡ [] }
     ensures shut { AreShut only_bucket one.new.view }
+    ensures place { HasPlace true place one.new }
     ensures open { two.new.view.buckets.shut ≡ [] }
-    ensures sizes { sizes_of one.new ≡ sizes_of one.old }
-    ensures owned { one.new.view.places.owned ≡ one.old.view.places.owned }
-    ensures hooks { one.new.view.buckets.hooks ≡ one.old.view.buckets.hooks }
 {
-    let there = walk_locked(one, locked, &flow.original);
+    let there = walk_locked(one, locked, place, &flow.original);
     assert!(rt; is_there(there, place, Direction::Original));
-    let back = walk_locked(one, locked, &flow.reply);
+    let back = walk_locked(one, locked, place, &flow.reply);
     assert!(rt; is_there(back, place, flow.back));
     let moved = look(two, &flow.original);
     assert!(rt; is_locked(moved));
 }
 
-/// Links the flow, and shows that it is there while the bucket is locked.
-fn link_flow<R: Abort + Wait>(rt: &R, one: &mut Pass, two: &mut Pass, place: u32, flow: &Flow)
-    requires place { HasPlace is_down place one.old }
+/// Links the flow while the bucket is locked, shows it there, and takes it out again.
+fn show_linked<R: Abort + Wait>(rt: &R, one: &mut Pass, two: &mut Pass, place: u32, flow: &Flow)
+    requires place { HasPlace false place one.old }
+    requires mine { AreOpen only_bucket one.old.view }
     requires open { two.old.view.buckets.shut ≡ [] }
-    ensures place { HasPlace is_raised place one.new }
+    ensures place { HasPlace false place one.new }
+    ensures mine { AreOpen only_bucket one.new.view }
     ensures open { two.new.view.buckets.shut ≡ [] }
 {
-    let locked = lock_only(rt, one);
+    let locked = lock_only(rt, one, place);
     link_locked(one, &locked, place);
     show_locked(rt, one, two, &locked, place, flow);
-    unlock_only(one, locked);
-}
-
-/// Takes the flow out again.
-fn unlink_flow<R: Wait>(rt: &R, pass: &mut Pass, place: u32)
-    requires { HasPlace is_raised place pass.old }
-    ensures { HasPlace is_down place pass.new }
-{
-    let locked = lock_only(rt, pass);
-    unlink_locked(pass, &locked, place);
-    unlock_only(pass, locked);
+    unlink_locked(one, &locked, place);
+    unlock_only(one, locked, place);
 }
 
 /// Both tuples are at the end of their chain: neither is there.
@@ -319,26 +313,14 @@ fn show_absent<R: Abort>(rt: &R, pass: &mut Pass, flow: &Flow)
     assert!(rt; is_end(reply));
 }
 
-/// Both are found.
-fn show_linked<R: Abort>(rt: &R, pass: &mut Pass, place: u32, flow: &Flow)
-    requires { pass.old.view.buckets.shut ≡ [] }
-    ensures { pass.new.view.buckets.shut ≡ [] }
-{
-    let original = look(pass, &flow.original);
-    assert!(rt; is_link(original, place, Direction::Original));
-    let reply = look(pass, &flow.reply);
-    assert!(rt; is_link(reply, place, flow.back));
-}
-
 /// What comes of a flow that the first pass links and unlinks.
 fn show_flow<R: Abort + Wait>(rt: &R, one: &mut Pass, two: &mut Pass, place: u32, flow: &Flow)
-    requires place { HasPlace is_down place one.old }
+    requires place { HasPlace false place one.old }
+    requires mine { AreOpen only_bucket one.old.view }
     requires open { two.old.view.buckets.shut ≡ [] }
 {
     show_absent(rt, two, flow);
-    link_flow(rt, one, two, place, flow);
-    show_linked(rt, two, place, flow);
-    unlink_flow(rt, one, place);
+    show_linked(rt, one, two, place, flow);
     show_absent(rt, two, flow);
 }
 

@@ -1,12 +1,19 @@
 //! A table begins, is shared, and ends.
 
-ghost use Rattle.std.specs.Prelude.{◌≡◌};
+ghost use Rattle.std.specs.Prelude.{◌≡◌, None};
 ghost use Rattle.history_book.specs.Sizes.{AreWithinLimits};
+ghost use Rattle.track_rule.specs.Sights.{sizes_of};
+ghost use Rattle.track_rule.specs.declared.view.Middle.TheVariants.{Calm};
 
 use crate::free_list::FreeList;
 use crate::pass::Pass;
+use crate::place_phase::FREE;
+use history_book::record::Record;
 use history_book::sizes::Sizes;
+use proto_rules::{Part, PartKind};
+use std::process::Abort;
 use std::test::Fail;
+use tuple_core::{Proto, Tuple};
 
 /// A pool of forty places, for four passes.
 fn sizes() -> Sizes
@@ -82,5 +89,88 @@ fn references_are_counted(rt: HostRuntime) -> Result<(), Fail> {
     let mut pass = board.pass(stub);
     assert_eq!(rt; pass.ref_load(7), 0);
     assert!(rt; pass.ref_up(7, 3) == Err(0));
+    Ok(())
+}
+
+/// From 10.0.0.1:1000 to 10.0.0.2:53 by UDP.
+const QUERY: Tuple = Tuple {
+    proto: Proto::Udp,
+    src: 0x0A00_0001,
+    dst: 0x0A00_0002,
+    a: 1000,
+    b: 53,
+};
+
+/// The other way.
+const ANSWER: Tuple = Tuple {
+    proto: Proto::Udp,
+    src: 0x0A00_0002,
+    dst: 0x0A00_0001,
+    a: 53,
+    b: 1000,
+};
+
+/// The record of such a flow at place 7.
+const ENTRY: Record = Record {
+    id: 5,
+    place: 7,
+    original: QUERY,
+    reply: ANSWER,
+    part: Part {
+        kind: PartKind::Udp,
+        replied: false,
+        assured: false,
+        deadline: 30_000_000,
+    },
+    helper: false,
+    master: None,
+};
+
+/// Puts this record, or none, into the slot of place 7 under its turn, and gives what was there. No entry is live there, as the
+/// phase shows.
+fn put_record<R: Abort>(rt: &R, pass: &mut Pass, subject: Option<Record>) -> Option<Record>
+    requires entries { (sizes_of pass.old).entries ≡ 40 }
+    requires hand { pass.old.view.commit.hand ≡ None }
+    requires middle { pass.old.view.commit.middle ≡ Calm }
+    requires free { pass.old.view.free ≡ None }
+{
+    if !pass.turn_take(7) {
+        panic!(rt; "no other pass has the turn");
+    }
+    let phase = pass.phase_load(7);
+    assert_eq!(rt; phase, FREE);
+    let found = pass.record_swap(7, subject);
+    pass.turn_give(7);
+    found
+}
+
+#[test]
+fn a_record_is_found_where_it_was_put(rt: HostRuntime) -> Result<(), Fail> {
+    let (board, stub) = Pass::first(rt.alloc(), sizes())?;
+    let mut one = board.pass(stub);
+    let mut two = one.split(2);
+    let mut three = two.split(1);
+    let none = put_record(&rt, &mut one, Some(ENTRY));
+    assert!(rt; none.is_none());
+    let Some(found) = put_record(&rt, &mut two, None) else {
+        panic!(rt; "the record was put there");
+    };
+    assert_eq!(rt; found.id, 5);
+    assert_eq!(rt; found.place, 7);
+    assert!(rt; found.original == QUERY);
+    assert!(rt; found.reply == ANSWER);
+    assert_eq!(rt; found.part.deadline, 30_000_000);
+    assert!(rt; three.turn_take(7));
+    Ok(())
+}
+
+#[test]
+fn a_turn_of_a_record_is_had_by_one(rt: HostRuntime) -> Result<(), Fail> {
+    let (board, stub) = Pass::first(rt.alloc(), sizes())?;
+    let mut one = board.pass(stub);
+    let mut two = one.split(2);
+    assert!(rt; one.turn_take(7));
+    assert!(rt; !two.turn_take(7));
+    assert!(rt; two.turn_take(8));
     Ok(())
 }

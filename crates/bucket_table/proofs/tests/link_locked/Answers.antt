@@ -14,4 +14,5 @@ returns-clause-shut c =
 pub returns-clause-place : goal.returns-clause-place
 returns-clause-place c =
     place_raised c.args.place c.args.pass.now c.link.new.pass (ap sizes_of c.link.ensures.same) (ap (λ (x : PassSight). x.view.places.owned) c.link.ensures.same)
+    (ap (λ (x : PassSight). x.view.commit.middle) c.link.ensures.same)
     (ap (λ (x : PassSight). x.view.buckets.hooks) c.link.ensures.same) c.requires.place

@@ -2,7 +2,7 @@ use Rattle.std.proofs.Common.{ap, ◌∙◌}
 use Rattle.track_rule.specs.Chains.{shuts_of}
 use Rattle.track_rule.specs.Sights.{PassSight, sizes_of}
 use Rattle.bucket_table.specs.TestPlace.{only_bucket}
-use Rattle.bucket_table.proofs.Placing.{unlinked_shuts, place_lowered, shut_stays}
+use Rattle.bucket_table.proofs.Placing.{place_lowered, shut_stays, unlinked_shuts}
 use Rattle.bucket_table.proofs.tests.unlink_locked.Goals as goal
 
 pub returns-clause-shut : goal.returns-clause-shut
@@ -14,4 +14,5 @@ returns-clause-shut c =
 pub returns-clause-place : goal.returns-clause-place
 returns-clause-place c =
     place_lowered c.args.place c.args.pass.now c.unlink.new.pass (ap sizes_of c.unlink.ensures.same) (ap (λ (x : PassSight). x.view.places.owned) c.unlink.ensures.same)
+    (ap (λ (x : PassSight). x.view.commit.middle) c.unlink.ensures.same)
     (ap (λ (x : PassSight). x.view.buckets.hooks) c.unlink.ensures.same) c.requires.place

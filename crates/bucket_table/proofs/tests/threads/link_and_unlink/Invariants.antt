@@ -1,6 +1,10 @@
-use Rattle.track_rule.specs.Links.{is_down}
-use Rattle.bucket_table.specs.TestPlace.{HasPlace}
+use Rattle.std.proofs.Common.{false}
+use Rattle.bucket_table.specs.Locks.{AreOpen}
+use Rattle.bucket_table.specs.TestPlace.{HasPlace, only_bucket}
 use Rattle.bucket_table.proofs.tests.threads.link_and_unlink.Given as goal
 
 abbrev pub invariant-rounds : goal.invariant-rounds
-invariant-rounds g l = HasPlace is_down l.place l.pass
+invariant-rounds g l = record {
+  place : HasPlace false l.place l.pass;
+  mine : AreOpen only_bucket l.pass.view;
+}
