@@ -1,5 +1,5 @@
 -- A reference more, or one less, without waiting.
-use Rattle.std.specs.Prelude.{◌≡◌, ℕ, ◌<◌, ◌==◌, not, true, false, ◌∷◌}
+use Rattle.std.specs.Prelude.{◌≡◌, ℕ, ◌+◌, ◌<◌, ◌==◌, not, true, false, ◌∷◌}
 use Rattle.history_book.specs.declared.outcome.ReleaseOutcome.{ReleaseOutcome}
 use Rattle.history_book.specs.declared.outcome.ReleaseOutcome.TheVariants.{Kept, Last}
 use Rattle.track_rule.specs.Layout.{refs_word}
@@ -7,7 +7,7 @@ use Rattle.track_rule.specs.Links.{RaisesNone}
 use Rattle.track_rule.specs.Readings.{Gave, added, changes, is_found, noted, stored}
 use Rattle.track_rule.specs.References.{held_times, without}
 use Rattle.track_rule.specs.Sights.{PassSight, sizes_of}
-use Rattle.track_rule.specs.Steps.{hooks_then, is_second, one_more, owned_then}
+use Rattle.track_rule.specs.Steps.{IsCount, hooks_then, is_second, one_more, owned_then}
 use Rattle.track_rule.specs.Sums.{times}
 use Rattle.track_rule.specs.declared.view.View.{View}
 use Rattle.entry_pool.specs.GoesOn.{ReadingsStand}
@@ -60,10 +60,11 @@ gave_up place v = record v.view {
   buckets = record v.view.buckets { hooks = hooks_then place v.view.places.held v.view.buckets.hooks };
 }
 
--- One reference less, and so many are left, which are others' too or the pass's own.
+-- One reference less, and so many are left, which are others' too or the pass's own; before there was one more.
 pub record KeepsSome (place : ℕ) (v w : PassSight) : Type 0 where
   pub left : ℕ
   pub some : 0 < left
+  pub count : IsCount place (left + 1) v.view
   pub same : w ≡ record v {
     view = noted (stored (refs_word (sizes_of v) place) left) (gave_up place v);
   }
@@ -76,6 +77,7 @@ pub record KeepsNone (place : ℕ) (v w : PassSight) : Type 0 where
       places = record (gave_up place v).places { owed = place ∷ v.view.places.owed };
     });
   }
+  pub count : IsCount place 1 v.view
   pub down : RaisesNone v.view.buckets.hooks w.view.buckets.hooks
   pub held : held_times place v.view.places.held ≡ 1
   pub owed : times place v.view.places.owed ≡ 0
