@@ -1,8 +1,8 @@
 -- A Confirm keeps the rule: the record is live from then on, and its links are those of a live record.
-use Rattle.std.proofs.Common.{◌≡◌, ◌≢◌, ℕ, ◌+◌, ◌-◌, ◌*◌, ◌%◌, ◌<◌, ◌≤◌, Bool, true, false, Some, List, [], ◌∷◌, ◌++◌, length, refl, sym, ap, subst, ◌∙◌, ⊎_elim, arith, set, eq-eqb, ne_eqb}
-use Rattle.std.specs.Prelude.{slice_index, slice_set, ◌==◌, ◌||◌, if◌then◌else◌, find, min}
-use Rattle.std.specs.List.{All}
-use Rattle.std.proofs.lemmas.Bool.{cases_eq}
+use Rattle.std.proofs.Common.{◌⊎◌, ◌≡◌, ◌≢◌, ℕ, ◌+◌, ◌-◌, ◌*◌, ◌%◌, ◌^◌, ◌<◌, ◌≤◌, zero, suc, Bool, true, false, Option, Some, None, List, [], ◌∷◌, ◌++◌, length, map, refl, sym, ap, subst, ◌∙◌, ⊎_elim, inl, inr, arith, set, eq-eqb, ne_eqb, length-append}
+use Rattle.std.specs.Prelude.{slice_get, slice_index, slice_set, ◌==◌, ◌&&◌, ◌||◌, not, nat_lt, if◌then◌else◌, find, min}
+use Rattle.std.specs.List.{All, list_any}
+use Rattle.std.proofs.lemmas.Bool.{and_from, cases_Bool, cases_eq, cases_lt, cond_both, false≢true}
 use Rattle.std.proofs.lemmas.List.{get_or-set_other, get_or-set_same, length-set}
 use Rattle.std.proofs.lemmas.Option.{none-some}
 use mathlib.Core.Option.{some}
@@ -25,9 +25,9 @@ use Rattle.track_rule.specs.declared.view.Middle.{Middle}
 use Rattle.track_rule.specs.declared.view.Middle.TheVariants.{Calm, Born, Dying}
 use Rattle.track_rule.specs.declared.view.View.{View}
 use Rattle.track_rule.specs.declared.view.Walk.{Walk}
-use Rattle.track_rule.specs.Chains.{AreChains, IsChain, chain_in, each_link, entry_of, hooks_at, links_in, loose_of, original_of, reply_of, shuts_of, side}
-use Rattle.track_rule.specs.CommitSteps.{CanConfirm, HasLink, born, confirmed, dropped, with_confirm}
-use Rattle.track_rule.specs.Commits.{IsMiddle, IsMiddleOf}
+use Rattle.track_rule.specs.Chains.{AreChains, IsChain, IsOrdered, bucket_of, chain_in, each_link, entry_of, hooks_at, links_in, loose_of, original_of, pair_of, reply_of, shuts_of, side}
+use Rattle.track_rule.specs.CommitSteps.{CanConfirm, HasLink, born, confirmed, dropped, held_for, named, named_in, with_confirm}
+use Rattle.track_rule.specs.Commits.{IsCommitting, IsMiddle, IsMiddleOf}
 use Rattle.track_rule.specs.Expected.{has_expected}
 use Rattle.track_rule.specs.Free.{IsFreeList, has_turn, owes, unlisted}
 use Rattle.track_rule.specs.History.{packed, records_after, state_after}
@@ -39,15 +39,16 @@ use Rattle.track_rule.specs.Records.{AreRecords, IsHand, has_hand, record_in}
 use Rattle.track_rule.specs.References.{AreKept, AreReferences, held_times, keeps, takes}
 use Rattle.track_rule.specs.Rule.{IsKept, Ledger}
 use Rattle.track_rule.specs.Sums.{Each, bit, times, total}
-use Rattle.track_rule.specs.Walks.{AreWalks, IsWalk}
+use Rattle.track_rule.specs.Walks.{AreWalks, HasLive, IsWalk, Stands}
 use Rattle.track_rule.proofs.Confirming.{each_dropped, find_last, find_more, find_same, held_kept, held_long, held_taken, hook_else, kept_for, low_both, low_ids, total_dropped}
-use Rattle.track_rule.proofs.Confirms.{lawful, state_on}
+use Rattle.track_rule.proofs.Confirms.{lawful, none_there, place_below, state_on}
 use Rattle.track_rule.proofs.Events.{get_last, kept_on, passes_made}
 use Rattle.track_rule.proofs.Frames.{SameChains, chain_stays, hooks_stay, links_stay, walk_stays}
 use Rattle.track_rule.proofs.HookLists.{hook_test, hook_there, some_hook}
-use Rattle.track_rule.proofs.LastRead.{stored_on}
+use Rattle.track_rule.proofs.Named.{born_ledger, chains_both, chains_off, chains_on, hooks_else, named_chain, named_chains, named_else, named_here, named_in_chain, named_ordered, named_shuts, records_else}
+use Rattle.track_rule.proofs.LastRead.{ReadsAt, stored_on}
 use Rattle.track_rule.proofs.Lists.{other_bit, same_bit, unlisted_in, unlisted_out}
-use Rattle.track_rule.proofs.Sums.{each_put, total_append, total_same, total_set, total_term}
+use Rattle.track_rule.proofs.Sums.{each_other, each_put, total_append, total_but, total_map, total_same, total_set, total_term, total_two}
 
 -- the history word alone changes
 module _ (z : Sizes) (ws : List ℕ) (n : ℕ) where
@@ -193,18 +194,22 @@ module _ (l : Ledger) (s : State Slot View) (id : ℕ) (v : View) (r : Record) (
         ap f other,
       )
 
-  -- what a hook weighs that is in its chain
-  weighs_up : (b : ℕ) (f : Entry → ℕ) (k : Hook) (e : Entry) → k.up ≡ true → k.link ≡ e.link → k.pair ≡ e.pair
-      → (if k.up then side v.passes.sizes b f (entry_of k) else 0) ≡ side v.passes.sizes b f e
-  weighs_up b f k e up link pair =
-      ap (λ (t : Bool). if t then side v.passes.sizes b f (entry_of k) else 0) up ∙ (λ i. side v.passes.sizes b f (record { link = link i; pair = pair i }))
+  -- a link of the place weighs, once it is told the id, what that of the record weighs
+  weighs_up : (b : ℕ) (f : Entry → ℕ) (k : Hook) (e : Entry) → k.up ≡ true → k.link ≡ e.link → k.pair ≡ e.pair → e.id ≡ Some (length l.log) → place_of e.link ≡ r.place
+      → (if k.up then side v.passes.sizes b (λ x. f (named r.place (length l.log) x)) (entry_of k) else 0) ≡ side v.passes.sizes b f e
+  weighs_up b f k e up link pair its_id here =
+      ap (λ (t : Bool). if t then side v.passes.sizes b (λ x. f (named r.place (length l.log) x)) (entry_of k) else 0) up
+      ∙ ap (λ (x : Entry). if bucket_of v.passes.sizes k.pair == b then f x else 0) (named_here r.place (length l.log) (entry_of k) (ap place_of link ∙ here))
+      ∙ (λ i. side v.passes.sizes b f (record { link = link i; pair = pair i; id = sym its_id i }))
 
-  loose_left : (b : ℕ) (f : Entry → ℕ) → loose_of v.passes.sizes b f after_it + links_in v.passes.sizes b f subject ≡ loose_of v.passes.sizes b f v
+  loose_left : (b : ℕ) (f : Entry → ℕ)
+      → loose_of v.passes.sizes b (λ x. f (named r.place (length l.log) x)) after_it + links_in v.passes.sizes b f subject
+      ≡ loose_of v.passes.sizes b (λ x. f (named r.place (length l.log) x)) v
   loose_left b f = omega (
     arith,
-    total_left (λ (k : Hook). (if k.up then side v.passes.sizes b f (entry_of k) else 0)),
-    weighs_up b f (hook_of (1 + 2 * r.place) v.buckets.hooks) (original_of subject) one_hook.2 one_hook.3 can.original.pair,
-    weighs_up b f (hook_of (2 + 2 * r.place) v.buckets.hooks) (reply_of subject) two_hook.2 two_hook.3 can.reply.pair,
+    total_left (λ (k : Hook). (if k.up then side v.passes.sizes b (λ x. f (named r.place (length l.log) x)) (entry_of k) else 0)),
+    weighs_up b f (hook_of (1 + 2 * r.place) v.buckets.hooks) (original_of subject) one_hook.2 one_hook.3 can.original.pair refl (omega arith),
+    weighs_up b f (hook_of (2 + 2 * r.place) v.buckets.hooks) (reply_of subject) two_hook.2 two_hook.3 can.reply.pair refl (omega arith),
   )
 
   hooks_left : (link : ℕ) → 0 < link → hooks_at link after_it + bit (r.place == place_of link) ≡ hooks_at link v
@@ -222,38 +227,7 @@ module _ (l : Ledger) (s : State Slot View) (id : ℕ) (v : View) (r : Record) (
   each_left : (F : Hook → Type 0) → Each F v.buckets.hooks → Each F after_it.buckets.hooks
   each_left F all = each_dropped F (2 + 2 * r.place) (dropped (1 + 2 * r.place) v.buckets.hooks) (each_dropped F (1 + 2 * r.place) v.buckets.hooks all)
 
-  -- THE PARTS
-
-  born_chains : AreChains v.passes.sizes made words (set s.views id after_it) l.chains
-  born_chains =
-      let z : Sizes = v.passes.sizes in
-      let same : SameChains z s.words words = word_same z s.words (packed made) in
-      record {
-        linked = λ b below.
-            subst (λ (n : ℕ). IsChain z words b n (l.chains b)) (sym (same.links.heads b below))
-            (chain_stays z s.words words same.links b (slice_index s.words (head_word z b)) (l.chains b) (h.chains.linked b below));
-        ordered = h.chains.ordered;
-        gens = λ b below. ap (λ (n : ℕ). n % 2) (same.gens b below) ∙ h.chains.gens b below ∙ sym (total_same (shuts_of b) s.views id v after_it at refl);
-        mine = λ b below. each_put (λ u. 0 < shuts_of b u → chain_in b u.buckets.shut ≡ l.chains b) s.views id after_it (h.chains.mine b below) (h.chains.mine b below id v at);
-        chained = λ b below f. omega (
-          arith,
-          h.chains.chained b below f,
-          weighs (links_in z b f),
-          loose_left b f,
-          total_set (loose_of z b f) s.views id v after_it at,
-        );
-        home = each_put (λ (u : View). (c : ℕ) → c < z.buckets → 0 < loose_of z c each_link u → 0 < shuts_of c u) s.views id after_it h.chains.home
-            (λ c below some_loose. h.chains.home id v at c below (omega (arith, some_loose, loose_left c each_link)));
-        lone = λ link some_link. omega (
-          arith,
-          h.chains.lone link some_link,
-          weighs (of_place (place_of link)),
-          hooks_left link some_link,
-          total_set (hooks_at link) s.views id v after_it at,
-        );
-      }
-
-  -- no link of the place is left
+  -- no link of the place is left, and no other pass has one; nor has another live record the place
   no_link : (link : ℕ) → 0 < link → r.place ≡ place_of link → hooks_of link after_it.buckets.hooks ≡ 0
   no_link link some_link e = omega (
     arith,
@@ -262,6 +236,147 @@ module _ (l : Ledger) (s : State Slot View) (id : ℕ) (v : View) (r : Record) (
     h.chains.lone link some_link,
     total_term (hooks_at link) s.views id v at,
   )
+
+  left_others : Each (λ k. place_of k.link ≢ r.place) after_it.buckets.hooks
+  left_others i k at' e =
+      let is : IsHook v.passes.sizes s.words k = each_left (IsHook v.passes.sizes s.words) (h.links.hooks id v at).each i k at' in
+      omega (
+        arith,
+        no_link k.link is.some (sym e),
+        total_term (λ (x : Hook). bit (x.link == k.link)) after_it.buckets.hooks i k at',
+        same_bit k.link k.link refl,
+      )
+
+  other_links : (j : ℕ) (u : View) → j ≢ id → get_elem? s.views j ≡ some u → Each (λ k. place_of k.link ≢ r.place) u.buckets.hooks
+  other_links j u other there i k at' e =
+      let is : IsHook v.passes.sizes s.words k = (h.links.hooks j u there).each i k at' in
+      omega (
+        arith,
+        hooks_left k.link is.some,
+        same_bit r.place (place_of k.link) (sym e),
+        h.chains.lone k.link is.some,
+        total_two (hooks_at k.link) s.views id j v u at there other,
+        total_term (λ (x : Hook). bit (x.link == k.link)) u.buckets.hooks i k at',
+        same_bit k.link k.link refl,
+      )
+
+  other_places : Each (λ x. x.place ≢ r.place) (records_after l.log)
+  other_places i x at' e = omega (
+    arith,
+    none_there l s id v r h at has_some can,
+    total_term (of_place r.place) (records_after l.log) i x at',
+    same_bit x.place r.place e,
+  )
+
+  -- WHAT CHAINS WEIGH
+
+  -- in a bucket that the pass has not shut the record has no link
+  shut_else : (b : ℕ) (t : Tuple) → 0 < shuts_of (bucket_of v.passes.sizes (pair_of t)) v → shuts_of b v ≡ 0 → (f : Entry → ℕ) (e : Entry) → e.pair ≡ pair_of t
+      → side v.passes.sizes b f e ≡ 0
+  shut_else b t shut off f e pair =
+      ap (λ (k : Bool). if k then f e else 0)
+      (ne_eqb (bucket_of v.passes.sizes e.pair) b (λ same. omega (arith, off, shut, ap (λ (c : ℕ). shuts_of c v) (sym (ap (bucket_of v.passes.sizes) pair) ∙ same))))
+
+  -- a chain that is told the id
+  told_weighs : (b : ℕ) → b < v.passes.sizes.buckets → (f : Entry → ℕ)
+      → total f (map (named r.place (length l.log)) (l.chains b)) ≡ total (links_in v.passes.sizes b f) (records_after made) + total (loose_of v.passes.sizes b f) (set s.views id after_it)
+  told_weighs b below f =
+      let z : Sizes = v.passes.sizes in
+      let n : ℕ = length l.log in
+      omega (
+        arith,
+        total_map f (named r.place n) (l.chains b),
+        h.chains.chained b below (λ e. f (named r.place (length l.log) e)),
+        records_else r.place n z b f (records_after l.log) other_places,
+        weighs (links_in z b f),
+        loose_left b f,
+        hooks_else r.place n z b f after_it.buckets.hooks left_others,
+        total_but (loose_of z b (λ e. f (named r.place (length l.log) e))) (loose_of z b f) s.views id v at
+            (λ j u other there. hooks_else r.place n z b f u.buckets.hooks (other_links j u other there)),
+        total_set (loose_of z b f) s.views id v after_it at,
+      )
+
+  -- one that is not
+  else_weighs : (b : ℕ) → b < v.passes.sizes.buckets → shuts_of b v ≡ 0 → (f : Entry → ℕ)
+      → total f (l.chains b) ≡ total (links_in v.passes.sizes b f) (records_after made) + total (loose_of v.passes.sizes b f) (set s.views id after_it)
+  else_weighs b below off f =
+      let z : Sizes = v.passes.sizes in
+      omega (
+        arith,
+        h.chains.chained b below f,
+        weighs (links_in z b f),
+        shut_else b r.original can.original.shut off f (original_of subject) refl,
+        shut_else b r.reply can.reply.shut off f (reply_of subject) refl,
+        total_left (λ (k : Hook). (if k.up then side z b f (entry_of k) else 0)),
+        up_weighs (hook_of (1 + 2 * r.place) v.buckets.hooks).up (side z b f (entry_of (hook_of (1 + 2 * r.place) v.buckets.hooks)))
+            (shut_else b r.original can.original.shut off f (entry_of (hook_of (1 + 2 * r.place) v.buckets.hooks)) can.original.pair),
+        up_weighs (hook_of (2 + 2 * r.place) v.buckets.hooks).up (side z b f (entry_of (hook_of (2 + 2 * r.place) v.buckets.hooks)))
+            (shut_else b r.reply can.reply.shut off f (entry_of (hook_of (2 + 2 * r.place) v.buckets.hooks)) can.reply.pair),
+        total_set (loose_of z b f) s.views id v after_it at,
+      )
+    where
+      up_weighs : (k : Bool) (n : ℕ) → n ≡ 0 → (if k then n else 0) ≡ 0
+      up_weighs true n e = e
+      up_weighs false n e = refl
+
+  same_shuts : (b : ℕ) → shuts_of b after_it ≡ shuts_of b v
+  same_shuts b = named_shuts r.place (length l.log) b v.buckets.shut
+
+  -- no other pass has a bucket that this one has shut
+  shut_alone : (b : ℕ) → b < v.passes.sizes.buckets → (j : ℕ) (u : View) → j ≢ id → get_elem? s.views j ≡ some u → 0 < shuts_of b u → shuts_of b v ≡ 0
+  shut_alone b below j u other there any = omega (arith, any, h.chains.gens b below, total_two (shuts_of b) s.views id j v u at there other)
+
+  -- THE PARTS
+
+  born_chains : AreChains v.passes.sizes made words (set s.views id after_it) (named_chains r.place (length l.log) v l.chains)
+  born_chains =
+      let z : Sizes = v.passes.sizes in
+      let n : ℕ = length l.log in
+      let same : SameChains z s.words words = word_same z s.words (packed made) in
+      record {
+        linked = λ b below.
+            chains_both r.place n v l.chains b (IsChain z words b (slice_index words (head_word z b))) (λ off. linked_on b below)
+            (λ on. named_chain r.place n z words b (slice_index words (head_word z b)) (l.chains b) (linked_on b below));
+        ordered = λ b below.
+            chains_both r.place n v l.chains b IsOrdered (λ off. h.chains.ordered b below) (λ on. named_ordered r.place n (l.chains b) (h.chains.ordered b below));
+        gens = λ b below.
+            ap (λ (k : ℕ). k % 2) (same.gens b below) ∙ h.chains.gens b below ∙ sym (total_same (shuts_of b) s.views id v after_it at (same_shuts b));
+        mine = λ b below.
+            each_other (λ (u : View). 0 < shuts_of b u → chain_in b u.buckets.shut ≡ named_chains r.place (length l.log) v l.chains b) s.views id after_it
+            (λ j u other there any.
+            h.chains.mine b below j u there any ∙ sym (chains_off r.place n v l.chains b (shut_alone b below j u other there any)))
+            (λ any.
+            let was : 0 < shuts_of b v = omega (arith, any, same_shuts b) in
+            named_in_chain r.place n b v.buckets.shut ∙ ap (map (named r.place n)) (h.chains.mine b below id v at was)
+            ∙ sym (chains_on r.place n v l.chains b (λ e. omega (arith, was, e))));
+        chained = λ b below f.
+            chains_both r.place n v l.chains b (λ es. total f es ≡ total (links_in z b f) (records_after made) + total (loose_of z b f) (set s.views id after_it))
+            (λ off. else_weighs b below off f) (λ on. told_weighs b below f);
+        home = each_put (λ (u : View). (c : ℕ) → c < z.buckets → 0 < loose_of z c each_link u → 0 < shuts_of c u) s.views id after_it h.chains.home
+            (λ c below some_loose. omega (
+              arith,
+              same_shuts c,
+              h.chains.home id v at c below (omega (
+                arith,
+                some_loose,
+                total_left (λ (k : Hook). (if k.up then side z c each_link (entry_of k) else 0)),
+              )),
+            ));
+        lone = λ link some_link. omega (
+          arith,
+          h.chains.lone link some_link,
+          weighs (of_place (place_of link)),
+          hooks_left link some_link,
+          total_set (hooks_at link) s.views id v after_it at,
+        );
+      }
+    where
+      linked_on : (b : ℕ) → b < v.passes.sizes.buckets → IsChain v.passes.sizes words b (slice_index words (head_word v.passes.sizes b)) (l.chains b)
+      linked_on b below =
+          let z : Sizes = v.passes.sizes in
+          let same : SameChains z s.words words = word_same z s.words (packed made) in
+          subst (λ (n : ℕ). IsChain z words b n (l.chains b)) (sym (same.links.heads b below))
+          (chain_stays z s.words words same.links b (slice_index s.words (head_word z b)) (l.chains b) (h.chains.linked b below))
 
   -- links in chains are of places that the pass still owns
   born_linked : Each (IsOwned after_it.places.owned) after_it.buckets.hooks
@@ -421,20 +536,41 @@ module _ (l : Ledger) (s : State Slot View) (id : ℕ) (v : View) (r : Record) (
   born_commits = each_put (IsMiddleOf v.passes.sizes made) s.views id after_it (λ i u at'. middle_on u u.commit.middle (h.commits i u at')) (record {
     turn = can.turn;
     reference = can.reference;
-    original = can.original.shut;
-    reply = can.reply.shut;
+    original = omega (arith, can.original.shut, same_shuts (bucket_of v.passes.sizes (pair_of r.original)));
+    reply = omega (arith, can.reply.shut, same_shuts (bucket_of v.passes.sizes (pair_of r.reply)));
     live = ap (find (has_id (length l.log))) records_on
         ∙ find_last (has_id (length l.log)) (records_after l.log) subject (low_ids (length l.log) (records_after l.log) low) (eq-eqb (length l.log) (length l.log) refl);
   })
 
-  born_walks : AreWalks v.passes.sizes words (set s.views id after_it) l.chains
+  -- a note speaks of even generations, and so of chains that are told nothing
+  walk_named : (front : List Event) (n : Walk) → IsWalk v.passes.sizes s.words l.chains front n
+      → IsWalk v.passes.sizes s.words (named_chains r.place (length l.log) v l.chains) front n
+  walk_named front n w = record {
+    bucket = w.bucket;
+    least = w.least;
+    stands = λ here even. subst (λ es. Stands es n) (sym (untold here even)) (w.stands here even);
+    known = λ point e.
+        let k = w.known point e in
+        record { seen = k.seen; live = λ here even. subst (HasLive v.passes.sizes n.bucket front) (sym (untold here even)) (k.live here even) };
+    gone = w.gone;
+  }
+    where
+      untold : gen_at v.passes.sizes s.words n.bucket ≡ n.generation → n.generation % 2 ≡ 0
+          → named_chains r.place (length l.log) v l.chains n.bucket ≡ l.chains n.bucket
+      untold here even =
+          chains_off r.place (length l.log) v l.chains n.bucket
+          (omega (arith, here, even, h.chains.gens n.bucket w.bucket, total_term (shuts_of n.bucket) s.views id v at))
+
+  born_walks : AreWalks v.passes.sizes words (set s.views id after_it) (named_chains r.place (length l.log) v l.chains)
   born_walks = record {
-    each = each_put (λ (u : View). (n : Walk) → u.walk ≡ Some n → IsWalk v.passes.sizes words l.chains u.seen.front n) s.views id after_it
-        (λ i u at' n e. walk_stays v.passes.sizes s.words words (word_same v.passes.sizes s.words (packed made)) l.chains u.seen.front n (h.walks.each i u at' n e))
+    each = each_put (λ (u : View). (n : Walk) → u.walk ≡ Some n → IsWalk v.passes.sizes words (named_chains r.place (length l.log) v l.chains) u.seen.front n) s.views id after_it
+        (λ i u at' n e.
+        walk_stays v.passes.sizes s.words words (word_same v.passes.sizes s.words (packed made)) (named_chains r.place (length l.log) v l.chains) u.seen.front n
+        (walk_named u.seen.front n (h.walks.each i u at' n e)))
         (λ n e. absurd (none-some n e));
   }
 
-  pub born_kept : IsKept v.passes.sizes (record l { log = with_confirm l.log r })
+  pub born_kept : IsKept v.passes.sizes (born_ledger l r v)
       (record { words = slice_set s.words 0 (packed (with_confirm l.log r)); homes = s.homes; views = set s.views id (confirmed l.log r v) })
   born_kept =
       let z : Sizes = v.passes.sizes in

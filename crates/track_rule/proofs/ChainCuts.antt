@@ -1,6 +1,6 @@
 -- A pass that has shut a bucket takes a link of its own out of the chain. What a store of a link tells.
-use Rattle.std.proofs.Common.{◌≡◌, ◌≢◌, ℕ, ◌+◌, ◌<◌, ◌≤◌, Bool, true, false, None, List, [], ◌∷◌, length, refl, sym, ap, subst, ◌∙◌, arith, set}
-use Rattle.std.specs.Prelude.{slice_index, slice_set, ◌==◌, if◌then◌else◌}
+use Rattle.std.proofs.Common.{◌≡◌, ◌≢◌, ℕ, ◌+◌, ◌<◌, ◌≤◌, Bool, true, false, Option, Some, None, List, [], ◌∷◌, length, refl, sym, ap, subst, ◌∙◌, arith, set}
+use Rattle.std.specs.Prelude.{slice_index, slice_set, ◌==◌, ◌&&◌, if◌then◌else◌, is_some}
 use Rattle.std.proofs.lemmas.Bool.{cond_both, eq-eqb, false≢true, ne_eqb}
 use Rattle.std.proofs.lemmas.Option.{none-some}
 use mathlib.Core.Option.{some}
@@ -19,7 +19,7 @@ use Rattle.track_rule.specs.Rule.{IsKept, Ledger}
 use Rattle.track_rule.specs.Sums.{Each, bit, total}
 use Rattle.track_rule.specs.Walks.{rev_onto}
 use Rattle.track_rule.proofs.BucketLoads.{shut_chain}
-use Rattle.track_rule.proofs.ChainLists.{alone, chain_each, chain_first, total_rev, unlinked}
+use Rattle.track_rule.proofs.ChainLists.{alone, chain_each, chain_first, total_rev, unlinked, unnamed}
 use Rattle.track_rule.proofs.ChainStores.{down_at, rechained, restrung}
 use Rattle.track_rule.proofs.ChainWords.{IsPassed, IsString, bucket_there, chain_join, chain_local, chain_split, first_head, first_next, next_head, one_head, one_next, passed_to, second_head, second_next, string_head, string_next, word_else, word_here}
 use Rattle.track_rule.proofs.HookLists.{each_change, hook_test, hook_there, links_kept, ordered_rev, some_hook, total_change, with_else, with_here, with_shuts, without_first, without_rev}
@@ -143,10 +143,23 @@ module _ (l : Ledger) (s : State Slot View) (id b : ℕ) (v : View) (h : IsKept 
     its_entry : entry_of (hook_of e.link v.buckets.hooks) ≡ e
     its_entry = entry_same (hook_of e.link v.buckets.hooks) its_hook.1
         (sym its_hook.0.first ∙ ap (λ (x : ℕ). slice_index s.words (first_word v.passes.sizes x)) its_hook.1 ∙ parts.1.1.first)
-        (sym its_hook.0.second ∙ ap (λ (x : ℕ). slice_index s.words (second_word v.passes.sizes x)) its_hook.1 ∙ parts.1.1.second)
+        (sym its_hook.0.second ∙ ap (λ (x : ℕ). slice_index s.words (second_word v.passes.sizes x)) its_hook.1 ∙ parts.1.1.second) (no_id e.id its_id)
       where
-        entry_same : (k : Hook) → k.link ≡ e.link → k.pair.first ≡ e.pair.first → k.pair.second ≡ e.pair.second → entry_of k ≡ e
-        entry_same k p q r = λ i. record { link = p i; pair = record { first = q i; second = r i } }
+        -- a link of the pass names no id
+        its_id : bit (e.link == e.link && is_some e.id) ≡ 0
+        its_id = omega (
+          arith,
+          unnamed v.passes.sizes l.log s.words s.views l.chains h.chains b below e.link id v at parts.1.1.some own.0,
+          ap (total (λ (x : Entry). bit (x.link == e.link && is_some x.id))) whole,
+          total_rev (λ (x : Entry). bit (x.link == e.link && is_some x.id)) passed (e ∷ rest),
+        )
+
+        no_id : (o : Option ℕ) → bit (e.link == e.link && is_some o) ≡ 0 → None ≡ o
+        no_id None t = refl
+        no_id (Some i) t = absurd (omega (arith, t, ap (λ (k : Bool). bit (k && true)) (eq-eqb e.link e.link refl)))
+
+        entry_same : (k : Hook) → k.link ≡ e.link → k.pair.first ≡ e.pair.first → k.pair.second ≡ e.pair.second → None ≡ e.id → entry_of k ≡ e
+        entry_same k p q r o = λ i. record { link = p i; pair = record { first = q i; second = r i }; id = o i }
 
     lowered_hook : (k : Hook) → k.link ≡ e.link → lower e.link k ≡ record k { next = None; up = false }
     lowered_hook k p = ap (λ (t : Bool). if t then record k { next = None; up = false } else k) (eq-eqb k.link e.link p)

@@ -1,6 +1,6 @@
 -- Chains as lists: where a chain goes on behind entries that were passed, how often a link stands in it, and how long it is.
 use Rattle.std.proofs.Common.{◌≡◌, ◌≢◌, ℕ, zero, suc, ◌+◌, ◌-◌, ◌*◌, ◌<◌, ◌≤◌, Bool, true, false, List, [], ◌∷◌, length, map, refl, sym, ap, subst, ◌∙◌, ⊎_elim, arith}
-use Rattle.std.specs.Prelude.{slice_index, ◌==◌, ◌&&◌, ◌||◌, not, if◌then◌else◌}
+use Rattle.std.specs.Prelude.{slice_index, ◌==◌, ◌&&◌, ◌||◌, not, if◌then◌else◌, is_some}
 use Rattle.std.proofs.lemmas.Bool.{and_parts, cases_Bool, cases_eq}
 use mathlib.Core.Option.{some, some-injective, some-ne-none}
 use lib.ListN.{get_elem?}
@@ -181,6 +181,24 @@ up_some z b x (h ∷ hs) e =
     on : (u b : Bool) (n : ℕ) → u ≡ true → b ≡ true → (if u then (if b then n else 0) else 0) ≡ n
     on u b n e f = rw (e, f) refl
 
+-- what weighs less weighs less in a bucket, and what weighs nothing weighs nothing there
+pub side_le : (z : Sizes) (b : ℕ) (f g : Entry → ℕ) (e : Entry) → f e ≤ g e → side z b f e ≤ side z b g e
+side_le z b f g e le = low (bucket_of z e.pair == b)
+  where
+    low : (k : Bool) → (if k then f e else 0) ≤ (if k then g e else 0)
+    low true = le
+    low false = omega arith
+
+pub loose_zero : (z : Sizes) (b : ℕ) (f : Entry → ℕ) (hooks : List Hook) → Each (λ h. f (entry_of h) ≡ 0) hooks
+    → total (λ (h : Hook). (if h.up then side z b f (entry_of h) else 0)) hooks ≡ 0
+loose_zero z b f hooks none =
+    total_zero (λ (h : Hook). (if h.up then side z b f (entry_of h) else 0)) hooks (λ i h at. off h.up (bucket_of z h.pair == b) (f (entry_of h)) (none i h at))
+  where
+    off : (u k : Bool) (n : ℕ) → n ≡ 0 → (if u then (if k then n else 0) else 0) ≡ 0
+    off true true n e = e
+    off true false n e = refl
+    off false k n e = refl
+
 module _ (z : Sizes) (log : List Event) (ws : List ℕ) (vs : List View) (chains : ℕ → List Entry) (h : AreChains z log ws vs chains)
     (b : ℕ) (below : b < z.buckets) where
   -- a link stands in a chain once at most
@@ -205,6 +223,32 @@ module _ (z : Sizes) (log : List Event) (ws : List ℕ) (vs : List View) (chains
         total_gap (loose_of z b (is_at_link x)) (hooks_at x) vs i v at (λ i v at. loose_low z b x v),
         down_low z b x v.buckets.hooks down,
       )
+
+  -- a link of a pass names no id
+  pub unnamed : (x i : ℕ) (v : View) → get_elem? vs i ≡ some v → 0 < x → 0 < hooks_at x v → total (λ (e : Entry). bit (e.link == x && is_some e.id)) (chains b) ≡ 0
+  unnamed x i v at any mine =
+      omega (
+        arith,
+        h.chained b below (λ (e : Entry). bit (e.link == x && is_some e.id)),
+        h.lone x any,
+        total_term (hooks_at x) vs i v at,
+        total_le (links_in z b (λ (e : Entry). bit (e.link == x && is_some e.id))) (of_place (place_of x)) (records_after log) (λ j r there. omega (
+          arith,
+          record_links z b x any r,
+          side_le z b (λ (e : Entry). bit (e.link == x && is_some e.id)) (is_at_link x) (original_of r) (both_low (1 + 2 * r.place == x) true),
+          side_le z b (λ (e : Entry). bit (e.link == x && is_some e.id)) (is_at_link x) (reply_of r) (both_low (2 + 2 * r.place == x) true),
+        )),
+        total_zero (loose_of z b (λ (e : Entry). bit (e.link == x && is_some e.id))) vs (λ j u there.
+            loose_zero z b (λ (e : Entry). bit (e.link == x && is_some e.id)) u.buckets.hooks (λ k m at'. never (m.link == x))),
+      )
+    where
+      both_low : (b c : Bool) → bit (b && c) ≤ bit b
+      both_low true c = bit_low c
+      both_low false c = omega arith
+
+      never : (b : Bool) → bit (b && false) ≡ 0
+      never true = refl
+      never false = refl
 
   -- one that is up in this bucket stands in its chain
   pub linked_up : (x i : ℕ) (v : View) → get_elem? vs i ≡ some v → is_up_in z b x v.buckets.hooks ≡ true → has_link x (chains b) ≡ true

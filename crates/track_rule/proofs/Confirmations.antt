@@ -19,6 +19,7 @@ use Rattle.track_rule.specs.CommitSteps.{CanConfirm, ConfirmStep, born, confirme
 use Rattle.track_rule.specs.History.{packed, records_after, events_in}
 use Rattle.track_rule.specs.Rule.{Holds, IsKept}
 use Rattle.track_rule.proofs.Born.{born_kept}
+use Rattle.track_rule.proofs.Named.{born_ledger}
 use Rattle.track_rule.proofs.Confirms.{lawful, place_below, place_unused, state_on}
 use Rattle.track_rule.proofs.Loads.{all_events, word_events}
 
@@ -41,8 +42,8 @@ confirming slots id v c r has_some can follow go_on low room s (l, h) long at ra
       unchanged,
       tt,
       (
-        record l { log = with_confirm l.log r },
-        subst (λ (k : ℕ). IsKept z (record l { log = with_confirm l.log r }) (record {
+        born_ledger l r v,
+        subst (λ (k : ℕ). IsKept z (born_ledger l r v) (record {
           words = slice_set s.words 0 k;
           homes = s.homes;
           views = set s.views id w;

@@ -29,6 +29,7 @@ pub mod Columns
 pub mod AllPasses
 pub mod Confirming
 pub mod Confirms
+pub mod Named
 pub mod Born
 pub mod Confirmations
 pub mod Living

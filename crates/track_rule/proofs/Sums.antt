@@ -1,9 +1,14 @@
 -- Sums over passes, and one pass among them.
-use Rattle.std.proofs.Common.{◌≡◌, ◌≢◌, ℕ, ◌+◌, ◌*◌, ◌≤◌, zero, suc, List, [], ◌∷◌, ◌++◌, length, refl, sym, ap, subst, ⊎_elim, arith, set}
+use Rattle.std.proofs.Common.{◌≡◌, ◌≢◌, ℕ, ◌+◌, ◌*◌, ◌≤◌, zero, suc, List, [], ◌∷◌, ◌++◌, length, map, refl, sym, ap, subst, ⊎_elim, arith, set}
 use mathlib.Core.Option.{some, some-injective, some-ne-none}
 use lib.ListN.{get_elem?}
 use Rattle.atomic_table.proofs.Lists.{at_set, at_snoc}
 use Rattle.track_rule.specs.Sums.{Each, total}
+
+-- what changed items count
+pub total_map : {X Y : Type 0} (f : Y → ℕ) (g : X → Y) (xs : List X) → total f (map g xs) ≡ total (λ x. f (g x)) xs
+total_map f g [] = refl
+total_map f g (x ∷ xs) = omega (arith, total_map f g xs)
 
 module _ {X : Type 0} where
   -- after a change of one item
@@ -70,6 +75,21 @@ module _ {X : Type 0} where
       let term = total_term g zs i x at in
       let here : g z ≡ 0 = omega (arith, all, term) in
       omega (arith, none 0 z refl here, total_only f g zs i x at (omega (arith, all, here)) (λ j y at'. none (suc j) y at'))
+
+  -- items that count alike
+  pub total_alike : (f g : X → ℕ) (xs : List X) → Each (λ x. f x ≡ g x) xs → total f xs ≡ total g xs
+  total_alike f g [] same = refl
+  total_alike f g (x ∷ xs) same = omega (arith, same 0 x refl, total_alike f g xs (λ i y at. same (suc i) y at))
+
+  -- and all but one
+  pub total_but : (f g : X → ℕ) (xs : List X) (i : ℕ) (x : X) → get_elem? xs i ≡ some x
+      → ((j : ℕ) (y : X) → j ≢ i → get_elem? xs j ≡ some y → f y ≡ g y) → total f xs + g x ≡ total g xs + f x
+  total_but f g [] i x at same = absurd (some-ne-none x (sym at))
+  total_but f g (z ∷ zs) zero x at same =
+      let here : z ≡ x = some-injective z x at in
+      omega (arith, ap f here, ap g here, total_alike f g zs (λ j y at'. same (suc j) y (λ e. omega (arith, e)) at'))
+  total_but f g (z ∷ zs) (suc i) x at same =
+      omega (arith, same 0 z (λ e. omega (arith, e)) refl, total_but f g zs i x at (λ j y other at'. same (suc j) y (λ e. other (omega (arith, e))) at'))
 
   -- one more
   pub length_total : (xs : List X) → total (λ x. 1) xs ≡ length xs

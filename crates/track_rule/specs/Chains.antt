@@ -2,8 +2,9 @@
 -- its tuple, which belongs to the bucket. While a generation is odd, one pass has the bucket, and knows its chain. However
 -- tuples are weighed, the chain of a bucket weighs what the live records weigh in it, and the tuples of places that a pass
 -- has linked and not yet confirmed, or not yet unlinked. So it has each of these once, and no other. Such tuples are in
--- buckets that the pass has shut. Where both links of a place are in one chain, that of its original tuple comes first.
-use Rattle.std.specs.Prelude.{◌≡◌, ℕ, ◌+◌, ◌-◌, ◌*◌, ◌%◌, ◌<◌, ◌≤◌, ◌==◌, if◌then◌else◌, bit_xor, List, [], ◌∷◌, slice_index}
+-- buckets that the pass has shut. Where both links of a place are in one chain, that of its original tuple comes first. A link
+-- of a live record names the record's id, and no other link names one; no word shows that.
+use Rattle.std.specs.Prelude.{◌≡◌, ℕ, ◌+◌, ◌-◌, ◌*◌, ◌%◌, ◌<◌, ◌≤◌, ◌==◌, if◌then◌else◌, bit_xor, Some, None, List, [], ◌∷◌, slice_index}
 use Rattle.tuple_core.specs.Hash.{mix}
 use Rattle.tuple_core.specs.Words.{address_word, flow_word}
 use Rattle.tuple_core.specs.declared.Tuple.{Tuple}
@@ -52,13 +53,13 @@ IsChain z words bucket link (e ∷ es) =
 
 -- the two entries of a record, and that of a hook
 abbrev pub original_of : Record → Entry
-original_of r = record { link = 1 + 2 * r.place; pair = pair_of r.original }
+original_of r = record { link = 1 + 2 * r.place; pair = pair_of r.original; id = Some r.id }
 
 abbrev pub reply_of : Record → Entry
-reply_of r = record { link = 2 + 2 * r.place; pair = pair_of r.reply }
+reply_of r = record { link = 2 + 2 * r.place; pair = pair_of r.reply; id = Some r.id }
 
 abbrev pub entry_of : Hook → Entry
-entry_of h = record { link = h.link; pair = h.pair }
+entry_of h = record { link = h.link; pair = h.pair; id = None }
 
 -- what an entry weighs in a bucket
 abbrev pub side : Sizes → ℕ → (Entry → ℕ) → Entry → ℕ

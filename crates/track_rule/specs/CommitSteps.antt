@@ -1,5 +1,5 @@
 -- What the steps of a commit tell a pass: v is what it knew before, w what it knows after.
-use Rattle.std.specs.Prelude.{◌≡◌, ℕ, ◌+◌, ◌*◌, ◌<◌, ◌≤◌, ◌==◌, ◌&&◌, ◌^◌, true, if◌then◌else◌, Option, Some, None, List, [], ◌∷◌, ◌++◌, length}
+use Rattle.std.specs.Prelude.{◌≡◌, ℕ, ◌+◌, ◌*◌, ◌<◌, ◌≤◌, ◌==◌, ◌&&◌, ◌^◌, Bool, true, false, if◌then◌else◌, Option, Some, None, List, [], ◌∷◌, ◌++◌, length, map}
 use Rattle.atomic_table.specs.Table.{Me, Step}
 use Rattle.tuple_core.specs.declared.Tuple.{Tuple}
 use Rattle.history_book.specs.History.{is_legal}
@@ -15,11 +15,12 @@ use Rattle.track_rule.specs.declared.view.Middle.{Middle}
 use Rattle.track_rule.specs.declared.view.Middle.TheVariants.{Calm, Born, Dying}
 use Rattle.track_rule.specs.declared.view.Pair.{Pair}
 use Rattle.track_rule.specs.declared.view.Purpose.TheVariants.{For}
+use Rattle.track_rule.specs.declared.view.Shut.{Shut}
 use Rattle.track_rule.specs.declared.view.View.{View}
 use Rattle.track_rule.specs.Chains.{bucket_of, chain_in, loose_of, pair_of, shuts_of}
 use Rattle.track_rule.specs.Free.{taken_out, unlisted}
 use Rattle.track_rule.specs.History.{packed}
-use Rattle.track_rule.specs.Layout.{phase_word}
+use Rattle.track_rule.specs.Layout.{phase_word, place_of}
 use Rattle.track_rule.specs.Links.{hook_of, is_raised}
 use Rattle.track_rule.specs.Readings.{noted, stored}
 use Rattle.track_rule.specs.Records.{has_hand}
@@ -71,12 +72,24 @@ born n r = record r { id = n }
 abbrev pub with_confirm : List Event → Record → List Event
 with_confirm log r = log ++ Confirm (born (length log) r) ∷ []
 
--- the Confirm is made: the record is live, and its links are those of a live record
+-- a link of the place is that of the entry of this id now
+abbrev pub named : ℕ → ℕ → Entry → Entry
+named place id e = record e { id = (if place_of e.link == place then Some id else e.id) }
+
+-- so it is in each of these buckets
+abbrev pub named_in : ℕ → ℕ → List Shut → List Shut
+named_in place id shut = map (λ (s : Shut). record s { chain = map (named place id) s.chain }) shut
+
+-- The Confirm is made: the record is live, and its links, which stand in buckets that the pass has shut, are those of a live
+-- record and name its id.
 abbrev pub confirmed : List Event → Record → View → View
 confirmed log r v = noted (stored 0 (packed (with_confirm log r))) (record v {
   seen = record v.seen { front = with_confirm log r; own = v.seen.own ++ record { number = length log; event = Confirm (born (length log) r) } ∷ [] };
   places = record v.places { held = held_for r.place (length log) v.places.held; owned = unlisted (r.place ∷ []) v.places.owned };
-  buckets = record v.buckets { hooks = dropped (2 + 2 * r.place) (dropped (1 + 2 * r.place) v.buckets.hooks) };
+  buckets = record {
+    shut = named_in r.place (length log) v.buckets.shut;
+    hooks = dropped (2 + 2 * r.place) (dropped (1 + 2 * r.place) v.buckets.hooks);
+  };
   commit = record v.commit { middle = Born (born (length log) r) };
   walk = None;
 })

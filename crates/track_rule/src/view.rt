@@ -69,6 +69,8 @@ pub struct Pair {
 pub struct Entry {
     pub link: u64,
     pub pair: Pair,
+    /// The id of the entry whose link it is, once that is confirmed. No word shows it.
+    pub id: Option<u64>,
 }
 
 /// A bucket that a pass has shut, and its chain.
