@@ -37,6 +37,21 @@ notes_from-push k (x ∷ xs) e =
     ap (λ ns. record { number = k; event = x } ∷ ns) (notes_from-push (k + 1) xs e
     ∙ ap (λ (n : ℕ). notes_from (k + 1) xs ++ record { number = n; event = e } ∷ []) (omega arith))
 
+-- one list of events has these notes
+pub notes_same : (k : ℕ) (xs ys : List Event) → notes_from k xs ≡ notes_from k ys → xs ≡ ys
+notes_same k [] [] e = refl
+notes_same k [] (y ∷ ys) e = cc
+notes_same k (x ∷ xs) [] e = cc
+notes_same k (x ∷ xs) (y ∷ ys) e = λ i. first_event x (e i) ∷ notes_same (k + 1) xs ys (ap later e) i
+  where
+    first_event : Event → List Note → Event
+    first_event other [] = other
+    first_event other (n ∷ ns) = n.event
+
+    later : List Note → List Note
+    later [] = []
+    later (n ∷ ns) = ns
+
 each_map : {X : Type 0} (F G : X → Type 0) → ((x : X) → F x → G x) → (xs : List X) → All F xs → All G xs
 each_map F G f xs h = λ i d short. f _ (h i d short)
 

@@ -16,7 +16,9 @@ use Rattle.track_rule.specs.declared.slot.Slot.TheVariants.{Free}
 use Rattle.track_rule.specs.declared.view.View.{View}
 use Rattle.track_rule.specs.Free.{has_turn, is_among, known_free, owes, turn_of}
 use Rattle.track_rule.specs.Layout.{phase_at, phase_word, refs_at, refs_word}
+use Rattle.track_rule.specs.History.{records_after}
 use Rattle.track_rule.specs.Passes.{IsPass}
+use Rattle.track_rule.specs.Phases.{of_place}
 use Rattle.track_rule.specs.Readings.{found, noted, stored}
 use Rattle.track_rule.specs.References.{keeps}
 use Rattle.track_rule.specs.Rule.{Holds, IsKept, Ledger}
@@ -24,7 +26,9 @@ use Rattle.track_rule.specs.Slots.{list_in}
 use Rattle.track_rule.specs.Steps.{CanGive, GiveStep, TakeStep, TakesFree, TookFree, gave_free, with_turn}
 use Rattle.track_rule.specs.Sums.{times, total}
 use Rattle.track_rule.proofs.Counting.{few_places}
+use Rattle.track_rule.proofs.Events.{notes_same}
 use Rattle.track_rule.proofs.Frames.{Quiet}
+use Rattle.track_rule.proofs.Hooks.{no_record_there}
 use Rattle.track_rule.proofs.Lists.{length_unlisted, unlisted_in, unlisted_out}
 use Rattle.track_rule.proofs.Loads.{others_there, reads}
 use Rattle.track_rule.proofs.LastRead.{stored_on}
@@ -100,10 +104,19 @@ module _ (l : Ledger) (s : State Slot View) (id : ℕ) (v : View) (h : IsKept v.
     below = λ q above. omega (arith, h.free_list.beyond q above, mine q, ap (times q) same);
     clear = λ q on. (h.free_list.clear id v at q on).0;
     sole = λ one. sym (h.readings one id v at has_some 1) ∙ free;
+    unused = λ log one own q any.
+        subst (λ es. total (of_place q) (records_after es) ≡ 0) (notes_same 0 l.log log (sym ((h.passes.each id v at).alone one has_some) ∙ own))
+        (unused q (omega (arith, any, mine q, ap (times q) same)));
   }
     where
       mine : (q : ℕ) → owes q v ≤ total (owes q) s.views
       mine q = total_term (owes q) s.views id v at
+
+      -- a place without references has no live record
+      unused : (q : ℕ) → 0 < times q l.free + total (owes q) s.views → total (of_place q) (records_after l.log) ≡ 0
+      unused q any =
+          ⊎_elim (λ (e : q < v.passes.sizes.entries). no_record_there v.passes.sizes l s h id v at q e (omega (arith, any, h.free_list.once q e)))
+          (λ (e : v.passes.sizes.entries ≤ q). absurd (omega (arith, any, h.free_list.beyond q e))) (cases_lt q v.passes.sizes.entries)
 
   -- where another pass has it nothing changes
   missed : slice_index s.words 1 ≢ 0

@@ -86,7 +86,7 @@ with_turn free v = noted (stored 1 1) (record v { free = Some free })
 
 -- The turn was free, and the pass has it now, with the list out of its slot. There is room for all places. No place that
 -- the pass holds or owes is on the list, which has only places below the entries; and what it owes is owed once. There is
--- room on the list for what it owes. What it has set to FREE it owes.
+-- room on the list for what it owes. In a table of one pass no live record has a place that is on the list, or owed.
 pub record TookFree (v : View) (slots : List (ℕ × Slot)) (w : View) (slots' : List (ℕ × Slot)) : Type 0 where
   pub view : w ≡ with_turn (list_in slots').items v
   pub out : slots' ≡ (0, Free (list_in slots')) ∷ slots
@@ -96,6 +96,8 @@ pub record TookFree (v : View) (slots : List (ℕ × Slot)) (w : View) (slots' :
   pub below : (p : ℕ) → v.passes.sizes.entries ≤ p → times p (list_in slots').items + times p v.places.owed ≡ 0
   pub clear : (p : ℕ) → 0 < times p v.places.clear → 0 < times p v.places.owed
   pub sole : IsSole v → last_read 1 v ≡ 0
+  pub unused : (log : List Event) → IsSole v → v.seen.own ≡ notes_from 0 log → (p : ℕ)
+      → 0 < times p (list_in slots').items + times p v.places.owed → total (of_place p) (records_after log) ≡ 0
 
 -- Another pass has it: so there is one, with a share.
 pub record MissedFree (v : View) (slots : List (ℕ × Slot)) (w : View) (slots' : List (ℕ × Slot)) : Type 0 where
