@@ -1,8 +1,8 @@
 -- A Confirm keeps the rule: the record is live from then on, and its links are those of a live record.
-use Rattle.std.proofs.Common.{◌⊎◌, ◌≡◌, ◌≢◌, ℕ, ◌+◌, ◌-◌, ◌*◌, ◌%◌, ◌^◌, ◌<◌, ◌≤◌, zero, suc, Bool, true, false, Option, Some, None, List, [], ◌∷◌, ◌++◌, length, map, refl, sym, ap, subst, ◌∙◌, ⊎_elim, inl, inr, arith, set, eq-eqb, ne_eqb, length-append}
-use Rattle.std.specs.Prelude.{slice_get, slice_index, slice_set, ◌==◌, ◌&&◌, ◌||◌, not, nat_lt, if◌then◌else◌, find, min}
-use Rattle.std.specs.List.{All, list_any}
-use Rattle.std.proofs.lemmas.Bool.{and_from, cases_Bool, cases_eq, cases_lt, cond_both, false≢true}
+use Rattle.std.proofs.Common.{◌≡◌, ◌≢◌, ℕ, ◌+◌, ◌-◌, ◌*◌, ◌%◌, ◌<◌, ◌≤◌, Bool, true, false, Some, List, [], ◌∷◌, ◌++◌, length, map, refl, sym, ap, subst, ◌∙◌, ⊎_elim, arith, set, eq-eqb, ne_eqb}
+use Rattle.std.specs.Prelude.{slice_index, slice_set, ◌==◌, ◌||◌, if◌then◌else◌, find, min}
+use Rattle.std.specs.List.{All}
+use Rattle.std.proofs.lemmas.Bool.{cases_eq}
 use Rattle.std.proofs.lemmas.List.{get_or-set_other, get_or-set_same, length-set}
 use Rattle.std.proofs.lemmas.Option.{none-some}
 use mathlib.Core.Option.{some}
@@ -26,12 +26,12 @@ use Rattle.track_rule.specs.declared.view.Middle.TheVariants.{Calm, Born, Dying}
 use Rattle.track_rule.specs.declared.view.View.{View}
 use Rattle.track_rule.specs.declared.view.Walk.{Walk}
 use Rattle.track_rule.specs.Chains.{AreChains, IsChain, IsOrdered, bucket_of, chain_in, each_link, entry_of, hooks_at, links_in, loose_of, original_of, pair_of, reply_of, shuts_of, side}
-use Rattle.track_rule.specs.CommitSteps.{CanConfirm, HasLink, born, confirmed, dropped, held_for, named, named_in, with_confirm}
-use Rattle.track_rule.specs.Commits.{IsCommitting, IsMiddle, IsMiddleOf}
+use Rattle.track_rule.specs.CommitSteps.{CanConfirm, HasLink, born, confirmed, dropped, named, with_confirm}
+use Rattle.track_rule.specs.Commits.{IsMiddle, IsMiddleOf}
 use Rattle.track_rule.specs.Expected.{has_expected}
 use Rattle.track_rule.specs.Free.{IsFreeList, has_turn, owes, unlisted}
 use Rattle.track_rule.specs.History.{packed, records_after, state_after}
-use Rattle.track_rule.specs.Layout.{first_word, gen_word, head_word, next_word, phase_at, phase_word, place_of, refs_at, refs_word, second_word, turn_at, turn_word}
+use Rattle.track_rule.specs.Layout.{first_word, gen_at, gen_word, head_word, next_word, phase_at, phase_word, place_of, refs_at, refs_word, second_word, turn_at, turn_word}
 use Rattle.track_rule.specs.Links.{AreLinks, HasHooks, IsHook, IsOwned, hook_of, hooks_of}
 use Rattle.track_rule.specs.Phases.{ArePhases, middle_of, middle_weight, of_both, of_place, shows, table_keeps}
 use Rattle.track_rule.specs.Readings.{stored}
@@ -41,12 +41,12 @@ use Rattle.track_rule.specs.Rule.{IsKept, Ledger}
 use Rattle.track_rule.specs.Sums.{Each, bit, times, total}
 use Rattle.track_rule.specs.Walks.{AreWalks, HasLive, IsWalk, Stands}
 use Rattle.track_rule.proofs.Confirming.{each_dropped, find_last, find_more, find_same, held_kept, held_long, held_taken, hook_else, kept_for, low_both, low_ids, total_dropped}
-use Rattle.track_rule.proofs.Confirms.{lawful, none_there, place_below, state_on}
+use Rattle.track_rule.proofs.Confirms.{lawful, none_there, state_on}
 use Rattle.track_rule.proofs.Events.{get_last, kept_on, passes_made}
 use Rattle.track_rule.proofs.Frames.{SameChains, chain_stays, hooks_stay, links_stay, walk_stays}
 use Rattle.track_rule.proofs.HookLists.{hook_test, hook_there, some_hook}
-use Rattle.track_rule.proofs.Named.{born_ledger, chains_both, chains_off, chains_on, hooks_else, named_chain, named_chains, named_else, named_here, named_in_chain, named_ordered, named_shuts, records_else}
-use Rattle.track_rule.proofs.LastRead.{ReadsAt, stored_on}
+use Rattle.track_rule.proofs.Named.{born_ledger, chains_both, chains_off, chains_on, hooks_else, named_chain, named_chains, named_here, named_in_chain, named_ordered, named_shuts, records_else}
+use Rattle.track_rule.proofs.LastRead.{stored_on}
 use Rattle.track_rule.proofs.Lists.{other_bit, same_bit, unlisted_in, unlisted_out}
 use Rattle.track_rule.proofs.Sums.{each_other, each_put, total_append, total_but, total_map, total_same, total_set, total_term, total_two}
 

@@ -16,6 +16,7 @@ pub mod OwnWords
 pub mod ChainStores
 pub mod ChainCuts
 pub mod LinkStores
+pub mod ShutChains
 pub mod Loads
 pub mod Turns
 pub mod Refs

@@ -1,6 +1,7 @@
 -- Steps that change no word: a load, and an exchange that fails. What a load tells of the history and of the references.
-use Rattle.std.specs.Prelude.{nat_lt}
-use Rattle.track_rule.proofs.Lists.{bit_low}
+use Rattle.std.specs.Prelude.{nat_lt, ◌&&◌}
+use Rattle.track_rule.proofs.Lists.{bit_low, total_some}
+use Rattle.track_rule.proofs.ShutChains.{shut_weighs}
 use Rattle.std.proofs.Common.{◌≡◌, ℕ, ◌+◌, ◌-◌, ◌*◌, ◌/◌, ◌%◌, ◌^◌, ◌<◌, ◌≤◌, suc, Option, Some, None, List, [], ◌∷◌, length, refl, sym, ap, subst, ◌∙◌, ⊎_elim, arith, set, append-nil}
 use Rattle.std.specs.Prelude.{slice_index, slice_set}
 use Rattle.std.proofs.lemmas.Bool.{cases_lt}
@@ -23,7 +24,7 @@ use Rattle.track_rule.specs.Layout.{phase_at, refs_word}
 use Rattle.track_rule.specs.Passes.{ArePasses, HasNothing, IsPass, IsSpent, made_weight, shares_of}
 use Rattle.track_rule.specs.Phases.{middle_of, middle_weight, of_place}
 use Rattle.track_rule.specs.Readings.{found, noted}
-use Rattle.track_rule.specs.References.{held_times, keeps}
+use Rattle.track_rule.specs.References.{held_times, is_at, is_for_new, keeps, takes}
 use Rattle.track_rule.specs.Rule.{Holds, IsKept, Ledger}
 use Rattle.track_rule.specs.Steps.{AreAll, HasOthers, IsCount, LoadStep, LoadsRefs, LookStep, at_point, found_history, saw}
 use Rattle.track_rule.specs.Sums.{Each, times, total}
@@ -177,6 +178,9 @@ looks slots id v c has_some s (l, h) long at range =
           events = ap events_in h.history.word ∙ word_events (length l.log) (length (records_after l.log)) low;
           live = ap live_in h.history.word ∙ word_live (length l.log) (length (records_after l.log)) low;
           sole = λ one. h.readings one id v at has_some 0;
+          chains = λ b below mine. shut_weighs z l s id v h at b below mine;
+          taken = λ q taken.
+              omega (arith, h.references.taken q, total_term (takes q) s.views id v at, total_some (λ k. is_at q k && is_for_new k.purpose) v.places.held taken);
         },
         refl,
       ),

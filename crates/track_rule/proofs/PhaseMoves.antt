@@ -39,6 +39,7 @@ use Rattle.track_rule.proofs.Lists.{other_bit, total_some, some_of, takes_held}
 use Rattle.track_rule.proofs.Seats.{held_below, owed_below}
 use Rattle.track_rule.proofs.Loads.{reads}
 use Rattle.track_rule.proofs.LastRead.{stored_on}
+use Rattle.track_rule.proofs.ShutChains.{shown_live}
 use Rattle.track_rule.proofs.Sums.{each_put, total_same, total_term}
 
 -- two places have two phases
@@ -66,6 +67,7 @@ loads_phase slots id p v c below has_some s (l, h) long at range =
             λ some_shown. sym same ∙ k.shown some_shown,
             λ low. omega (arith, same, k.idle low),
           );
+      linked = λ b passed e rest i under shut calm its_id here. shown_live z l s id v h at b under p i below calm passed e rest shut its_id here;
     } in (
       w,
       unchanged,

@@ -18,9 +18,9 @@ pub mod Rule
 pub mod Sights
 pub mod Steps
 pub mod Shares
-pub mod PhaseSteps
 pub mod TurnSteps
 pub mod CommitSteps
 pub mod Notes
 pub mod BucketSteps
+pub mod PhaseSteps
 pub mod Laws

@@ -9,6 +9,7 @@ use Rattle.history_book.specs.declared.event.Event.{Event}
 use Rattle.history_book.specs.declared.event.Note.{Note}
 use Rattle.track_rule.specs.declared.slot.Slot.{Slot}
 use Rattle.track_rule.specs.declared.slot.Slot.TheVariants.{Free}
+use Rattle.track_rule.specs.declared.view.Entry.{Entry}
 use Rattle.track_rule.specs.declared.view.Hook.{Hook}
 use Rattle.track_rule.specs.declared.view.Keep.{Keep}
 use Rattle.track_rule.specs.declared.view.Places.{Places}
@@ -17,6 +18,7 @@ use Rattle.track_rule.specs.declared.view.Purpose.TheVariants.{Taken, Testing}
 use Rattle.track_rule.specs.declared.view.Reading.{Reading}
 use Rattle.track_rule.specs.declared.view.View.{View}
 use Rattle.track_rule.specs.declared.view.Walk.{Walk}
+use Rattle.track_rule.specs.Chains.{chain_in, links_in, loose_of, shuts_of}
 use Rattle.track_rule.specs.Free.{is_among, known_free, taken_out, unlisted}
 use Rattle.track_rule.specs.History.{events_in, live_in, records_after}
 use Rattle.track_rule.specs.Layout.{place_of, refs_word}
@@ -70,13 +72,17 @@ at_point point (Some n) = Some (record n { at = Some point })
 abbrev pub saw : List Event → View → View
 saw log v = record v { seen = record v.seen { front = log }; walk = at_point (length log) v.walk }
 
--- A load: the pass has seen all events, and the word is theirs.
+-- A load: the pass has seen all events, and the word is theirs. The chain of a bucket that the pass has shut weighs what the live
+-- records weigh in it, and the pass's own links there. No live record has a place that the pass has taken.
 pub record Looks (v : View) (word : ℕ) (w : View) : Type 0 where
   pub same : w ≡ noted (found_history word v) (saw w.seen.front v)
   pub all : AreAll v w.seen.front
   pub events : events_in word ≡ length w.seen.front
   pub live : live_in word ≡ length (records_after w.seen.front)
   pub sole : IsSole v → word ≡ last_read 0 v
+  pub chains : (b : ℕ) → b < v.passes.sizes.buckets → 0 < shuts_of b v → (weight : Entry → ℕ)
+      → total weight (chain_in b v.buckets.shut) ≡ total (links_in v.passes.sizes b weight) (records_after w.seen.front) + loose_of v.passes.sizes b weight v
+  pub taken : (p : ℕ) → is_taken p v.places.held ≡ true → total (of_place p) (records_after w.seen.front) ≡ 0
 
 -- THE FREE LIST
 

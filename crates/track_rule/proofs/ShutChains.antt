@@ -1,0 +1,184 @@
+-- What the rule says of the chain of a bucket that a pass has shut: what it weighs, and that who is named there is live.
+use Rattle.std.proofs.Common.{◌≡◌, ◌≢◌, ℕ, suc, ◌+◌, ◌*◌, ◌<◌, ◌≤◌, Bool, true, false, Option, Some, None, List, [], ◌∷◌, refl, ap, subst, ◌∙◌, ⊎_elim, arith, eq-eqb, ne_eqb}
+use Rattle.std.specs.Prelude.{◌==◌, ◌&&◌, find, if◌then◌else◌}
+use Rattle.std.proofs.lemmas.Bool.{and_parts, cases_Bool, cases_eq, cases_lt, eqb-true}
+use mathlib.Core.Option.{some}
+use lib.ListN.{get_elem?}
+use Rattle.atomic_table.specs.Table.{State}
+use Rattle.history_book.specs.Record.{has_id}
+use Rattle.history_book.specs.declared.record.Record.{Record}
+use Rattle.history_book.specs.declared.sizes.Sizes.{Sizes}
+use Rattle.track_rule.specs.declared.slot.Slot.{Slot}
+use Rattle.track_rule.specs.declared.view.Entry.{Entry}
+use Rattle.track_rule.specs.declared.view.Hand.{Hand}
+use Rattle.track_rule.specs.declared.view.Hook.{Hook}
+use Rattle.track_rule.specs.declared.view.Middle.{Middle}
+use Rattle.track_rule.specs.declared.view.Middle.TheVariants.{Calm, Born, Dying}
+use Rattle.track_rule.specs.declared.view.Shut.{Shut}
+use Rattle.track_rule.specs.declared.view.View.{View}
+use Rattle.track_rule.specs.BucketSteps.{IsShutAt}
+use Rattle.track_rule.specs.Chains.{bucket_of, chain_in, each_link, entry_of, links_in, loose_of, original_of, pair_of, reply_of, shuts_of, side}
+use Rattle.track_rule.specs.Commits.{IsCommitting, IsMiddle, shuts_in}
+use Rattle.track_rule.specs.History.{records_after}
+use Rattle.track_rule.specs.Layout.{phase_at, place_of}
+use Rattle.track_rule.specs.Phases.{middle_of, middle_weight, of_both, of_place}
+use Rattle.track_rule.specs.Rule.{IsKept, Ledger}
+use Rattle.track_rule.specs.Sums.{bit, total}
+use Rattle.track_rule.proofs.ChainLists.{loose_zero, total_rev}
+use Rattle.track_rule.proofs.Lists.{bit_low, other_bit, same_bit}
+use Rattle.track_rule.proofs.Sums.{total_le, total_only, total_term, total_times}
+
+-- links that are not in a bucket weigh nothing there
+loose_none : (z : Sizes) (b : ℕ) (f : Entry → ℕ) (hooks : List Hook)
+    → total (λ (h : Hook). (if h.up then side z b each_link (entry_of h) else 0)) hooks ≡ 0
+    → total (λ (h : Hook). (if h.up then side z b f (entry_of h) else 0)) hooks ≡ 0
+loose_none z b f [] none_there = refl
+loose_none z b f (h ∷ hs) none_there =
+    omega (arith, off h.up (bucket_of z h.pair == b) 1 (f (entry_of h)) (omega arith) (omega (arith, none_there)), loose_none z b f hs (omega (arith, none_there)))
+  where
+    off : (u k : Bool) (m n : ℕ) → 0 < m → (if u then (if k then m else 0) else 0) ≡ 0 → (if u then (if k then n else 0) else 0) ≡ 0
+    off true true m n any e = absurd (omega (arith, any, e))
+    off true false m n any e = refl
+    off false k m n any e = refl
+
+module _ (z : Sizes) (l : Ledger) (s : State Slot View) (id : ℕ) (v : View) (h : IsKept z l s) (at : get_elem? s.views id ≡ some v)
+    (b : ℕ) (below : b < z.buckets) (mine : 0 < shuts_of b v) where
+  -- no other pass has the bucket
+  shut_only : total (shuts_of b) s.views ≡ shuts_of b v
+  shut_only = omega (arith, h.chains.gens b below, mine, total_term (shuts_of b) s.views id v at)
+
+  -- so none has a link that is up in it
+  loose_only : (f : Entry → ℕ) → total (loose_of z b f) s.views ≡ loose_of z b f v
+  loose_only f =
+      total_only (loose_of z b f) (shuts_of b) s.views id v at shut_only (λ j u there none_shut.
+      loose_none z b f u.buckets.hooks
+      (⊎_elim (λ (e : 0 < loose_of z b each_link u). absurd (omega (arith, none_shut, h.chains.home j u there b below e)))
+      (λ (e : loose_of z b each_link u ≤ 0). omega (arith, e)) (cases_lt 0 (loose_of z b each_link u))))
+
+  -- what its chain weighs
+  pub shut_weighs : (f : Entry → ℕ) → total f (chain_in b v.buckets.shut) ≡ total (links_in z b f) (records_after l.log) + loose_of z b f v
+  shut_weighs f = omega (arith, ap (total f) (h.chains.mine b below id v at mine), h.chains.chained b below f, loose_only f)
+
+-- it is this id
+abbrev is_id : ℕ → Option ℕ → Bool
+is_id i None = false
+is_id i (Some n) = n == i
+
+-- 1 where the entry of a chain is of this place and names this id
+abbrev names : ℕ → ℕ → Entry → ℕ
+names p i e = bit (place_of e.link == p && is_id i e.id)
+
+-- an item that is found is there
+module _ {X : Type 0} (q : X → Bool) where
+  find_here : (x y : X) → Some y ≡ Some x → some y ≡ some x
+  find_here x y t = cc
+
+  find_there : (xs : List X) (x : X) → find q xs ≡ Some x → (j : ℕ) × (get_elem? xs j ≡ some x)
+  find_there [] x e = cc
+  find_there (y ∷ ys) x e =
+      elim (q y) as (λ k. (if k then Some y else find q ys) ≡ Some x → (j : ℕ) × (get_elem? (y ∷ ys) j ≡ some x)) [
+        | true ↦ λ t. (0, find_here x y t)
+        | false ↦ λ t. let rest = find_there ys x t in (suc rest.0, rest.1)
+      ] e
+
+module _ (z : Sizes) (b p i : ℕ) where
+  -- a record's links name it, at its place
+  its_names : (r : Record) → (names p i (original_of r) ≡ of_both p i r) × (names p i (reply_of r) ≡ of_both p i r)
+  its_names r = (ap (λ (n : ℕ). bit (n == p && r.id == i)) (omega arith), ap (λ (n : ℕ). bit (n == p && r.id == i)) (omega arith))
+
+  side_low : (e : Entry) → side z b (names p i) e ≤ names p i e
+  side_low e = low (bucket_of z e.pair == b) (names p i e)
+    where
+      low : (k : Bool) (n : ℕ) → (if k then n else 0) ≤ n
+      low true n = omega arith
+      low false n = omega arith
+
+  named_low : (r : Record) → links_in z b (names p i) r ≤ 2 * of_both p i r
+  named_low r = let same = its_names r in omega (arith, same.0, same.1, side_low (original_of r), side_low (reply_of r))
+
+  named_place : (r : Record) → of_place p r ≡ 0 → links_in z b (names p i) r ≡ 0
+  named_place r other = omega (arith, named_low r, other, both_low (r.place == p) (r.id == i))
+    where
+      both_low : (k m : Bool) → bit (k && m) ≤ bit k
+      both_low true m = bit_low m
+      both_low false m = omega arith
+
+  -- where it weighs something in the bucket, one of its tuples belongs there
+  side_else : (e : Entry) → bucket_of z e.pair ≢ b → side z b (names p i) e ≡ 0
+  side_else e other = ap (λ (k : Bool). if k then names p i e else 0) (ne_eqb (bucket_of z e.pair) b other)
+
+  named_shut : (r : Record) (shut : List Shut) → 0 < shuts_in (bucket_of z (pair_of r.original)) shut → 0 < shuts_in (bucket_of z (pair_of r.reply)) shut
+      → 0 < links_in z b (names p i) r → 0 < shuts_in b shut
+  named_shut r shut original reply some_there =
+      ⊎_elim (λ (e : bucket_of z (pair_of r.original) ≡ b). subst (λ (c : ℕ). 0 < shuts_in c shut) e original)
+      (λ (e : bucket_of z (pair_of r.original) ≢ b).
+      ⊎_elim (λ (f : bucket_of z (pair_of r.reply) ≡ b). subst (λ (c : ℕ). 0 < shuts_in c shut) f reply)
+      (λ (f : bucket_of z (pair_of r.reply) ≢ b). absurd (omega (arith, some_there, side_else (original_of r) e, side_else (reply_of r) f)))
+      (cases_eq (bucket_of z (pair_of r.reply)) b)) (cases_eq (bucket_of z (pair_of r.original)) b)
+
+module _ (z : Sizes) (l : Ledger) (s : State Slot View) (id : ℕ) (v : View) (h : IsKept z l s) (at : get_elem? s.views id ≡ some v)
+    (b : ℕ) (below : b < z.buckets) (p i : ℕ) (low : p < z.entries) (calm : v.commit.middle ≡ Calm)
+    (passed : List Entry) (e : Entry) (rest : List Entry) (shut : IsShutAt b v passed (e ∷ rest)) (its_id : e.id ≡ Some i) (here : place_of e.link ≡ p) where
+  named_one : names p i e ≡ 1
+  named_one = ap bit (λ k. (eq-eqb (place_of e.link) p here k) && (ap (is_id i) its_id ∙ eq-eqb i i refl) k)
+
+  -- a live record is named there
+  some_named : 0 < total (links_in z b (names p i)) (records_after l.log)
+  some_named = omega (
+    arith,
+    named_one,
+    ap (total (names p i)) shut.all,
+    total_rev (names p i) passed (e ∷ rest),
+    shut_weighs z l s id v h at b below shut.mine (names p i),
+    loose_zero z b (names p i) v.buckets.hooks (λ j k there. never (place_of k.link == p)),
+  )
+    where
+      never : (k : Bool) → bit (k && false) ≡ 0
+      never true = refl
+      never false = refl
+
+  some_both : 0 < total (of_both p i) (records_after l.log)
+  some_both = omega (
+    arith,
+    some_named,
+    total_le (links_in z b (names p i)) (λ r. 2 * of_both p i r) (records_after l.log) (λ j r there. named_low z b p i r),
+    total_times 2 (of_both p i) (records_after l.log),
+  )
+
+  -- a pass in the middle of its commit has shut the bucket
+  committing_else : (r : Record) (hand : Option Hand) (carried : List ℕ) (others : List Shut) → IsCommitting z l.log hand carried others r → shuts_in b others ≡ 0
+      → of_both p i r ≡ 0
+  committing_else r hand carried others k none_shut =
+      ⊎_elim
+      (λ (t : (r.place == p && r.id == i) ≡ true).
+      let there = find_there (has_id r.id) (records_after l.log) r k.live in
+      let its_place : of_place p r ≡ 1 = same_bit r.place p (eqb-true r.place p (and_parts (r.place == p) (r.id == i) t).0) in
+      let only : total (links_in z b (names p i)) (records_after l.log) ≡ links_in z b (names p i) r =
+      total_only (links_in z b (names p i)) (of_place p) (records_after l.log) there.0 r there.1
+      (omega (arith, its_place, h.references.taken p, total_term (of_place p) (records_after l.log) there.0 r there.1))
+      (λ j x at' other. named_place z b p i x other) in
+      absurd (omega (arith, none_shut, named_shut z b p i r others k.original k.reply (omega (arith, some_named, only)))))
+      (λ (t : (r.place == p && r.id == i) ≡ false). ap bit t)
+      (cases_Bool (r.place == p && r.id == i))
+
+  middle_else : (m : Middle) (hand : Option Hand) (carried : List ℕ) (others : List Shut) → IsMiddle z l.log m hand carried others → shuts_in b others ≡ 0
+      → middle_weight (of_both p i) m ≡ 0
+  middle_else Calm hand carried others k none_shut = refl
+  middle_else (Born r) hand carried others k none_shut = committing_else r hand carried others k none_shut
+  middle_else (Dying r) hand carried others k none_shut = committing_else r hand carried others k none_shut
+
+  -- so none is, and the phase shows the record
+  pub shown_live : phase_at z s.words p ≡ 3 + i
+  shown_live =
+      ⊎_elim (λ (t : phase_at z s.words p ≡ 3 + i). t)
+      (λ (t : phase_at z s.words p ≢ 3 + i).
+      absurd (omega (
+        arith,
+        some_both,
+        h.phases.shown p i low,
+        other_bit (phase_at z s.words p) (3 + i) t,
+        total_only (middle_of (of_both p i)) (shuts_of b) s.views id v at (shut_only z l s id v h at b below shut.mine)
+            (λ j u there none_shut. middle_else u.commit.middle u.commit.hand u.places.carried u.buckets.shut (h.commits j u there) none_shut),
+        ap (middle_weight (of_both p i)) calm,
+      )))
+      (cases_eq (phase_at z s.words p) (3 + i))
