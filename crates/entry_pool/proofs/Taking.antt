@@ -157,6 +157,7 @@ module _ (v u : PassSight) (list : Roomed ℕ) (h : HasList v u list) where
                   (ap (λ (y : PassSight). y.view.readings) x);
               held = ap (λ (y : PassSight). held_times place y.view.places.held) (sym h.same) ∙ o.held;
               owed = ap (λ (y : PassSight). times place y.view.places.owed) (sym h.same) ∙ o.owed;
+              unused = h.right.unused place (omega (arith, ap (times place) pop, times_push place place left.items, same_bit place place refl));
             };
             own = ap (list_any others)
                 (added_two v.view.readings u.view.readings w.view.readings (stored (refs_word (sizes_of v) place) 1) (stored 1 0) h.waits
@@ -327,6 +328,7 @@ module _ (v u : PassSight) (list : Roomed ℕ) (h : HasList v u list) where
           stand = stands_one v.view.readings u.view.readings w.view.readings (stored 1 0) h.waits (ap (λ (y : PassSight). y.view.readings) x);
           own = ap (list_any not_turn) (added_one v.view.readings u.view.readings w.view.readings (stored 1 0) h.waits (ap (λ (y : PassSight). y.view.readings) x))
               ∙ any_more not_turn h.waits.more (stored 1 0) h.waits.own refl;
+          unused = h.right.unused place (omega (arith, owed_some));
         }
 
 -- the phase was stored after the first reference was made
@@ -356,6 +358,7 @@ taken_is place v u w o e =
         stand = stands_before v.view.readings w.view.readings (added v.view u.view ++ stored (phase_word (sizes_of v) place) 1 ∷ []) all;
         held = o.has.held;
         owed = o.has.owed;
+        unused = o.has.unused;
       };
       phase = ap (is_stored (phase_word (sizes_of v) place) 1) more
           ∙ ap (is_stored (phase_word (sizes_of v) place) 1) (sym (append-nil (added v.view u.view ++ stored (phase_word (sizes_of v) place) 1 ∷ [])))
@@ -416,6 +419,8 @@ recycled_is place v u w e g =
           (λ k. record v.view.places { owed = taken_out place v.view.places.owed; clear = first_listed place v.view.places.clear k })
           v.view.free refl v.view.buckets refl v.view.walk refl;
       stand = stands_before v.view.readings w.view.readings (r ∷ added u.view w.view) all;
+      unused = λ log one own.
+          g.unused log (ap (λ (y : PassSight). y.view.passes.sizes.passes) e ∙ one) (ap (λ (y : PassSight). y.view.seen.own) e ∙ own);
       phase = ap (is_stored (phase_word (sizes_of v) place) 0) more ∙ first_stored (phase_word (sizes_of v) place) (added u.view w.view);
       own = ap (changes (λ word. not (word == 1 || word == phase_word (sizes_of v) place))) more
           ∙ first_own (phase_word (sizes_of v) place) (added u.view w.view) g.own;

@@ -16,9 +16,10 @@ use Rattle.track_rule.specs.Sums.{times}
 use Rattle.track_rule.specs.declared.view.Purpose.TheVariants as purpose
 use Rattle.track_rule.specs.declared.view.Reading.{Reading}
 use Rattle.entry_pool.specs.GoesOn.{ReadingsStand}
+use Rattle.entry_pool.specs.Turn.{IsUnused}
 
 -- The place is held, for a new entry, and the pass has both its links, which are in no chain; before the call the pass neither
--- held nor owed the place. The pass owns these places. All else is as it was.
+-- held nor owed the place, and it was unused. The pass owns these places. All else is as it was.
 pub record HasPlace (place : ℕ) (owned : List ℕ) (v w : PassSight) : Type 0 where
   pub same : w ≡ record v {
     view = record v.view {
@@ -32,6 +33,7 @@ pub record HasPlace (place : ℕ) (owned : List ℕ) (v w : PassSight) : Type 0 
   pub stand : ReadingsStand v w
   pub held : held_times place v.view.places.held ≡ 0
   pub owed : times place v.view.places.owed ≡ 0
+  pub unused : IsUnused place v.view
 
 -- The pass changed no word itself but the turn of the free list and the references of the place.
 pub record HasOpened (place : ℕ) (v w : PassSight) : Type 0 where
@@ -82,8 +84,8 @@ abbrev pub IsBelow : ℕ → TakeOutcome → Type 0
 IsBelow entries (Taken place) = place < entries
 IsBelow entries (Full at) = Unit {0}
 
--- The place is on the free list, and no longer owed. The pass changed no word itself but the turn of the list. All else is as
--- it was.
+-- The place is on the free list, and no longer owed; it is unused. The pass changed no word itself but the turn of the list. All
+-- else is as it was.
 pub record IsGivenBack (place : ℕ) (v w : PassSight) : Type 0 where
   pub same : w ≡ record v {
     view = record v.view {
@@ -96,9 +98,10 @@ pub record IsGivenBack (place : ℕ) (v w : PassSight) : Type 0 where
   }
   pub stand : ReadingsStand v w
   pub own : changes (λ word. not (word == 1)) (added v.view w.view) ≡ false
+  pub unused : IsUnused place v.view
 
--- The place is free again: its phase was made FREE, and then it was put on the free list. The pass changed no other word itself
--- than these two, and no longer owes the place. All else is as it was.
+-- The place, which is unused, is free again: its phase was made FREE, and then it was put on the free list. The pass changed no
+-- other word itself than these two, and no longer owes the place. All else is as it was.
 pub record Recycles (place : ℕ) (v w : PassSight) : Type 0 where
   pub same : w ≡ record v {
     view = record v.view {
@@ -110,5 +113,6 @@ pub record Recycles (place : ℕ) (v w : PassSight) : Type 0 where
     };
   }
   pub stand : ReadingsStand v w
+  pub unused : IsUnused place v.view
   pub phase : is_stored (phase_word (sizes_of v) place) phase_free (added v.view w.view) ≡ true
   pub own : changes (λ word. not (word == 1 || word == phase_word (sizes_of v) place)) (added v.view w.view) ≡ false
