@@ -19,7 +19,7 @@ use Rattle.track_rule.specs.Phases.{of_place}
 use Rattle.track_rule.specs.Sums.{Each, bit, times, total}
 use Rattle.track_rule.specs.Walks.{rev_onto}
 use Rattle.track_rule.proofs.Counting.{few_places}
-use Rattle.track_rule.proofs.Lists.{bit_low, other_bit, same_bit, some_of}
+use Rattle.track_rule.proofs.Lists.{bit_both, bit_fails, bit_low, other_bit, same_bit, some_of}
 use Rattle.track_rule.proofs.Sums.{total_gap, total_le, total_term}
 
 -- what entries weigh that were passed, and those after them
@@ -96,11 +96,19 @@ few_entries z b es each lone =
         (λ (e : x - 1 ≢ p). omega (arith, other_bit (x - 1) p e))
         (cases_eq (x - 1) p)
 
+-- in a bucket an entry weighs what it weighs, or nothing
+pub side_low : (z : Sizes) (b : ℕ) (f : Entry → ℕ) (e : Entry) → side z b f e ≤ f e
+side_low z b f e = pick (bucket_of z e.pair == b) (f e)
+  where
+    pick : (b : Bool) (n : ℕ) → (if b then n else 0) ≤ n
+    pick true n = omega arith
+    pick false n = omega arith
+
 -- a record has a link where it has its place
 record_links : (z : Sizes) (b x : ℕ) → 0 < x → (r : Record) → links_in z b (is_at_link x) r ≤ of_place (place_of x) r
 record_links z b x any r =
-    let first = side_low z b x (original_of r) in
-    let second = side_low z b x (reply_of r) in
+    let first = side_low z b (is_at_link x) (original_of r) in
+    let second = side_low z b (is_at_link x) (reply_of r) in
     ⊎_elim
     (λ (e : 1 + 2 * r.place ≡ x).
     omega (
@@ -118,13 +126,6 @@ record_links z b x any r =
     (λ (k : 2 + 2 * r.place ≢ x). omega (arith, first, second, other_bit (1 + 2 * r.place) x e, other_bit (2 + 2 * r.place) x k))
     (cases_eq (2 + 2 * r.place) x))
     (cases_eq (1 + 2 * r.place) x)
-  where
-    pick : (b : Bool) (n : ℕ) → (if b then n else 0) ≤ n
-    pick true n = omega arith
-    pick false n = omega arith
-
-    side_low : (z : Sizes) (b x : ℕ) (e : Entry) → side z b (is_at_link x) e ≤ bit (e.link == x)
-    side_low z b x e = pick (bucket_of z e.pair == b) (bit (e.link == x))
 
 -- a hook counts in a chain where it is up, and of this bucket
 hook_weight : Sizes → ℕ → ℕ → Hook → ℕ
@@ -235,20 +236,12 @@ module _ (z : Sizes) (log : List Event) (ws : List ℕ) (vs : List View) (chains
         total_le (links_in z b (λ (e : Entry). bit (e.link == x && is_some e.id))) (of_place (place_of x)) (records_after log) (λ j r there. omega (
           arith,
           record_links z b x any r,
-          side_le z b (λ (e : Entry). bit (e.link == x && is_some e.id)) (is_at_link x) (original_of r) (both_low (1 + 2 * r.place == x) true),
-          side_le z b (λ (e : Entry). bit (e.link == x && is_some e.id)) (is_at_link x) (reply_of r) (both_low (2 + 2 * r.place == x) true),
+          side_le z b (λ (e : Entry). bit (e.link == x && is_some e.id)) (is_at_link x) (original_of r) (bit_both (1 + 2 * r.place == x) true),
+          side_le z b (λ (e : Entry). bit (e.link == x && is_some e.id)) (is_at_link x) (reply_of r) (bit_both (2 + 2 * r.place == x) true),
         )),
         total_zero (loose_of z b (λ (e : Entry). bit (e.link == x && is_some e.id))) vs (λ j u there.
-            loose_zero z b (λ (e : Entry). bit (e.link == x && is_some e.id)) u.buckets.hooks (λ k m at'. never (m.link == x))),
+            loose_zero z b (λ (e : Entry). bit (e.link == x && is_some e.id)) u.buckets.hooks (λ k m at'. bit_fails (m.link == x))),
       )
-    where
-      both_low : (b c : Bool) → bit (b && c) ≤ bit b
-      both_low true c = bit_low c
-      both_low false c = omega arith
-
-      never : (b : Bool) → bit (b && false) ≡ 0
-      never true = refl
-      never false = refl
 
   -- one that is up in this bucket stands in its chain
   pub linked_up : (x i : ℕ) (v : View) → get_elem? vs i ≡ some v → is_up_in z b x v.buckets.hooks ≡ true → has_link x (chains b) ≡ true

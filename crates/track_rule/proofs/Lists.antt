@@ -22,6 +22,15 @@ pub bit_low : (b : Bool) → bit b ≤ 1
 bit_low true = omega arith
 bit_low false = omega arith
 
+-- two tests count no more than the first, and nothing where the second fails
+pub bit_both : (b c : Bool) → bit (b && c) ≤ bit b
+bit_both true c = bit_low c
+bit_both false c = omega arith
+
+pub bit_fails : (b : Bool) → bit (b && false) ≡ 0
+bit_fails true = refl
+bit_fails false = refl
+
 module _ {X : Type 0} (p : X → Bool) where
   -- what passes is counted
   pub total_some : (xs : List X) → list_any p xs ≡ true → 1 ≤ total (λ x. bit (p x)) xs
@@ -93,19 +102,11 @@ length_without a held h = length_rest (is_at a) (without a) (λ x xs. refl) held
 -- what is taken is held
 pub takes_held : (a : ℕ) (held : List Keep) → total (λ k. bit (is_at a k && is_for_new k.purpose)) held ≤ held_times a held
 takes_held a [] = omega arith
-takes_held a (k ∷ ks) = omega (arith, both_low (is_at a k) (is_for_new k.purpose), takes_held a ks)
-  where
-    both_low : (b c : Bool) → bit (b && c) ≤ bit b
-    both_low true c = bit_low c
-    both_low false c = omega arith
+takes_held a (k ∷ ks) = omega (arith, bit_both (is_at a k) (is_for_new k.purpose), takes_held a ks)
 
 -- a reference that is not for a new entry is no taking, and one of another place is none here
 pub takes_testing : (a p : ℕ) → bit (p == a && false) ≡ 0
-takes_testing a p = neither (p == a)
-  where
-    neither : (b : Bool) → bit (b && false) ≡ 0
-    neither true = refl
-    neither false = refl
+takes_testing a p = bit_fails (p == a)
 
 pub takes_other : (a p : ℕ) (c : Bool) → p ≢ a → bit (p == a && c) ≡ 0
 takes_other a p c other = ap (λ (b : Bool). bit (b && c)) (ne_eqb p a other)

@@ -41,7 +41,7 @@ module _ (p i : ℕ) where
       (λ e. ap (λ (k : Bool). if k then map (named p i) s.chain else chain_in b (named_in p i rest)) e ∙ named_in_chain b rest)
 
   -- a link of another place is told nothing
-  pub named_else : (e : Entry) → place_of e.link ≢ p → named p i e ≡ e
+  named_else : (e : Entry) → place_of e.link ≢ p → named p i e ≡ e
   named_else e other = ap (λ (k : Bool). record e { id = (if k then Some i else e.id) }) (ne_eqb (place_of e.link) p other)
 
   pub named_here : (e : Entry) → place_of e.link ≡ p → named p i e ≡ record e { id = Some i }

@@ -24,8 +24,8 @@ use Rattle.track_rule.specs.Layout.{phase_at, place_of}
 use Rattle.track_rule.specs.Phases.{middle_of, middle_weight, of_both, of_place}
 use Rattle.track_rule.specs.Rule.{IsKept, Ledger}
 use Rattle.track_rule.specs.Sums.{bit, total}
-use Rattle.track_rule.proofs.ChainLists.{loose_zero, total_rev}
-use Rattle.track_rule.proofs.Lists.{bit_low, other_bit, same_bit}
+use Rattle.track_rule.proofs.ChainLists.{loose_zero, side_low, total_rev}
+use Rattle.track_rule.proofs.Lists.{bit_both, bit_fails, other_bit, same_bit}
 use Rattle.track_rule.proofs.Sums.{total_le, total_only, total_term, total_times}
 
 -- links that are not in a bucket weigh nothing there
@@ -86,22 +86,11 @@ module _ (z : Sizes) (b p i : ℕ) where
   its_names : (r : Record) → (names p i (original_of r) ≡ of_both p i r) × (names p i (reply_of r) ≡ of_both p i r)
   its_names r = (ap (λ (n : ℕ). bit (n == p && r.id == i)) (omega arith), ap (λ (n : ℕ). bit (n == p && r.id == i)) (omega arith))
 
-  side_low : (e : Entry) → side z b (names p i) e ≤ names p i e
-  side_low e = low (bucket_of z e.pair == b) (names p i e)
-    where
-      low : (k : Bool) (n : ℕ) → (if k then n else 0) ≤ n
-      low true n = omega arith
-      low false n = omega arith
-
   named_low : (r : Record) → links_in z b (names p i) r ≤ 2 * of_both p i r
-  named_low r = let same = its_names r in omega (arith, same.0, same.1, side_low (original_of r), side_low (reply_of r))
+  named_low r = let same = its_names r in omega (arith, same.0, same.1, side_low z b (names p i) (original_of r), side_low z b (names p i) (reply_of r))
 
   named_place : (r : Record) → of_place p r ≡ 0 → links_in z b (names p i) r ≡ 0
-  named_place r other = omega (arith, named_low r, other, both_low (r.place == p) (r.id == i))
-    where
-      both_low : (k m : Bool) → bit (k && m) ≤ bit k
-      both_low true m = bit_low m
-      both_low false m = omega arith
+  named_place r other = omega (arith, named_low r, other, bit_both (r.place == p) (r.id == i))
 
   -- where it weighs something in the bucket, one of its tuples belongs there
   side_else : (e : Entry) → bucket_of z e.pair ≢ b → side z b (names p i) e ≡ 0
@@ -130,12 +119,8 @@ module _ (z : Sizes) (l : Ledger) (s : State Slot View) (id : ℕ) (v : View) (h
     ap (total (names p i)) shut.all,
     total_rev (names p i) passed (e ∷ rest),
     shut_weighs z l s id v h at b below shut.mine (names p i),
-    loose_zero z b (names p i) v.buckets.hooks (λ j k there. never (place_of k.link == p)),
+    loose_zero z b (names p i) v.buckets.hooks (λ j k there. bit_fails (place_of k.link == p)),
   )
-    where
-      never : (k : Bool) → bit (k && false) ≡ 0
-      never true = refl
-      never false = refl
 
   some_both : 0 < total (of_both p i) (records_after l.log)
   some_both = omega (
