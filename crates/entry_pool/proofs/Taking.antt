@@ -8,6 +8,7 @@ use Rattle.track_rule.specs.Free.{is_among, known_free, taken_out, unlisted}
 use Rattle.track_rule.specs.History.{events_in}
 use Rattle.track_rule.specs.Layout.{phase_word, refs_word}
 use Rattle.track_rule.specs.Links.{RaisesNone}
+use Rattle.track_rule.specs.Passes.{AreFronts}
 use Rattle.track_rule.specs.PhaseSteps.{phase_stored}
 use Rattle.track_rule.specs.Readings.{added, changes, is_stored, stored}
 use Rattle.track_rule.specs.Sights.{PassSight, sizes_of}
@@ -228,7 +229,7 @@ module _ (v u : PassSight) (list : Roomed ℕ) (h : HasList v u list) where
                 (ap (λ (y : PassSight). y.view.readings) x);
             all = subst (AreAll v.view) (sym ef) (record {
               front = subst (λ (s : Seen). StartsWith front s.front) same_seen o.all.front;
-              told = subst (λ (s : Seen). StartsWith front s.told) same_seen o.all.told;
+              told = subst (λ (s : Seen). AreFronts front s.told) same_seen o.all.told;
               legal = subst (λ (s : Shares). is_legal s.sizes front ≡ true) same_passes o.all.legal;
               few = omega (arith, o.all.few, ap (λ (s : Seen). length s.own) same_seen, ap (λ (s : Shares). s.sizes.passes) same_passes);
               passes = omega (arith, o.all.passes, ap (λ (s : Shares). s.sizes.passes) same_passes);

@@ -28,7 +28,7 @@ use Rattle.track_rule.specs.History.{records_after}
 use Rattle.track_rule.specs.Layout.{phase_at, place_of, refs_at}
 use Rattle.track_rule.specs.Links.{HasHooks, IsOwned, hooks_of}
 use Rattle.track_rule.specs.Phases.{of_place, table_keeps}
-use Rattle.track_rule.specs.Passes.{ArePasses, IsPass, has_share, made_weight, shares_of}
+use Rattle.track_rule.specs.Passes.{AreFronts, ArePasses, IsPass, has_share, made_weight, shares_of}
 use Rattle.track_rule.specs.References.{AreKept, AreReferences, held_times, is_at, is_for_new, keeps, takes, taken_times}
 use Rattle.track_rule.specs.Readings.{AreRead}
 use Rattle.track_rule.specs.Rule.{IsKept, Ledger}
@@ -93,7 +93,7 @@ same_lines z l s id v w h at buckets more owned walk front =
 
 -- a pass with some shares that has seen so much
 pub pass_moved : (z : Sizes) (log : List Event) (v w : View) → IsPass z log v → MakesNone v w → 0 < v.passes.shares
-    → StartsWith log w.seen.front → StartsWith log w.seen.told → IsPass z log w
+    → StartsWith log w.seen.front → AreFronts log w.seen.told → IsPass z log w
 pass_moved z log v w p m has_some front told = record {
   front = front;
   told = told;

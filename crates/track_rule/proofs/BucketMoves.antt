@@ -24,7 +24,7 @@ use Rattle.track_rule.specs.Chains.{AreChains, IsChain, chain_in, entry_of, hook
 use Rattle.track_rule.specs.History.{records_after}
 use Rattle.track_rule.specs.Layout.{first_word, gen_at, gen_word, head_word, next_word, phase_word, refs_at, refs_word, second_word, turn_word}
 use Rattle.track_rule.specs.Links.{AreLinks, HasHooks, last_gen}
-use Rattle.track_rule.specs.Passes.{IsPass}
+use Rattle.track_rule.specs.Passes.{AreFronts, IsPass}
 use Rattle.track_rule.specs.Readings.{found, noted, stored}
 use Rattle.track_rule.specs.Rule.{Holds, IsKept, Ledger}
 use Rattle.track_rule.specs.Sums.{bit, total}
@@ -64,7 +64,7 @@ bucket_moved z l s id v w ws' chains' h at m has_some seen places free rest long
     })
     (passes_moved z l.log s.views id v w at m.made
     (pass_moved z l.log v w one m.made has_some (subst (StartsWith l.log) (sym (ap (λ (x : Seen). x.front) seen)) one.front)
-    (subst (StartsWith l.log) (sym (ap (λ (x : Seen). x.told) seen)) one.told)) h.passes)
+    (subst (AreFronts l.log) (sym (ap (λ (x : Seen). x.told) seen)) one.told)) h.passes)
     (references_left z l.log s.words ws' s.views id v w at (ap (λ (x : Places). x.held) places) (ap (λ (x : Places). x.carried) places) rest.refs
     rest.still.phases h.references)
     (free_left z s.words ws' s.homes s.homes s.views id v w l.free at places free rest.refs rest.still.phases rest.free refl h.free_list)

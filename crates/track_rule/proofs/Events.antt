@@ -16,7 +16,7 @@ use Rattle.track_rule.specs.declared.view.Keep.{Keep}
 use Rattle.track_rule.specs.declared.view.Purpose.{Purpose}
 use Rattle.track_rule.specs.declared.view.Purpose.TheVariants.{Taken, Testing, Shown, For}
 use Rattle.track_rule.specs.declared.view.View.{View}
-use Rattle.track_rule.specs.Passes.{ArePasses, IsPass, has_share, made_weight, shares_of}
+use Rattle.track_rule.specs.Passes.{AreFronts, ArePasses, IsPass, has_share, made_weight, shares_of}
 use Rattle.track_rule.specs.References.{AreKept, IsKeptFor, WasConfirmed}
 use Rattle.track_rule.specs.Sums.{bit, total}
 use Rattle.track_rule.proofs.Sums.{each_other, total_append, total_same, total_set, total_two}
@@ -57,6 +57,10 @@ each_map F G f xs h = λ i d short. f _ (h i d short)
 
 starts_on : (log front : List Event) (e : Event) → StartsWith log front → StartsWith (log ++ e ∷ []) front
 starts_on log front e (rest, same) = (rest ++ e ∷ [], ap (λ l. l ++ e ∷ []) same ∙ append_assoc front rest (e ∷ []))
+
+fronts_on : (log : List Event) (fronts : List (List Event)) (e : Event) → AreFronts log fronts → AreFronts (log ++ e ∷ []) fronts
+fronts_on log [] e h = tt
+fronts_on log (f ∷ fs) e h = (starts_on log f e h.0, fronts_on log fs e h.1)
 
 events_on : (log : List Event) (e : Event) (notes : List Note) → AreEventsOf log notes → AreEventsOf (log ++ e ∷ []) notes
 events_on log e notes h =
@@ -115,7 +119,7 @@ weighs_on weight log e notes =
 pass_on : (z : Sizes) (log : List Event) (e : Event) (u : View) → IsPass z log u → (z.passes ≡ 1 → 0 < u.passes.shares → ⊥) → IsPass z (log ++ e ∷ []) u
 pass_on z log e u p other = record {
   front = starts_on log u.seen.front e p.front;
-  told = starts_on log u.seen.told e p.told;
+  told = fronts_on log u.seen.told e p.told;
   own = events_on log e u.seen.own p.own;
   ordered = p.ordered;
   own_few = p.own_few;
@@ -132,7 +136,7 @@ pass_made : (z : Sizes) (log : List Event) (e : Event) (v w : View) → IsPass z
 pass_made z log e v w p has_some few passes seen =
     subst (IsPass z (log ++ e ∷ [])) (sym (λ i. record w { passes = passes i; seen = seen i })) (record {
       front = ([], sym (append-nil (log ++ e ∷ [])));
-      told = starts_on log v.seen.told e p.told;
+      told = fronts_on log v.seen.told e p.told;
       own = own_on log e v.seen.own p.own;
       ordered = ordered_on log e v.seen.own p.own p.ordered;
       own_few = omega (arith, few, length-one v.seen.own (note_of log e));

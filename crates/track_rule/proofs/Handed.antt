@@ -1,9 +1,7 @@
 -- Shares are handed over, a pass takes in another one, the first pass begins, and the last one ends.
 use Rattle.std.specs.Prelude.{slice_get, slice_index, nat_le, nat_lt, ◌&&◌, if◌then◌else◌}
 use Rattle.std.proofs.Common.{◌≡◌, ℕ, ◌+◌, ◌-◌, ◌^◌, ◌<◌, ◌≤◌, true, Option, Some, None, List, [], ◌∷◌, ◌++◌, length, refl, sym, ap, subst, ◌∙◌, arith, set, length-append}
-use Rattle.std.proofs.lemmas.Bool.{cond_both}
 use Rattle.std.proofs.lemmas.Bool.Decides.{nat_tests}
-use Rattle.history_book.specs.Point.{StartsWith}
 use Rattle.history_book.specs.History.{is_legal}
 use Rattle.std.proofs.lemmas.List.Elements.{All-append}
 use Rattle.std.proofs.lemmas.Option.{none-some}
@@ -27,12 +25,12 @@ use Rattle.track_rule.specs.Free.{IsFreeList, owes, turn_of}
 use Rattle.track_rule.specs.History.{events_in, live_in, records_after}
 use Rattle.track_rule.specs.Layout.{phase_at}
 use Rattle.track_rule.specs.Links.{HasHooks, hooks_of}
-use Rattle.track_rule.specs.Passes.{ArePasses, HasNothing, IsPass, IsSpent, has_share, made_weight, no_places, shares_of}
+use Rattle.track_rule.specs.Passes.{AreFronts, ArePasses, HasNothing, IsPass, IsSpent, has_share, made_weight, no_places, shares_of}
 use Rattle.track_rule.specs.References.{AreKept, AreReferences, held_times, is_at, is_for_new, keeps, taken_times}
 use Rattle.track_rule.specs.Phases.{table_keeps}
 use Rattle.track_rule.specs.Readings.{AreRead}
 use Rattle.track_rule.specs.Rule.{Holds, IsKept, Ledger}
-use Rattle.track_rule.specs.Shares.{IsLast, further, joined, longer, shares_left, spent_view}
+use Rattle.track_rule.specs.Shares.{IsLast, further, joined, shares_left, spent_view}
 use Rattle.track_rule.specs.Sums.{Each, bit, times, total}
 use Rattle.track_rule.specs.Walks.{IsWalk}
 use Rattle.track_rule.proofs.Carried.{Carries, carries_cut, carries_join}
@@ -131,7 +129,7 @@ pass_further : (z : Sizes) (log : List Event) (shares : ℕ) (v : View) → 1 �
     → (z.passes ≡ 1 → ⊥) → IsPass z log (further shares v)
 pass_further z log shares v has_some fewer p many = record {
   front = p.front;
-  told = (log, refl);
+  told = tt;
   own = λ i d short. absurd (omega (arith, short));
   ordered = λ i j d lt short. absurd (omega (arith, short));
   own_few = omega arith;
@@ -183,19 +181,17 @@ splits z id shares v has_some fewer s (l, h) at =
           (λ one. absurd (many one)),
     )
 
--- of three first parts of the history the longest is one
-longest_starts : (log a b c : List Event) → StartsWith log a → StartsWith log b → StartsWith log c → StartsWith log (longer a (longer b c))
-longest_starts log a b c ha hb hc = longer_starts a (longer b c) ha (longer_starts b c hb hc)
-  where
-    longer_starts : (a b : List Event) → StartsWith log a → StartsWith log b → StartsWith log (longer a b)
-    longer_starts a b ha hb = cond_both (nat_le (length a) (length b)) b a (StartsWith log) (λ e. hb) (λ e. ha)
+-- what two passes were told together
+fronts_both : (log : List Event) (mine others : List (List Event)) → AreFronts log mine → AreFronts log others → AreFronts log (mine ++ others)
+fronts_both log [] others a b = b
+fronts_both log (f ∷ mine) others a b = (a.0, fronts_both log mine others a.1 b)
 
 -- a pass that took in another one
 pass_joined : (z : Sizes) (log : List Event) (v w : View) → 0 < v.passes.shares → 0 < w.passes.shares → IsPass z log v → IsPass z log w
     → (z.passes ≡ 1 → ⊥) → IsPass z log (joined v w)
 pass_joined z log v w has_some other p q many = record {
   front = p.front;
-  told = longest_starts log v.seen.told w.seen.front w.seen.told p.told q.front q.told;
+  told = fronts_both log (w.seen.front ∷ w.seen.told) v.seen.told (q.front, q.told) p.told;
   own = p.own;
   ordered = p.ordered;
   own_few = p.own_few;
@@ -219,7 +215,7 @@ pass_joined z log v w has_some other p q many = record {
 pass_spent : (z : Sizes) (log : List Event) → IsPass z log spent_view
 pass_spent z log = record {
   front = (log, refl);
-  told = (log, refl);
+  told = tt;
   own = λ i d short. absurd (omega (arith, short));
   ordered = λ i j d lt short. absurd (omega (arith, short));
   own_few = omega arith;

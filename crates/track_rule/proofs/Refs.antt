@@ -18,7 +18,7 @@ use Rattle.track_rule.specs.declared.slot.Slot.{Slot}
 use Rattle.track_rule.specs.declared.view.View.{View}
 use Rattle.track_rule.specs.Free.{IsHome, has_turn, is_among, known_free, owes, taken_out, turn_of}
 use Rattle.track_rule.specs.Layout.{phase_at, phase_word, refs_at, refs_word}
-use Rattle.track_rule.specs.Passes.{IsPass}
+use Rattle.track_rule.specs.Passes.{AreFronts, IsPass}
 use Rattle.track_rule.specs.Readings.{found, noted, stored}
 use Rattle.track_rule.specs.History.{records_after}
 use Rattle.track_rule.specs.Phases.{of_place}
@@ -86,7 +86,7 @@ counts z l s id p n v w free' h at has_some below t lines taken purposes middle 
     let now : refs_at z (slice_set ws (refs_word z p) n) p ≡ n = refs_here z ws p n (omega (arith, h.count, below)) in
     moved z l s id v w (slice_set ws (refs_word z p) n) s.homes free' h at t.moves
     (pass_moved z l.log v w one t.moves.made has_some (subst (λ (x : Seen). StartsWith l.log x.front) (sym t.seen) one.front)
-    (subst (λ (x : Seen). StartsWith l.log x.told) (sym t.seen) one.told))
+    (subst (λ (x : Seen). AreFronts l.log x.told) (sym t.seen) one.told))
     (refs_quiet z ws p n) (length-set ws (refs_word z p) n) (λ k other. refl)
     (references_moved z l.log ws (slice_set ws (refs_word z p) n) s.views id v w at (record {
       count = λ q low.

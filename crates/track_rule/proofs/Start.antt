@@ -72,7 +72,7 @@ one_view z F first (suc i) v at = absurd (some-ne-none v (sym at))
 first_pass : (z : Sizes) → 1 ≤ z.passes → IsPass z [] (first_view z)
 first_pass z has_some = record {
   front = ([], refl);
-  told = ([], refl);
+  told = tt;
   own = λ j d short. absurd (omega (arith, short));
   ordered = λ j k d lt short. absurd (omega (arith, short));
   own_few = omega arith;

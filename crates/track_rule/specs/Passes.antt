@@ -2,7 +2,7 @@
 -- below the passes of the sizes, and no number is a share of two. Each event of the history is an own event of one pass, or
 -- one that it gathered from passes that were joined to it: each stands once among these. A pass that was joined away has no
 -- share, and nothing else either.
-use Rattle.std.specs.Prelude.{◌≡◌, ℕ, ◌+◌, ◌*◌, ◌<◌, ◌≤◌, ◌^◌, ◌&&◌, nat_le, nat_lt, None, List, [], length, AllPairs}
+use Rattle.std.specs.Prelude.{◌≡◌, ℕ, ◌+◌, ◌*◌, ◌<◌, ◌≤◌, ◌^◌, ◌&&◌, nat_le, nat_lt, None, List, [], ◌∷◌, length, AllPairs}
 use Rattle.history_book.specs.declared.event.Event.{Event}
 use Rattle.history_book.specs.declared.event.Note.{Note}
 use Rattle.history_book.specs.declared.sizes.Sizes.{Sizes}
@@ -24,6 +24,11 @@ has_share n v = bit (nat_le v.passes.first n && nat_lt n (v.passes.first + v.pas
 -- what weighs the pass's own events, and those that it gathered
 abbrev pub made_weight : (Note → ℕ) → View → ℕ
 made_weight weight v = total weight v.seen.own + total weight v.seen.gathered
+
+-- each of these begins the history
+abbrev pub AreFronts : List Event → List (List Event) → Type 0
+AreFronts log [] = Unit {0}
+AreFronts log (f ∷ fs) = StartsWith log f × AreFronts log fs
 
 -- no place is held or owed
 abbrev pub no_places : Places
@@ -49,11 +54,11 @@ pub record IsSpent (v : View) : Type 0 where
   pub gathered : v.seen.gathered ≡ []
   pub nothing : HasNothing v
 
--- The pass has seen the first events of the history, and was told of some; its own events, and those that it gathered, are
+-- The pass has seen the first events of the history, and so had the passes that were joined to it; its own events, and those that it gathered, are
 -- events of it. Its shares are numbers of passes. The only pass has made every event.
 pub record IsPass (z : Sizes) (log : List Event) (v : View) : Type 0 where
   pub front : StartsWith log v.seen.front
-  pub told : StartsWith log v.seen.told
+  pub told : AreFronts log v.seen.told
   pub own : AreEventsOf log v.seen.own
   pub ordered : AllPairs (λ m n. m.number < n.number) v.seen.own
   pub own_few : length v.seen.own ≤ 2 ^ 30

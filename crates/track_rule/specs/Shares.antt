@@ -1,5 +1,5 @@
 -- How shares are handed over to a further pass, how a pass takes in another one, and what the last pass finds.
-use Rattle.std.specs.Prelude.{◌≡◌, ℕ, ◌+◌, ◌-◌, nat_le, if◌then◌else◌, true, List, [], ◌++◌, length}
+use Rattle.std.specs.Prelude.{◌≡◌, ℕ, ◌+◌, ◌-◌, true, List, [], ◌∷◌, ◌++◌, length}
 use Rattle.history_book.specs.History.{is_legal}
 use Rattle.history_book.specs.Point.{StartsWith}
 use Rattle.history_book.specs.Sight.{AreEventsOf, notes_from}
@@ -7,6 +7,7 @@ use Rattle.history_book.specs.declared.event.Event.{Event}
 use Rattle.history_book.specs.declared.event.Note.{Note}
 use Rattle.track_rule.specs.declared.view.View.{View}
 use Rattle.track_rule.specs.History.{events_in, live_in, records_after}
+use Rattle.track_rule.specs.Passes.{AreFronts}
 use Rattle.track_rule.specs.Rule.{fresh_view}
 use Rattle.track_rule.specs.Sums.{total}
 
@@ -18,16 +19,12 @@ shares_left shares v = record v { passes = record v.passes { shares = v.passes.s
 abbrev pub further : ℕ → View → View
 further shares v = fresh_view v.passes.sizes (v.passes.first + (v.passes.shares - shares)) shares v.seen.front
 
--- the longer one
-abbrev pub longer : List Event → List Event → List Event
-longer a b = (if nat_le (length a) (length b) then b else a)
-
--- The shares of the other pass count as returned, and its events as gathered; the pass is told how much it had seen, or was told
--- itself.
+-- The shares of the other pass count as returned, and its events as gathered; the pass is told how much it had seen, and what it was
+-- told itself.
 abbrev pub joined : View → View → View
 joined v w = record v {
   passes = record v.passes { returned = v.passes.returned + (w.passes.shares + w.passes.returned) };
-  seen = record v.seen { told = longer v.seen.told (longer w.seen.front w.seen.told); gathered = v.seen.gathered ++ w.seen.own ++ w.seen.gathered };
+  seen = record v.seen { told = (w.seen.front ∷ w.seen.told) ++ v.seen.told; gathered = v.seen.gathered ++ w.seen.own ++ w.seen.gathered };
 }
 
 -- what is left of the other one
@@ -39,7 +36,7 @@ spent_view = fresh_view (record { entries = 0; buckets = 0; seed = 0; passes = 0
 pub record IsLast (v : View) (word : ℕ) : Type 0 where
   pub log : List Event
   pub front : StartsWith log v.seen.front
-  pub told : StartsWith log v.seen.told
+  pub told : AreFronts log v.seen.told
   pub legal : is_legal v.passes.sizes log ≡ true
   pub events : events_in word ≡ length log
   pub live : live_in word ≡ length (records_after log)

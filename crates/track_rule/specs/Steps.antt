@@ -22,6 +22,7 @@ use Rattle.track_rule.specs.Chains.{chain_in, links_in, loose_of, shuts_of}
 use Rattle.track_rule.specs.Free.{is_among, known_free, taken_out, unlisted}
 use Rattle.track_rule.specs.History.{events_in, live_in, records_after}
 use Rattle.track_rule.specs.Layout.{place_of, refs_word}
+use Rattle.track_rule.specs.Passes.{AreFronts}
 use Rattle.track_rule.specs.Readings.{IsSole, found, last_read, noted, stored}
 use Rattle.track_rule.specs.Phases.{middle_of, of_place}
 use Rattle.track_rule.specs.Records.{has_hand}
@@ -39,7 +40,7 @@ keep place purpose = record { place = place; purpose = purpose }
 -- events among those that the word can count. There are at most 64 passes, and the pass has no more shares than these.
 pub record AreAll (v : View) (log : List Event) : Type 0 where
   pub front : StartsWith log v.seen.front
-  pub told : StartsWith log v.seen.told
+  pub told : AreFronts log v.seen.told
   pub legal : is_legal v.passes.sizes log ≡ true
   pub few : length log + (2 ^ 30 - length v.seen.own) ≤ 2 ^ 30 * v.passes.sizes.passes
   pub passes : v.passes.sizes.passes ≤ 64

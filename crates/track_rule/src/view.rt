@@ -21,8 +21,8 @@ pub struct Shares {
 pub struct Seen {
     /// The first events, as far as it has seen them.
     pub front: LinkedList<Event>,
-    /// As much as the pass had seen that was joined to it last.
-    pub told: LinkedList<Event>,
+    /// The fronts of passes that were joined to it, and of those that were joined to these.
+    pub told: LinkedList<LinkedList<Event>>,
     pub own: LinkedList<Note>,
     /// The events of passes that were joined to it.
     pub gathered: LinkedList<Note>,
