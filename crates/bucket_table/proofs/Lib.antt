@@ -5,5 +5,6 @@ pub mod Following
 pub mod Stringing
 pub mod Passing
 pub mod Pairs
+pub mod Seeking
 pub mod Locking
 pub mod Placing

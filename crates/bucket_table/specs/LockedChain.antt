@@ -51,6 +51,11 @@ original_first None None = None
 abbrev pub found_in : ℕ → ℕ → List Entry → Option (ℕ × Direction)
 found_in first second chain = original_first (link_with 0 first second chain) (link_with 1 first second chain)
 
+-- the place of a link, if there is one
+abbrev pub place_in : Option ℕ → Option ℕ
+place_in None = None
+place_in (Some x) = Some (place_of x)
+
 -- the two links of a place
 abbrev pub original_link : ℕ → ℕ
 original_link place = 1 + 2 * place
@@ -109,6 +114,13 @@ pub record IsWalking (bucket first second : ℕ) (v : PassSight) (link left repl
   pub passing : IsPassing bucket v link left passed rest
   pub finds : found_from first second 0 (chain_in bucket v.view.buckets.shut) ≡ found_from first second reply rest
   pub low : reply ≤ last_link (sizes_of v)
+
+-- so many links of the chain were passed, and none of this direction that has the two words
+pub record IsLooking (bucket side first second : ℕ) (v : PassSight) (link left : ℕ) : Type 0 where
+  pub passed : List Entry
+  pub rest : List Entry
+  pub passing : IsPassing bucket v link left passed rest
+  pub finds : link_with side first second (chain_in bucket v.view.buckets.shut) ≡ link_with side first second rest
 
 -- the word has the next link, and the one that is looked for is not passed yet
 pub record IsSeeking (bucket sought : ℕ) (v : PassSight) (word link left : ℕ) : Type 0 where

@@ -3,7 +3,7 @@
 ghost use Rattle.std.specs.Prelude.{◌≡◌, ◌+◌, ◌-◌, ◌*◌, ◌<◌, ◌≤◌, ◌==◌, ◌&&◌, true, if◌then◌else◌};
 ghost use Rattle.history_book.specs.Sizes.{AreWithinLimits};
 ghost use Rattle.bucket_table.specs.Following.{bucket_in};
-ghost use Rattle.bucket_table.specs.LockedChain.{ChangesBuckets, IsReady, IsThere, IsTuple, OnlyLoads, found_in, has_bucket, hook_bucket, linked_buckets, original_link, reply_link, unlinked_buckets};
+ghost use Rattle.bucket_table.specs.LockedChain.{ChangesBuckets, IsReady, IsThere, IsTuple, OnlyLoads, found_in, has_bucket, hook_bucket, link_with, linked_buckets, original_link, place_in, reply_link, unlinked_buckets};
 ghost use Rattle.bucket_table.specs.Locks.{AreShut};
 ghost use Rattle.track_rule.specs.BucketSteps.{put_in, taken_from};
 ghost use Rattle.track_rule.specs.Chains.{chain_in, shuts_of};
@@ -183,4 +183,37 @@ pub fn walk(pass: &mut Pass, locked: &Locked, t: &Tuple) -> Option<(u32, Directi
         return None;
     }
     Some((place_of(&sizes, reply), Direction::Reply))
+}
+
+/// Whether a link has the tuple and is of the reply direction.
+fn is_reply(link: u64, has: bool) -> bool
+    requires { 0 < link }
+    ensures { result ≡ (has && side_of link == 1) }
+{
+    has && (link - 1) % 2 == 1
+}
+
+/// Finds the place of the reply link of a locked chain that has the tuple. None is that there is none. `walk` gives an original
+/// link in its stead, where both are there.
+pub fn walk_reply(pass: &mut Pass, locked: &Locked, t: &Tuple) -> Option<u32>
+    requires shut { AreShut locked.now pass.old.view }
+    requires bucket { has_bucket locked.now (bucket_in (sizes_of pass.old) t.now) ≡ true }
+    ensures loads { OnlyLoads pass.old pass.new }
+    ensures finds { result ≡ place_in (link_with 1 (address_word t.now) (flow_word t.now) (chain_in (bucket_in (sizes_of pass.old) t.now) pass.old.view.buckets.shut)) }
+{
+    let _ = locked;
+    let sizes = pass.sizes();
+    let bucket = bucket_of(t, sizes.seed, sizes.buckets);
+    let goal = words(t);
+    let mut link = pass.link_load(head_word(&sizes, bucket));
+    let mut left = 2 * sizes.entries;
+    'seek: while link != 0 {
+        let has = has_words(pass, &sizes, link, goal);
+        if is_reply(link, has) {
+            return Some(place_of(&sizes, link));
+        }
+        link = pass.link_load(next_word(&sizes, link));
+        left -= 1;
+    }
+    None
 }
