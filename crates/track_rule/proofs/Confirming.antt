@@ -17,31 +17,12 @@ use Rattle.track_rule.specs.declared.view.Hook.{Hook}
 use Rattle.track_rule.specs.declared.view.Keep.{Keep}
 use Rattle.track_rule.specs.declared.view.Pair.{Pair}
 use Rattle.track_rule.specs.declared.view.Purpose.TheVariants.{For}
-use Rattle.track_rule.specs.declared.view.Shut.{Shut}
-use Rattle.track_rule.specs.declared.view.View.{View}
-use Rattle.track_rule.specs.declared.view.Walk.{Walk}
-use Rattle.track_rule.specs.Chains.{bucket_of, each_link, entry_of, hooks_at, links_in, loose_of, original_of, pair_of, reply_of, shuts_of, side}
-use Rattle.track_rule.specs.CommitSteps.{CanConfirm, ConfirmStep, Confirms, HasLink, born, confirmed, dropped, has_pair, held_for, with_confirm}
-use Rattle.track_rule.specs.Commits.{IsCommitting, IsMiddle, IsMiddleOf}
-use Rattle.track_rule.specs.Expected.{has_expected}
-use Rattle.track_rule.specs.Free.{owes, has_turn}
-use Rattle.track_rule.specs.History.{packed, records_after, state_after}
-use Rattle.track_rule.specs.Layout.{phase_at, place_of}
-use Rattle.track_rule.specs.Links.{HasHooks, IsHook, hook_of, hooks_of, is_raised}
-use Rattle.track_rule.specs.Passes.{IsPass}
-use Rattle.track_rule.specs.Phases.{middle_of, middle_weight, of_both, of_place, shows, table_keeps}
-use Rattle.track_rule.specs.Records.{AreRecords, IsHand, IsRecordHome, has_hand, record_in}
-use Rattle.track_rule.specs.References.{AreKept, AreReferences, held_times, is_at, is_for_new, is_taken, keeps, takes}
-use Rattle.track_rule.specs.Rule.{Holds, IsKept, Ledger}
-use Rattle.track_rule.specs.Sums.{Each, bit, times, total}
-use Rattle.track_rule.specs.Walks.{IsWalk}
-use Rattle.track_rule.proofs.Balance.{free_moved}
-use Rattle.track_rule.proofs.Carried.{carries_set}
-use Rattle.track_rule.proofs.Events.{get_last, kept_on, passes_made}
-use Rattle.track_rule.proofs.Frames.{SameChains, chains_stay, hooks_stay, links_stay, walk_stays}
-use Rattle.track_rule.proofs.Lists.{bit_low, none_of, other_bit, same_bit, some_of, takes_held, total_some}
-use Rattle.track_rule.proofs.Loads.{all_events, few_events}
-use Rattle.track_rule.proofs.Sums.{each_other, each_put, total_append, total_same, total_set, total_term}
+use Rattle.track_rule.specs.Chains.{bucket_of, links_in, original_of, pair_of, reply_of, side}
+use Rattle.track_rule.specs.CommitSteps.{dropped, has_pair, held_for}
+use Rattle.track_rule.specs.Links.{hook_of, hooks_of}
+use Rattle.track_rule.specs.Phases.{of_both}
+use Rattle.track_rule.specs.References.{AreKept, held_times, is_at, is_for_new, is_taken}
+use Rattle.track_rule.specs.Sums.{Each, bit, total}
 
 -- LISTS
 

@@ -1,8 +1,8 @@
-use Rattle.std.proofs.Common.{◌≡◌, ℕ, ◌-◌, ◌<◌, Bool, true, false, List, get_or, ap, arith, subst, sym, ◌∙◌, Some, None}
+use Rattle.std.proofs.Common.{◌≡◌, ℕ, ◌<◌, List, get_or, ap, arith, subst, sym, ◌∙◌, Some}
 use Rattle.history_book.specs.declared.sizes.Sizes.{Sizes}
 use Rattle.tuple_core.specs.Words.{address_word, flow_word}
 use Rattle.track_rule.specs.Chains.{chain_in, shuts_of}
-use Rattle.track_rule.specs.Layout.{next_word, place_of}
+use Rattle.track_rule.specs.Layout.{next_word}
 use Rattle.track_rule.specs.Sights.{PassSight, sizes_of}
 use Rattle.bucket_table.specs.Following.{bucket_in}
 use Rattle.bucket_table.specs.LockedChain.{link_with, place_in}

@@ -1,0 +1,60 @@
+-- A clerk at rest, and what a desk knows of it.
+use Rattle.std.specs.Prelude.{◌==◌, ◌||◌, if◌then◌else◌}
+use Rattle.std.proofs.Common.{◌≡◌, ℕ, List, [], ◌∷◌, map, refl, sym, ap, ◌∙◌, arith, append-nil}
+use Rattle.std.proofs.lemmas.Bool.{cond_both}
+use Rattle.history_book.specs.Held.{is_held as is_hold, paid, without as without_hold}
+use Rattle.history_book.specs.Point.{StartsWith}
+use Rattle.history_book.specs.Sight.{Sight}
+use Rattle.history_book.specs.WentOn.{IsSamePass, Saw}
+use Rattle.track_rule.specs.declared.view.Keep.{Keep}
+use Rattle.track_rule.specs.Free.{taken_out}
+use Rattle.track_rule.specs.References.{is_held, without}
+use Rattle.track_rule.specs.Sights.{PassSight}
+use Rattle.shared_desk.specs.Rest.{IsIdle}
+use Rattle.shared_desk.specs.Sights.{ClerkSight, hold_of}
+
+-- a clerk by its parts
+abbrev pub clerk_at : PassSight → ℕ → ClerkSight
+clerk_at p spare = record { pass = p; spare = spare }
+
+-- references as a desk sees them
+pub holds_without : (place : ℕ) (held : List Keep) → map hold_of (without place held) ≡ without_hold place (map hold_of held)
+holds_without place [] = refl
+holds_without place (k ∷ ks) =
+    cond_both (k.place == place) ks (k ∷ without place ks)
+    (λ xs. map hold_of xs ≡ (if k.place == place then map hold_of ks else hold_of k ∷ without_hold place (map hold_of ks)))
+    (λ e. ap (λ b. if b then map hold_of ks else hold_of k ∷ without_hold place (map hold_of ks)) (sym e))
+    (λ e. ap (λ xs. hold_of k ∷ xs) (holds_without place ks)
+    ∙ ap (λ b. if b then map hold_of ks else hold_of k ∷ without_hold place (map hold_of ks)) (sym e))
+
+pub holds_held : (place : ℕ) (held : List Keep) → is_hold place (map hold_of held) ≡ is_held place held
+holds_held place [] = refl
+holds_held place (k ∷ ks) = ap (λ b. k.place == place || b) (holds_held place ks)
+
+pub paid_taken_out : (place : ℕ) (owed : List ℕ) → taken_out place owed ≡ paid place owed
+paid_taken_out place [] = refl
+paid_taken_out place (p ∷ ps) = ap (λ xs. if p == place then ps else p ∷ xs) (paid_taken_out place ps)
+
+-- the pass has no more than before
+pub idle_still : (p q : PassSight) → IsIdle p → q.slots ≡ p.slots → q.view.free ≡ p.view.free → q.view.commit ≡ p.view.commit
+    → q.view.expected ≡ p.view.expected → q.view.buckets.shut ≡ p.view.buckets.shut → q.view.places.carried ≡ p.view.places.carried → IsIdle q
+idle_still p q h slots free commit expected shut carried = record {
+  slots = slots ∙ h.slots;
+  free = free ∙ h.free;
+  hand = ap (λ c. c.hand) commit ∙ h.hand;
+  middle = ap (λ c. c.middle) commit ∙ h.middle;
+  expected = expected ∙ h.expected;
+  shut = shut ∙ h.shut;
+  carried = carried ∙ h.carried;
+}
+
+-- the desk made no event
+pub saw_more : (a b : Sight) → StartsWith b.front a.front → b.own ≡ a.own → b.spare ≡ a.spare → IsSamePass a b → Saw a b
+saw_more a b front own spare pass = record {
+  went = record { front = front; own = own ∙ sym (append-nil a.own); spare = omega (arith, spare); pass = pass };
+  spare = spare;
+}
+
+-- and saw no further one
+pub saw_none : (a b : Sight) → b.front ≡ a.front → b.own ≡ a.own → b.spare ≡ a.spare → IsSamePass a b → Saw a b
+saw_none a b front own spare pass = saw_more a b ([], front ∙ sym (append-nil a.front)) own spare pass

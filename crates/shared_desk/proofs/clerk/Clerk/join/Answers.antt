@@ -1,0 +1,23 @@
+use Rattle.std.proofs.Common.{subst, sym}
+use Rattle.history_book.specs.Places.{HoldsNothing}
+use Rattle.shared_desk.specs.Sights.{ClerkSight, sight_of}
+use Rattle.shared_desk.proofs.Joining.{clerks_joined, rest_joined, rest_nothing}
+use Rattle.shared_desk.proofs.clerk.Clerk.join.Goals as goal
+
+pub join-requires-clause-nothing : goal.join-requires-clause-nothing
+join-requires-clause-nothing g c =
+    rest_nothing c.other.inside.pass c.other.inside.notes c.other.inside.spare c.other.invariant
+    (subst (λ (s : ClerkSight). HoldsNothing (sight_of s)) (sym c.other.view_is) c.requires.other_empty)
+
+pub invariant_of-self : goal.invariant_of-self
+invariant_of-self g c =
+    rest_joined c.self.inside.pass c.other.inside.pass c.self.inside.notes c.other.inside.notes c.self.inside.spare c.other.inside.spare c.self.invariant c.other.invariant
+    c.history_load.result c.join.new.self c.history_load.new.self c.join.ensures c.history_load.ensures.looks c.history_load.ensures.kept
+
+pub returns-clause-joins : goal.returns-clause-joins
+returns-clause-joins g c =
+    rw (← c.self.view_is, ← c.other.view_is) (clerks_joined c.self.inside.pass c.other.inside.pass c.self.inside.notes c.other.inside.notes c.self.inside.spare c.other.inside.spare c.self.invariant c.other.invariant
+    c.history_load.result c.join.new.self c.history_load.new.self c.join.ensures c.history_load.ensures.looks c.history_load.ensures.kept)
+
+pub returns-clause-knows : goal.returns-clause-knows
+returns-clause-knows g c = (invariant_of-self g c).knows

@@ -1,0 +1,18 @@
+use Rattle.std.proofs.Common.{ap, ◌∙◌}
+use Rattle.history_book.specs.Held.{is_owed}
+use Rattle.shared_desk.specs.Sights.{ClerkSight}
+use Rattle.shared_desk.proofs.GivingUp.{recycle_says, rest_recycled}
+use Rattle.shared_desk.proofs.clerk.Clerk.recycle.Goals as goal
+
+pub invariant_of-self : goal.invariant_of-self
+invariant_of-self g c =
+    rest_recycled c.args.place c.self.inside.pass c.self.inside.notes c.self.inside.spare c.self.invariant c.recycle.new.pass c.recycle.ensures
+    (ap (λ (s : ClerkSight). is_owed c.args.place s.pass.view.places.owed) c.self.view_is ∙ c.requires)
+
+pub returns-clause-says : goal.returns-clause-says
+returns-clause-says g c =
+    rw (← c.self.view_is) (recycle_says c.args.place c.self.inside.pass c.self.inside.notes c.self.inside.spare c.self.invariant c.recycle.new.pass c.recycle.ensures
+    (ap (λ (s : ClerkSight). is_owed c.args.place s.pass.view.places.owed) c.self.view_is ∙ c.requires))
+
+pub returns-clause-knows : goal.returns-clause-knows
+returns-clause-knows g c = (invariant_of-self g c).knows

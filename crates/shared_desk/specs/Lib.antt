@@ -1,0 +1,10 @@
+pub mod Sights
+pub mod Rest
+pub mod Changed
+pub mod Calls
+pub mod Laws
+pub mod Tuples
+pub mod Commit
+pub mod Rival
+pub mod Confirm
+pub mod Noting

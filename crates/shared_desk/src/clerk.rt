@@ -1,0 +1,198 @@
+//! One thread's handle on a tracker.
+
+ghost use Rattle.std.specs.Prelude.{◌≡◌, ◌+◌, ◌<◌, ◌≤◌, ◌^◌, true, length, OnOk, OnErr};
+ghost use Rattle.entry_pool.specs.GoesOn.{ReadingsStand};
+ghost use Rattle.history_book.specs.Desk.{ConfirmSays, CountSays, IsReady, RecycleSays, ReleaseSays};
+ghost use Rattle.history_book.specs.Entry.{is_flow_of_one_protocol};
+ghost use Rattle.history_book.specs.Held.{is_held, is_owed, is_taken};
+ghost use Rattle.history_book.specs.Join.{CanJoin, Joins};
+ghost use Rattle.history_book.specs.Leave.{IsLeftOf};
+ghost use Rattle.history_book.specs.Places.{HoldsNothing};
+ghost use Rattle.history_book.specs.Sight.{IsKnown};
+ghost use Rattle.history_book.specs.Split.{CanSplit, Splits};
+ghost use Rattle.shared_desk.specs.Calls.{TakeSays};
+ghost use Rattle.shared_desk.specs.Changed.{ChangesNone, is_gen_or_turn};
+ghost use Rattle.shared_desk.specs.Sights.{sight_of};
+ghost use Rattle.track_rule.specs.History.{events_in, live_in};
+ghost use Rattle.track_rule.specs.Sights.{sizes_of};
+
+use crate::confirm::confirm;
+use crate::noting::note_confirm;
+use crate::tracker::Spot;
+use ct_io::Gate;
+use entry_pool::hold::release;
+use entry_pool::take::{recycle, take};
+use history_book::outcome::{ConfirmOutcome, LiveCount, ReleaseOutcome, TakeOutcome};
+use history_book::record::Flow;
+use history_book::report::Notes;
+use std::alloc::Global;
+use std::marker::Model;
+use std::sync::Wait;
+use track_rule::pass::Pass;
+use tuple_core::NoMemory;
+
+/// One thread's handle on the tracker: its pass, with the list of its own events. Contracts see it as the pass, and for how many
+/// further events it has room.
+#[derive(Drop)]
+pub struct Clerk<'t, G: Gate> {
+    pub(crate) pass: Pass<'t>,
+    pub(crate) alloc: Global,
+    pub(crate) notes: Notes,
+    pub(crate) spare: u64,
+    pub(crate) gate: &'t G,
+    pub(crate) worker: u32,
+}
+
+impl<'t, G: Gate> Model for Clerk<'t, G> {
+    ghost use Rattle.shared_desk.specs.Rest.{IsAtRest};
+    ghost use Rattle.shared_desk.specs.Sights.{ClerkSight};
+
+    ghost Value = { ClerkSight };
+
+    ghost view = { λ c. record { pass = c.pass; spare = c.spare } };
+
+    ghost invariant = { λ c. IsAtRest c.pass c.notes c.spare };
+}
+
+/// The number of events that the history word says.
+pub(crate) fn events_in(word: u64) -> u64
+    ensures { result ≡ events_in word }
+{
+    word % (1 << 40)
+}
+
+/// The number of live entries that it says.
+pub(crate) fn live_in(word: u64) -> u32
+    ensures { result ≡ live_in word }
+{
+    (word / (1 << 40)) as u32
+}
+
+impl<'t, G: Gate> Clerk<'t, G> {
+    /// Leaves the clerk, which keeps no place.
+    pub fn leave(self) -> Spot
+        requires { HoldsNothing (sight_of self) }
+        ensures left { IsLeftOf (sight_of self.entry) (sight_of result) }
+        ensures same { result ≡ self.entry }
+    {
+        let Clerk {
+            pass,
+            alloc,
+            notes,
+            spare,
+            ..
+        } = self;
+        Spot {
+            stub: pass.leave(),
+            alloc,
+            notes,
+            spare,
+        }
+    }
+
+    /// Hands over so many of its shares to a further clerk, for a thread of this number.
+    pub fn split(&mut self, worker: u32, shares: u32) -> Clerk<'t, G>
+        requires { CanSplit shares (sight_of self.old) }
+        ensures splits { Splits shares (sight_of self.old) (sight_of self.new) (sight_of result) }
+        ensures knows { IsKnown (sight_of self.new) }
+        ensures further_knows { IsKnown (sight_of result) }
+    {
+        let pass = self.pass.split(shares);
+        Clerk {
+            pass,
+            alloc: self.alloc,
+            notes: Notes::empty(self.alloc),
+            spare: 0,
+            gate: self.gate,
+            worker,
+        }
+    }
+
+    /// Takes in another clerk of its tracker, and gives its own events.
+    pub fn join(&mut self, other: Clerk<'t, G>) -> Notes
+        requires { CanJoin (sight_of self.old) (sight_of other) }
+        ensures joins { Joins (sight_of self.old) (sight_of other.entry) (sight_of self.new) result.items }
+        ensures knows { IsKnown (sight_of self.new) }
+    {
+        let Clerk { pass, notes, .. } = other;
+        self.pass.join(pass);
+        let _ = self.pass.history_load();
+        notes
+    }
+
+    /// Makes room for `k` further own events.
+    pub fn ready(&mut self, k: u64) -> Result<(), NoMemory>
+        requires { length (sight_of self.old).own + k ≤ 2 ^ 30 }
+        ensures ready { OnOk result (IsReady k (sight_of self.old) (sight_of self.new)) }
+        ensures short { OnErr result ((sight_of self.old).spare < k) }
+        ensures same { OnErr result (sight_of self.new ≡ sight_of self.old) }
+        ensures pass { self.new.pass ≡ self.old.pass }
+        ensures knows { IsKnown (sight_of self.new) }
+    {
+        if self.spare >= k {
+            return Ok(());
+        }
+        self.notes.reserve(k as usize)?;
+        self.spare = k;
+        Ok(())
+    }
+
+    /// Counts the live entries, by one load of the history word.
+    pub fn count_now(&mut self) -> LiveCount
+        ensures says { CountSays (sight_of self.old) (sight_of self.new) result }
+        ensures own { ChangesNone (is_gen_or_turn (sizes_of self.old.pass)) self.old self.new }
+        ensures stand { ReadingsStand self.old.pass self.new.pass }
+        ensures knows { IsKnown (sight_of self.new) }
+    {
+        let word = self.pass.history_load();
+        LiveCount {
+            live: live_in(word),
+            at: events_in(word),
+        }
+    }
+
+    /// Gives up one reference to a place, without waiting.
+    pub fn release_now(&mut self, place: u32) -> ReleaseOutcome
+        requires { is_held place (sight_of self.old).held ≡ true }
+        ensures says { ReleaseSays place (sight_of self.old) (sight_of self.new) result }
+        ensures own { ChangesNone (is_gen_or_turn (sizes_of self.old.pass)) self.old self.new }
+        ensures stand { ReadingsStand self.old.pass self.new.pass }
+        ensures knows { IsKnown (sight_of self.new) }
+    {
+        release(&mut self.pass, place)
+    }
+
+    /// Takes a free place for a new entry. It may wait for the turn of the free list.
+    pub fn take<R: Wait>(&mut self, rt: &R) -> TakeOutcome
+        requires { length (sight_of self.old).held + length (sight_of self.old).owed ≤ 3 }
+        ensures says { TakeSays result self.old self.new }
+        ensures stand { ReadingsStand self.old.pass self.new.pass }
+        ensures knows { IsKnown (sight_of self.new) }
+    {
+        take(rt, &mut self.pass)
+    }
+
+    /// Confirms a new entry in a place that was taken for it. It may wait for the locks of two buckets. While both are locked and no
+    /// clash was found it passes the gate, before the entry is made.
+    pub fn confirm<R: Wait>(&mut self, rt: &R, place: u32, flow: &Flow) -> ConfirmOutcome
+        requires taken { is_taken place (sight_of self.old).held ≡ true }
+        requires protocol { is_flow_of_one_protocol flow.now ≡ true }
+        requires spare { 1 ≤ (sight_of self.old).spare }
+        ensures says { ConfirmSays place flow.now (sight_of self.old) (sight_of self.new) result }
+        ensures knows { IsKnown (sight_of self.new) }
+    {
+        let outcome = confirm(rt, &mut self.pass, self.gate, self.worker, place, flow);
+        note_confirm(&mut self.notes, &mut self.spare, place, flow, &outcome);
+        outcome
+    }
+
+    /// Makes a place free again, of which this clerk gave up the last reference. It may wait for the turn of the free list.
+    pub fn recycle<R: Wait>(&mut self, rt: &R, place: u32)
+        requires { is_owed place (sight_of self.old).owed ≡ true }
+        ensures says { RecycleSays place (sight_of self.old) (sight_of self.new) }
+        ensures stand { ReadingsStand self.old.pass self.new.pass }
+        ensures knows { IsKnown (sight_of self.new) }
+    {
+        recycle(rt, &mut self.pass, place);
+    }
+}

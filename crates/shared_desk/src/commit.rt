@@ -1,0 +1,83 @@
+//! The commit of a flow whose links may come into their chains: links, the table's reference, the Confirm, and LIVE.
+
+ghost use Rattle.std.specs.Prelude.{◌≡◌, ◌<◌, true, None};
+ghost use Rattle.history_book.specs.Entry.{record_for};
+ghost use Rattle.shared_desk.specs.Commit.{AddsReference, CanCommit, Commits, HasTurn};
+ghost use Rattle.track_rule.specs.Sights.{sizes_of};
+ghost use Rattle.track_rule.specs.Steps.{is_second};
+
+use bucket_table::lock::Locked;
+use bucket_table::locked_chain::link;
+use history_book::event::Event;
+use history_book::record::{Flow, Record};
+use std::sync::Wait;
+use std::thread;
+use track_rule::pass::Pass;
+
+/// The record that a flow becomes.
+pub fn record_for(flow: &Flow, id: u64, place: u32) -> Record
+    ensures { result ≡ record_for flow.now id place }
+{
+    let Flow {
+        original,
+        reply,
+        part,
+        helper,
+        master,
+    } = *flow;
+    Record {
+        id,
+        place,
+        original,
+        reply,
+        part,
+        helper,
+        master,
+    }
+}
+
+/// Waits for the turn of the record of a place, and takes it.
+pub fn take_turn<R: Wait>(rt: &R, pass: &mut Pass, place: u32)
+    requires place { place < (sizes_of pass.old).entries }
+    requires calm { pass.old.view.commit.hand ≡ None }
+    requires free { pass.old.view.free ≡ None }
+    ensures { HasTurn place pass.old pass.new }
+{
+    'turns: for _ in rt.forever() {
+        if pass.turn_take(place) {
+            return;
+        }
+        thread::yield_now();
+    }
+    unreachable!()
+}
+
+/// Makes the second reference to a place that was taken, which becomes the table's.
+fn add_reference<R: Wait>(rt: &R, pass: &mut Pass, place: u32)
+    requires place { place < (sizes_of pass.old).entries }
+    requires second { is_second place pass.old.view ≡ true }
+    ensures { AddsReference place pass.old pass.new }
+{
+    let mut seen = pass.ref_load(place);
+    'tries: for _ in rt.forever() {
+        match pass.ref_up(place, seen) {
+            Ok(()) => return,
+            Err(now) => seen = now,
+        }
+    }
+    unreachable!()
+}
+
+/// Makes the flow an entry, in a place whose two links are in no chain, while both buckets are locked. Gives its id.
+pub fn commit<R: Wait>(rt: &R, pass: &mut Pass, locked: &Locked, place: u32, flow: &Flow) -> u64
+    requires { CanCommit place flow.now locked.now pass.old }
+    ensures { Commits place flow.now result pass.old pass.new }
+{
+    link(pass, locked, place);
+    add_reference(rt, pass, place);
+    let id = pass.confirm_add(Event::Confirm {
+        subject: record_for(flow, 0, place),
+    });
+    pass.phase_live(place, id);
+    id
+}

@@ -1,0 +1,13 @@
+//! The tracker whose table many threads share: a clerk for each of them.
+#![tactic(auto)]
+
+pub mod clerk;
+mod commit;
+mod confirm;
+pub mod laws;
+mod noting;
+mod rival;
+#[cfg(test)]
+mod tests;
+pub mod tracker;
+mod tuples;

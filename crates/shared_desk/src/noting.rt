@@ -1,0 +1,37 @@
+//! A clerk's own events, with their numbers.
+
+ghost use Rattle.std.specs.Prelude.{◌≡◌, ◌+◌, ◌<◌, ◌≤◌, length};
+ghost use Rattle.shared_desk.specs.Noting.{made_by, room_for};
+
+use crate::commit::record_for;
+use history_book::event::{Event, Note};
+use history_book::outcome::ConfirmOutcome;
+use history_book::record::Flow;
+use history_book::report::Notes;
+
+/// Notes the Confirm, if the call made it. There is room for it.
+pub fn note_confirm(
+    notes: &mut Notes,
+    spare: &mut u64,
+    place: u32,
+    flow: &Flow,
+    outcome: &ConfirmOutcome,
+)
+    requires room { length notes.old.items + spare.old ≤ notes.old.room }
+    requires spare { 1 ≤ spare.old }
+    ensures notes { notes.new ≡ made_by place flow.now outcome.now notes.old }
+    ensures spare { spare.new ≡ room_for outcome.now spare.old }
+{
+    match *outcome {
+        ConfirmOutcome::Confirmed { id } => {
+            notes.push(Note {
+                number: id,
+                event: Event::Confirm {
+                    subject: record_for(flow, id, place),
+                },
+            });
+            *spare -= 1;
+        }
+        ConfirmOutcome::Clash { .. } => {}
+    }
+}
