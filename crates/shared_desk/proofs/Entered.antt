@@ -101,7 +101,7 @@ none_at place id (k ∷ ks) e =
     (λ i. sym (ap (λ (b : Bool). if b then record (hold_of k) { id = Some id } else hold_of k) t) i ∷ none_at place id ks (omega (arith, e)) i))
     (cases_Bool (k.place == place))
 
-none_taken : (place : ℕ) (ks : List Keep) → held_times place ks ≡ 0 → is_taken place ks ≡ false
+pub none_taken : (place : ℕ) (ks : List Keep) → held_times place ks ≡ 0 → is_taken place ks ≡ false
 none_taken place [] e = refl
 none_taken place (k ∷ ks) e =
     ⊎_elim

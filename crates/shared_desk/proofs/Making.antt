@@ -35,7 +35,8 @@ use Rattle.shared_desk.specs.Noting.{made_by, room_for}
 use Rattle.shared_desk.specs.Rest.{AreSettled, IsAtRest, IsPrepared, IsSettled, has_link}
 use Rattle.shared_desk.specs.Sights.{hold_of, sight_of}
 use Rattle.shared_desk.specs.Tuples.{standing}
-use Rattle.shared_desk.proofs.Entered.{get_last, holds_for, known_confirmed, taken_back}
+use Rattle.shared_desk.proofs.Committing.{taken_held}
+use Rattle.shared_desk.proofs.Entered.{get_last, holds_for, known_confirmed, none_taken, taken_back}
 use Rattle.shared_desk.proofs.Hooks.{same_any, same_count, same_up}
 use Rattle.shared_desk.proofs.Known.{known_later}
 use Rattle.shared_desk.proofs.Linking.{dropped_count, none_up}
@@ -136,7 +137,7 @@ taken_gone place id (k ∷ ks) once taken =
     (λ (t : (is_at place k && is_for_new k.purpose) ≡ true).
     let rest : held_times place ks ≡ 0 = omega (arith, once, ap bit (and_parts (is_at place k) (is_for_new k.purpose) t).0) in
     ap (λ (b : Bool). is_taken place (if b then record k { purpose = For id } ∷ ks else k ∷ held_for place id ks)) t
-    ∙ (λ i. off (k.place == place) i || none_taken ks rest i))
+    ∙ (λ i. off (k.place == place) i || none_taken place ks rest i))
     (λ (t : (is_at place k && is_for_new k.purpose) ≡ false).
     let later : is_taken place ks ≡ true = sym (ap (λ (b : Bool). b || is_taken place ks) t) ∙ taken in
     ap (λ (b : Bool). is_taken place (if b then record k { purpose = For id } ∷ ks else k ∷ held_for place id ks)) t
@@ -147,22 +148,8 @@ taken_gone place id (k ∷ ks) once taken =
     off true = refl
     off false = refl
 
-    none_taken : (ks : List Keep) → held_times place ks ≡ 0 → is_taken place ks ≡ false
-    none_taken [] e = refl
-    none_taken (k ∷ ks) e =
-        ⊎_elim
-        (λ (t : (k.place == place) ≡ true). absurd (omega (arith, e, ap bit t)))
-        (λ (t : (k.place == place) ≡ false). (λ i. (t i && is_for_new k.purpose) || none_taken ks (omega (arith, e)) i))
-        (cases_Bool (k.place == place))
-
-    some_held : (ks : List Keep) → is_taken place ks ≡ true → 0 < held_times place ks
-    some_held [] e = absurd (false≢true e)
-    some_held (k ∷ ks) e =
-        ⊎_elim (λ (t : (is_at place k && is_for_new k.purpose) ≡ true). omega (arith, ap bit (and_parts (is_at place k) (is_for_new k.purpose) t).0))
-        (λ (t : is_taken place ks ≡ true). omega (arith, some_held ks t)) (or_cases (is_at place k && is_for_new k.purpose) (is_taken place ks) e)
-
     once_later : is_taken place ks ≡ true → held_times place ks ≡ 1
-    once_later e = omega (arith, once, some_held ks e)
+    once_later e = omega (arith, once, taken_held place ks e)
 
 -- THE CLERK AT REST
 
@@ -238,11 +225,11 @@ settled_again places hooks new h stands = record {
   clear = h.clear;
 }
 
-taken_held : (place : ℕ) (hs : List Hold) → desk.is_taken place hs ≡ true → desk.is_held place hs ≡ true
-taken_held place [] e = absurd (false≢true e)
-taken_held place (x ∷ xs) e =
+desk_held : (place : ℕ) (hs : List Hold) → desk.is_taken place hs ≡ true → desk.is_held place hs ≡ true
+desk_held place [] e = absurd (false≢true e)
+desk_held place (x ∷ xs) e =
     ⊎_elim (λ (t : (x.place == place && is_none x.id) ≡ true). or_left (x.place == place) (desk.is_held place xs) (and_parts (x.place == place) (is_none x.id) t).0)
-    (λ (t : desk.is_taken place xs ≡ true). or_right (x.place == place) (desk.is_held place xs) (taken_held place xs t))
+    (λ (t : desk.is_taken place xs ≡ true). or_right (x.place == place) (desk.is_held place xs) (desk_held place xs t))
     (or_cases (x.place == place && is_none x.id) (desk.is_taken place xs) e)
 
 module _ (v : PassSight) (notes : Roomed Note) (spare place : ℕ) (flow : Flow) (h : IsAtRest v notes spare)
@@ -252,7 +239,7 @@ module _ (v : PassSight) (notes : Roomed Note) (spare place : ℕ) (flow : Flow)
   took = taken_back place v.view.places.held h.settled.purposes taken
 
   held_too : desk.is_held place (map hold_of v.view.places.held) ≡ true
-  held_too = taken_held place (map hold_of v.view.places.held) taken
+  held_too = desk_held place (map hold_of v.view.places.held) taken
 
   pub can_confirm_flow : is_flow_of_one_protocol flow ≡ true → 1 ≤ spare → CanConfirmFlow place flow v
   can_confirm_flow protocol room =

@@ -1,5 +1,5 @@
 -- A link of a locked chain is that of a live record, and names its id; a tuple that is in no link is no live record's.
-use Rattle.std.proofs.Common.{◌≡◌, ℕ, zero, suc, ◌+◌, ◌*◌, ◌<◌, Bool, true, false, Option, Some, None, List, [], ◌∷◌, refl, sym, ap, ◌∙◌, arith, ⊎_elim, ◌⊎◌, inl, inr}
+use Rattle.std.proofs.Common.{◌≡◌, ◌≢◌, ℕ, zero, suc, ◌+◌, ◌*◌, ◌<◌, Bool, true, false, Option, Some, None, List, [], ◌∷◌, refl, sym, ap, ◌∙◌, arith, ⊎_elim, ◌⊎◌, inl, inr}
 use Rattle.std.specs.Prelude.{◌==◌, ◌&&◌, if◌then◌else◌}
 use Rattle.std.proofs.lemmas.Bool.{and_from, and_parts, cases_Bool, eq-eqb, eqb-true, false≢true}
 use Rattle.history_book.specs.Legality.{is_of_one_protocol, same_id, same_proto}
@@ -15,6 +15,7 @@ use Rattle.track_rule.specs.Layout.{place_of, side_of}
 use Rattle.track_rule.specs.Sums.{bit, total}
 use Rattle.track_rule.specs.Walks.{rev_onto}
 use Rattle.track_rule.specs.declared.view.Entry.{Entry}
+use Rattle.track_rule.specs.declared.view.Pair.{Pair}
 use Rattle.bucket_table.specs.Following.{bucket_in, has_words}
 use Rattle.bucket_table.specs.LockedChain.{link_with}
 use Rattle.shared_desk.proofs.Members.{IsIn, some_weighs, weighs_in}
@@ -146,31 +147,41 @@ module _ (z : Sizes) (t : Tuple) (chain : List Entry) (rs : List Record) (sums :
     pub at : place_of entry.link ≡ place_of x
     pub named : entry.id ≡ Some subject.id
 
+  -- an entry of a record is this link, so the record is that of the link
+  owns : (tuple_of : Record → Tuple) (d x : ℕ) (l : IsLinkOf (address_word t) (flow_word t) d chain x) (r : Record) → IsIn r rs → (e : Entry)
+      → is_entry l.entry e ≡ true → e.pair ≡ pair_of (tuple_of r) → e.id ≡ Some r.id → place_of e.link ≡ r.place → is_valid (tuple_of r) ≡ true → Owns tuple_of x
+  owns tuple_of d x l r there e here pair id place valid_u =
+      let parts = and_parts (e.link == l.entry.link && has_words l.entry.pair.first l.entry.pair.second e) (same_id e.id l.entry.id) here in
+      let inner = and_parts (e.link == l.entry.link) (has_words l.entry.pair.first l.entry.pair.second e) parts.0 in
+      let link : e.link ≡ l.entry.link = eqb-true e.link l.entry.link inner.0 in
+      record {
+        subject = r;
+        there = there;
+        tuple = by_words (tuple_of r) l.entry valid_u l.words
+            (ap (λ (p : Pair). p.first == l.entry.pair.first && p.second == l.entry.pair.second) (sym pair) ∙ inner.1);
+        placed = sym place ∙ ap place_of (link ∙ l.link);
+        passed = l.passed;
+        entry = l.entry;
+        rest = l.rest;
+        all = l.all;
+        at = ap place_of l.link;
+        named = id_named r.id l.entry.id (ap (λ (o : Option ℕ). same_id o l.entry.id) (sym id) ∙ parts.1);
+      }
+
+  -- an entry on the other side is not this link
+  other_side : (d : ℕ) (e y : Entry) → is_entry e y ≡ true → side_of e.link ≡ d → side_of y.link ≢ d → ⊥
+  other_side d e y here side other =
+      let parts = and_parts (y.link == e.link && has_words e.pair.first e.pair.second y) (same_id y.id e.id) here in
+      other (ap side_of (eqb-true y.link e.link (and_parts (y.link == e.link) (has_words e.pair.first e.pair.second y) parts.0).0) ∙ side)
+
   pub original_owner : (x : ℕ) → link_with 0 (address_word t) (flow_word t) chain ≡ Some x → Owns (λ r. r.original) x
   original_owner x e =
       let l = link_there (address_word t) (flow_word t) 0 x chain e in
       let o = owner l.passed l.entry l.rest l.all in
       ⊎_elim
       (λ (k : is_entry l.entry (original_of o.0) ≡ true).
-      let parts = and_parts (1 + 2 * o.0.place == l.entry.link && has_words l.entry.pair.first l.entry.pair.second (original_of o.0)) (same_id (Some o.0.id) l.entry.id) k in
-      let inner = and_parts (1 + 2 * o.0.place == l.entry.link) (has_words l.entry.pair.first l.entry.pair.second (original_of o.0)) parts.0 in
-      let link : 1 + 2 * o.0.place ≡ l.entry.link = eqb-true (1 + 2 * o.0.place) l.entry.link inner.0 in
-      record {
-        subject = o.0;
-        there = o.1;
-        tuple = by_words o.0.original l.entry (valid_tuples o.0 (valid o.0 o.1)).0 l.words inner.1;
-        placed = omega (arith, link, l.link);
-        passed = l.passed;
-        entry = l.entry;
-        rest = l.rest;
-        all = l.all;
-        at = ap place_of l.link;
-        named = id_named o.0.id l.entry.id parts.1;
-      })
-      (λ (k : is_entry l.entry (reply_of o.0) ≡ true).
-      let parts = and_parts (2 + 2 * o.0.place == l.entry.link && has_words l.entry.pair.first l.entry.pair.second (reply_of o.0)) (same_id (Some o.0.id) l.entry.id) k in
-      let inner = and_parts (2 + 2 * o.0.place == l.entry.link) (has_words l.entry.pair.first l.entry.pair.second (reply_of o.0)) parts.0 in
-      absurd (omega (arith, eqb-true (2 + 2 * o.0.place) l.entry.link inner.0, l.sided)))
+      owns (λ r. r.original) 0 x l o.0 o.1 (original_of o.0) k refl refl (omega arith) (valid_tuples o.0 (valid o.0 o.1)).0)
+      (λ (k : is_entry l.entry (reply_of o.0) ≡ true). absurd (other_side 0 l.entry (reply_of o.0) k l.sided (λ i. omega (arith, i))))
       o.2
 
   pub reply_owner : (x : ℕ) → link_with 1 (address_word t) (flow_word t) chain ≡ Some x → Owns (λ r. r.reply) x
@@ -178,26 +189,9 @@ module _ (z : Sizes) (t : Tuple) (chain : List Entry) (rs : List Record) (sums :
       let l = link_there (address_word t) (flow_word t) 1 x chain e in
       let o = owner l.passed l.entry l.rest l.all in
       ⊎_elim
-      (λ (k : is_entry l.entry (original_of o.0) ≡ true).
-      let parts = and_parts (1 + 2 * o.0.place == l.entry.link && has_words l.entry.pair.first l.entry.pair.second (original_of o.0)) (same_id (Some o.0.id) l.entry.id) k in
-      let inner = and_parts (1 + 2 * o.0.place == l.entry.link) (has_words l.entry.pair.first l.entry.pair.second (original_of o.0)) parts.0 in
-      absurd (omega (arith, eqb-true (1 + 2 * o.0.place) l.entry.link inner.0, l.sided)))
+      (λ (k : is_entry l.entry (original_of o.0) ≡ true). absurd (other_side 1 l.entry (original_of o.0) k l.sided (λ i. omega (arith, i))))
       (λ (k : is_entry l.entry (reply_of o.0) ≡ true).
-      let parts = and_parts (2 + 2 * o.0.place == l.entry.link && has_words l.entry.pair.first l.entry.pair.second (reply_of o.0)) (same_id (Some o.0.id) l.entry.id) k in
-      let inner = and_parts (2 + 2 * o.0.place == l.entry.link) (has_words l.entry.pair.first l.entry.pair.second (reply_of o.0)) parts.0 in
-      let link : 2 + 2 * o.0.place ≡ l.entry.link = eqb-true (2 + 2 * o.0.place) l.entry.link inner.0 in
-      record {
-        subject = o.0;
-        there = o.1;
-        tuple = by_words o.0.reply l.entry (valid_tuples o.0 (valid o.0 o.1)).1 l.words inner.1;
-        placed = omega (arith, link, l.link);
-        passed = l.passed;
-        entry = l.entry;
-        rest = l.rest;
-        all = l.all;
-        at = ap place_of l.link;
-        named = id_named o.0.id l.entry.id parts.1;
-      })
+      owns (λ r. r.reply) 1 x l o.0 o.1 (reply_of o.0) k refl refl (omega arith) (valid_tuples o.0 (valid o.0 o.1)).1)
       o.2
 
   -- and where no link has it, none has

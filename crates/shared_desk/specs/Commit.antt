@@ -20,6 +20,8 @@ use Rattle.track_rule.specs.Steps.{AreAll}
 use Rattle.track_rule.specs.declared.view.Hand.{Hand}
 use Rattle.track_rule.specs.declared.view.Hook.{Hook}
 use Rattle.track_rule.specs.declared.view.Middle.TheVariants.{Calm}
+use Rattle.track_rule.specs.declared.view.Places.{Places}
+use Rattle.track_rule.specs.declared.view.Seen.{Seen}
 use Rattle.track_rule.specs.declared.view.Shut.{Shut}
 use Rattle.track_rule.specs.declared.view.View.{View}
 use Rattle.bucket_table.specs.Following.{bucket_in}
@@ -76,22 +78,28 @@ pub record CanCommit (place : ℕ) (flow : Flow) (locked : Buckets) (v : PassSig
 abbrev pub shut_buckets : List Shut → List ℕ
 shut_buckets shut = map (λ (s : Shut). s.bucket) shut
 
+-- the Confirm of the flow's record
+abbrev pub confirm_of : Flow → ℕ → ℕ → Event
+confirm_of flow id place = Confirm (record_for flow id place)
+
+-- the pass has seen these events and then this one, its own, of this number
+abbrev pub seen_with : List Event → ℕ → Event → Seen → Seen
+seen_with log number e s = record s { front = log ++ e ∷ []; own = s.own ++ record { number = number; event = e } ∷ [] }
+
+-- the place that was taken is held for the entry of this id, and owned no longer
+abbrev pub entered : ℕ → ℕ → Places → Places
+entered place id s = record s { held = held_for place id s.held; owned = unlisted (place ∷ []) s.owned }
+
 -- The flow is an entry, by the Confirm of this number, which was lawful after all events before it. The place is held for it, and
 -- LIVE; its hooks are gone. The pass knows the record under its turn, and has the same buckets shut.
 pub record Commits (place : ℕ) (flow : Flow) (id : ℕ) (v w : PassSight) : Type 0 where
   pub log : List Event
   pub all : AreAll v.view log
   pub number : id ≡ length log
-  pub legal : is_legal (sizes_of v) (log ++ Confirm (record_for flow id place) ∷ []) ≡ true
+  pub legal : is_legal (sizes_of v) (log ++ confirm_of flow id place ∷ []) ≡ true
   pub same : w ≡ record v { view = record v.view {
-    seen = record v.view.seen {
-      front = log ++ Confirm (record_for flow id place) ∷ [];
-      own = v.view.seen.own ++ record { number = id; event = Confirm (record_for flow id place) } ∷ [];
-    };
-    places = record v.view.places {
-      held = held_for place id v.view.places.held;
-      owned = unlisted (place ∷ []) v.view.places.owned;
-    };
+    seen = seen_with log id (confirm_of flow id place) v.view.seen;
+    places = entered place id v.view.places;
     buckets = w.view.buckets;
     commit = record { hand = Some (record { place = place; phase = 3 + id; subject = Some (record_for flow id place) }); middle = Calm };
     walk = None;

@@ -4,15 +4,14 @@ use Rattle.history_book.specs.Desk.{IsClash}
 use Rattle.history_book.specs.Entry.{is_flow_of_one_protocol, record_for}
 use Rattle.history_book.specs.History.{is_legal}
 use Rattle.history_book.specs.declared.event.Event.{Event}
-use Rattle.history_book.specs.declared.event.Event.TheVariants as event
 use Rattle.history_book.specs.declared.outcome.ConfirmOutcome.{ConfirmOutcome}
 use Rattle.history_book.specs.declared.outcome.ConfirmOutcome.TheVariants.{Confirmed, Clash}
 use Rattle.history_book.specs.declared.record.Flow.{Flow}
 use Rattle.tuple_core.specs.declared.Direction.{Direction}
 use Rattle.track_rule.specs.BucketSteps.{IsChainOf}
 use Rattle.track_rule.specs.Chains.{pair_of}
-use Rattle.track_rule.specs.CommitSteps.{dropped, held_for}
-use Rattle.track_rule.specs.Free.{is_among, unlisted}
+use Rattle.track_rule.specs.CommitSteps.{dropped}
+use Rattle.track_rule.specs.Free.{is_among}
 use Rattle.track_rule.specs.History.{state_after}
 use Rattle.track_rule.specs.Links.{hooks_of}
 use Rattle.track_rule.specs.Records.{has_hand}
@@ -24,7 +23,7 @@ use Rattle.track_rule.specs.declared.view.Middle.TheVariants.{Calm}
 use Rattle.bucket_table.specs.Following.{bucket_in}
 use Rattle.bucket_table.specs.LockedChain.{original_link, reply_link}
 use Rattle.bucket_table.specs.Locks.{AreShut, Buckets, buckets_of}
-use Rattle.shared_desk.specs.Commit.{is_any_up, shut_buckets}
+use Rattle.shared_desk.specs.Commit.{confirm_of, entered, is_any_up, seen_with, shut_buckets}
 use Rattle.shared_desk.specs.Rival.{chain_of}
 use Rattle.shared_desk.specs.Tuples.{IsFresh, pair_at, standing}
 
@@ -70,17 +69,11 @@ pub record EntersAndOpens (place : ℕ) (flow : Flow) (id : ℕ) (v w : PassSigh
   pub log : List Event
   pub all : AreAll v.view log
   pub number : id ≡ length log
-  pub legal : is_legal (sizes_of v) (log ++ event.Confirm (record_for flow id place) ∷ []) ≡ true
+  pub legal : is_legal (sizes_of v) (log ++ confirm_of flow id place ∷ []) ≡ true
   pub same : w ≡ record v {
     view = record v.view {
-      seen = record v.view.seen {
-        front = log ++ event.Confirm (record_for flow id place) ∷ [];
-        own = v.view.seen.own ++ record { number = id; event = event.Confirm (record_for flow id place) } ∷ [];
-      };
-      places = record v.view.places {
-        held = held_for place id v.view.places.held;
-        owned = unlisted (place ∷ []) v.view.places.owned;
-      };
+      seen = seen_with log id (confirm_of flow id place) v.view.seen;
+      places = entered place id v.view.places;
       buckets = record { shut = []; hooks = dropped (reply_link place) (dropped (original_link place) v.view.buckets.hooks) };
       commit = record { hand = Some (record { place = place; phase = 3 + id; subject = Some (record_for flow id place) }); middle = Calm };
       walk = None;
@@ -131,16 +124,10 @@ pub record IsConfirmed (place : ℕ) (flow : Flow) (id : ℕ) (v w : PassSight) 
   pub log : List Event
   pub all : AreAll v.view log
   pub number : id ≡ length log
-  pub legal : is_legal (sizes_of v) (log ++ event.Confirm (record_for flow id place) ∷ []) ≡ true
+  pub legal : is_legal (sizes_of v) (log ++ confirm_of flow id place ∷ []) ≡ true
   pub same : w ≡ record v { view = record v.view {
-    seen = record v.view.seen {
-      front = log ++ event.Confirm (record_for flow id place) ∷ [];
-      own = v.view.seen.own ++ record { number = id; event = event.Confirm (record_for flow id place) } ∷ [];
-    };
-    places = record v.view.places {
-      held = held_for place id v.view.places.held;
-      owned = unlisted (place ∷ []) v.view.places.owned;
-    };
+    seen = seen_with log id (confirm_of flow id place) v.view.seen;
+    places = entered place id v.view.places;
     buckets = record v.view.buckets { hooks = w.view.buckets.hooks };
     walk = w.view.walk;
     readings = w.view.readings;
