@@ -3,7 +3,7 @@ use Rattle.std.proofs.Common.{◌≡◌, ◌≢◌, ℕ, ◌+◌, ◌-◌, ◌*�
 use Rattle.std.specs.Prelude.{slice_index, slice_set, ◌==◌, ◌||◌, if◌then◌else◌, find, min}
 use Rattle.std.specs.List.{All}
 use Rattle.std.proofs.lemmas.Bool.{cases_eq}
-use Rattle.std.proofs.lemmas.List.{get_or-set_other, get_or-set_same, length-set}
+use Rattle.std.proofs.lemmas.List.{get_or-set_same, length-set}
 use Rattle.std.proofs.lemmas.Option.{none-some}
 use mathlib.Core.Option.{some}
 use lib.ListN.{get_elem?}
@@ -31,7 +31,7 @@ use Rattle.track_rule.specs.Commits.{IsMiddle, IsMiddleOf}
 use Rattle.track_rule.specs.Expected.{has_expected}
 use Rattle.track_rule.specs.Free.{IsFreeList, has_turn, owes, unlisted}
 use Rattle.track_rule.specs.History.{packed, records_after, state_after}
-use Rattle.track_rule.specs.Layout.{first_word, gen_at, gen_word, head_word, next_word, phase_at, phase_word, place_of, refs_at, refs_word, second_word, turn_at, turn_word}
+use Rattle.track_rule.specs.Layout.{gen_at, head_word, phase_at, place_of}
 use Rattle.track_rule.specs.Links.{AreLinks, HasHooks, IsHook, IsOwned, hook_of, hooks_of}
 use Rattle.track_rule.specs.Phases.{ArePhases, middle_of, middle_weight, of_both, of_place, shows, table_keeps}
 use Rattle.track_rule.specs.Readings.{stored}
@@ -46,34 +46,10 @@ use Rattle.track_rule.proofs.Events.{get_last, kept_on, passes_made}
 use Rattle.track_rule.proofs.Frames.{SameChains, chain_stays, hooks_stay, links_stay, walk_stays}
 use Rattle.track_rule.proofs.HookLists.{hook_test, hook_there, some_hook}
 use Rattle.track_rule.proofs.Named.{born_ledger, chains_both, chains_off, chains_on, hooks_else, named_chain, named_chains, named_here, named_in_chain, named_ordered, named_shuts, records_else}
+use Rattle.track_rule.proofs.HistoryWord.{word_other, word_phase, word_refs, word_same, word_turn}
 use Rattle.track_rule.proofs.LastRead.{stored_on}
 use Rattle.track_rule.proofs.Lists.{other_bit, same_bit, unlisted_in, unlisted_out}
 use Rattle.track_rule.proofs.Sums.{each_other, each_put, total_append, total_but, total_map, total_same, total_set, total_term, total_two}
-
--- the history word alone changes
-module _ (z : Sizes) (ws : List ℕ) (n : ℕ) where
-  word_same : SameChains z ws (slice_set ws 0 n)
-  word_same = record {
-    gens = λ b below. get_or-set_other ws 0 (gen_word z b) n 0 (λ e. omega (arith, e));
-    links = record {
-      heads = λ b below. get_or-set_other ws 0 (head_word z b) n 0 (λ e. omega (arith, e));
-      firsts = λ x. get_or-set_other ws 0 (first_word z x) n 0 (λ e. omega (arith, e));
-      seconds = λ x. get_or-set_other ws 0 (second_word z x) n 0 (λ e. omega (arith, e));
-      nexts = λ x. get_or-set_other ws 0 (next_word z x) n 0 (λ e. omega (arith, e));
-    };
-  }
-
-  word_refs : (q : ℕ) → refs_at z (slice_set ws 0 n) q ≡ refs_at z ws q
-  word_refs q = get_or-set_other ws 0 (refs_word z q) n 0 (λ e. omega (arith, e))
-
-  word_phase : (q : ℕ) → phase_at z (slice_set ws 0 n) q ≡ phase_at z ws q
-  word_phase q = get_or-set_other ws 0 (phase_word z q) n 0 (λ e. omega (arith, e))
-
-  word_turn : (q : ℕ) → turn_at z (slice_set ws 0 n) q ≡ turn_at z ws q
-  word_turn q = get_or-set_other ws 0 (turn_word z q) n 0 (λ e. omega (arith, e))
-
-  word_other : (k : ℕ) → 0 < k → slice_index (slice_set ws 0 n) k ≡ slice_index ws k
-  word_other k some_k = get_or-set_other ws 0 k n 0 (λ e. omega (arith, e, some_k))
 
 -- the two links of a place
 two_links : (p link : ℕ) → 0 < link → bit (1 + 2 * p == link) + bit (2 + 2 * p == link) ≡ bit (p == place_of link)

@@ -28,9 +28,13 @@ pub mod Start
 pub mod Seats
 pub mod Columns
 pub mod AllPasses
+pub mod HistoryWord
+pub mod LivePlaces
+pub mod EventSteps
 pub mod Confirming
 pub mod Confirms
 pub mod Named
 pub mod Born
 pub mod Confirmations
 pub mod Living
+pub mod Touching

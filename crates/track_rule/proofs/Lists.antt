@@ -1,7 +1,9 @@
 -- How often a place stands in a list, and among references.
-use Rattle.std.proofs.Common.{◌≡◌, ◌≢◌, ℕ, ◌+◌, ◌<◌, ◌≤◌, suc, Bool, true, false, cond, List, [], ◌∷◌, ◌++◌, length, refl, sym, ap, ◌∙◌, arith, ⊎_elim}
+use Rattle.std.proofs.Common.{◌≡◌, ◌≢◌, ℕ, ◌+◌, ◌<◌, ◌≤◌, suc, Bool, true, false, cond, Some, List, [], ◌∷◌, ◌++◌, length, refl, sym, ap, ◌∙◌, arith, ⊎_elim}
 use Rattle.std.specs.List.{list_any}
-use Rattle.std.specs.Prelude.{◌==◌, ◌&&◌, ◌||◌, not}
+use Rattle.std.specs.Prelude.{◌==◌, ◌&&◌, ◌||◌, find, if◌then◌else◌, not}
+use mathlib.Core.Option.{some}
+use lib.ListN.{get_elem?}
 use Rattle.std.proofs.lemmas.Bool.{cases_Bool, cases_eq, cond_both, eq-eqb, eqb-true, ne_eqb}
 use Rattle.history_book.specs.declared.event.Event.{Event}
 use Rattle.track_rule.specs.declared.view.Keep.{Keep}
@@ -188,3 +190,20 @@ module _ (list : List ℕ) where
 -- on a list to which a place was added
 pub times_push : (a p : ℕ) (list : List ℕ) → times p (list ++ a ∷ []) ≡ times p list + bit (a == p)
 times_push a p list = omega (arith, total_append (λ q. bit (q == p)) list (a ∷ []))
+
+-- an item that is found is there, and passes the test
+module _ {X : Type 0} (q : X → Bool) where
+  pub find_there : (xs : List X) (x : X) → find q xs ≡ Some x → (j : ℕ) × (get_elem? xs j ≡ some x) × (q x ≡ true)
+  find_there [] x e = cc
+  find_there (y ∷ ys) x e =
+      ⊎_elim
+      (λ (t : q y ≡ true).
+      let same : y ≡ x = found_is y x (sym (ap (λ (b : Bool). if b then Some y else find q ys) t) ∙ e) in
+      (0, ap some same, sym (ap q same) ∙ t))
+      (λ (t : q y ≡ false).
+      let rest = find_there ys x (sym (ap (λ (b : Bool). if b then Some y else find q ys) t) ∙ e) in
+      (suc rest.0, rest.1, rest.2))
+      (cases_Bool (q y))
+    where
+      found_is : (a b : X) → Some a ≡ Some b → a ≡ b
+      found_is a b k = cc

@@ -1,6 +1,6 @@
 -- What the rule says of the chain of a bucket that a pass has shut: what it weighs, and that who is named there is live.
-use Rattle.std.proofs.Common.{◌≡◌, ◌≢◌, ℕ, suc, ◌+◌, ◌*◌, ◌<◌, ◌≤◌, Bool, true, false, Option, Some, None, List, [], ◌∷◌, refl, ap, subst, ◌∙◌, ⊎_elim, arith, eq-eqb, ne_eqb}
-use Rattle.std.specs.Prelude.{◌==◌, ◌&&◌, find, if◌then◌else◌}
+use Rattle.std.proofs.Common.{◌≡◌, ◌≢◌, ℕ, ◌+◌, ◌*◌, ◌<◌, ◌≤◌, Bool, true, false, Option, Some, None, List, [], ◌∷◌, refl, ap, subst, ◌∙◌, ⊎_elim, arith, eq-eqb, ne_eqb}
+use Rattle.std.specs.Prelude.{◌==◌, ◌&&◌, if◌then◌else◌}
 use Rattle.std.proofs.lemmas.Bool.{and_parts, cases_Bool, cases_eq, cases_lt, eqb-true}
 use mathlib.Core.Option.{some}
 use lib.ListN.{get_elem?}
@@ -25,7 +25,7 @@ use Rattle.track_rule.specs.Phases.{middle_of, middle_weight, of_both, of_place}
 use Rattle.track_rule.specs.Rule.{IsKept, Ledger}
 use Rattle.track_rule.specs.Sums.{bit, total}
 use Rattle.track_rule.proofs.ChainLists.{loose_zero, side_low, total_rev}
-use Rattle.track_rule.proofs.Lists.{bit_both, bit_fails, other_bit, same_bit}
+use Rattle.track_rule.proofs.Lists.{bit_both, bit_fails, find_there, other_bit, same_bit}
 use Rattle.track_rule.proofs.Sums.{total_le, total_only, total_term, total_times}
 
 -- links that are not in a bucket weigh nothing there
@@ -67,19 +67,6 @@ is_id i (Some n) = n == i
 -- 1 where the entry of a chain is of this place and names this id
 abbrev names : ℕ → ℕ → Entry → ℕ
 names p i e = bit (place_of e.link == p && is_id i e.id)
-
--- an item that is found is there
-module _ {X : Type 0} (q : X → Bool) where
-  find_here : (x y : X) → Some y ≡ Some x → some y ≡ some x
-  find_here x y t = cc
-
-  find_there : (xs : List X) (x : X) → find q xs ≡ Some x → (j : ℕ) × (get_elem? xs j ≡ some x)
-  find_there [] x e = cc
-  find_there (y ∷ ys) x e =
-      elim (q y) as (λ k. (if k then Some y else find q ys) ≡ Some x → (j : ℕ) × (get_elem? (y ∷ ys) j ≡ some x)) [
-        | true ↦ λ t. (0, find_here x y t)
-        | false ↦ λ t. let rest = find_there ys x t in (suc rest.0, rest.1)
-      ] e
 
 module _ (z : Sizes) (b p i : ℕ) where
   -- a record's links name it, at its place

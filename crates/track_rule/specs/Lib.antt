@@ -20,6 +20,7 @@ pub mod Steps
 pub mod Shares
 pub mod TurnSteps
 pub mod CommitSteps
+pub mod TouchSteps
 pub mod Notes
 pub mod BucketSteps
 pub mod PhaseSteps

@@ -52,7 +52,7 @@ impl Play<Slot, View> for StoreLive {
 const CONFIRM: u64 = 1 + (1 << 40);
 
 /// The number of events that the history word says.
-fn events_in(word: u64) -> u64
+pub(crate) fn events_in(word: u64) -> u64
     ensures { result ≡ events_in word }
 {
     word % (1 << 40)

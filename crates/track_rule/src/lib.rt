@@ -18,5 +18,6 @@ pub mod rule;
 pub mod slot;
 #[cfg(test)]
 mod tests;
+pub mod touches;
 pub mod view;
 pub mod word_places;

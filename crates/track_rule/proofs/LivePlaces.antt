@@ -1,0 +1,82 @@
+-- A live id has one place: that of its Confirm.
+use Rattle.std.proofs.Common.{◌≡◌, ℕ, ◌+◌, ◌<◌, suc, true, false, Some, List, [], ◌∷◌, length, refl, sym, ap, subst, ◌∙◌, ⊎_elim, arith, eq-eqb}
+use Rattle.std.specs.Prelude.{slice_get, ◌==◌, ◌&&◌}
+use Rattle.std.specs.List.{All}
+use Rattle.std.proofs.lemmas.Bool.{and_parts, cases_Bool, eqb-true}
+use Rattle.atomic_table.specs.Table.{State}
+use Rattle.history_book.specs.Laws.{IsConfirmed, LiveRecordsAreConfirmed}
+use Rattle.history_book.specs.Record.{has_id}
+use Rattle.history_book.specs.State.{record_of}
+use Rattle.history_book.specs.declared.event.Event.{Event}
+use Rattle.history_book.specs.declared.event.Event.TheVariants.{Confirm}
+use Rattle.history_book.specs.declared.record.Record.{Record}
+use Rattle.history_book.specs.declared.sizes.Sizes.{Sizes}
+use Rattle.track_rule.specs.declared.slot.Slot.{Slot}
+use Rattle.track_rule.specs.declared.view.Hand.{Hand}
+use Rattle.track_rule.specs.declared.view.View.{View}
+use Rattle.track_rule.specs.History.{records_after, state_after}
+use Rattle.track_rule.specs.Layout.{phase_at}
+use Rattle.track_rule.specs.Phases.{of_both}
+use Rattle.track_rule.specs.Records.{IsHand}
+use Rattle.track_rule.specs.References.{WasConfirmed}
+use Rattle.track_rule.specs.Rule.{IsKept, Ledger}
+use Rattle.track_rule.specs.Sums.{bit, total}
+use Rattle.track_rule.proofs.Lists.{find_there, same_bit}
+use Rattle.track_rule.proofs.Sums.{total_term}
+
+-- a record that is live with an id and a place was confirmed there
+pub both_confirmed : (log : List Event) (p i : ℕ) (rs : List Record) → All (IsConfirmed log) rs → 0 < total (of_both p i) rs → WasConfirmed log i p
+both_confirmed log p i [] all any = absurd (omega (arith, any))
+both_confirmed log p i (r ∷ rs) all any =
+    ⊎_elim
+    (λ (e : (r.place == p && r.id == i) ≡ true).
+    let parts = and_parts (r.place == p) (r.id == i) e in
+    let c = all 0 r (omega arith) in
+    record {
+      subject = c.subject;
+      event = subst (λ (k : ℕ). slice_get log k ≡ Some (Confirm c.subject)) (eqb-true r.id i parts.1) c.event;
+      its_place = sym c.same.place ∙ eqb-true r.place p parts.0;
+    })
+    (λ (e : (r.place == p && r.id == i) ≡ false).
+    both_confirmed log p i rs (λ k d short. all (suc k) d (omega (arith, short))) (omega (arith, any, ap bit e)))
+    (cases_Bool (r.place == p && r.id == i))
+
+-- it was confirmed once
+pub one_place : (log : List Event) (i p q : ℕ) → WasConfirmed log i p → WasConfirmed log i q → p ≡ q
+one_place log i p q a b =
+    sym a.its_place ∙ ap (λ (r : Record). r.place) (one_subject a.subject b.subject (sym a.event ∙ b.event)) ∙ b.its_place
+  where
+    one_subject : (x y : Record) → Some (Confirm x) ≡ Some (Confirm y) → x ≡ y
+    one_subject x y e = cc
+
+-- of a place and an id that a live record has, it counts one
+pub own_both : (r : Record) → of_both r.place r.id r ≡ 1
+own_both r = ap bit (λ k. eq-eqb r.place r.place refl k && eq-eqb r.id r.id refl k)
+
+module _ (z : Sizes) (l : Ledger) (s : State Slot View) (h : IsKept z l s) (low : LiveRecordsAreConfirmed) where
+  all_confirmed : All (IsConfirmed l.log) (records_after l.log)
+  all_confirmed = (low z l.log (length l.log) h.history.legal).0
+
+  -- the record that is found by its id
+  pub found_confirmed : (i : ℕ) (r : Record) → record_of i (state_after l.log) ≡ Some r → (r.id ≡ i) × WasConfirmed l.log i r.place
+  found_confirmed i r e =
+      let there = find_there (has_id i) (records_after l.log) r e in
+      let its_id : r.id ≡ i = eqb-true r.id i there.2 in (
+        its_id,
+        both_confirmed l.log r.place i (records_after l.log) all_confirmed (omega (
+          arith,
+          total_term (of_both r.place i) (records_after l.log) there.0 r there.1,
+          own_both r,
+          ap (λ (n : ℕ). of_both r.place n r) its_id,
+        )),
+      )
+
+  -- a place that is LIVE of the id
+  pub shown_confirmed : (p i : ℕ) → p < z.entries → phase_at z s.words p ≡ 3 + i → WasConfirmed l.log i p
+  shown_confirmed p i below shown =
+      both_confirmed l.log p i (records_after l.log) all_confirmed
+      (omega (arith, h.phases.shown p i below, same_bit (phase_at z s.words p) (3 + i) shown))
+
+  -- and one that a pass knows so
+  pub hand_confirmed : (x : Hand) (i : ℕ) → IsHand z l.log s.words x → x.phase ≡ 3 + i → WasConfirmed l.log i x.place
+  hand_confirmed x i k shown = shown_confirmed x.place i k.below (k.shown (omega (arith, shown)) ∙ shown)
