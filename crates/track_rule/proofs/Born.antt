@@ -502,11 +502,11 @@ module _ (l : Ledger) (s : State Slot View) (id : ℕ) (v : View) (r : Record) (
       }
 
   -- other passes are where they were
-  middle_on : (u : View) (m : Middle) → IsMiddle v.passes.sizes l.log m u.commit.hand u.places.carried u.buckets.shut
-      → IsMiddle v.passes.sizes made m u.commit.hand u.places.carried u.buckets.shut
+  middle_on : (u : View) (m : Middle) → IsMiddle v.passes.sizes l.log m u.commit.hand u.places.carried u.buckets.shut u.expected
+      → IsMiddle v.passes.sizes made m u.commit.hand u.places.carried u.buckets.shut u.expected
   middle_on u Calm k = tt
   middle_on u (Born x) k = record { turn = k.turn; reference = k.reference; original = k.original; reply = k.reply; live = record_more x.id x k.live }
-  middle_on u (Dying x) k = record { turn = k.turn; reference = k.reference; original = k.original; reply = k.reply; live = record_more x.id x k.live }
+  middle_on u (Dying x) k = (record { turn = k.0.turn; reference = k.0.reference; original = k.0.original; reply = k.0.reply; live = record_more x.id x k.0.live }, k.1)
 
   born_commits : Each (IsMiddleOf v.passes.sizes made) (set s.views id after_it)
   born_commits = each_put (IsMiddleOf v.passes.sizes made) s.views id after_it (λ i u at'. middle_on u u.commit.middle (h.commits i u at')) (record {

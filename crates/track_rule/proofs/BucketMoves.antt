@@ -249,7 +249,7 @@ module _ (l : Ledger) (s : State Slot View) (id b : ℕ) (v : View) (h : IsKept 
       (λ m least same even_half. omega (arith, same, even_half, half))
       (record { reading = stored (gen_word v.passes.sizes b) (even + 1); more = refl; word = refl; value = refl })
       (λ c under any. omega (arith, h.chains.home id v at c under any))
-      (middle_more v.passes.sizes l.log v w refl (λ p. omega arith) (λ c. omega arith) (h.commits id v at))
+      (middle_more v.passes.sizes l.log v w refl refl (λ p. omega arith) (λ c. omega arith) (h.commits id v at))
 
   shuts_told : (even : ℕ) → gen_at v.passes.sizes s.words b ≡ even → even % 2 ≡ 0
       → ShutsGen b even v (noted (stored (gen_word v.passes.sizes b) (even + 1)) (record v { buckets = shut_now b (l.chains b) v.buckets }))
@@ -297,7 +297,7 @@ module _ (l : Ledger) (s : State Slot View) (id b : ℕ) (v : View) (h : IsKept 
       (λ (e : c ≡ b). absurd (omega (arith, loose, nothing, ap (λ (k : ℕ). loose_of v.passes.sizes k each_link v) e)))
       (λ (e : c ≢ b). omega (arith, h.chains.home id v at c under loose, opened_else b c e v.buckets.shut))
       (cases_eq c b))
-      (subst (λ (m : Middle). IsMiddle v.passes.sizes l.log m v.commit.hand v.places.carried (opened_of b v.buckets.shut)) (sym calm) tt)
+      (subst (λ (m : Middle). IsMiddle v.passes.sizes l.log m v.commit.hand v.places.carried (opened_of b v.buckets.shut) v.expected) (sym calm) tt)
 
 -- shutting a bucket keeps the rule
 pub shutting : (slots id b even : ℕ) (v : View) (c : List (ℕ × Slot)) → b < v.passes.sizes.buckets → 0 < v.passes.shares → even % 2 ≡ 0 → even < last_gen

@@ -195,7 +195,7 @@ module _ (l : Ledger) (s : State Slot View) (id b : ℕ) (v : View) (h : IsKept 
               (λ m e. walk_kept m v.seen.front (h.walks.each id v at m e));
         })
         (stored_on z l.log s.words s.views id word to v w h.passes at has_some t.long (record { reading = stored word to; more = refl; word = refl; value = refl }) h.readings)
-        (middle_more z l.log v w refl (λ p. omega arith) (λ c. omega (arith, t.shuts c)) (h.commits id v at))
+        (middle_more z l.log v w refl refl (λ p. omega arith) (λ c. omega (arith, t.shuts c)) (h.commits id v at))
 
 -- a link is put in at the head
 module _ (l : Ledger) (s : State Slot View) (id b x : ℕ) (v : View) (h : IsKept v.passes.sizes l s) (at : get_elem? s.views id ≡ some v)

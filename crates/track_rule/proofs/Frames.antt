@@ -253,10 +253,11 @@ kept z l s ws' hs' vs' free' chains' h still long homes leaves passes references
 }
 
 -- the middle of a commit, where the pass has the same turn, carries no less and has no fewer buckets shut
-pub middle_more : (z : Sizes) (log : List Event) (v w : View) → w.commit ≡ v.commit → ((p : ℕ) → times p v.places.carried ≤ times p w.places.carried)
+pub middle_more : (z : Sizes) (log : List Event) (v w : View) → w.commit ≡ v.commit → w.expected ≡ v.expected → ((p : ℕ) → times p v.places.carried ≤ times p w.places.carried)
     → ((b : ℕ) → shuts_of b v ≤ shuts_of b w) → IsMiddleOf z log v → IsMiddleOf z log w
-middle_more z log v w commit carried shut h =
-    subst (λ (c : Commit). IsMiddle z log c.middle c.hand w.places.carried w.buckets.shut) (sym commit) (by_middle v.commit.middle h)
+middle_more z log v w commit expected carried shut h =
+    subst (λ (o : Option (List Expectation)). IsMiddle z log w.commit.middle w.commit.hand w.places.carried w.buckets.shut o) (sym expected)
+    (subst (λ (c : Commit). IsMiddle z log c.middle c.hand w.places.carried w.buckets.shut v.expected) (sym commit) (by_middle v.commit.middle h))
   where
     more : (r : Record) → IsCommitting z log v.commit.hand v.places.carried v.buckets.shut r → IsCommitting z log v.commit.hand w.places.carried w.buckets.shut r
     more r k = record {
@@ -267,19 +268,20 @@ middle_more z log v w commit carried shut h =
       live = k.live;
     }
 
-    by_middle : (m : Middle) → IsMiddle z log m v.commit.hand v.places.carried v.buckets.shut → IsMiddle z log m v.commit.hand w.places.carried w.buckets.shut
+    by_middle : (m : Middle) → IsMiddle z log m v.commit.hand v.places.carried v.buckets.shut v.expected
+        → IsMiddle z log m v.commit.hand w.places.carried w.buckets.shut v.expected
     by_middle Calm k = tt
     by_middle (Born r) k = more r k
-    by_middle (Dying r) k = more r k
+    by_middle (Dying r) k = (more r k.0, k.1)
 
-pub middle_left : (z : Sizes) (log : List Event) (v w : View) → w.commit ≡ v.commit → w.places.carried ≡ v.places.carried → w.buckets.shut ≡ v.buckets.shut
+pub middle_left : (z : Sizes) (log : List Event) (v w : View) → w.commit ≡ v.commit → w.expected ≡ v.expected → w.places.carried ≡ v.places.carried → w.buckets.shut ≡ v.buckets.shut
     → IsMiddleOf z log v → IsMiddleOf z log w
-middle_left z log v w commit carried shut h =
-    middle_more z log v w commit (λ p. omega (arith, ap (times p) carried)) (λ b. omega (arith, ap (shuts_in b) shut)) h
+middle_left z log v w commit expected carried shut h =
+    middle_more z log v w commit expected (λ p. omega (arith, ap (times p) carried)) (λ b. omega (arith, ap (shuts_in b) shut)) h
 
 -- a pass that has no turn of a record is in the middle of no commit
-pub middle_calm : (z : Sizes) (log : List Event) (m : Middle) (carried : List ℕ) (shut : List Shut) (hand : Option Hand) → hand ≡ None
-    → IsMiddle z log m hand carried shut → m ≡ Calm
-middle_calm z log Calm carried shut hand none h = refl
-middle_calm z log (Born r) carried shut hand none h = absurd (omega (arith, h.turn, ap (is_hand_of r.place) none))
-middle_calm z log (Dying r) carried shut hand none h = absurd (omega (arith, h.turn, ap (is_hand_of r.place) none))
+pub middle_calm : (z : Sizes) (log : List Event) (m : Middle) (carried : List ℕ) (shut : List Shut) (expected : Option (List Expectation)) (hand : Option Hand) → hand ≡ None
+    → IsMiddle z log m hand carried shut expected → m ≡ Calm
+middle_calm z log Calm carried shut expected hand none h = refl
+middle_calm z log (Born r) carried shut expected hand none h = absurd (omega (arith, h.turn, ap (is_hand_of r.place) none))
+middle_calm z log (Dying r) carried shut expected hand none h = absurd (omega (arith, h.0.turn, ap (is_hand_of r.place) none))

@@ -9,6 +9,7 @@ use mathlib.Core.Option.{Option as Slotted, some, some-injective, some-ne-none}
 use lib.ListN.{get_elem?}
 use Rattle.atomic_table.specs.Table.{Joins, Splits, State}
 use Rattle.atomic_table.proofs.Lists.{set_else}
+use Rattle.expect_table.specs.declared.expectation.Expectation.{Expectation}
 use Rattle.history_book.specs.declared.event.Event.{Event}
 use Rattle.history_book.specs.declared.event.Note.{Note}
 use Rattle.history_book.specs.declared.sizes.Sizes.{Sizes}
@@ -70,11 +71,15 @@ free_carry z ws hs vs vs' free c t h = record {
     owed_by : (p : ℕ) → total (owes p) vs' ≡ total (owes p) vs
     owed_by p = c.sums (λ (x : Places). times p x.owed) refl
 
+-- the turns, places and buckets of a pass
+abbrev Holding : Type 0
+Holding = Commit × Places × HeldBuckets × Option (List Expectation)
+
 -- other passes, which together have the same of everything
 handed : (z : Sizes) (l : Ledger) (s : State Slot View) (vs' : List View) → IsKept z l s → ArePasses z l.log vs' → Leaves s.views vs'
     → Carries (λ (v : View). v.places) no_places s.views vs' → Carries (λ (v : View). v.free) None s.views vs'
     → Carries {X = Places × HeldBuckets} (λ (v : View). (v.places, v.buckets)) (no_places, no_buckets) s.views vs'
-    → Carries {X = Commit × Places × HeldBuckets} (λ (v : View). (v.commit, v.places, v.buckets)) (no_commit, no_places, no_buckets) s.views vs'
+    → Carries {X = Holding} (λ (v : View). (v.commit, v.places, v.buckets, v.expected)) (no_commit, no_places, no_buckets, None) s.views vs'
     → ((P : List Event → Option Walk → Type 0) → ((front : List Event) → P front None) → Each (λ v. P v.seen.front v.walk) s.views → Each (λ v. P v.seen.front v.walk) vs')
     → AreRead z s.words vs'
     → IsKept z l (record { words = s.words; homes = s.homes; views = vs' })
@@ -97,7 +102,7 @@ handed z l s vs' h passes leaves places free buckets commits walk readings =
     (links_stay z s.words s.words same s.views vs'
     (buckets.each (λ (x : Places × HeldBuckets). HasHooks z s.words x.0 x.1.hooks) (no_hooks z s.words) h.links.hooks) h.links)
     (record { each = walk (λ front o. (n : Walk) → o ≡ Some n → IsWalk z s.words l.chains front n) (λ front n e. absurd (none-some n e)) h.walks.each }) readings
-    (commits.each (λ (x : Commit × Places × HeldBuckets). IsMiddle z l.log x.0.middle x.0.hand x.1.carried x.2.shut) tt h.commits)
+    (commits.each (λ (x : Holding). IsMiddle z l.log x.0.middle x.0.hand x.1.carried x.2.shut x.3) tt h.commits)
   where
     no_hooks : (z : Sizes) (ws : List ℕ) → HasHooks z ws no_places []
     no_hooks z ws = record { each = λ i h at. absurd (some-ne-none h (sym at)); held = λ link any. absurd (omega (arith, any)); linked = λ i h at. absurd (some-ne-none h (sym at)) }
@@ -175,7 +180,7 @@ splits z id shares v has_some fewer s (l, h) at =
           (carries_cut (λ (u : View). u.places) no_places s.views id v left right at refl refl)
           (carries_cut (λ (u : View). u.free) None s.views id v left right at refl refl)
           (carries_cut {X = Places × HeldBuckets} (λ (u : View). (u.places, u.buckets)) (no_places, no_buckets) s.views id v left right at refl refl)
-          (carries_cut {X = Commit × Places × HeldBuckets} (λ (u : View). (u.commit, u.places, u.buckets)) (no_commit, no_places, no_buckets) s.views id v left right at refl refl)
+          (carries_cut {X = Holding} (λ (u : View). (u.commit, u.places, u.buckets, u.expected)) (no_commit, no_places, no_buckets, None) s.views id v left right at refl refl)
           (λ P base all. each_more (λ (u : View). P u.seen.front u.walk) (set s.views id left) right
           (each_put (λ (u : View). P u.seen.front u.walk) s.views id left all (all id v at)) (base v.seen.front))
           (λ one. absurd (many one)),
@@ -285,11 +290,12 @@ joins z id other v w has_some has_other none s (l, h) at apart at' =
           (carries_join (λ (u : View). u.free) None s.views id other v w both spent_view at at' refl none.free refl)
           (carries_join {X = Places × HeldBuckets} (λ (u : View). (u.places, u.buckets)) (no_places, no_buckets) s.views id other v w both spent_view at at' refl
           (λ k. (record { held = none.held k; owed = none.owed k; clear = none.clear k; owned = none.owned k; carried = none.carried k }, record { shut = none.shut k; hooks = none.hooks k })) refl)
-          (carries_join {X = Commit × Places × HeldBuckets} (λ (u : View). (u.commit, u.places, u.buckets)) (no_commit, no_places, no_buckets) s.views id other v w both spent_view at at' refl
+          (carries_join {X = Holding} (λ (u : View). (u.commit, u.places, u.buckets, u.expected)) (no_commit, no_places, no_buckets, None) s.views id other v w both spent_view at at' refl
           (λ k. (
             record { hand = none.hand k; middle = none.middle k },
             record { held = none.held k; owed = none.owed k; clear = none.clear k; owned = none.owned k; carried = none.carried k },
             record { shut = none.shut k; hooks = none.hooks k },
+            none.expected k,
           )) refl)
           (λ P base all. each_put (λ (u : View). P u.seen.front u.walk) vs other spent_view
           (each_put (λ (u : View). P u.seen.front u.walk) s.views id both all (all id v at)) (base []))

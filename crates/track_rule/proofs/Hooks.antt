@@ -89,10 +89,10 @@ module _ (z : Sizes) (l : Ledger) (s : State Slot View) (h : IsKept z l s) (id :
           (λ (e : r.place ≡ p). omega (arith, same_bit r.place p e, subst (λ (x : ℕ). 0 < times x u.places.carried) e k.reference))
           (λ (e : r.place ≢ p). omega (arith, other_bit r.place p e)) (cases_eq r.place p)
 
-      middle_kept : (p : ℕ) (m : Middle) (u : View) → IsMiddle z l.log m u.commit.hand u.places.carried u.buckets.shut → middle_weight (of_place p) m ≤ keeps p u
+      middle_kept : (p : ℕ) (m : Middle) (u : View) → IsMiddle z l.log m u.commit.hand u.places.carried u.buckets.shut u.expected → middle_weight (of_place p) m ≤ keeps p u
       middle_kept p Calm u k = omega arith
       middle_kept p (Born r) u k = committing p u r k
-      middle_kept p (Dying r) u k = committing p u r k
+      middle_kept p (Dying r) u k = committing p u r k.0
 
   no_hook : (v : View) → HasHooks z s.words v.places v.buckets.hooks → keeps p v ≡ 0
       → HasHooks z s.words (opened p (new_hooks z s.words p v.buckets.hooks) v).places (new_hooks z s.words p v.buckets.hooks)

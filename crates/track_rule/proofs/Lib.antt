@@ -38,3 +38,4 @@ pub mod Born
 pub mod Confirmations
 pub mod Living
 pub mod Touching
+pub mod Dying

@@ -1,8 +1,9 @@
 -- A live id has one place: that of its Confirm.
-use Rattle.std.proofs.Common.{◌≡◌, ℕ, ◌+◌, ◌<◌, suc, true, false, Some, List, [], ◌∷◌, length, refl, sym, ap, subst, ◌∙◌, ⊎_elim, arith, eq-eqb}
+use Rattle.std.proofs.Common.{Bool, ◌≡◌, ℕ, ◌+◌, ◌<◌, suc, true, false, Some, List, [], ◌∷◌, length, refl, sym, ap, subst, ◌∙◌, ⊎_elim, arith, eq-eqb, ne_eqb, ◌≢◌}
 use Rattle.std.specs.Prelude.{slice_get, ◌==◌, ◌&&◌}
 use Rattle.std.specs.List.{All}
-use Rattle.std.proofs.lemmas.Bool.{and_parts, cases_Bool, eqb-true}
+use Rattle.std.proofs.lemmas.Bool.{and_parts, cases_Bool, cases_eq, eqb-true}
+use Rattle.std.proofs.lemmas.Bool.Decides.{nat_tests}
 use Rattle.atomic_table.specs.Table.{State}
 use Rattle.history_book.specs.Laws.{IsConfirmed, LiveRecordsAreConfirmed}
 use Rattle.history_book.specs.Record.{has_id}
@@ -16,12 +17,12 @@ use Rattle.track_rule.specs.declared.view.Hand.{Hand}
 use Rattle.track_rule.specs.declared.view.View.{View}
 use Rattle.track_rule.specs.History.{records_after, state_after}
 use Rattle.track_rule.specs.Layout.{phase_at}
-use Rattle.track_rule.specs.Phases.{of_both}
+use Rattle.track_rule.specs.Phases.{of_both, shows, table_keeps}
 use Rattle.track_rule.specs.Records.{IsHand}
 use Rattle.track_rule.specs.References.{WasConfirmed}
 use Rattle.track_rule.specs.Rule.{IsKept, Ledger}
 use Rattle.track_rule.specs.Sums.{bit, total}
-use Rattle.track_rule.proofs.Lists.{find_there, same_bit}
+use Rattle.track_rule.proofs.Lists.{find_there, other_bit, same_bit}
 use Rattle.track_rule.proofs.Sums.{total_term}
 
 -- a record that is live with an id and a place was confirmed there
@@ -48,6 +49,31 @@ one_place log i p q a b =
   where
     one_subject : (x y : Record) → Some (Confirm x) ≡ Some (Confirm y) → x ≡ y
     one_subject x y e = cc
+
+-- where the phase is LIVE of an id the table has its reference
+pub live_keeps : (id : ℕ) → table_keeps (3 + id) ≡ 1
+live_keeps id = grind (arith, nat_tests)
+
+-- it shows the id of a record, and no other, at the place of the record alone
+pub both_shown : (r : Record) (i : ℕ) → shows (3 + r.id) i ≡ of_both r.place i r
+both_shown r i =
+    ⊎_elim
+    (λ (e : r.id ≡ i). omega (
+      arith,
+      same_bit (3 + r.id) (3 + i) (omega (arith, e)),
+      ap (λ (b : Bool). bit (b && r.id == i)) (eq-eqb r.place r.place refl),
+      same_bit r.id i e,
+    ))
+    (λ (e : r.id ≢ i). omega (
+      arith,
+      other_bit (3 + r.id) (3 + i) (λ x. e (omega (arith, x))),
+      ap (λ (b : Bool). bit (b && r.id == i)) (eq-eqb r.place r.place refl),
+      other_bit r.id i e,
+    ))
+    (cases_eq r.id i)
+
+pub none_else : (r : Record) (q i : ℕ) → q ≢ r.place → of_both q i r ≡ 0
+none_else r q i other = ap (λ (b : Bool). bit (b && r.id == i)) (ne_eqb r.place q (λ e. other (sym e)))
 
 -- of a place and an id that a live record has, it counts one
 pub own_both : (r : Record) → of_both r.place r.id r ≡ 1

@@ -1,8 +1,7 @@
 -- The phase of a place is made LIVE, behind the Confirm of its record.
-use Rattle.std.proofs.Common.{◌≡◌, ◌≢◌, ℕ, ◌+◌, ◌-◌, ◌<◌, ◌≤◌, zero, suc, Bool, Some, List, [], ◌∷◌, length, refl, sym, ap, subst, ◌∙◌, ⊎_elim, arith, set, eq-eqb, ne_eqb, ◌++◌}
-use Rattle.std.specs.Prelude.{slice_index, slice_set, ◌==◌, ◌&&◌, min}
+use Rattle.std.proofs.Common.{◌≡◌, ◌≢◌, ℕ, ◌+◌, ◌-◌, ◌<◌, ◌≤◌, zero, suc, Some, List, [], ◌∷◌, length, refl, sym, ap, subst, ◌∙◌, ⊎_elim, arith, set, ◌++◌}
+use Rattle.std.specs.Prelude.{slice_index, slice_set, ◌==◌, min}
 use Rattle.std.proofs.lemmas.Bool.{cases_eq, cases_lt}
-use Rattle.std.proofs.lemmas.Bool.Decides.{nat_tests}
 use Rattle.std.proofs.lemmas.List.{get_or-set_same, length-set}
 use mathlib.Core.Option.{none, some}
 use lib.ListN.{get_elem?}
@@ -39,13 +38,11 @@ use Rattle.track_rule.proofs.Balance.{MakesNone, pass_moved, passes_moved}
 use Rattle.track_rule.proofs.Carried.{carries_set}
 use Rattle.track_rule.proofs.Frames.{SameChains, chains_stay, hooks_stay, links_stay, walk_stays}
 use Rattle.track_rule.proofs.LastRead.{stored_on}
+use Rattle.track_rule.proofs.LivePlaces.{both_shown, live_keeps, none_else}
 use Rattle.track_rule.proofs.Lists.{other_bit, other_taken, same_bit, same_taken, some_of}
 use Rattle.track_rule.proofs.PhaseMoves.{few_keeps, low_shows, one_phase, phase_else, phase_first, phase_refs, phase_same, phase_turn}
 use Rattle.track_rule.proofs.RecordTurns.{hand_there}
 use Rattle.track_rule.proofs.Sums.{each_other, each_put, total_same, total_set, total_term, total_two}
-
-live_keeps : (id : ℕ) → table_keeps (3 + id) ≡ 1
-live_keeps id = grind (arith, nat_tests)
 
 module _ (l : Ledger) (s : State Slot View) (id : ℕ) (v : View) (r : Record) (h : IsKept v.passes.sizes l s) (at : get_elem? s.views id ≡ some v)
     (has_some : 0 < v.passes.shares) (born : v.commit.middle ≡ Born r) where
@@ -59,7 +56,7 @@ module _ (l : Ledger) (s : State Slot View) (id : ℕ) (v : View) (r : Record) (
   new = slice_set s.words (phase_word v.passes.sizes r.place) (3 + r.id)
 
   commit : IsCommitting v.passes.sizes l.log v.commit.hand v.places.carried v.buckets.shut r
-  commit = subst (λ (m : Middle). IsMiddle v.passes.sizes l.log m v.commit.hand v.places.carried v.buckets.shut) born (h.commits id v at)
+  commit = subst (λ (m : Middle). IsMiddle v.passes.sizes l.log m v.commit.hand v.places.carried v.buckets.shut v.expected) born (h.commits id v at)
 
   some_held : 0 < held_times r.place v.places.held
   some_held = omega (arith, commit.reference, h.references.carried id v at r.place)
@@ -202,27 +199,6 @@ module _ (l : Ledger) (s : State Slot View) (id : ℕ) (v : View) (r : Record) (
         owned = each_put (λ u. (q : ℕ) → 0 < times q u.places.owned → (0 < takes q u) × (phase_at z new q ≡ 1)) s.views id w still_owned (still_owned id v at);
       }
 
-  -- the phase shows the id now that was in the middle of a commit
-  both_shown : (i : ℕ) → shows (3 + r.id) i ≡ of_both r.place i r
-  both_shown i =
-      ⊎_elim
-      (λ (e : r.id ≡ i). omega (
-        arith,
-        same_bit (3 + r.id) (3 + i) (omega (arith, e)),
-        ap (λ (b : Bool). bit (b && r.id == i)) (eq-eqb r.place r.place refl),
-        same_bit r.id i e,
-      ))
-      (λ (e : r.id ≢ i). omega (
-        arith,
-        other_bit (3 + r.id) (3 + i) (λ x. e (omega (arith, x))),
-        ap (λ (b : Bool). bit (b && r.id == i)) (eq-eqb r.place r.place refl),
-        other_bit r.id i e,
-      ))
-      (cases_eq r.id i)
-
-  none_else : (q i : ℕ) → q ≢ r.place → of_both q i r ≡ 0
-  none_else q i other = ap (λ (b : Bool). bit (b && r.id == i)) (ne_eqb r.place q (λ e. other (sym e)))
-
   live_phases : ArePhases v.passes.sizes l.log new (set s.views id w)
   live_phases =
       let z : Sizes = v.passes.sizes in
@@ -235,7 +211,7 @@ module _ (l : Ledger) (s : State Slot View) (id : ℕ) (v : View) (r : Record) (
               h.phases.shown r.place i live_below,
               low_shows (phase_at z s.words r.place) i (few_keeps (phase_at z s.words r.place) idle),
               ap (λ (ph : ℕ). shows ph i) here,
-              both_shown i,
+              both_shown r i,
               mine (of_both r.place i),
               total_set (middle_of (of_both r.place i)) s.views id v w at,
             )))
@@ -244,7 +220,7 @@ module _ (l : Ledger) (s : State Slot View) (id : ℕ) (v : View) (r : Record) (
               h.phases.shown q i below,
               ap (λ (ph : ℕ). shows ph i) (phase_else z s.words r.place (3 + r.id) q e),
               mine (of_both q i),
-              none_else q i e,
+              none_else r q i e,
               total_set (middle_of (of_both q i)) s.views id v w at,
             ))
             (cases_eq q r.place);

@@ -45,7 +45,7 @@ reads z l s id i v w h at m p places free lines has_some read =
     (λ p. refl) h.references)
     (free_left z s.words s.words s.homes s.homes s.views id v w l.free at places free (λ p. refl) (λ p. refl) refl refl h.free_list) lines
     (read_on z l.log s.words s.words s.views id i (slice_index s.words i) v w h.passes at has_some refl (λ k other. refl) read h.readings)
-    (middle_left z l.log v w m.commit (ap (λ (x : Places). x.carried) places) lines.shut (h.commits id v at)))
+    (middle_left z l.log v w m.commit m.expected (ap (λ (x : Places). x.carried) places) lines.shut (h.commits id v at)))
 
 -- as many notes as events
 pub length-notes : (k : ℕ) (es : List Event) → length (notes_from k es) ≡ length es

@@ -245,8 +245,8 @@ taking_turn slots id p v c below has_some calm s (l, h) sized at range =
             (set_else s.homes (record_slot p) 0 none (λ e. omega (arith, e))) (set_else s.homes (record_slot p) 1 none (λ e. omega (arith, e)))
             (taken_records l s id p v h at has_some below calm hit (stored (turn_word z p) 1) hand refl)
             (record { reading = stored (turn_word z p) 1; more = refl; word = refl; value = refl })
-            (subst (λ (m : Middle). IsMiddle z l.log m (Some hand) v.places.carried v.buckets.shut)
-            (sym (middle_calm z l.log v.commit.middle v.places.carried v.buckets.shut v.commit.hand calm (h.commits id v at))) tt),
+            (subst (λ (m : Middle). IsMiddle z l.log m (Some hand) v.places.carried v.buckets.shut v.expected)
+            (sym (middle_calm z l.log v.commit.middle v.places.carried v.buckets.shut v.expected v.commit.hand calm (h.commits id v at))) tt),
       ),
       λ q same. subst (λ (k : ℕ). TakesTurn (slice_index s.words (turn_word z p) == 0) k v c w ((record_slot p, x) ∷ c)) (one_turn z p q same)
           (subst (λ (b : Bool). TakesTurn b p v c w ((record_slot p, x) ∷ c)) (sym (eq-eqb (slice_index s.words (turn_word z p)) 0 hit)) (record {
@@ -305,7 +305,7 @@ giving_turn slots id p v x c below some_slots has_some mine calm kind can s (l, 
         turn_kept l s id p v h at has_some below 0 None (stored (turn_word z p) 0) (slice_set s.homes (record_slot p) (some x))
             (set_else s.homes (record_slot p) 0 (some x) (λ e. omega (arith, e))) (set_else s.homes (record_slot p) 1 (some x) (λ e. omega (arith, e)))
             given_records (record { reading = stored (turn_word z p) 0; more = refl; word = refl; value = refl })
-            (subst (λ (m : Middle). IsMiddle z l.log m None v.places.carried v.buckets.shut) (sym calm) tt),
+            (subst (λ (m : Middle). IsMiddle z l.log m None v.places.carried v.buckets.shut v.expected) (sym calm) tt),
       ),
       λ q same. subst (λ (k : ℕ). (gave_turn p v ≡ gave_turn k v) × (c ≡ c)) (one_turn z p q same) (refl, refl),
     )

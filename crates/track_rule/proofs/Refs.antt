@@ -264,7 +264,7 @@ module _ (slots id p seen : ℕ) (v : View) (c : List (ℕ × Slot)) (below : p 
         owned = λ q on. ((h.free_list.owned id v at q on).0, on);
       }) (same_lines v.passes.sizes l s id v (raised true p seen v) h at refl (λ q. omega arith) refl refl refl)
       (λ q. omega (arith, h.references.taken q)) (h.references.purposes id v at)
-      (middle_more v.passes.sizes l.log v (raised true p seen v) refl (λ q. omega arith) (λ b. omega arith) (h.commits id v at))
+      (middle_more v.passes.sizes l.log v (raised true p seen v) refl refl (λ q. omega arith) (λ b. omega arith) (h.commits id v at))
       (record { reading = stored (refs_word v.passes.sizes p) (seen + 1); more = refl; word = refl; value = refl })
   raised_hit false is room hit =
       counts v.passes.sizes l s id p (seen + 1) v (raised false p seen v) l.free h at has_some below (record {
@@ -402,7 +402,7 @@ module _ (id p : ℕ) (v : View) (below : p < v.passes.sizes.entries) (has_some 
         owned = λ q on. ((h.free_list.owned id v at q on).0, on);
       }) (same_lines v.passes.sizes l s id v (let_go_of true p n v) h at refl (λ q. omega arith) refl refl refl)
       (λ q. omega (arith, h.references.taken q)) (h.references.purposes id v at)
-      (subst (λ (m : Middle). IsMiddle v.passes.sizes l.log m v.commit.hand (taken_out p v.places.carried) v.buckets.shut) (sym (calm is)) tt)
+      (subst (λ (m : Middle). IsMiddle v.passes.sizes l.log m v.commit.hand (taken_out p v.places.carried) v.buckets.shut v.expected) (sym (calm is)) tt)
       (record { reading = stored (refs_word v.passes.sizes p) (n - 1); more = refl; word = refl; value = refl })
   lowered false is =
       let n : ℕ = refs_at v.passes.sizes s.words p in

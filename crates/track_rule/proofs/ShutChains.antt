@@ -5,6 +5,7 @@ use Rattle.std.proofs.lemmas.Bool.{and_parts, cases_Bool, cases_eq, cases_lt, eq
 use mathlib.Core.Option.{some}
 use lib.ListN.{get_elem?}
 use Rattle.atomic_table.specs.Table.{State}
+use Rattle.expect_table.specs.declared.expectation.Expectation.{Expectation}
 use Rattle.history_book.specs.Record.{has_id}
 use Rattle.history_book.specs.declared.record.Record.{Record}
 use Rattle.history_book.specs.declared.sizes.Sizes.{Sizes}
@@ -133,11 +134,12 @@ module _ (z : Sizes) (l : Ledger) (s : State Slot View) (id : ℕ) (v : View) (h
       (λ (t : (r.place == p && r.id == i) ≡ false). ap bit t)
       (cases_Bool (r.place == p && r.id == i))
 
-  middle_else : (m : Middle) (hand : Option Hand) (carried : List ℕ) (others : List Shut) → IsMiddle z l.log m hand carried others → shuts_in b others ≡ 0
+  middle_else : (m : Middle) (hand : Option Hand) (carried : List ℕ) (others : List Shut) (expected : Option (List Expectation))
+      → IsMiddle z l.log m hand carried others expected → shuts_in b others ≡ 0
       → middle_weight (of_both p i) m ≡ 0
-  middle_else Calm hand carried others k none_shut = refl
-  middle_else (Born r) hand carried others k none_shut = committing_else r hand carried others k none_shut
-  middle_else (Dying r) hand carried others k none_shut = committing_else r hand carried others k none_shut
+  middle_else Calm hand carried others expected k none_shut = refl
+  middle_else (Born r) hand carried others expected k none_shut = committing_else r hand carried others k none_shut
+  middle_else (Dying r) hand carried others expected k none_shut = committing_else r hand carried others k.0 none_shut
 
   -- so none is, and the phase shows the record
   pub shown_live : phase_at z s.words p ≡ 3 + i
@@ -150,7 +152,7 @@ module _ (z : Sizes) (l : Ledger) (s : State Slot View) (id : ℕ) (v : View) (h
         h.phases.shown p i low,
         other_bit (phase_at z s.words p) (3 + i) t,
         total_only (middle_of (of_both p i)) (shuts_of b) s.views id v at (shut_only z l s id v h at b below shut.mine)
-            (λ j u there none_shut. middle_else u.commit.middle u.commit.hand u.places.carried u.buckets.shut (h.commits j u there) none_shut),
+            (λ j u there none_shut. middle_else u.commit.middle u.commit.hand u.places.carried u.buckets.shut u.expected (h.commits j u there) none_shut),
         ap (middle_weight (of_both p i)) calm,
       )))
       (cases_eq (phase_at z s.words p) (3 + i))

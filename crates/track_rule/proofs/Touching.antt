@@ -281,14 +281,14 @@ module _ (l : Ledger) (s : State Slot View) (id : ℕ) (v : View) (t : Touching)
   touched_commits : AreCommits v.passes.sizes made (set s.views id after_it)
   touched_commits =
       each_other (IsMiddleOf v.passes.sizes made) s.views id after_it (λ j u apart at'. middle_on j u apart at' u.commit.middle (h.commits j u at'))
-      (subst (λ (m : Middle). IsMiddle v.passes.sizes made m after_it.commit.hand v.places.carried v.buckets.shut) (sym can.calm) tt)
+      (subst (λ (m : Middle). IsMiddle v.passes.sizes made m after_it.commit.hand v.places.carried v.buckets.shut v.expected) (sym can.calm) tt)
     where
       middle_on : (j : ℕ) (u : View) → j ≢ id → get_elem? s.views j ≡ some u → (m : Middle)
-          → IsMiddle v.passes.sizes l.log m u.commit.hand u.places.carried u.buckets.shut
-          → IsMiddle v.passes.sizes made m u.commit.hand u.places.carried u.buckets.shut
+          → IsMiddle v.passes.sizes l.log m u.commit.hand u.places.carried u.buckets.shut u.expected
+          → IsMiddle v.passes.sizes made m u.commit.hand u.places.carried u.buckets.shut u.expected
       middle_on j u apart at' Calm k = tt
       middle_on j u apart at' (Born r) k = committing_on j u apart at' r k
-      middle_on j u apart at' (Dying r) k = committing_on j u apart at' r k
+      middle_on j u apart at' (Dying r) k = (committing_on j u apart at' r k.0, k.1)
 
   touched_expected : AreExpected v.passes.sizes made words s.homes (set s.views id after_it)
   touched_expected =

@@ -21,6 +21,7 @@ pub mod Shares
 pub mod TurnSteps
 pub mod CommitSteps
 pub mod TouchSteps
+pub mod KillSteps
 pub mod Notes
 pub mod BucketSteps
 pub mod PhaseSteps
