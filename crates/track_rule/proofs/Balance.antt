@@ -29,7 +29,7 @@ use Rattle.track_rule.specs.Layout.{phase_at, place_of, refs_at}
 use Rattle.track_rule.specs.Links.{HasHooks, IsOwned, hooks_of}
 use Rattle.track_rule.specs.Phases.{of_place, table_keeps}
 use Rattle.track_rule.specs.Passes.{AreFronts, ArePasses, IsPass, has_share, made_weight, shares_of}
-use Rattle.track_rule.specs.References.{AreKept, AreReferences, held_times, is_at, is_for_new, keeps, takes, taken_times}
+use Rattle.track_rule.specs.References.{AreKept, AreReferences, ends, held_times, is_at, is_for_new, keeps, taken_times, takes}
 use Rattle.track_rule.specs.Readings.{AreRead}
 use Rattle.track_rule.specs.Rule.{IsKept, Ledger}
 use Rattle.track_rule.specs.Sums.{Each, bit, times, total}
@@ -61,7 +61,8 @@ pub record Lines (z : Sizes) (l : Ledger) (s : State Slot View) (id : ℕ) (v w 
 
 -- where its links are as they were, and it holds no fewer places
 pub bucket_lines : (z : Sizes) (l : Ledger) (s : State Slot View) (id : ℕ) (v w : View) → IsKept z l s → get_elem? s.views id ≡ some v
-    → w.buckets ≡ v.buckets → ((q : ℕ) → held_times q v.places.held ≤ held_times q w.places.held) → w.places.owned ≡ v.places.owned
+    → w.buckets ≡ v.buckets → ((q : ℕ) → held_times q v.places.held ≤ held_times q w.places.held)
+    → ((q : ℕ) → times q v.places.owned + times q v.places.ended ≤ times q w.places.owned + times q w.places.ended)
     → ((n : Walk) → w.walk ≡ Some n → IsWalk z s.words l.chains w.seen.front n) → Lines z l s id v w
 bucket_lines z l s id v w h at buckets more owned walk =
     let hooks = h.links.hooks id v at in
@@ -76,14 +77,15 @@ bucket_lines z l s id v w h at buckets more owned walk =
       hooks = subst (λ (x : HeldBuckets). HasHooks z s.words w.places x.hooks) (sym buckets) (record {
         each = hooks.each;
         held = λ link some. omega (arith, hooks.held link some, more (place_of link));
-        linked = subst (λ (xs : List ℕ). Each (IsOwned xs) v.buckets.hooks) (sym owned) hooks.linked;
+        linked = λ i x at' up. omega (arith, hooks.linked i x at' up, owned (place_of x.link));
       });
       walk = walk;
     }
 
 -- and its walk too
 pub same_lines : (z : Sizes) (l : Ledger) (s : State Slot View) (id : ℕ) (v w : View) → IsKept z l s → get_elem? s.views id ≡ some v
-    → w.buckets ≡ v.buckets → ((q : ℕ) → held_times q v.places.held ≤ held_times q w.places.held) → w.places.owned ≡ v.places.owned
+    → w.buckets ≡ v.buckets → ((q : ℕ) → held_times q v.places.held ≤ held_times q w.places.held)
+    → ((q : ℕ) → times q v.places.owned + times q v.places.ended ≤ times q w.places.owned + times q w.places.ended)
     → w.walk ≡ v.walk → w.seen.front ≡ v.seen.front
     → Lines z l s id v w
 same_lines z l s id v w h at buckets more owned walk front =
@@ -158,7 +160,7 @@ pub record RefsStep (z : Sizes) (log : List Event) (ws ws' : List ℕ) (vs : Lis
   pub beyond : (p : ℕ) → z.entries ≤ p → keeps p w ≡ keeps p v
   pub phases : (p : ℕ) → phase_at z ws' p ≡ phase_at z ws p
   pub carried : (p : ℕ) → times p w.places.carried ≤ held_times p w.places.held
-  pub taken : (p : ℕ) → total (takes p) vs + total (of_place p) (records_after log) + takes p w ≤ 1 + takes p v
+  pub taken : (p : ℕ) → total (takes p) vs + total (ends p) vs + total (of_place p) (records_after log) + takes p w + ends p w ≤ 1 + takes p v + ends p v
   pub purposes : AreKept log w.places.held
 
 pub references_moved : (z : Sizes) (log : List Event) (ws ws' : List ℕ) (vs : List View) (i : ℕ) (v w : View) → get_elem? vs i ≡ some v
@@ -168,22 +170,22 @@ references_moved z log ws ws' vs i v w at t h = record {
       omega (arith, h.counted p below, t.count p below, total_set (keeps p) vs i v w at, ap table_keeps (t.phases p));
   beyond = λ p above. omega (arith, h.beyond p above, t.beyond p above, total_set (keeps p) vs i v w at);
   carried = each_put (λ u. (p : ℕ) → times p u.places.carried ≤ held_times p u.places.held) vs i w h.carried t.carried;
-  taken = λ p. omega (arith, t.taken p, total_set (takes p) vs i v w at);
+  taken = λ p. omega (arith, t.taken p, total_set (takes p) vs i v w at, total_set (ends p) vs i v w at);
   purposes = each_put (λ u. AreKept log u.places.held) vs i w h.purposes t.purposes;
 }
 
 -- a step that leaves all references
 pub references_left : (z : Sizes) (log : List Event) (ws ws' : List ℕ) (vs : List View) (i : ℕ) (v w : View) → get_elem? vs i ≡ some v
-    → w.places.held ≡ v.places.held → w.places.carried ≡ v.places.carried → ((p : ℕ) → refs_at z ws' p ≡ refs_at z ws p)
+    → w.places.held ≡ v.places.held → w.places.carried ≡ v.places.carried → w.places.ended ≡ v.places.ended → ((p : ℕ) → refs_at z ws' p ≡ refs_at z ws p)
     → ((p : ℕ) → phase_at z ws' p ≡ phase_at z ws p) → AreReferences z log ws vs → AreReferences z log ws' (set vs i w)
-references_left z log ws ws' vs i v w at held carried refs phases h =
+references_left z log ws ws' vs i v w at held carried ended refs phases h =
     let keep : (p : ℕ) → keeps p w ≡ keeps p v = λ p k. held_times p (held k) + times p (carried k) in
     references_moved z log ws ws' vs i v w at (record {
       count = λ p below. omega (arith, refs p, keep p);
       beyond = λ p above. keep p;
       phases = phases;
       carried = λ p. omega (arith, h.carried i v at p, ap (held_times p) held, ap (times p) carried);
-      taken = λ p. omega (arith, h.taken p, ap (λ (ks : List Keep). total (λ k. bit (is_at p k && is_for_new k.purpose)) ks) held);
+      taken = λ p. omega (arith, h.taken p, ap (λ (ks : List Keep). total (λ k. bit (is_at p k && is_for_new k.purpose)) ks) held, ap (times p) ended);
       purposes = subst (AreKept log) (sym held) (h.purposes i v at);
     }) h
 
@@ -202,6 +204,7 @@ pub record FreeStep (z : Sizes) (ws ws' : List ℕ) (hs' : List (Slotted Slot)) 
   pub few : length w.places.held + length w.places.owed ≤ 4
   pub clear : (p : ℕ) → 0 < times p w.places.clear → (0 < times p w.places.owed) × (phase_at z ws' p ≡ 0)
   pub owned : (p : ℕ) → 0 < times p w.places.owned → (0 < takes p w) × (phase_at z ws' p ≡ 1)
+  pub ended : (p : ℕ) → 0 < times p w.places.ended → (0 < times p w.places.carried) × (phase_at z ws' p ≡ 2)
 
 pub free_moved : (z : Sizes) (ws ws' : List ℕ) (hs hs' : List (Slotted Slot)) (vs : List View) (i : ℕ) (v w : View) (free free' : List ℕ)
     → get_elem? vs i ≡ some v → FreeStep z ws ws' hs' vs v w free free' → IsFreeList z ws hs vs free
@@ -223,6 +226,8 @@ free_moved z ws ws' hs hs' vs i v w free free' at t h = record {
       (λ j u at' p some. let c = h.clear j u at' p some in (c.0, t.phases p ∙ c.1)) t.clear;
   owned = each_put (λ u. (p : ℕ) → 0 < times p u.places.owned → (0 < takes p u) × (phase_at z ws' p ≡ 1)) vs i w
       (λ j u at' p some. let c = h.owned j u at' p some in (c.0, t.phases p ∙ c.1)) t.owned;
+  ended = each_put (λ u. (p : ℕ) → 0 < times p u.places.ended → (0 < times p u.places.carried) × (phase_at z ws' p ≡ 2)) vs i w
+      (λ j u at' p some. let c = h.ended j u at' p some in (c.0, t.phases p ∙ c.1)) t.ended;
 }
 
 -- a step that leaves the places of the pass, and its turn of the list
@@ -246,6 +251,8 @@ free_left z ws ws' hs hs' vs i v w free at places turn refs phases word home h =
           (λ p on. let c = h.clear i v at p on in (c.0, phases p ∙ c.1));
       owned = subst (λ (x : Places). (p : ℕ) → 0 < times p x.owned → (0 < taken_times p x.held) × (phase_at z ws' p ≡ 1)) (sym places)
           (λ p on. let c = h.owned i v at p on in (c.0, phases p ∙ c.1));
+      ended = subst (λ (x : Places). (p : ℕ) → 0 < times p x.ended → (0 < times p x.carried) × (phase_at z ws' p ≡ 2)) (sym places)
+          (λ p on. let c = h.ended i v at p on in (c.0, phases p ∙ c.1));
     }) h
 
 -- the passes keep few references to a place

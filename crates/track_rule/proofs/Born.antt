@@ -36,7 +36,7 @@ use Rattle.track_rule.specs.Links.{AreLinks, HasHooks, IsHook, IsOwned, hook_of,
 use Rattle.track_rule.specs.Phases.{ArePhases, middle_of, middle_weight, of_both, of_place, shows, table_keeps}
 use Rattle.track_rule.specs.Readings.{stored}
 use Rattle.track_rule.specs.Records.{AreRecords, IsHand, has_hand, record_in}
-use Rattle.track_rule.specs.References.{AreKept, AreReferences, held_times, keeps, takes}
+use Rattle.track_rule.specs.References.{AreKept, AreReferences, ends, held_times, keeps, takes}
 use Rattle.track_rule.specs.Rule.{IsKept, Ledger}
 use Rattle.track_rule.specs.Sums.{Each, bit, times, total}
 use Rattle.track_rule.specs.Walks.{AreWalks, HasLive, IsWalk, Stands}
@@ -48,7 +48,7 @@ use Rattle.track_rule.proofs.HookLists.{hook_test, hook_there, some_hook}
 use Rattle.track_rule.proofs.Named.{born_ledger, chains_both, chains_off, chains_on, hooks_else, named_chain, named_chains, named_here, named_in_chain, named_ordered, named_shuts, records_else}
 use Rattle.track_rule.proofs.HistoryWord.{word_other, word_phase, word_refs, word_same, word_turn}
 use Rattle.track_rule.proofs.LastRead.{stored_on}
-use Rattle.track_rule.proofs.Lists.{other_bit, same_bit, unlisted_in, unlisted_out}
+use Rattle.track_rule.proofs.Lists.{other_bit, same_bit, unlisted_less, unlisted_out}
 use Rattle.track_rule.proofs.Sums.{each_other, each_put, total_append, total_but, total_map, total_same, total_set, total_term, total_two}
 
 -- the two links of a place
@@ -67,14 +67,6 @@ two_links p link some_link =
   where
     neither : (p link : ℕ) → 0 < link → 1 + 2 * p ≢ link → 2 + 2 * p ≢ link → p ≡ place_of link → ⊥
     neither p link some_link e f x = omega (arith, some_link, e, f, x)
-
--- what is still owned
-unlisted_less : (p q : ℕ) (owned : List ℕ) → 0 < times q (unlisted (p ∷ []) owned) → (0 < times q owned) × (q ≢ p)
-unlisted_less p q owned some_left =
-    ⊎_elim
-    (λ (e : q ≡ p). absurd (omega (arith, some_left, unlisted_in (p ∷ []) q owned (ap (λ b. b || false) (eq-eqb p q (sym e))))))
-    (λ (e : q ≢ p). (omega (arith, some_left, unlisted_out (p ∷ []) q owned (ap (λ b. b || false) (ne_eqb p q (λ x. e (sym x))))), e))
-    (cases_eq q p)
 
 module _ (l : Ledger) (s : State Slot View) (id : ℕ) (v : View) (r : Record) (h : IsKept v.passes.sizes l s) (at : get_elem? s.views id ≡ some v)
     (has_some : 0 < v.passes.shares) (can : CanConfirm r v) (follow : StatesFollow) (go_on : LegalHistoriesGoOn) (confirmed_low : LiveRecordsAreConfirmed) where
@@ -355,10 +347,11 @@ module _ (l : Ledger) (s : State Slot View) (id : ℕ) (v : View) (r : Record) (
           (chain_stays z s.words words same.links b (slice_index s.words (head_word z b)) (l.chains b) (h.chains.linked b below))
 
   -- links in chains are of places that the pass still owns
-  born_linked : Each (IsOwned after_it.places.owned) after_it.buckets.hooks
+  born_linked : Each (IsOwned after_it.places) after_it.buckets.hooks
   born_linked i k at' up =
       let is : IsHook v.passes.sizes s.words k = each_left (IsHook v.passes.sizes s.words) (h.links.hooks id v at).each i k at' in
-      let owned : 0 < times (place_of k.link) v.places.owned = each_left (IsOwned v.places.owned) (h.links.hooks id v at).linked i k at' up in
+      let owned : 0 < times (place_of k.link) v.places.owned + times (place_of k.link) v.places.ended =
+      each_left (IsOwned v.places) (h.links.hooks id v at).linked i k at' up in
       ⊎_elim
       (λ (e : r.place ≡ place_of k.link).
       absurd (omega (arith, no_link k.link is.some e, total_term (λ (x : Hook). bit (x.link == k.link)) after_it.buckets.hooks i k at', same_bit k.link k.link refl)))
@@ -402,6 +395,7 @@ module _ (l : Ledger) (s : State Slot View) (id : ℕ) (v : View) (r : Record) (
         taken = λ q. omega (
           arith,
           h.references.taken q,
+          total_same (ends q) s.views id v after_it at refl,
           weighs (of_place q),
           held_taken r.place (length l.log) q v.places.held can.taken,
           total_set (takes q) s.views id v after_it at,
@@ -442,6 +436,9 @@ module _ (l : Ledger) (s : State Slot View) (id : ℕ) (v : View) (r : Record) (
               omega (arith, c.0, held_taken r.place (length l.log) q v.places.held can.taken, other_bit r.place q (λ e. o.1 (sym e))),
               word_phase z s.words (packed made) q ∙ c.1,
             ));
+        ended = each_put (λ u. (q : ℕ) → 0 < times q u.places.ended → (0 < times q u.places.carried) × (phase_at z words q ≡ 2)) s.views id after_it
+            (λ i u at' q on. let c = h.free_list.ended i u at' q on in (c.0, word_phase z s.words (packed made) q ∙ c.1))
+            (λ q on. let c = h.free_list.ended id v at q on in (c.0, word_phase z s.words (packed made) q ∙ c.1));
       }
 
   born_phases : ArePhases v.passes.sizes made words (set s.views id after_it)

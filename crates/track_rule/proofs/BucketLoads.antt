@@ -43,7 +43,7 @@ note_read z l s id i v walk h at has_some is_walk =
     let one : IsPass z l.log v = h.passes.each id v at in
     let m : Moves v w = record { made = record { passes = refl; own = refl; gathered = refl }; commit = refl; expected = refl } in
     reads z l s id i v w h at m (pass_moved z l.log v w one m.made has_some one.front one.told) refl refl
-    (bucket_lines z l s id v w h at refl (λ q. omega arith) refl is_walk) has_some
+    (bucket_lines z l s id v w h at refl (λ q. omega arith) (λ q. omega arith) is_walk) has_some
     (record { reading = found i (slice_index s.words i); more = refl; word = refl; value = refl })
 
 -- a load of a generation

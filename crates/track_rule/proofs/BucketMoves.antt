@@ -65,7 +65,7 @@ bucket_moved z l s id v w ws' chains' h at m has_some seen places free rest long
     (passes_moved z l.log s.views id v w at m.made
     (pass_moved z l.log v w one m.made has_some (subst (StartsWith l.log) (sym (ap (λ (x : Seen). x.front) seen)) one.front)
     (subst (AreFronts l.log) (sym (ap (λ (x : Seen). x.told) seen)) one.told)) h.passes)
-    (references_left z l.log s.words ws' s.views id v w at (ap (λ (x : Places). x.held) places) (ap (λ (x : Places). x.carried) places) rest.refs
+    (references_left z l.log s.words ws' s.views id v w at (ap (λ (x : Places). x.held) places) (ap (λ (x : Places). x.carried) places) (ap (λ (x : Places). x.ended) places) rest.refs
     rest.still.phases h.references)
     (free_left z s.words ws' s.homes s.homes s.views id v w l.free at places free rest.refs rest.still.phases rest.free refl h.free_list)
     chains links walks readings (each_put (IsMiddleOf z l.log) s.views id w h.commits middle)

@@ -246,8 +246,8 @@ module _ (l : Ledger) (s : State Slot View) (id b : ℕ) (v : View) (h : IsKept 
                 second = word_else z s.words word to (second_word z k.link) (w.seconds k.link) ∙ is.0.second;
                 next = λ n off some_is. word_else z s.words word to (next_word z k.link) (is.1 off) ∙ is.0.next n off some_is;
               }));
-          linked = each_change (IsOwned v.places.owned) (IsOwned v.places.owned) (lower e.link) v.buckets.hooks (h.links.hooks id v at).linked (λ k is.
-              cond_both (k.link == e.link) (record k { next = None; up = false }) k (IsOwned v.places.owned) (λ p up. absurd (false≢true up)) (λ p. is));
+          linked = each_change (IsOwned v.places) (IsOwned v.places) (lower e.link) v.buckets.hooks (h.links.hooks id v at).linked (λ k is.
+              cond_both (k.link == e.link) (record k { next = None; up = false }) k (IsOwned v.places) (λ p up. absurd (false≢true up)) (λ p. is));
         })
       where
         low_first : (es : List Entry) → Each (IsLinked v.passes.sizes s.words b) es → first_of es ≤ last_link v.passes.sizes

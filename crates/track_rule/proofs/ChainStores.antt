@@ -70,7 +70,7 @@ pub record Restrings (z : Sizes) (s : State Slot View) (chains : ℕ → List En
   pub here : chain_in b buckets.shut ≡ es
   pub there : (c : ℕ) → c ≢ b → chain_in c buckets.shut ≡ chain_in c v.buckets.shut
   pub hooks : Each (IsHook z (slice_set s.words word to)) buckets.hooks
-  pub linked : Each (IsOwned v.places.owned) buckets.hooks
+  pub linked : Each (IsOwned v.places) buckets.hooks
 
 module _ (l : Ledger) (s : State Slot View) (id b : ℕ) (v : View) (h : IsKept v.passes.sizes l s) (at : get_elem? s.views id ≡ some v)
     (has_some : 0 < v.passes.shares) (below : b < v.passes.sizes.buckets) (mine : 0 < shuts_of b v) where
@@ -314,10 +314,10 @@ module _ (l : Ledger) (s : State Slot View) (id b x : ℕ) (v : View) (h : IsKep
               second = word_else z s.words (head_word z b) x (second_word z y.link) (second_head z y.link b below);
               next = word_else z s.words (head_word z b) x (next_word z y.link) (next_head z y.link b below);
             }) is));
-        linked = each_change (IsOwned v.places.owned) (IsOwned v.places.owned) (raise x) v.buckets.hooks (h.links.hooks id v at).linked (λ y is.
-            cond_both (y.link == x) (record y { next = None; up = true }) y (IsOwned v.places.owned)
-            (λ e up. subst (λ (k : ℕ). 0 < times (place_of k) v.places.owned) (sym (eqb-true y.link x e))
-            (total_some (λ q. q == place_of x) v.places.owned owned)) (λ e. is));
+        linked = each_change (IsOwned v.places) (IsOwned v.places) (raise x) v.buckets.hooks (h.links.hooks id v at).linked (λ y is.
+            cond_both (y.link == x) (record y { next = None; up = true }) y (IsOwned v.places)
+            (λ e up. subst (λ (k : ℕ). 0 < times (place_of k) v.places.owned + times (place_of k) v.places.ended) (sym (eqb-true y.link x e))
+            (omega (arith, total_some (λ q. q == place_of x) v.places.owned owned))) (λ e. is));
       })
     where
       behind : (y : ℕ) → 0 < y → side_of y ≡ 1 → 0 < y - 1

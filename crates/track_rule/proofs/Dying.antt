@@ -28,7 +28,7 @@ use Rattle.track_rule.specs.Passes.{IsPass}
 use Rattle.track_rule.specs.Phases.{ArePhases, middle_of, middle_weight, of_both, of_place, shows, table_keeps}
 use Rattle.track_rule.specs.Readings.{stored}
 use Rattle.track_rule.specs.Records.{AreRecords, IsHand, has_hand, is_hand_of, record_in}
-use Rattle.track_rule.specs.References.{AreKept, AreReferences, held_times, is_at, is_held, keeps, takes}
+use Rattle.track_rule.specs.References.{AreKept, AreReferences, ends, held_times, is_at, is_held, keeps, takes}
 use Rattle.track_rule.specs.Rule.{Holds, IsKept, Ledger}
 use Rattle.track_rule.specs.Slots.{expected_number, free_number, hand_number}
 use Rattle.track_rule.specs.Sums.{bit, times, total}
@@ -115,7 +115,7 @@ module _ (l : Ledger) (s : State Slot View) (id : ℕ) (v : View) (r : Record) (
             subst (λ (x : ℕ). times x (r.place ∷ v.places.carried) ≤ held_times x v.places.held) (sym e) (omega (arith, carried_here, k.held)))
             (λ (e : q ≢ r.place). omega (arith, carried_else q e, h.references.carried id v at q))
             (cases_eq q r.place));
-        taken = λ q. omega (arith, h.references.taken q, total_same (takes q) s.views id v w at refl);
+        taken = λ q. omega (arith, h.references.taken q, total_same (takes q) s.views id v w at refl, total_same (ends q) s.views id v w at refl);
         purposes = each_put (λ u. AreKept l.log u.places.held) s.views id w h.references.purposes (h.references.purposes id v at);
       }
 
@@ -150,6 +150,9 @@ module _ (l : Ledger) (s : State Slot View) (id : ℕ) (v : View) (r : Record) (
         owned = each_put (λ u. (q : ℕ) → 0 < times q u.places.owned → (0 < takes q u) × (phase_at z new q ≡ 1)) s.views id w
             (λ i u at' q on. let c = h.free_list.owned i u at' q on in (c.0, low_stays q 1 (omega arith) c.1))
             (λ q on. let c = h.free_list.owned id v at q on in (c.0, low_stays q 1 (omega arith) c.1));
+        ended = each_put (λ u. (q : ℕ) → 0 < times q u.places.ended → (0 < times q u.places.carried) × (phase_at z new q ≡ 2)) s.views id w
+            (λ i u at' q on. let c = h.free_list.ended i u at' q on in (c.0, low_stays q 2 (omega arith) c.1))
+            (λ q on. let c = h.free_list.ended id v at q on in (omega (arith, c.0), low_stays q 2 (omega arith) c.1));
       }
 
   dead_phases : ArePhases v.passes.sizes l.log new (set s.views id w)

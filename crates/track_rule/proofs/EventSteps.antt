@@ -24,7 +24,7 @@ use Rattle.track_rule.specs.Layout.{phase_at, place_of}
 use Rattle.track_rule.specs.Links.{HasHooks, hooks_of}
 use Rattle.track_rule.specs.Phases.{middle_of, middle_weight, of_both, of_place, shows, table_keeps}
 use Rattle.track_rule.specs.Records.{AreRecords}
-use Rattle.track_rule.specs.References.{AreKept, AreReferences, held_times, keeps, taken_times, takes}
+use Rattle.track_rule.specs.References.{AreKept, AreReferences, ends, held_times, keeps, taken_times, takes}
 use Rattle.track_rule.specs.Rule.{IsKept, Ledger}
 use Rattle.track_rule.specs.Sums.{times, total}
 use Rattle.track_rule.specs.Walks.{IsWalk}
@@ -81,6 +81,7 @@ module _ (l : Ledger) (s : State Slot View) (id : ℕ) (v w : View) (e : Event) 
           h.references.taken q,
           same.places q,
           total_same (takes q) s.views id v w at (ap (λ (x : Places). taken_times q x.held) parts.places),
+          total_same (ends q) s.views id v w at (ap (λ (x : Places). times q x.ended) parts.places),
         );
         purposes = each_put (λ u. AreKept made u.places.held) s.views id w
             (λ i u at'. kept_on l.log e u.places.held (h.references.purposes i u at'))

@@ -1,6 +1,8 @@
 -- Shares are handed over, a pass takes in another one, the first pass begins, and the last one ends.
+use Rattle.std.proofs.lemmas.Bool.{cases_lt}
+use Rattle.track_rule.proofs.Lists.{same_bit}
 use Rattle.std.specs.Prelude.{slice_get, slice_index, nat_le, nat_lt, ◌&&◌, if◌then◌else◌}
-use Rattle.std.proofs.Common.{◌≡◌, ℕ, ◌+◌, ◌-◌, ◌^◌, ◌<◌, ◌≤◌, true, Option, Some, None, List, [], ◌∷◌, ◌++◌, length, refl, sym, ap, subst, ◌∙◌, arith, set, length-append}
+use Rattle.std.proofs.Common.{List, None, Option, Some, [], ap, arith, length, length-append, refl, set, subst, sym, true, ℕ, ⊎_elim, ◌++◌, ◌+◌, ◌-◌, ◌<◌, ◌^◌, ◌∙◌, ◌∷◌, ◌≡◌, ◌≤◌}
 use Rattle.std.proofs.lemmas.Bool.Decides.{nat_tests}
 use Rattle.history_book.specs.History.{is_legal}
 use Rattle.std.proofs.lemmas.List.Elements.{All-append}
@@ -46,7 +48,12 @@ references_carry z log ws vs vs' c h = record {
   counted = λ p below. h.counted p below ∙ ap (λ (n : ℕ). n + table_keeps (phase_at z ws p)) (sym (kept_by p));
   beyond = λ p above. kept_by p ∙ h.beyond p above;
   carried = c.each (λ (x : Places). (p : ℕ) → times p x.carried ≤ held_times p x.held) (λ p. omega arith) h.carried;
-  taken = λ p. omega (arith, h.taken p, c.sums (λ (x : Places). total (λ k. bit (is_at p k && is_for_new k.purpose)) x.held) refl);
+  taken = λ p. omega (
+    arith,
+    h.taken p,
+    c.sums (λ (x : Places). total (λ k. bit (is_at p k && is_for_new k.purpose)) x.held) refl,
+    c.sums (λ (x : Places). times p x.ended) refl,
+  );
   purposes = c.each (λ (x : Places). AreKept log x.held) tt h.purposes;
 }
   where
@@ -66,6 +73,7 @@ free_carry z ws hs vs vs' free c t h = record {
   few = c.each (λ (x : Places). length x.held + length x.owed ≤ 4) (omega arith) h.few;
   clear = c.each (λ (x : Places). (p : ℕ) → 0 < times p x.clear → (0 < times p x.owed) × (phase_at z ws p ≡ 0)) (λ p any. absurd (omega (arith, any))) h.clear;
   owned = c.each (λ (x : Places). (p : ℕ) → 0 < times p x.owned → (0 < taken_times p x.held) × (phase_at z ws p ≡ 1)) (λ p any. absurd (omega (arith, any))) h.owned;
+  ended = c.each (λ (x : Places). (p : ℕ) → 0 < times p x.ended → (0 < times p x.carried) × (phase_at z ws p ≡ 2)) (λ p any. absurd (omega (arith, any))) h.ended;
 }
   where
     owed_by : (p : ℕ) → total (owes p) vs' ≡ total (owes p) vs
@@ -253,6 +261,11 @@ total_joined : (f : View → ℕ) (vs : List View) (i j : ℕ) (v w both spent :
 total_joined f vs i j v w both spent at at' same =
     omega (arith, total_set f (set vs i both) j w spent at', total_set f vs i v both at, same)
 
+-- a list in which no place stands
+none_among : (places : List ℕ) → ((p : ℕ) → times p places ≡ 0) → places ≡ []
+none_among [] none = refl
+none_among (p ∷ ps) none = absurd (omega (arith, none p, same_bit p p refl))
+
 -- taking in another pass keeps the rule
 pub joins : (z : Sizes) (id other : ℕ) (v w : View) → 0 < v.passes.shares → 0 < w.passes.shares → HasNothing w
     → Joins (Holds z) id v other w (joined v w) spent_view
@@ -262,6 +275,9 @@ joins z id other v w has_some has_other none s (l, h) at apart at' =
     let there : get_elem? s.views other ≡ some w = sym (set_else s.views id other both apart) ∙ at' in
     let p : IsPass z l.log v = h.passes.each id v at in
     let q : IsPass z l.log w = h.passes.each other w there in
+    let ended : w.places.ended ≡ [] =
+    none_among w.places.ended (λ q. ⊎_elim (λ (e : 0 < times q w.places.ended). absurd (omega (arith, (h.free_list.ended other w there q e).0, ap (times q) none.carried)))
+    (λ (e : times q w.places.ended ≤ 0). omega (arith, e)) (cases_lt 0 (times q w.places.ended))) in
     let many : z.passes ≡ 1 → ⊥ =
     λ one. omega (arith, one, h.passes.all, has_some, has_other, total_two shares_of s.views id other v w at there apart) in (
       l,
@@ -286,14 +302,14 @@ joins z id other v w has_some has_other none s (l, h) at apart at' =
             expected = carries_join (λ (u : View). u.expected) None s.views id other v w both spent_view at at' refl none.expected refl;
           })
           (carries_join (λ (u : View). u.places) no_places s.views id other v w both spent_view at at' refl
-          (λ k. record { held = none.held k; owed = none.owed k; clear = none.clear k; owned = none.owned k; carried = none.carried k }) refl)
+          (λ k. record { held = none.held k; owed = none.owed k; clear = none.clear k; owned = none.owned k; carried = none.carried k; ended = ended k }) refl)
           (carries_join (λ (u : View). u.free) None s.views id other v w both spent_view at at' refl none.free refl)
           (carries_join {X = Places × HeldBuckets} (λ (u : View). (u.places, u.buckets)) (no_places, no_buckets) s.views id other v w both spent_view at at' refl
-          (λ k. (record { held = none.held k; owed = none.owed k; clear = none.clear k; owned = none.owned k; carried = none.carried k }, record { shut = none.shut k; hooks = none.hooks k })) refl)
+          (λ k. (record { held = none.held k; owed = none.owed k; clear = none.clear k; owned = none.owned k; carried = none.carried k; ended = ended k }, record { shut = none.shut k; hooks = none.hooks k })) refl)
           (carries_join {X = Holding} (λ (u : View). (u.commit, u.places, u.buckets, u.expected)) (no_commit, no_places, no_buckets, None) s.views id other v w both spent_view at at' refl
           (λ k. (
             record { hand = none.hand k; middle = none.middle k },
-            record { held = none.held k; owed = none.owed k; clear = none.clear k; owned = none.owned k; carried = none.carried k },
+            record { held = none.held k; owed = none.owed k; clear = none.clear k; owned = none.owned k; carried = none.carried k; ended = ended k },
             record { shut = none.shut k; hooks = none.hooks k },
             none.expected k,
           )) refl)

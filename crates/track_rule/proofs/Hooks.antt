@@ -1,7 +1,8 @@
 -- The hooks of a pass: those of a place that it takes, and those that it gives up with its last reference.
+use Rattle.track_rule.specs.declared.view.Places.{Places}
 use Rattle.std.proofs.Common.{◌≡◌, ◌≢◌, ℕ, zero, suc, ◌+◌, ◌*◌, ◌<◌, ◌≤◌, Bool, true, false, cond, None, List, [], ◌∷◌, filter, refl, sym, ap, subst, ◌∙◌, ⊎_elim, arith}
 use Rattle.std.specs.Prelude.{slice_index, ◌==◌, ◌&&◌, ◌||◌, not, if◌then◌else◌}
-use Rattle.std.proofs.lemmas.Bool.{cases_eq, cond_both, eq-eqb, false≢true, ne_eqb, or_parts}
+use Rattle.std.proofs.lemmas.Bool.{cases_eq, cases_lt, cond_both, eq-eqb, false≢true, ne_eqb, or_parts}
 use Rattle.std.proofs.lemmas.Option.{none-some}
 use mathlib.Core.Option.{some, some-injective, some-ne-none}
 use lib.ListN.{get_elem?}
@@ -13,7 +14,7 @@ use Rattle.track_rule.specs.declared.view.Hook.{Hook}
 use Rattle.track_rule.specs.declared.view.Keep.{Keep}
 use Rattle.track_rule.specs.declared.view.View.{View}
 use Rattle.track_rule.specs.Chains.{entry_of, hooks_at, loose_of, side}
-use Rattle.track_rule.specs.Free.{unlisted}
+use Rattle.track_rule.specs.Free.{is_among, unlisted}
 use Rattle.track_rule.specs.declared.view.Middle.{Middle}
 use Rattle.track_rule.specs.declared.view.Middle.TheVariants.{Calm, Born, Dying}
 use Rattle.track_rule.specs.Commits.{IsCommitting, IsMiddle}
@@ -21,12 +22,12 @@ use Rattle.track_rule.specs.History.{records_after}
 use Rattle.track_rule.specs.Layout.{first_word, place_of, refs_at, second_word}
 use Rattle.track_rule.specs.Links.{HasHooks, IsHook, IsOwned, hooks_of, is_up, last_link}
 use Rattle.track_rule.specs.Phases.{middle_of, middle_weight, of_place}
-use Rattle.track_rule.specs.References.{held_times, keeps, is_taken, without}
+use Rattle.track_rule.specs.References.{ends, held_times, is_taken, keeps, without}
 use Rattle.track_rule.specs.Rule.{IsKept, Ledger}
 use Rattle.track_rule.specs.Steps.{NewHooks, let_go_of, opened, owned_then}
 use Rattle.track_rule.specs.Sums.{Each, bit, times, total}
 use Rattle.track_rule.proofs.Balance.{Lines}
-use Rattle.track_rule.proofs.Lists.{other_bit, same_bit, unlisted_in, unlisted_out}
+use Rattle.track_rule.proofs.Lists.{other_bit, same_bit, unlisted_else, unlisted_in, unlisted_out}
 use Rattle.track_rule.proofs.Sums.{total_only, total_set, total_term, total_le}
 
 -- a link of a place that is not in a chain, with what stands in its words
@@ -94,6 +95,18 @@ module _ (z : Sizes) (l : Ledger) (s : State Slot View) (h : IsKept z l s) (id :
       middle_kept p (Born r) u k = committing p u r k
       middle_kept p (Dying r) u k = committing p u r k.0
 
+  -- nor has a pass destroyed one there, of which it carries the table's reference
+  pub none_ended : total (ends p) s.views ≡ 0
+  none_ended =
+      total_only (ends p) (keeps p) s.views id v at none_keeps (λ i u at' none. not_ended i u at' none) ∙ not_ended id v at mine_none
+    where
+      not_ended : (i : ℕ) (u : View) → get_elem? s.views i ≡ some u → keeps p u ≡ 0 → ends p u ≡ 0
+      not_ended i u at' none =
+          ⊎_elim
+          (λ (e : 0 < ends p u). absurd (omega (arith, none, (h.free_list.ended i u at' p e).0)))
+          (λ (e : ends p u ≤ 0). omega (arith, e))
+          (cases_lt 0 (ends p u))
+
   no_hook : (v : View) → HasHooks z s.words v.places v.buckets.hooks → keeps p v ≡ 0
       → HasHooks z s.words (opened p (new_hooks z s.words p v.buckets.hooks) v).places (new_hooks z s.words p v.buckets.hooks)
   no_hook v k none = record {
@@ -116,7 +129,7 @@ module _ (z : Sizes) (l : Ledger) (s : State Slot View) (h : IsKept z l s) (id :
           )),
         ))
         (cases_eq p (place_of link));
-    linked = with_two (IsOwned v.places.owned) (new_hook z s.words (1 + 2 * p)) (new_hook z s.words (2 + 2 * p)) (λ up. absurd (false≢true up))
+    linked = with_two (IsOwned v.places) (new_hook z s.words (1 + 2 * p)) (new_hook z s.words (2 + 2 * p)) (λ up. absurd (false≢true up))
         (λ up. absurd (false≢true up)) k.linked;
   }
     where
@@ -244,23 +257,25 @@ still_owned p q held owned =
     ))
     (cases_eq q p))
 
--- the places of links in chains stay owned where no such link is of the place of that reference
-stays_linked : (p : ℕ) (held : List Keep) (owned : List ℕ) (hooks : List Hook) → is_up p hooks ≡ false → Each (IsOwned owned) hooks
-    → Each (IsOwned (owned_then p held owned)) hooks
-stays_linked p held owned [] down each i h at = absurd (some-ne-none h (sym at))
-stays_linked p held owned (k ∷ ks) down each (suc i) h at =
-    stays_linked p held owned ks (or_parts (place_of k.link == p && k.up) (is_up p ks) down).1 (λ j m at'. each (suc j) m at') i h at
-stays_linked p held owned (k ∷ ks) down each zero h at =
-    subst (IsOwned (owned_then p held owned)) (some-injective k h at)
-    (λ up.
-    cond_both (is_taken p (without p held)) owned (unlisted (p ∷ []) owned) (λ xs. 0 < times (place_of k.link) xs)
-    (λ t. each 0 k refl up)
-    (λ t. omega (arith, each 0 k refl up, unlisted_out (p ∷ []) (place_of k.link) owned (ap (λ b. b || false) (ne_eqb p (place_of k.link) (elsewhere up))))))
+-- links in chains are of places that the pass has still, where no such link is of the place of which it has not
+stays_linked : (p : ℕ) (before after : Places) (hooks : List Hook) → is_up p hooks ≡ false
+    → ((q : ℕ) → q ≢ p → times q before.owned + times q before.ended ≤ times q after.owned + times q after.ended)
+    → Each (IsOwned before) hooks → Each (IsOwned after) hooks
+stays_linked p before after [] down others each i h at = absurd (some-ne-none h (sym at))
+stays_linked p before after (k ∷ ks) down others each (suc i) h at =
+    stays_linked p before after ks (or_parts (place_of k.link == p && k.up) (is_up p ks) down).1 others (λ j m at'. each (suc j) m at') i h at
+stays_linked p before after (k ∷ ks) down others each zero h at =
+    subst (IsOwned after) (some-injective k h at) (λ up. omega (arith, each 0 k refl up, others (place_of k.link) (elsewhere up)))
   where
-    elsewhere : k.up ≡ true → p ≢ place_of k.link
+    elsewhere : k.up ≡ true → place_of k.link ≢ p
     elsewhere up e =
         false≢true (sym (or_parts (place_of k.link == p && k.up) (is_up p ks) down).0
-        ∙ ap (λ b. b && k.up) (eq-eqb (place_of k.link) p (sym e)) ∙ up)
+        ∙ ap (λ b. b && k.up) (eq-eqb (place_of k.link) p e) ∙ up)
+
+-- what stays owned where a reference is given up
+owned_else : (p q : ℕ) (held : List Keep) (owned : List ℕ) → q ≢ p → times q (owned_then p held owned) ≡ times q owned
+owned_else p q held owned other =
+    cond_both (is_taken p (without p held)) owned (unlisted (p ∷ []) owned) (λ xs. times q xs ≡ times q owned) (λ t. refl) (λ t. unlisted_else p q owned other)
 
 -- a reference is given up, and where it was the last of the pass, the hooks with it
 pub lowered_lines : (z : Sizes) (l : Ledger) (s : State Slot View) (id p n : ℕ) (v : View) → IsKept z l s → get_elem? s.views id ≡ some v
@@ -269,6 +284,8 @@ pub lowered_lines : (z : Sizes) (l : Ledger) (s : State Slot View) (id p n : ℕ
     → Lines z l s id v (let_go_of false p n v)
 lowered_lines z l s id p n v h at any less others down =
     let hooks = h.links.hooks id v at in
+    let still : Each (IsOwned (let_go_of false p n v).places) v.buckets.hooks =
+    stays_linked p v.places (let_go_of false p n v).places v.buckets.hooks down (λ q other. omega (arith, owned_else p q v.places.held v.places.owned other)) hooks.linked in
     record {
       shut = refl;
       loose = λ b weight. cond_both (held_times p v.places.held == 1) (filter (λ (h : Hook). not (place_of h.link == p)) v.buckets.hooks) v.buckets.hooks
@@ -285,8 +302,7 @@ lowered_lines z l s id p n v h at any less others down =
           (HasHooks z s.words (let_go_of false p n v).places)
           (λ t. record {
             each = each_left p (IsHook z s.words) v.buckets.hooks hooks.each;
-            linked = each_left p (IsOwned (owned_then p v.places.held v.places.owned)) v.buckets.hooks
-                (stays_linked p v.places.held v.places.owned v.buckets.hooks down hooks.linked);
+            linked = each_left p (IsOwned (let_go_of false p n v).places) v.buckets.hooks still;
             held = λ link some_hook.
                 ⊎_elim
                 (λ (e : place_of link ≡ p). absurd (omega (arith, some_hook, none_left p link e v.buckets.hooks)))
@@ -295,7 +311,7 @@ lowered_lines z l s id p n v h at any less others down =
           })
           (λ t. record {
             each = hooks.each;
-            linked = stays_linked p v.places.held v.places.owned v.buckets.hooks down hooks.linked;
+            linked = still;
             held = λ link some_hook.
                 ⊎_elim
                 (λ (e : place_of link ≡ p).
@@ -312,3 +328,35 @@ lowered_lines z l s id p n v h at any less others down =
         (λ (e : m ≡ 1). absurd (false≢true (sym other ∙ eq-eqb m 1 e)))
         (λ (e : m ≢ 1). omega (arith, any, less, e))
         (cases_eq m 1)
+
+-- the table's reference is let go, and with it the links of a place whose entry the pass destroyed
+pub ended_lines : (z : Sizes) (l : Ledger) (s : State Slot View) (id p n : ℕ) (v : View) → IsKept z l s → get_elem? s.views id ≡ some v
+    → is_up p v.buckets.hooks ≡ false → Lines z l s id v (let_go_of true p n v)
+ended_lines z l s id p n v h at down =
+    let hooks = h.links.hooks id v at in
+    let w : View = let_go_of true p n v in
+    let left : List Hook = filter (λ (h : Hook). not (place_of h.link == p)) v.buckets.hooks in
+    let still : Each (IsOwned w.places) v.buckets.hooks =
+    stays_linked p v.places w.places v.buckets.hooks down (λ q other. omega (arith, unlisted_else p q v.places.ended other)) hooks.linked in
+    record {
+      shut = refl;
+      loose = λ b weight. cond_both (is_among p v.places.ended) (filter (λ (h : Hook). not (place_of h.link == p)) v.buckets.hooks) v.buckets.hooks
+          (λ xs. total (λ (h : Hook). (if h.up then side z b weight (entry_of h) else 0)) xs ≡ loose_of z b weight v)
+          (λ t. loose_kept p (λ (h : Hook). side z b weight (entry_of h)) v.buckets.hooks down) (λ t. refl);
+      lone = λ link some_link. omega (
+        arith,
+        h.chains.lone link some_link,
+        total_set (hooks_at link) s.views id v w at,
+        cond_both (is_among p v.places.ended) (filter (λ (h : Hook). not (place_of h.link == p)) v.buckets.hooks) v.buckets.hooks
+            (λ xs. hooks_of link xs ≤ hooks_of link v.buckets.hooks) (λ t. fewer p link v.buckets.hooks) (λ t. omega arith),
+      );
+      hooks = cond_both (is_among p v.places.ended) (filter (λ (h : Hook). not (place_of h.link == p)) v.buckets.hooks) v.buckets.hooks
+          (HasHooks z s.words w.places)
+          (λ t. record {
+            each = each_left p (IsHook z s.words) v.buckets.hooks hooks.each;
+            linked = each_left p (IsOwned w.places) v.buckets.hooks still;
+            held = λ link some_hook. hooks.held link (omega (arith, some_hook, fewer p link v.buckets.hooks));
+          })
+          (λ t. record { each = hooks.each; linked = still; held = hooks.held });
+      walk = h.walks.each id v at;
+    }

@@ -187,6 +187,24 @@ module _ (list : List ℕ) where
       let rest : unlisted list qs ≡ qs = unlisted_none qs (λ p some. apart p (omega (arith, some))) in
       rw out (ap (λ xs. q ∷ xs) rest)
 
+-- without a place, a list has the others as often
+pub unlisted_else : (p q : ℕ) (list : List ℕ) → q ≢ p → times q (unlisted (p ∷ []) list) ≡ times q list
+unlisted_else p q list other = unlisted_out (p ∷ []) q list (ap (λ b. b || false) (ne_eqb p q (λ x. other (sym x))))
+
+pub unlisted_less : (p q : ℕ) (list : List ℕ) → 0 < times q (unlisted (p ∷ []) list) → (0 < times q list) × (q ≢ p)
+unlisted_less p q list some_left =
+    ⊎_elim
+    (λ (e : q ≡ p). absurd (omega (arith, some_left, unlisted_in (p ∷ []) q list (ap (λ b. b || false) (eq-eqb p q (sym e))))))
+    (λ (e : q ≢ p). (omega (arith, some_left, unlisted_else p q list e), e))
+    (cases_eq q p)
+
+pub unlisted_low : (p q : ℕ) (list : List ℕ) → times q (unlisted (p ∷ []) list) ≤ times q list
+unlisted_low p q list =
+    ⊎_elim
+    (λ (e : q ≡ p). omega (arith, unlisted_in (p ∷ []) q list (ap (λ b. b || false) (eq-eqb p q (sym e)))))
+    (λ (e : q ≢ p). omega (arith, unlisted_else p q list e))
+    (cases_eq q p)
+
 -- on a list to which a place was added
 pub times_push : (a p : ℕ) (list : List ℕ) → times p (list ++ a ∷ []) ≡ times p list + bit (a == p)
 times_push a p list = omega (arith, total_append (λ q. bit (q == p)) list (a ∷ []))

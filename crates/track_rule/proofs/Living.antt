@@ -30,7 +30,7 @@ use Rattle.track_rule.specs.Passes.{IsPass}
 use Rattle.track_rule.specs.Phases.{ArePhases, middle_of, middle_weight, of_both, of_place, shows, table_keeps}
 use Rattle.track_rule.specs.Readings.{stored}
 use Rattle.track_rule.specs.Records.{AreRecords, IsHand, has_hand, is_hand_of, record_in}
-use Rattle.track_rule.specs.References.{AreKept, AreReferences, held_times, keeps, takes}
+use Rattle.track_rule.specs.References.{AreKept, AreReferences, ends, held_times, keeps, takes}
 use Rattle.track_rule.specs.Rule.{Holds, IsKept, Ledger}
 use Rattle.track_rule.specs.Sums.{bit, times, total}
 use Rattle.track_rule.specs.Walks.{IsWalk}
@@ -151,7 +151,7 @@ module _ (l : Ledger) (s : State Slot View) (id : ℕ) (v : View) (r : Record) (
             (omega (arith, carried_here, h.references.carried id v at r.place)))
             (λ (e : q ≢ r.place). omega (arith, carried_else q e, h.references.carried id v at q))
             (cases_eq q r.place));
-        taken = λ q. omega (arith, h.references.taken q, total_same (takes q) s.views id v w at refl);
+        taken = λ q. omega (arith, h.references.taken q, total_same (takes q) s.views id v w at refl, total_same (ends q) s.views id v w at refl);
         purposes = each_put (λ u. AreKept l.log u.places.held) s.views id w h.references.purposes (h.references.purposes id v at);
       }
 
@@ -177,6 +177,19 @@ module _ (l : Ledger) (s : State Slot View) (id : ℕ) (v : View) (r : Record) (
             (cases_eq q r.place),
       )
 
+  still_ended : (i : ℕ) (u : View) → get_elem? s.views i ≡ some u → (q : ℕ) → 0 < times q u.places.ended
+      → (q ≢ r.place) × (0 < times q u.places.carried) × (phase_at v.passes.sizes new q ≡ 2)
+  still_ended i u at' q on =
+      let c = h.free_list.ended i u at' q on in
+      let other : q ≢ r.place = λ e. omega (
+        arith,
+        h.references.taken r.place,
+        one_live,
+        total_term (ends r.place) s.views i u at',
+        subst (λ (x : ℕ). 0 < times x u.places.ended) e on,
+      ) in
+      (other, c.0, phase_else v.passes.sizes s.words r.place (3 + r.id) q other ∙ c.1)
+
   live_free : IsFreeList v.passes.sizes new s.homes (set s.views id w) l.free
   live_free =
       let z : Sizes = v.passes.sizes in
@@ -197,6 +210,9 @@ module _ (l : Ledger) (s : State Slot View) (id : ℕ) (v : View) (r : Record) (
         few = each_put (λ u. length u.places.held + length u.places.owed ≤ 4) s.views id w h.free_list.few (h.free_list.few id v at);
         clear = each_put (λ u. (q : ℕ) → 0 < times q u.places.clear → (0 < times q u.places.owed) × (phase_at z new q ≡ 0)) s.views id w still_clear (still_clear id v at);
         owned = each_put (λ u. (q : ℕ) → 0 < times q u.places.owned → (0 < takes q u) × (phase_at z new q ≡ 1)) s.views id w still_owned (still_owned id v at);
+        ended = each_put (λ u. (q : ℕ) → 0 < times q u.places.ended → (0 < times q u.places.carried) × (phase_at z new q ≡ 2)) s.views id w
+            (λ i u at' q on. let c = still_ended i u at' q on in (c.1, c.2))
+            (λ q on. let c = still_ended id v at q on in (omega (arith, c.1, carried_else q c.0), c.2));
       }
 
   live_phases : ArePhases v.passes.sizes l.log new (set s.views id w)

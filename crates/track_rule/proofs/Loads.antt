@@ -41,7 +41,7 @@ pub reads : (z : Sizes) (l : Ledger) (s : State Slot View) (id i : ℕ) (v w : V
 reads z l s id i v w h at m p places free lines has_some read =
     subst (λ (ws : List ℕ). IsKept z l (record { words = ws; homes = s.homes; views = set s.views id w })) (sym (set-get_or s.words i 0))
     (moved z l s id v w s.words s.homes l.free h at m p (λ k a b. refl) refl (λ k a. refl)
-    (references_left z l.log s.words s.words s.views id v w at (ap (λ (x : Places). x.held) places) (ap (λ (x : Places). x.carried) places) (λ p. refl)
+    (references_left z l.log s.words s.words s.views id v w at (ap (λ (x : Places). x.held) places) (ap (λ (x : Places). x.carried) places) (ap (λ (x : Places). x.ended) places) (λ p. refl)
     (λ p. refl) h.references)
     (free_left z s.words s.words s.homes s.homes s.views id v w l.free at places free (λ p. refl) (λ p. refl) refl refl h.free_list) lines
     (read_on z l.log s.words s.words s.views id i (slice_index s.words i) v w h.passes at has_some refl (λ k other. refl) read h.readings)
@@ -168,7 +168,7 @@ looks slots id v c has_some s (l, h) long at range =
       (
         l,
         reads z l s id 0 v w h at m (pass_moved z l.log v w p m.made has_some ([], sym (append-nil l.log)) p.told) refl refl
-            (bucket_lines z l s id v w h at refl (λ q. omega arith) refl (look_note z l s id v h at)) has_some
+            (bucket_lines z l s id v w h at refl (λ q. omega arith) (λ q. omega arith) (look_note z l s id v h at)) has_some
             (record { reading = found_history (slice_index s.words 0) v; more = refl; word = refl; value = refl }),
       ),
       (
@@ -234,7 +234,7 @@ loads slots id p v c below has_some s (l, h) long at range =
       (
         l,
         reads z l s id (refs_word z p) v w h at m (pass_moved z l.log v w one m.made has_some one.front one.told) refl refl
-            (same_lines z l s id v w h at refl (λ q. omega arith) refl refl refl) has_some
+            (same_lines z l s id v w h at refl (λ q. omega arith) (λ q. omega arith) refl refl) has_some
             (record { reading = found (refs_word z p) n; more = refl; word = refl; value = refl }),
       ),
       λ q same. subst (λ (k : ℕ). LoadsRefs k v n w × (c ≡ c)) (one_place z p q same) (record { view = refl; count = told }, refl),

@@ -159,8 +159,8 @@ module _ (l : Ledger) (s : State Slot View) (id : ℕ) (v : View) (h : IsKept v.
             record {
               each = each_change (IsHook z s.words) (IsHook z new) f v.buckets.hooks k.each hook;
               held = λ link any. k.held link (omega (arith, any, links_kept link f (λ y. (keeps_link y).0) v.buckets.hooks));
-              linked = each_change (IsOwned v.places.owned) (IsOwned v.places.owned) f v.buckets.hooks k.linked (λ y is up.
-                  subst (λ (n : ℕ). 0 < times (place_of n) v.places.owned) (sym (keeps_link y).0) (is (sym (keeps_link y).1 ∙ up)));
+              linked = each_change (IsOwned v.places) (IsOwned v.places) f v.buckets.hooks k.linked (λ y is up.
+                  subst (λ (n : ℕ). 0 < times (place_of n) v.places.owned + times (place_of n) v.places.ended) (sym (keeps_link y).0) (is (sym (keeps_link y).1 ∙ up)));
             });
       })
       (record {

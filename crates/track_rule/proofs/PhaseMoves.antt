@@ -27,7 +27,7 @@ use Rattle.track_rule.specs.PhaseSteps.{LoadPhaseStep, LoadsPhase, StorePhaseSte
 use Rattle.track_rule.specs.Phases.{ArePhases, middle_of, of_both, of_place, shows, table_keeps}
 use Rattle.track_rule.specs.Readings.{found, noted, stored}
 use Rattle.track_rule.specs.Records.{AreRecords, IsHand, has_hand, record_in}
-use Rattle.track_rule.specs.References.{AreKept, AreReferences, held_times, is_at, is_for_new, is_taken, keeps, takes}
+use Rattle.track_rule.specs.References.{AreKept, AreReferences, ends, held_times, is_at, is_for_new, is_taken, keeps, takes}
 use Rattle.track_rule.specs.Rule.{Holds, IsKept, Ledger}
 use Rattle.track_rule.specs.Sights.{AreOfPool}
 use Rattle.track_rule.specs.Sums.{times, total}
@@ -75,7 +75,7 @@ loads_phase slots id p v c below has_some s (l, h) long at range =
       (
         l,
         reads z l s id (phase_word z p) v w h at m (pass_moved z l.log v w one m.made has_some one.front one.told) refl refl
-            (same_lines z l s id v w h at refl (λ q. omega arith) refl refl refl) has_some
+            (same_lines z l s id v w h at refl (λ q. omega arith) (λ q. omega arith) refl refl) has_some
             (record { reading = found (phase_word z p) n; more = refl; word = refl; value = refl }),
       ),
       λ q same. subst (λ (k : ℕ). LoadsPhase k v n w × (c ≡ c)) (one_phase z p q same) (told, refl),
@@ -250,7 +250,12 @@ module _ (l : Ledger) (s : State Slot View) (id p to : ℕ) (v : View) (h : IsKe
     beyond = λ q above. omega (arith, h.references.beyond q above, total_same (keeps q) s.views id v (phase_stored p to v) at refl);
     carried = each_put (λ u. (q : ℕ) → times q u.places.carried ≤ held_times q u.places.held) s.views id (phase_stored p to v) h.references.carried
         (h.references.carried id v at);
-    taken = λ q. omega (arith, h.references.taken q, total_same (takes q) s.views id v (phase_stored p to v) at refl);
+    taken = λ q. omega (
+      arith,
+      h.references.taken q,
+      total_same (takes q) s.views id v (phase_stored p to v) at refl,
+      total_same (ends q) s.views id v (phase_stored p to v) at refl,
+    );
     purposes = each_put (λ u. AreKept l.log u.places.held) s.views id (phase_stored p to v) h.references.purposes (h.references.purposes id v at);
   }
 
@@ -322,12 +327,27 @@ module _ (l : Ledger) (s : State Slot View) (id p to : ℕ) (v : View) (h : IsKe
   owned_more k = record {
     each = k.each;
     held = k.held;
-    linked = λ i x at' up. more (to == 1) (place_of x.link) (k.linked i x at' up);
+    linked = λ i x at' up. omega (arith, more (to == 1) (place_of x.link), k.linked i x at' up);
   }
     where
-      more : (b : Bool) (q : ℕ) → 0 < times q v.places.owned → 0 < times q (if b then p ∷ v.places.owned else v.places.owned)
-      more true q any = omega (arith, any)
-      more false q any = any
+      more : (b : Bool) (q : ℕ) → times q v.places.owned ≤ times q (if b then p ∷ v.places.owned else v.places.owned)
+      more true q = omega arith
+      more false q = omega arith
+
+  -- a place whose entry was destroyed is another one
+  still_ended : (i : ℕ) (u : View) → get_elem? s.views i ≡ some u → (q : ℕ) → 0 < times q u.places.ended
+      → (0 < times q u.places.carried) × (phase_at v.passes.sizes (slice_set s.words (phase_word v.passes.sizes p) to) q ≡ 2)
+  unfolding MayStore
+  still_ended i u at' q on =
+      let c = h.free_list.ended i u at' q on in
+      let other : q ≢ p = λ e.
+      let ending : 0 < times p u.places.ended = subst (λ (x : ℕ). 0 < times x u.places.ended) e on in
+      let carrying : 0 < times p u.places.carried = subst (λ (x : ℕ). 0 < times x u.places.carried) e c.0 in
+      ⊎_elim
+      (λ (t : (to ≡ 0) × (0 < owes p v)). held_and_owed i u at' (omega (arith, carrying, h.references.carried i u at' p)) t.1)
+      (λ (t : (to ≡ 1) × (0 < takes p v)).
+      omega (arith, t.1, h.references.taken p, total_term (takes p) s.views id v at, total_term (ends p) s.views i u at', ending)) may in
+      (c.0, phase_else v.passes.sizes s.words p to q other ∙ c.1)
 
   stored_free : IsFreeList v.passes.sizes (slice_set s.words (phase_word v.passes.sizes p) to) s.homes (set s.views id (phase_stored p to v)) l.free
   stored_free =
@@ -360,6 +380,8 @@ module _ (l : Ledger) (s : State Slot View) (id p to : ℕ) (v : View) (h : IsKe
               ap (phase_at z new) t.0 ∙ here ∙ set_owned (omega (arith, t.1, takes_held p v.places.held)),
             ))
             (owned_then (to == 1) q on is_held_one));
+        ended = each_put (λ u. (q : ℕ) → 0 < times q u.places.ended → (0 < times q u.places.carried) × (phase_at z new q ≡ 2)) s.views id w still_ended
+            (still_ended id v at);
       }
 
   stored_records : AreRecords v.passes.sizes l.log (slice_set s.words (phase_word v.passes.sizes p) to) s.homes (set s.views id (phase_stored p to v))

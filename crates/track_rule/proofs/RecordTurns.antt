@@ -95,7 +95,7 @@ module _ (l : Ledger) (s : State Slot View) (id p : ℕ) (v : View) (h : IsKept 
         count = length-set s.words (turn_word z p) n ∙ h.count;
         passes = passes_moved z l.log s.views id v w at m (pass_moved z l.log v w one m has_some one.front one.told) h.passes;
         history = record { legal = h.history.legal; word = turn_first z s.words p n 0 (omega arith) ∙ h.history.word };
-        references = references_left z l.log s.words new s.views id v w at refl refl (turn_refs z s.words p n) (turn_phase z s.words p n) h.references;
+        references = references_left z l.log s.words new s.views id v w at refl refl refl (turn_refs z s.words p n) (turn_phase z s.words p n) h.references;
         free_list = free_left z s.words new s.homes hs' s.views id v w l.free at refl refl (turn_refs z s.words p n) (turn_phase z s.words p n)
             (turn_first z s.words p n 1 (omega arith)) first h.free_list;
         records = records;
@@ -267,7 +267,7 @@ taking_turn slots id p v c below has_some calm s (l, h) sized at range =
       (
         l,
         reads z l s id (turn_word z p) v w h at m (pass_moved z l.log v w one m.made has_some one.front one.told) refl refl
-            (same_lines z l s id v w h at refl (λ q. omega arith) refl refl refl) has_some
+            (same_lines z l s id v w h at refl (λ q. omega arith) (λ q. omega arith) refl refl) has_some
             (record {
               reading = found (turn_word z p) 1;
               more = refl;

@@ -23,7 +23,7 @@ use Rattle.track_rule.specs.Readings.{found, noted, stored}
 use Rattle.track_rule.specs.History.{records_after}
 use Rattle.track_rule.specs.Phases.{of_place}
 use Rattle.track_rule.specs.Records.{has_hand}
-use Rattle.track_rule.specs.References.{AreKept, held_times, is_at, is_for_new, is_held, is_taken, keeps, takes, without, taken_times}
+use Rattle.track_rule.specs.References.{AreKept, ends, held_times, is_at, is_for_new, is_held, is_taken, keeps, taken_times, takes, without}
 use Rattle.track_rule.specs.Rule.{Holds, IsKept, Ledger}
 use Rattle.track_rule.specs.Steps.{IsCount, LowerStep, LowersRefs, OpenStep, Opens, RaiseStep, RaisedRefs, RaisesRefs, is_second, keep, let_go, let_go_of, opened, owed_then, raised}
 use Rattle.track_rule.specs.Sums.{bit, times, total}
@@ -32,10 +32,10 @@ use Rattle.track_rule.proofs.LastRead.{ReadsAt, stored_on}
 use Rattle.track_rule.specs.declared.view.Middle.{Middle}
 use Rattle.track_rule.specs.declared.view.Middle.TheVariants.{Calm}
 use Rattle.track_rule.specs.Commits.{IsMiddle, IsMiddleOf}
-use Rattle.track_rule.proofs.Lists.{bit_low, kept_without, length_without, other_bit, other_taken, other_without, same_bit, same_taken, same_without, takes_held, takes_other, takes_testing, takes_without, total_none, total_some, taken_else}
+use Rattle.track_rule.proofs.Lists.{bit_low, kept_without, length_without, other_bit, other_taken, other_without, same_bit, same_taken, same_without, taken_else, takes_held, takes_other, takes_testing, takes_without, total_none, total_some, unlisted_less, unlisted_low}
 use Rattle.track_rule.proofs.Loads.{one_place, reads, refs_told}
 use Rattle.track_rule.proofs.Balance.{Lines, Moves, free_moved, moved, pass_moved, references_moved, same_lines}
-use Rattle.track_rule.proofs.Hooks.{hooks_new, lowered_lines, new_hooks, no_record_there, opened_lines, still_owned}
+use Rattle.track_rule.proofs.Hooks.{ended_lines, hooks_new, lowered_lines, new_hooks, no_record_there, none_ended, opened_lines, still_owned}
 use Rattle.track_rule.specs.Links.{is_up}
 use Rattle.track_rule.proofs.Sums.{total_le, total_term}
 
@@ -73,11 +73,12 @@ pub record RefsMove (v w : View) (p n : ℕ) (free free' : List ℕ) (before : �
   pub clear : w.places.clear ≡ v.places.clear
   pub owed : (q : ℕ) → 0 < times q v.places.owed → 0 < times q w.places.owed
   pub owned : (q : ℕ) → 0 < times q w.places.owned → (0 < takes q w) × (0 < times q v.places.owned)
+  pub ended : (q : ℕ) → 0 < times q w.places.ended → (0 < times q w.places.carried) × (0 < times q v.places.ended)
 
 -- a references word becomes n, and the view changes so
 pub counts : (z : Sizes) (l : Ledger) (s : State Slot View) (id p n : ℕ) (v w : View) (free' : List ℕ) → IsKept z l s → get_elem? s.views id ≡ some v
     → 0 < v.passes.shares → p < z.entries → RefsMove v w p n l.free free' (refs_at z s.words p) → Lines z l s id v w
-    → ((q : ℕ) → total (takes q) s.views + total (of_place q) (records_after l.log) + takes q w ≤ 1 + takes q v) → AreKept l.log w.places.held → IsMiddleOf z l.log w
+    → ((q : ℕ) → total (takes q) s.views + total (ends q) s.views + total (of_place q) (records_after l.log) + takes q w + ends q w ≤ 1 + takes q v + ends q v) → AreKept l.log w.places.held → IsMiddleOf z l.log w
     → ReadsAt (refs_word z p) n v w
     → IsKept z (record l { free = free' }) (record { words = slice_set s.words (refs_word z p) n; homes = s.homes; views = set s.views id w })
 counts z l s id p n v w free' h at has_some below t lines taken purposes middle read =
@@ -129,6 +130,9 @@ counts z l s id p n v w free' h at has_some below t lines taken purposes middle 
       owned = λ q on.
           let c = t.owned q on in
           (c.0, refs_phase z ws p n q ∙ (h.free_list.owned id v at q c.1).1);
+      ended = λ q on.
+          let c = t.ended q on in
+          (c.0, refs_phase z ws p n q ∙ (h.free_list.ended id v at q c.1).1);
     }) h.free_list) lines (stored_on z l.log ws s.views id (refs_word z p) n v w h.passes at has_some (omega (arith, h.count, below)) read h.readings) middle
 
 -- the first reference to a place from the free list
@@ -173,12 +177,14 @@ opening slots id p v c below has_some on room s (l, h) sized at range =
           clear = refl;
           owed = λ q any. any;
           owned = λ q on. (omega (arith, (h.free_list.owned id v at q on).0), on);
+          ended = λ q on. ((h.free_list.ended id v at q on).0, on);
         }) (opened_lines z l s h id v at p below nobody)
             (λ q.
             ⊎_elim
-            (λ (e : p ≡ q). subst (λ (k : ℕ). total (takes k) s.views + total (of_place k) (records_after l.log) + takes k w ≤ 1 + takes k v) e (omega (
+            (λ (e : p ≡ q). subst (λ (k : ℕ). total (takes k) s.views + total (ends k) s.views + total (of_place k) (records_after l.log) + takes k w + ends k w ≤ 1 + takes k v + ends k v) e (omega (
               arith,
               no_record_there z l s h id v at p below nobody,
+              none_ended z l s h id v at p below nobody,
               takes_low p s.views,
               h.references.counted p below,
               nobody,
@@ -262,7 +268,8 @@ module _ (slots id p seen : ℕ) (v : View) (c : List (ℕ × Slot)) (below : p 
         clear = refl;
         owed = λ q any. any;
         owned = λ q on. ((h.free_list.owned id v at q on).0, on);
-      }) (same_lines v.passes.sizes l s id v (raised true p seen v) h at refl (λ q. omega arith) refl refl refl)
+        ended = λ q on. (omega (arith, (h.free_list.ended id v at q on).0), on);
+      }) (same_lines v.passes.sizes l s id v (raised true p seen v) h at refl (λ q. omega arith) (λ q. omega arith) refl refl)
       (λ q. omega (arith, h.references.taken q)) (h.references.purposes id v at)
       (middle_more v.passes.sizes l.log v (raised true p seen v) refl refl (λ q. omega arith) (λ b. omega arith) (h.commits id v at))
       (record { reading = stored (refs_word v.passes.sizes p) (seen + 1); more = refl; word = refl; value = refl })
@@ -284,7 +291,8 @@ module _ (slots id p seen : ℕ) (v : View) (c : List (ℕ × Slot)) (below : p 
         clear = refl;
         owed = λ q any. any;
         owned = λ q on. (omega (arith, (h.free_list.owned id v at q on).0), on);
-      }) (same_lines v.passes.sizes l s id v (raised false p seen v) h at refl (λ q. omega arith) refl refl refl)
+        ended = λ q on. ((h.free_list.ended id v at q on).0, on);
+      }) (same_lines v.passes.sizes l s id v (raised false p seen v) h at refl (λ q. omega arith) (λ q. omega arith) refl refl)
       (λ q. omega (arith, h.references.taken q, takes_testing q p)) (tt, h.references.purposes id v at) (h.commits id v at) (record { reading = stored (refs_word v.passes.sizes p) (seen + 1); more = refl; word = refl; value = refl })
 
   raised_tells : refs_at v.passes.sizes s.words p ≡ seen → RaisedRefs p seen v (raised (is_second p v) p seen v)
@@ -306,7 +314,7 @@ module _ (slots id p seen : ℕ) (v : View) (c : List (ℕ × Slot)) (below : p 
       let one : IsPass v.passes.sizes l.log v = h.passes.each id v at in
       let m : Moves v w = record { made = record { passes = refl; own = refl; gathered = refl }; commit = refl; expected = refl } in
       reads v.passes.sizes l s id (refs_word v.passes.sizes p) v w h at m (pass_moved v.passes.sizes l.log v w one m.made has_some one.front one.told) refl refl
-      (same_lines v.passes.sizes l s id v w h at refl (λ q. omega arith) refl refl refl) has_some
+      (same_lines v.passes.sizes l s id v w h at refl (λ q. omega arith) (λ q. omega arith) refl refl) has_some
       (record { reading = found (refs_word v.passes.sizes p) n; more = refl; word = refl; value = sym e })
 
 pub raising : (slots id p seen : ℕ) (v : View) (c : List (ℕ × Slot)) → p < v.passes.sizes.entries → 0 < v.passes.shares → 0 < seen
@@ -400,8 +408,11 @@ module _ (id p : ℕ) (v : View) (below : p < v.passes.sizes.entries) (has_some 
         clear = refl;
         owed = λ q any. any;
         owned = λ q on. ((h.free_list.owned id v at q on).0, on);
-      }) (same_lines v.passes.sizes l s id v (let_go_of true p n v) h at refl (λ q. omega arith) refl refl refl)
-      (λ q. omega (arith, h.references.taken q)) (h.references.purposes id v at)
+        ended = λ q on.
+            let left = unlisted_less p q v.places.ended on in
+            (omega (arith, (h.free_list.ended id v at q left.0).0, other_taken p q v.places.carried is (λ e. left.1 (sym e))), left.0);
+      }) (ended_lines v.passes.sizes l s id p n v h at down)
+      (λ q. omega (arith, h.references.taken q, unlisted_low p q v.places.ended)) (h.references.purposes id v at)
       (subst (λ (m : Middle). IsMiddle v.passes.sizes l.log m v.commit.hand (taken_out p v.places.carried) v.buckets.shut v.expected) (sym (calm is)) tt)
       (record { reading = stored (refs_word v.passes.sizes p) (n - 1); more = refl; word = refl; value = refl })
   lowered false is =
@@ -436,6 +447,7 @@ module _ (id p : ℕ) (v : View) (below : p < v.passes.sizes.entries) (has_some 
                   (cases_eq q p),
               o.0,
             );
+        ended = λ q on. ((h.free_list.ended id v at q on).0, on);
       }) (lowered_lines v.passes.sizes l s id p n v h at some_held less (λ q other. other_without p q v.places.held held (λ e. other (sym e))) down)
       (λ q. omega (arith, h.references.taken q, takes_without q p v.places.held)) (kept_without l.log p v.places.held (h.references.purposes id v at)) (h.commits id v at) (record { reading = stored (refs_word v.passes.sizes p) (n - 1); more = refl; word = refl; value = refl })
     where

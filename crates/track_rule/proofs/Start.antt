@@ -122,6 +122,7 @@ starts z list table limits whole nothing room =
           few = one_view z (λ v. length v.places.held + length v.places.owed ≤ 4) (omega arith);
           clear = one_view z (λ v. (p : ℕ) → 0 < times p v.places.clear → (0 < times p v.places.owed) × (phase_at z ws p ≡ 0))
               (λ p any. absurd (omega (arith, any)));
+          ended = one_view z (λ v. (p : ℕ) → 0 < times p v.places.ended → (0 < times p v.places.carried) × (phase_at z ws p ≡ 2)) (λ p any. absurd (omega (arith, any)));
           owned = one_view z (λ v. (p : ℕ) → 0 < times p v.places.owned → (0 < takes p v) × (phase_at z ws p ≡ 1))
               (λ p any. absurd (omega (arith, any)));
         };

@@ -63,7 +63,7 @@ module _ (l : Ledger) (s : State Slot View) (id : ℕ) (v : View) (h : IsKept v.
       moved v.passes.sizes l s id v w (slice_set s.words 1 1) (slice_set s.homes 0 none) l.free h at m
       (pass_moved v.passes.sizes l.log v w p m.made has_some p.front p.told) (turn_quiet v.passes.sizes s.words 1) (length-set s.words 1 1)
       (λ k other. set_else s.homes 0 k none other)
-      (references_left v.passes.sizes l.log s.words (slice_set s.words 1 1) s.views id v w at refl refl (turn_refs v.passes.sizes s.words 1)
+      (references_left v.passes.sizes l.log s.words (slice_set s.words 1 1) s.views id v w at refl refl refl (turn_refs v.passes.sizes s.words 1)
       (turn_phase v.passes.sizes s.words 1) h.references)
       (free_moved v.passes.sizes s.words (slice_set s.words 1 1) s.homes (slice_set s.homes 0 none) s.views id v w l.free l.free at (record {
         once = λ q below. ap (λ (n : ℕ). times q l.free + owes q v + min n 1) (turn_refs v.passes.sizes s.words 1 q);
@@ -78,7 +78,8 @@ module _ (l : Ledger) (s : State Slot View) (id : ℕ) (v : View) (h : IsKept v.
         few = h.free_list.few id v at;
         clear = λ q on. let c = h.free_list.clear id v at q on in (c.0, turn_phase v.passes.sizes s.words 1 q ∙ c.1);
         owned = λ q on. let c = h.free_list.owned id v at q on in (c.0, turn_phase v.passes.sizes s.words 1 q ∙ c.1);
-      }) h.free_list) (same_lines v.passes.sizes l s id v w h at refl (λ q. omega arith) refl refl refl)
+        ended = λ q on. let c = h.free_list.ended id v at q on in (c.0, turn_phase v.passes.sizes s.words 1 q ∙ c.1);
+      }) h.free_list) (same_lines v.passes.sizes l s id v w h at refl (λ q. omega arith) (λ q. omega arith) refl refl)
       (stored_on v.passes.sizes l.log s.words s.views id 1 1 v w h.passes at has_some long (record { reading = stored 1 1; more = refl; word = refl; value = refl }) h.readings) (h.commits id v at)
     where
       some_same : (a b f : List ℕ) → Some a ≡ Some b → a ≡ f → b ≡ f
@@ -126,7 +127,7 @@ module _ (l : Ledger) (s : State Slot View) (id : ℕ) (v : View) (h : IsKept v.
       let p : IsPass v.passes.sizes l.log v = h.passes.each id v at in
       let m : Moves v w = record { made = record { passes = refl; own = refl; gathered = refl }; commit = refl; expected = refl } in
       reads v.passes.sizes l s id 1 v w h at m (pass_moved v.passes.sizes l.log v w p m.made has_some p.front p.told) refl refl
-      (same_lines v.passes.sizes l s id v w h at refl (λ q. omega arith) refl refl refl) has_some
+      (same_lines v.passes.sizes l s id v w h at refl (λ q. omega arith) (λ q. omega arith) refl refl) has_some
       (record { reading = found 1 1; more = refl; word = refl; value = omega (arith, other, h.free_list.single) })
 
   -- giving it back with this list
@@ -143,7 +144,7 @@ module _ (l : Ledger) (s : State Slot View) (id : ℕ) (v : View) (h : IsKept v.
       moved v.passes.sizes l s id v w (slice_set s.words 1 0) (slice_set s.homes 0 (some (Free list))) list.items h at m
       (pass_moved v.passes.sizes l.log v w p m.made has_some p.front p.told) (turn_quiet v.passes.sizes s.words 0) (length-set s.words 1 0)
       (λ k other. set_else s.homes 0 k (some (Free list)) other)
-      (references_left v.passes.sizes l.log s.words (slice_set s.words 1 0) s.views id v w at refl refl (turn_refs v.passes.sizes s.words 0)
+      (references_left v.passes.sizes l.log s.words (slice_set s.words 1 0) s.views id v w at refl refl refl (turn_refs v.passes.sizes s.words 0)
       (turn_phase v.passes.sizes s.words 0) h.references)
       (free_moved v.passes.sizes s.words (slice_set s.words 1 0) s.homes (slice_set s.homes 0 (some (Free list))) s.views id v w l.free list.items at (record {
         once = λ q below. omega (arith, can.whole q, ap (times q) known, turn_refs v.passes.sizes s.words 0 q);
@@ -168,7 +169,8 @@ module _ (l : Ledger) (s : State Slot View) (id : ℕ) (v : View) (h : IsKept v.
             (omega (arith, c.0, unlisted_out list.items q v.places.owed e), turn_phase v.passes.sizes s.words 0 q ∙ c.1))
             (cases_Bool (is_among q list.items));
         owned = λ q on. let c = h.free_list.owned id v at q on in (c.0, turn_phase v.passes.sizes s.words 0 q ∙ c.1);
-      }) h.free_list) (same_lines v.passes.sizes l s id v w h at refl (λ q. omega arith) refl refl refl)
+        ended = λ q on. let c = h.free_list.ended id v at q on in (c.0, turn_phase v.passes.sizes s.words 0 q ∙ c.1);
+      }) h.free_list) (same_lines v.passes.sizes l s id v w h at refl (λ q. omega arith) (λ q. omega arith) refl refl)
       (stored_on v.passes.sizes l.log s.words s.views id 1 0 v w h.passes at has_some long (record { reading = stored 1 0; more = refl; word = refl; value = refl }) h.readings) (h.commits id v at)
 
 -- taking the turn keeps the rule

@@ -1,7 +1,8 @@
 -- The free list. A place on it has no reference and is owed by nobody, and its phase is FREE. Every other place has a
--- reference, or is owed by exactly one pass. A place that a pass has set to FREE it owes, and one that it has set to OWNED it
--- has taken; so they still are. A pass holds and owes four places at most. At most one pass has the turn of the
--- list; that one knows the list, and while none has it the list is at home.
+-- reference, or is owed by exactly one pass. A place that a pass has set to FREE it owes, one that it has set to OWNED it has
+-- taken, and of one whose entry it destroyed and whose phase it had set to DEAD it carries the table's reference; so they still
+-- are. A pass holds and owes four places at most. At most one pass has the turn of the list; that one knows the list, and while
+-- none has it the list is at home.
 use Rattle.std.specs.Prelude.{◌≡◌, ℕ, ◌+◌, ◌<◌, ◌≤◌, ◌==◌, Bool, min, not, if◌then◌else◌, Option, Some, None, List, [], ◌∷◌, filter, length, slice_index, unwrap_or}
 use Rattle.std.specs.List.{list_any}
 use mathlib.Core.Option.{Option as Slotted, some}
@@ -62,3 +63,4 @@ pub record IsFreeList (z : Sizes) (words : List ℕ) (homes : List (Slotted Slot
   pub few : Each (λ v. length v.places.held + length v.places.owed ≤ 4) views
   pub clear : Each (λ v. (p : ℕ) → 0 < times p v.places.clear → (0 < times p v.places.owed) × (phase_at z words p ≡ 0)) views
   pub owned : Each (λ v. (p : ℕ) → 0 < times p v.places.owned → (0 < taken_times p v.places.held) × (phase_at z words p ≡ 1)) views
+  pub ended : Each (λ v. (p : ℕ) → 0 < times p v.places.ended → (0 < times p v.places.carried) × (phase_at z words p ≡ 2)) views

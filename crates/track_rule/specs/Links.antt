@@ -66,14 +66,15 @@ pub record IsHook (z : Sizes) (words : List ℕ) (h : Hook) : Type 0 where
   pub second : slice_index words (second_word z h.link) ≡ h.pair.second
   pub next : (n : ℕ) → h.up ≡ false → h.next ≡ Some n → slice_index words (next_word z h.link) ≡ n
 
--- where a hook is in a chain, the pass has set the phase of its place to OWNED
-abbrev pub IsOwned : List ℕ → Hook → Type 0
-IsOwned owned h = h.up ≡ true → 0 < times (place_of h.link) owned
+-- where a hook is in a chain, the pass has set the phase of its place to OWNED, or it has destroyed the entry of the place, whose
+-- phase is DEAD
+abbrev pub IsOwned : Places → Hook → Type 0
+IsOwned places h = h.up ≡ true → 0 < times (place_of h.link) places.owned + times (place_of h.link) places.ended
 
 pub record HasHooks (z : Sizes) (words : List ℕ) (places : Places) (hooks : List Hook) : Type 0 where
   pub each : Each (IsHook z words) hooks
   pub held : (link : ℕ) → 0 < hooks_of link hooks → 0 < held_times (place_of link) places.held
-  pub linked : Each (IsOwned places.owned) hooks
+  pub linked : Each (IsOwned places) hooks
 
 pub record AreLinks (z : Sizes) (words : List ℕ) (views : List View) : Type 0 where
   pub heads : (b : ℕ) → b < z.buckets → slice_index words (head_word z b) ≤ last_link z

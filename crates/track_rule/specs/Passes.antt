@@ -32,7 +32,7 @@ AreFronts log (f ∷ fs) = StartsWith log f × AreFronts log fs
 
 -- no place is held or owed
 abbrev pub no_places : Places
-no_places = record { held = []; owed = []; clear = []; owned = []; carried = [] }
+no_places = record { held = []; owed = []; clear = []; owned = []; carried = []; ended = [] }
 
 -- the pass holds and owes no place, and has no turn and no bucket
 pub record HasNothing (v : View) : Type 0 where

@@ -1,7 +1,8 @@
 -- References. The references word of a place is the number of references that passes keep to it, those of the table that
--- they carry in the middle of a commit among them, and one more while the place is live. A pass that carries the table's
--- reference to a place also holds that place. No other place is held. A place is taken for a new entry by one pass at most,
--- and then no live entry has it. A place that a pass holds for an id is that of the entry of this id.
+-- they carry among them, and one more while the place is live. A pass that carries the table's reference to a place also holds
+-- that place. No other place is held. A place is taken for a new entry by one pass, or a live entry has it, or a pass has
+-- destroyed its entry and not let go of the table's reference: never two of these. A place that a pass holds for an id is that
+-- of the entry of this id.
 use Rattle.std.specs.Prelude.{◌≡◌, ℕ, ◌+◌, ◌<◌, ◌≤◌, ◌==◌, ◌&&◌, Bool, true, false, if◌then◌else◌, Some, List, [], ◌∷◌, slice_get}
 use Rattle.std.specs.List.{list_any}
 use Rattle.history_book.specs.declared.event.Event.{Event}
@@ -55,6 +56,10 @@ taken_times place held = total (λ k. bit (is_at place k && is_for_new k.purpose
 abbrev pub takes : ℕ → View → ℕ
 takes place v = taken_times place v.places.held
 
+-- how often the pass has destroyed the entry of the place and still carries the table's reference
+abbrev pub ends : ℕ → View → ℕ
+ends place v = times place v.places.ended
+
 -- the entry of this id was confirmed at this place
 pub record WasConfirmed (log : List Event) (id place : ℕ) : Type 0 where
   pub subject : Record
@@ -76,5 +81,5 @@ pub record AreReferences (z : Sizes) (log : List Event) (words : List ℕ) (view
   pub counted : (p : ℕ) → p < z.entries → refs_at z words p ≡ total (keeps p) views + table_keeps (phase_at z words p)
   pub beyond : (p : ℕ) → z.entries ≤ p → total (keeps p) views ≡ 0
   pub carried : Each (λ v. (p : ℕ) → times p v.places.carried ≤ held_times p v.places.held) views
-  pub taken : (p : ℕ) → total (takes p) views + total (of_place p) (records_after log) ≤ 1
+  pub taken : (p : ℕ) → total (takes p) views + total (ends p) views + total (of_place p) (records_after log) ≤ 1
   pub purposes : Each (λ v. AreKept log v.places.held) views

@@ -216,9 +216,17 @@ owed_then place n owed = (if n == 1 then place ∷ owed else owed)
 abbrev pub owned_then : ℕ → List Keep → List ℕ → List ℕ
 owned_then place held owned = (if is_taken place (without place held) then owned else unlisted (place ∷ []) owned)
 
--- A pass that gave up its last reference to a place has no hooks of it.
+-- the hooks that are not of the place
+abbrev pub hooks_else : ℕ → List Hook → List Hook
+hooks_else place hooks = filter (λ (h : Hook). not (place_of h.link == place)) hooks
+
+-- A pass that gave up its last reference to a place has no hooks of it; and one that let go of the table's has none of a place whose
+-- entry it destroyed.
 abbrev pub hooks_then : ℕ → List Keep → List Hook → List Hook
-hooks_then place held hooks = (if held_times place held == 1 then filter (λ (h : Hook). not (place_of h.link == place)) hooks else hooks)
+hooks_then place held hooks = (if held_times place held == 1 then hooks_else place hooks else hooks)
+
+abbrev pub hooks_ended : ℕ → List ℕ → List Hook → List Hook
+hooks_ended place ended hooks = (if is_among place ended then hooks_else place hooks else hooks)
 
 -- The pass gave up the table's reference, which it carried, or one of its own, the newest one to the place.
 abbrev pub let_go_of : Bool → ℕ → ℕ → View → View
@@ -228,8 +236,9 @@ let_go_of carries place n v = noted (stored (refs_word v.passes.sizes place) (n 
     owed = (if carries then v.places.owed else owed_then place n v.places.owed);
     owned = (if carries then v.places.owned else owned_then place v.places.held v.places.owned);
     carried = (if carries then taken_out place v.places.carried else v.places.carried);
+    ended = (if carries then unlisted (place ∷ []) v.places.ended else v.places.ended);
   };
-  buckets = record v.buckets { hooks = (if carries then v.buckets.hooks else hooks_then place v.places.held v.buckets.hooks) };
+  buckets = record v.buckets { hooks = (if carries then hooks_ended place v.places.ended v.buckets.hooks else hooks_then place v.places.held v.buckets.hooks) };
 })
 
 abbrev pub let_go : ℕ → ℕ → View → View

@@ -55,8 +55,10 @@ pub struct Places {
     pub clear: LinkedList<u32>,
     /// Places that the pass has taken and whose phase it has set to OWNED.
     pub owned: LinkedList<u32>,
-    /// Places of which the pass carries the table's reference, in the middle of a commit.
+    /// Places of which the pass carries the table's reference, in the middle of a commit, or behind a Destroy.
     pub carried: LinkedList<u32>,
+    /// Those of the carried ones whose entry the pass has destroyed.
+    pub ended: LinkedList<u32>,
 }
 
 /// The two words of a tuple.
