@@ -167,7 +167,7 @@ module _ (l : Ledger) (s : State Slot View) (id : ℕ) (v : View) (r : Record) (
       → (if k.up then side v.passes.sizes b (λ x. f (named r.place (length l.log) x)) (entry_of k) else 0) ≡ side v.passes.sizes b f e
   weighs_up b f k e up link pair its_id here =
       ap (λ (t : Bool). if t then side v.passes.sizes b (λ x. f (named r.place (length l.log) x)) (entry_of k) else 0) up
-      ∙ ap (λ (x : Entry). if bucket_of v.passes.sizes k.pair == b then f x else 0) (named_here r.place (length l.log) (entry_of k) (ap place_of link ∙ here))
+      ∙ ap (λ (x : Entry). if bucket_of v.passes.sizes k.pair == b then f x else 0) (named_here r.place (Some (length l.log)) (entry_of k) (ap place_of link ∙ here))
       ∙ (λ i. side v.passes.sizes b f (record { link = link i; pair = pair i; id = sym its_id i }))
 
   loose_left : (b : ℕ) (f : Entry → ℕ)
@@ -255,12 +255,12 @@ module _ (l : Ledger) (s : State Slot View) (id : ℕ) (v : View) (r : Record) (
         arith,
         total_map f (named r.place n) (l.chains b),
         h.chains.chained b below (λ e. f (named r.place (length l.log) e)),
-        records_else r.place n z b f (records_after l.log) other_places,
+        records_else r.place (Some n) z b f (records_after l.log) other_places,
         weighs (links_in z b f),
         loose_left b f,
-        hooks_else r.place n z b f after_it.buckets.hooks left_others,
+        hooks_else r.place (Some n) z b f after_it.buckets.hooks left_others,
         total_but (loose_of z b (λ e. f (named r.place (length l.log) e))) (loose_of z b f) s.views id v at
-            (λ j u other there. hooks_else r.place n z b f u.buckets.hooks (other_links j u other there)),
+            (λ j u other there. hooks_else r.place (Some n) z b f u.buckets.hooks (other_links j u other there)),
         total_set (loose_of z b f) s.views id v after_it at,
       )
 
@@ -288,7 +288,7 @@ module _ (l : Ledger) (s : State Slot View) (id : ℕ) (v : View) (r : Record) (
       up_weighs false n e = refl
 
   same_shuts : (b : ℕ) → shuts_of b after_it ≡ shuts_of b v
-  same_shuts b = named_shuts r.place (length l.log) b v.buckets.shut
+  same_shuts b = named_shuts r.place (Some (length l.log)) b v.buckets.shut
 
   -- no other pass has a bucket that this one has shut
   shut_alone : (b : ℕ) → b < v.passes.sizes.buckets → (j : ℕ) (u : View) → j ≢ id → get_elem? s.views j ≡ some u → 0 < shuts_of b u → shuts_of b v ≡ 0
@@ -296,29 +296,29 @@ module _ (l : Ledger) (s : State Slot View) (id : ℕ) (v : View) (r : Record) (
 
   -- THE PARTS
 
-  born_chains : AreChains v.passes.sizes made words (set s.views id after_it) (named_chains r.place (length l.log) v l.chains)
+  born_chains : AreChains v.passes.sizes made words (set s.views id after_it) (named_chains r.place (Some (length l.log)) v l.chains)
   born_chains =
       let z : Sizes = v.passes.sizes in
       let n : ℕ = length l.log in
       let same : SameChains z s.words words = word_same z s.words (packed made) in
       record {
         linked = λ b below.
-            chains_both r.place n v l.chains b (IsChain z words b (slice_index words (head_word z b))) (λ off. linked_on b below)
-            (λ on. named_chain r.place n z words b (slice_index words (head_word z b)) (l.chains b) (linked_on b below));
+            chains_both r.place (Some n) v l.chains b (IsChain z words b (slice_index words (head_word z b))) (λ off. linked_on b below)
+            (λ on. named_chain r.place (Some n) z words b (slice_index words (head_word z b)) (l.chains b) (linked_on b below));
         ordered = λ b below.
-            chains_both r.place n v l.chains b IsOrdered (λ off. h.chains.ordered b below) (λ on. named_ordered r.place n (l.chains b) (h.chains.ordered b below));
+            chains_both r.place (Some n) v l.chains b IsOrdered (λ off. h.chains.ordered b below) (λ on. named_ordered r.place (Some n) (l.chains b) (h.chains.ordered b below));
         gens = λ b below.
             ap (λ (k : ℕ). k % 2) (same.gens b below) ∙ h.chains.gens b below ∙ sym (total_same (shuts_of b) s.views id v after_it at (same_shuts b));
         mine = λ b below.
-            each_other (λ (u : View). 0 < shuts_of b u → chain_in b u.buckets.shut ≡ named_chains r.place (length l.log) v l.chains b) s.views id after_it
+            each_other (λ (u : View). 0 < shuts_of b u → chain_in b u.buckets.shut ≡ named_chains r.place (Some (length l.log)) v l.chains b) s.views id after_it
             (λ j u other there any.
-            h.chains.mine b below j u there any ∙ sym (chains_off r.place n v l.chains b (shut_alone b below j u other there any)))
+            h.chains.mine b below j u there any ∙ sym (chains_off r.place (Some n) v l.chains b (shut_alone b below j u other there any)))
             (λ any.
             let was : 0 < shuts_of b v = omega (arith, any, same_shuts b) in
-            named_in_chain r.place n b v.buckets.shut ∙ ap (map (named r.place n)) (h.chains.mine b below id v at was)
-            ∙ sym (chains_on r.place n v l.chains b (λ e. omega (arith, was, e))));
+            named_in_chain r.place (Some n) b v.buckets.shut ∙ ap (map (named r.place n)) (h.chains.mine b below id v at was)
+            ∙ sym (chains_on r.place (Some n) v l.chains b (λ e. omega (arith, was, e))));
         chained = λ b below f.
-            chains_both r.place n v l.chains b (λ es. total f es ≡ total (links_in z b f) (records_after made) + total (loose_of z b f) (set s.views id after_it))
+            chains_both r.place (Some n) v l.chains b (λ es. total f es ≡ total (links_in z b f) (records_after made) + total (loose_of z b f) (set s.views id after_it))
             (λ off. else_weighs b below off f) (λ on. told_weighs b below f);
         home = each_put (λ (u : View). (c : ℕ) → c < z.buckets → 0 < loose_of z c each_link u → 0 < shuts_of c u) s.views id after_it h.chains.home
             (λ c below some_loose. omega (
@@ -441,6 +441,9 @@ module _ (l : Ledger) (s : State Slot View) (id : ℕ) (v : View) (r : Record) (
             (λ q on. let c = h.free_list.ended id v at q on in (c.0, word_phase z s.words (packed made) q ∙ c.1));
       }
 
+  born_lives : (x y : Record) → Born x ≡ Dying y → ⊥
+  born_lives x y e = cc
+
   born_phases : ArePhases v.passes.sizes made words (set s.views id after_it)
   born_phases =
       let z : Sizes = v.passes.sizes in
@@ -462,6 +465,8 @@ module _ (l : Ledger) (s : State Slot View) (id : ℕ) (v : View) (r : Record) (
           calm (of_place q),
           total_set (middle_of (of_place q)) s.views id v after_it at,
         );
+        dead = each_put (λ u. (x : Record) → u.commit.middle ≡ Dying x → phase_at z words x.place ≡ 2) s.views id after_it
+            (λ i u at' x e. word_phase z s.words (packed made) x.place ∙ h.phases.dead i u at' x e) (λ x e. absurd (born_lives subject x e));
       }
 
   -- what a pass knows of a record
@@ -517,7 +522,7 @@ module _ (l : Ledger) (s : State Slot View) (id : ℕ) (v : View) (r : Record) (
 
   -- a note speaks of even generations, and so of chains that are told nothing
   walk_named : (front : List Event) (n : Walk) → IsWalk v.passes.sizes s.words l.chains front n
-      → IsWalk v.passes.sizes s.words (named_chains r.place (length l.log) v l.chains) front n
+      → IsWalk v.passes.sizes s.words (named_chains r.place (Some (length l.log)) v l.chains) front n
   walk_named front n w = record {
     bucket = w.bucket;
     least = w.least;
@@ -529,16 +534,16 @@ module _ (l : Ledger) (s : State Slot View) (id : ℕ) (v : View) (r : Record) (
   }
     where
       untold : gen_at v.passes.sizes s.words n.bucket ≡ n.generation → n.generation % 2 ≡ 0
-          → named_chains r.place (length l.log) v l.chains n.bucket ≡ l.chains n.bucket
+          → named_chains r.place (Some (length l.log)) v l.chains n.bucket ≡ l.chains n.bucket
       untold here even =
-          chains_off r.place (length l.log) v l.chains n.bucket
+          chains_off r.place (Some (length l.log)) v l.chains n.bucket
           (omega (arith, here, even, h.chains.gens n.bucket w.bucket, total_term (shuts_of n.bucket) s.views id v at))
 
-  born_walks : AreWalks v.passes.sizes words (set s.views id after_it) (named_chains r.place (length l.log) v l.chains)
+  born_walks : AreWalks v.passes.sizes words (set s.views id after_it) (named_chains r.place (Some (length l.log)) v l.chains)
   born_walks = record {
-    each = each_put (λ (u : View). (n : Walk) → u.walk ≡ Some n → IsWalk v.passes.sizes words (named_chains r.place (length l.log) v l.chains) u.seen.front n) s.views id after_it
+    each = each_put (λ (u : View). (n : Walk) → u.walk ≡ Some n → IsWalk v.passes.sizes words (named_chains r.place (Some (length l.log)) v l.chains) u.seen.front n) s.views id after_it
         (λ i u at' n e.
-        walk_stays v.passes.sizes s.words words (word_same v.passes.sizes s.words (packed made)) (named_chains r.place (length l.log) v l.chains) u.seen.front n
+        walk_stays v.passes.sizes s.words words (word_same v.passes.sizes s.words (packed made)) (named_chains r.place (Some (length l.log)) v l.chains) u.seen.front n
         (walk_named u.seen.front n (h.walks.each i u at' n e)))
         (λ n e. absurd (none-some n e));
   }

@@ -13,7 +13,7 @@ use Rattle.history_book.specs.declared.record.Record.{Record}
 use Rattle.history_book.specs.declared.sizes.Sizes.{Sizes}
 use Rattle.track_rule.specs.declared.slot.Slot.{Slot}
 use Rattle.track_rule.specs.declared.view.Hand.{Hand}
-use Rattle.track_rule.specs.declared.view.Middle.TheVariants.{Calm}
+use Rattle.track_rule.specs.declared.view.Middle.TheVariants.{Calm, Dying}
 use Rattle.track_rule.specs.declared.view.View.{View}
 use Rattle.track_rule.specs.declared.view.Walk.{Walk}
 use Rattle.track_rule.specs.Chains.{each_link, hooks_at, loose_of, shuts_of}
@@ -155,6 +155,9 @@ module _ (l : Ledger) (s : State Slot View) (id : ℕ) (v : View) (r : Record) (
             (λ q on. let c = h.free_list.ended id v at q on in (omega (arith, c.0), low_stays q 2 (omega arith) c.1));
       }
 
+  one_dying : (a b : Record) → Dying a ≡ Dying b → a ≡ b
+  one_dying a b e = cc
+
   dead_phases : ArePhases v.passes.sizes l.log new (set s.views id w)
   dead_phases =
       let z : Sizes = v.passes.sizes in
@@ -203,6 +206,9 @@ module _ (l : Ledger) (s : State Slot View) (id : ℕ) (v : View) (r : Record) (
               total_set (middle_of (of_place q)) s.views id v w at,
             ))
             (cases_eq q r.place);
+        dead = each_other (λ u. (x : Record) → u.commit.middle ≡ Dying x → phase_at z new x.place ≡ 2) s.views id w
+            (λ j u other at' x e. low_stays x.place 2 (omega arith) (h.phases.dead j u at' x e))
+            (λ x e. ap (λ (y : Record). phase_at z new y.place) (sym (one_dying r x e)) ∙ here);
       }
 
   own_hand : (x : Hand) × (v.commit.hand ≡ Some x) × (x.place ≡ r.place)

@@ -1,4 +1,5 @@
 -- An event that leaves the ids, the places and the tuples of live records.
+use Rattle.track_rule.specs.declared.view.Middle.TheVariants.{Dying}
 use Rattle.std.proofs.Common.{◌≡◌, ℕ, ◌+◌, ◌^◌, ◌<◌, ◌≤◌, true, Some, None, List, [], ◌∷◌, ◌++◌, length, refl, sym, ap, subst, ◌∙◌, arith, set}
 use Rattle.std.specs.Prelude.{if◌then◌else◌, slice_set}
 use Rattle.std.proofs.lemmas.List.{get_or-set_same, length-set}
@@ -26,7 +27,7 @@ use Rattle.track_rule.specs.Phases.{middle_of, middle_weight, of_both, of_place,
 use Rattle.track_rule.specs.Records.{AreRecords}
 use Rattle.track_rule.specs.References.{AreKept, AreReferences, ends, held_times, keeps, taken_times, takes}
 use Rattle.track_rule.specs.Rule.{IsKept, Ledger}
-use Rattle.track_rule.specs.Sums.{times, total}
+use Rattle.track_rule.specs.Sums.{Each, times, total}
 use Rattle.track_rule.specs.Walks.{IsWalk}
 use Rattle.track_rule.proofs.Balance.{free_left}
 use Rattle.track_rule.proofs.Carried.{carries_set}
@@ -108,6 +109,13 @@ module _ (l : Ledger) (s : State Slot View) (id : ℕ) (v w : View) (e : Event) 
     total_same (middle_of (of_place q)) s.views id v w at (ap (middle_weight (of_place q)) parts.middle),
   )
 
+  event_dead : Each (λ u. (x : Record) → u.commit.middle ≡ Dying x → phase_at v.passes.sizes words x.place ≡ 2) (set s.views id w)
+  event_dead =
+      let z : Sizes = v.passes.sizes in
+      each_put (λ u. (x : Record) → u.commit.middle ≡ Dying x → phase_at z words x.place ≡ 2) s.views id w
+      (λ i u at' x k. word_phase z s.words (packed made) x.place ∙ h.phases.dead i u at' x k)
+      (λ x k. word_phase z s.words (packed made) x.place ∙ h.phases.dead id v at x (sym parts.middle ∙ k))
+
   -- the chains weigh what they did
   told_chains : AreChains v.passes.sizes made s.words s.views l.chains
   told_chains = record {
@@ -168,7 +176,7 @@ module _ (l : Ledger) (s : State Slot View) (id : ℕ) (v w : View) (e : Event) 
         free_list = free_left z s.words words s.homes s.homes s.views id v w l.free at parts.places parts.free (word_refs z s.words (packed made))
             (word_phase z s.words (packed made)) (word_other z s.words (packed made) 1 (omega arith)) refl h.free_list;
         records = records;
-        phases = record { shown = event_phases; used = event_used };
+        phases = record { shown = event_phases; used = event_used; dead = event_dead };
         commits = commits;
         chains = event_chains;
         links = links_stay z s.words words stays s.views (set s.views id w)

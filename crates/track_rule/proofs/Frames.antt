@@ -96,6 +96,10 @@ module _ (z : Sizes) (ws ws' : List ℕ) (quiet : Quiet z ws ws') where
     };
   }
 
+-- a record that dies does so in the middle of a commit
+pub calm_lives : (r : Record) → Calm ≡ Dying r → ⊥
+calm_lives r e = cc
+
 module _ (z : Sizes) (ws ws' : List ℕ) (still : Still z ws ws') where
   history_stays : (log : List Event) → IsHistory z log ws → IsHistory z log ws'
   history_stays log h = record { legal = h.legal; word = still.history ∙ h.word }
@@ -139,6 +143,8 @@ module _ (z : Sizes) (ws ws' : List ℕ) (still : Still z ws ws') where
         h.used p below
         ∙ ap (λ (ph : ℕ). table_keeps ph + total (middle_of (of_place p)) vs) (sym (still.phases p))
         ∙ ap (λ (n : ℕ). table_keeps (phase_at z ws' p) + n) (sym (middles (of_place p)));
+    dead = leaves.commit.each (λ (c : Commit). (r : Record) → c.middle ≡ Dying r → phase_at z ws' r.place ≡ 2) (λ r e. absurd (calm_lives r e))
+        (λ i v at r e. still.phases r.place ∙ h.dead i v at r e);
   }
     where
       middles : (weight : Record → ℕ) → total (middle_of weight) vs' ≡ total (middle_of weight) vs

@@ -1,5 +1,5 @@
 -- A Confirm tells the links of its place the id: what that leaves of chains, and what it changes of what they weigh.
-use Rattle.std.proofs.Common.{◌≡◌, ◌≢◌, ℕ, ◌-◌, Bool, Some, List, [], ◌∷◌, length, map, refl, sym, ap, ◌∙◌, arith, eq-eqb, ne_eqb}
+use Rattle.std.proofs.Common.{◌≡◌, ◌≢◌, ℕ, ◌-◌, Bool, Option, Some, List, [], ◌∷◌, length, map, refl, sym, ap, ◌∙◌, arith, eq-eqb, ne_eqb}
 use Rattle.std.specs.Prelude.{slice_index, ◌==◌, if◌then◌else◌}
 use Rattle.std.proofs.lemmas.Bool.{cond_both, eqb-true, false≢true}
 use Rattle.history_book.specs.declared.record.Record.{Record}
@@ -9,15 +9,15 @@ use Rattle.track_rule.specs.declared.view.Hook.{Hook}
 use Rattle.track_rule.specs.declared.view.Shut.{Shut}
 use Rattle.track_rule.specs.declared.view.View.{View}
 use Rattle.track_rule.specs.Chains.{IsChain, IsOrdered, bucket_of, chain_in, entry_of, is_at_link, links_in, original_of, reply_of, shuts_of, side}
-use Rattle.track_rule.specs.CommitSteps.{named, named_in, with_confirm}
+use Rattle.track_rule.specs.CommitSteps.{told, told_in, with_confirm}
 use Rattle.track_rule.specs.Layout.{next_word, place_of}
 use Rattle.track_rule.specs.Rule.{Ledger}
 use Rattle.track_rule.specs.Sums.{Each, bit, total}
 use Rattle.track_rule.proofs.Sums.{total_alike, total_map}
 
-module _ (p i : ℕ) where
+module _ (p : ℕ) (o : Option ℕ) where
   -- a chain in words stays one, and in order
-  pub named_chain : (z : Sizes) (ws : List ℕ) (b n : ℕ) (es : List Entry) → IsChain z ws b n es → IsChain z ws b n (map (named p i) es)
+  pub named_chain : (z : Sizes) (ws : List ℕ) (b n : ℕ) (es : List Entry) → IsChain z ws b n es → IsChain z ws b n (map (told p o) es)
   named_chain z ws b n [] h = h
   named_chain z ws b n (e ∷ es) h = (
     h.0,
@@ -25,63 +25,63 @@ module _ (p i : ℕ) where
     named_chain z ws b (slice_index ws (next_word z e.link)) es h.2,
   )
 
-  pub named_ordered : (es : List Entry) → IsOrdered es → IsOrdered (map (named p i) es)
+  pub named_ordered : (es : List Entry) → IsOrdered es → IsOrdered (map (told p o) es)
   named_ordered [] h = tt
-  named_ordered (e ∷ es) h = (λ reply. total_map (is_at_link (e.link - 1)) (named p i) es ∙ h.0 reply, named_ordered es h.1)
+  named_ordered (e ∷ es) h = (λ reply. total_map (is_at_link (e.link - 1)) (told p o) es ∙ h.0 reply, named_ordered es h.1)
 
   -- the buckets that are shut stay so, with the chains changed
-  pub named_shuts : (b : ℕ) (shut : List Shut) → total (λ (s : Shut). bit (s.bucket == b)) (named_in p i shut) ≡ total (λ (s : Shut). bit (s.bucket == b)) shut
-  named_shuts b shut = total_map (λ (s : Shut). bit (s.bucket == b)) (λ (s : Shut). record s { chain = map (named p i) s.chain }) shut
+  pub named_shuts : (b : ℕ) (shut : List Shut) → total (λ (s : Shut). bit (s.bucket == b)) (told_in p o shut) ≡ total (λ (s : Shut). bit (s.bucket == b)) shut
+  named_shuts b shut = total_map (λ (s : Shut). bit (s.bucket == b)) (λ (s : Shut). record s { chain = map (told p o) s.chain }) shut
 
-  pub named_in_chain : (b : ℕ) (shut : List Shut) → chain_in b (named_in p i shut) ≡ map (named p i) (chain_in b shut)
+  pub named_in_chain : (b : ℕ) (shut : List Shut) → chain_in b (told_in p o shut) ≡ map (told p o) (chain_in b shut)
   named_in_chain b [] = refl
   named_in_chain b (s ∷ rest) =
-      cond_both (s.bucket == b) s.chain (chain_in b rest) (λ es. (if s.bucket == b then map (named p i) s.chain else chain_in b (named_in p i rest)) ≡ map (named p i) es)
-      (λ e. ap (λ (k : Bool). if k then map (named p i) s.chain else chain_in b (named_in p i rest)) e)
-      (λ e. ap (λ (k : Bool). if k then map (named p i) s.chain else chain_in b (named_in p i rest)) e ∙ named_in_chain b rest)
+      cond_both (s.bucket == b) s.chain (chain_in b rest) (λ es. (if s.bucket == b then map (told p o) s.chain else chain_in b (told_in p o rest)) ≡ map (told p o) es)
+      (λ e. ap (λ (k : Bool). if k then map (told p o) s.chain else chain_in b (told_in p o rest)) e)
+      (λ e. ap (λ (k : Bool). if k then map (told p o) s.chain else chain_in b (told_in p o rest)) e ∙ named_in_chain b rest)
 
   -- a link of another place is told nothing
-  named_else : (e : Entry) → place_of e.link ≢ p → named p i e ≡ e
-  named_else e other = ap (λ (k : Bool). record e { id = (if k then Some i else e.id) }) (ne_eqb (place_of e.link) p other)
+  named_else : (e : Entry) → place_of e.link ≢ p → told p o e ≡ e
+  named_else e other = ap (λ (k : Bool). record e { id = (if k then o else e.id) }) (ne_eqb (place_of e.link) p other)
 
-  pub named_here : (e : Entry) → place_of e.link ≡ p → named p i e ≡ record e { id = Some i }
-  named_here e here = ap (λ (k : Bool). record e { id = (if k then Some i else e.id) }) (eq-eqb (place_of e.link) p here)
+  pub named_here : (e : Entry) → place_of e.link ≡ p → told p o e ≡ record e { id = o }
+  named_here e here = ap (λ (k : Bool). record e { id = (if k then o else e.id) }) (eq-eqb (place_of e.link) p here)
 
   module _ (z : Sizes) (b : ℕ) (f : Entry → ℕ) where
-    side_else : (e : Entry) → place_of e.link ≢ p → side z b (λ x. f (named p i x)) e ≡ side z b f e
+    side_else : (e : Entry) → place_of e.link ≢ p → side z b (λ x. f (told p o x)) e ≡ side z b f e
     side_else e other = ap (λ (x : Entry). if bucket_of z e.pair == b then f x else 0) (named_else e other)
 
     -- so records and links of other places weigh what they did
-    pub records_else : (rs : List Record) → Each (λ r. r.place ≢ p) rs → total (links_in z b (λ x. f (named p i x))) rs ≡ total (links_in z b f) rs
-    records_else rs others = total_alike (links_in z b (λ x. f (named p i x))) (links_in z b f) rs (λ j r at. omega (
+    pub records_else : (rs : List Record) → Each (λ r. r.place ≢ p) rs → total (links_in z b (λ x. f (told p o x))) rs ≡ total (links_in z b f) rs
+    records_else rs others = total_alike (links_in z b (λ x. f (told p o x))) (links_in z b f) rs (λ j r at. omega (
       arith,
       side_else (original_of r) (λ e. others j r at (omega (arith, e))),
       side_else (reply_of r) (λ e. others j r at (omega (arith, e))),
     ))
 
     pub hooks_else : (hooks : List Hook) → Each (λ h. place_of h.link ≢ p) hooks
-        → total (λ (h : Hook). (if h.up then side z b (λ x. f (named p i x)) (entry_of h) else 0)) hooks
+        → total (λ (h : Hook). (if h.up then side z b (λ x. f (told p o x)) (entry_of h) else 0)) hooks
         ≡ total (λ (h : Hook). (if h.up then side z b f (entry_of h) else 0)) hooks
     hooks_else hooks others =
-        total_alike (λ (h : Hook). (if h.up then side z b (λ x. f (named p i x)) (entry_of h) else 0)) (λ (h : Hook). (if h.up then side z b f (entry_of h) else 0)) hooks
+        total_alike (λ (h : Hook). (if h.up then side z b (λ x. f (told p o x)) (entry_of h) else 0)) (λ (h : Hook). (if h.up then side z b f (entry_of h) else 0)) hooks
         (λ j h at. ap (λ (n : ℕ). if h.up then n else 0) (side_else (entry_of h) (others j h at)))
 
 -- the chains, with the id told in buckets that the pass has shut
-abbrev pub named_chains : ℕ → ℕ → View → (ℕ → List Entry) → ℕ → List Entry
-named_chains p i v chains b = (if shuts_of b v == 0 then chains b else map (named p i) (chains b))
+abbrev pub named_chains : ℕ → Option ℕ → View → (ℕ → List Entry) → ℕ → List Entry
+named_chains p o v chains b = (if shuts_of b v == 0 then chains b else map (told p o) (chains b))
 
-module _ (p i : ℕ) (v : View) (chains : ℕ → List Entry) (b : ℕ) where
-  pub chains_both : (P : List Entry → Type 0) → (shuts_of b v ≡ 0 → P (chains b)) → (shuts_of b v ≢ 0 → P (map (named p i) (chains b))) → P (named_chains p i v chains b)
+module _ (p : ℕ) (o : Option ℕ) (v : View) (chains : ℕ → List Entry) (b : ℕ) where
+  pub chains_both : (P : List Entry → Type 0) → (shuts_of b v ≡ 0 → P (chains b)) → (shuts_of b v ≢ 0 → P (map (told p o) (chains b))) → P (named_chains p o v chains b)
   chains_both P off on =
-      cond_both (shuts_of b v == 0) (chains b) (map (named p i) (chains b)) P (λ e. off (eqb-true (shuts_of b v) 0 e))
+      cond_both (shuts_of b v == 0) (chains b) (map (told p o) (chains b)) P (λ e. off (eqb-true (shuts_of b v) 0 e))
       (λ e. on (λ same. false≢true (sym e ∙ eq-eqb (shuts_of b v) 0 same)))
 
-  pub chains_off : shuts_of b v ≡ 0 → named_chains p i v chains b ≡ chains b
-  chains_off off = ap (λ (k : Bool). if k then chains b else map (named p i) (chains b)) (eq-eqb (shuts_of b v) 0 off)
+  pub chains_off : shuts_of b v ≡ 0 → named_chains p o v chains b ≡ chains b
+  chains_off off = ap (λ (k : Bool). if k then chains b else map (told p o) (chains b)) (eq-eqb (shuts_of b v) 0 off)
 
-  pub chains_on : shuts_of b v ≢ 0 → named_chains p i v chains b ≡ map (named p i) (chains b)
-  chains_on on = ap (λ (k : Bool). if k then chains b else map (named p i) (chains b)) (ne_eqb (shuts_of b v) 0 on)
+  pub chains_on : shuts_of b v ≢ 0 → named_chains p o v chains b ≡ map (told p o) (chains b)
+  chains_on on = ap (λ (k : Bool). if k then chains b else map (told p o) (chains b)) (ne_eqb (shuts_of b v) 0 on)
 
 -- what no word shows, after a Confirm
 abbrev pub born_ledger : Ledger → Record → View → Ledger
-born_ledger l r v = record l { log = with_confirm l.log r; chains = named_chains r.place (length l.log) v l.chains }
+born_ledger l r v = record l { log = with_confirm l.log r; chains = named_chains r.place (Some (length l.log)) v l.chains }

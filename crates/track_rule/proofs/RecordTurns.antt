@@ -1,4 +1,5 @@
 -- The turn of a record: it is taken, and given back.
+use Rattle.history_book.specs.declared.record.Record.{Record}
 use Rattle.std.proofs.Common.{◌≡◌, ◌≢◌, ℕ, ◌+◌, ◌-◌, ◌<◌, ◌≤◌, eqb, true, Bool, Option, Some, None, List, [], ◌∷◌, length, refl, sym, ap, subst, ◌∙◌, ⊎_elim, arith, set, eq-eqb, ne_eqb}
 use Rattle.std.specs.Prelude.{slice_index, slice_set, ◌==◌}
 use Rattle.std.proofs.lemmas.Bool.{cases_eq, cases_lt, false≢true}
@@ -16,7 +17,7 @@ use Rattle.track_rule.specs.declared.slot.Slot.{Slot}
 use Rattle.track_rule.specs.declared.slot.Slot.TheVariants.{Vacant, Free, Expects, Subject}
 use Rattle.track_rule.specs.declared.view.Hand.{Hand}
 use Rattle.track_rule.specs.declared.view.Middle.{Middle}
-use Rattle.track_rule.specs.declared.view.Middle.TheVariants.{Calm}
+use Rattle.track_rule.specs.declared.view.Middle.TheVariants.{Calm, Dying}
 use Rattle.track_rule.specs.declared.view.Reading.{Reading}
 use Rattle.track_rule.specs.declared.view.View.{View}
 use Rattle.track_rule.specs.declared.view.Walk.{Walk}
@@ -112,6 +113,9 @@ module _ (l : Ledger) (s : State Slot View) (id p : ℕ) (v : View) (h : IsKept 
             ap table_keeps (turn_phase z s.words p n q),
             total_same (middle_of (of_place q)) s.views id v w at refl,
           );
+          dead = each_put (λ u. (x : Record) → u.commit.middle ≡ Dying x → phase_at z new x.place ≡ 2) s.views id w
+              (λ i u at' x e. turn_phase z s.words p n x.place ∙ h.phases.dead i u at' x e)
+              (λ x e. turn_phase z s.words p n x.place ∙ h.phases.dead id v at x e);
         };
         commits = each_put (IsMiddleOf z l.log) s.views id w h.commits middle;
         chains = chains_stay z s.words new same l.log s.views (set s.views id w) l.chains (carries_set (λ (u : View). u.buckets.shut) [] s.views id v w at refl)

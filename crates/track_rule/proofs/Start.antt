@@ -1,4 +1,5 @@
 -- The rule holds where one pass has all shares of a table at which nothing was done yet.
+use Rattle.track_rule.proofs.Frames.{calm_lives}
 use Rattle.std.specs.Prelude.{map, slice_index, replicate}
 use Rattle.std.proofs.Common.{◌^◌, ◌≡◌, ℕ, ◌+◌, ◌*◌, ◌%◌, ◌<◌, ◌≤◌, zero, suc, true, Some, List, [], ◌∷◌, length, refl, sym, ap, subst, ◌∙◌, arith}
 use Rattle.std.proofs.lemmas.Bool.Decides.{nat_tests}
@@ -27,6 +28,7 @@ use Rattle.track_rule.specs.Commits.{IsMiddleOf}
 use Rattle.track_rule.specs.Phases.{of_both, of_place, shows, table_keeps}
 use Rattle.track_rule.specs.Links.{HasHooks}
 use Rattle.track_rule.specs.Walks.{IsWalk}
+use Rattle.track_rule.specs.declared.view.Middle.TheVariants.{Calm, Dying}
 use Rattle.track_rule.specs.declared.view.Walk.{Walk}
 use Rattle.track_rule.specs.References.{AreKept, held_times, takes}
 use Rattle.track_rule.specs.Readings.{last_read}
@@ -140,6 +142,7 @@ starts z list table limits whole nothing room =
         phases = record {
           shown = λ p id below. omega (arith, ap (total (of_both p id)) no_records, ap (λ (ph : ℕ). shows ph id) (word (phase_word z p)), no_show id);
           used = λ p below. omega (arith, ap (total (of_place p)) no_records, ap table_keeps (word (phase_word z p)));
+          dead = one_view z (λ v. (x : Record) → v.commit.middle ≡ Dying x → phase_at z ws x.place ≡ 2) (λ x e. absurd (calm_lives x e));
         };
         commits = one_view z (IsMiddleOf z []) tt;
         chains = record {

@@ -72,13 +72,19 @@ born n r = record r { id = n }
 abbrev pub with_confirm : List Event → Record → List Event
 with_confirm log r = log ++ Confirm (born (length log) r) ∷ []
 
--- a link of the place is that of the entry of this id now
+-- a link of the place is that of the entry of this id now, or of none
+abbrev pub told : ℕ → Option ℕ → Entry → Entry
+told place id e = record e { id = (if place_of e.link == place then id else e.id) }
+
 abbrev pub named : ℕ → ℕ → Entry → Entry
-named place id e = record e { id = (if place_of e.link == place then Some id else e.id) }
+named place id e = told place (Some id) e
 
 -- so it is in each of these buckets
+abbrev pub told_in : ℕ → Option ℕ → List Shut → List Shut
+told_in place id shut = map (λ (s : Shut). record s { chain = map (told place id) s.chain }) shut
+
 abbrev pub named_in : ℕ → ℕ → List Shut → List Shut
-named_in place id shut = map (λ (s : Shut). record s { chain = map (named place id) s.chain }) shut
+named_in place id shut = told_in place (Some id) shut
 
 -- The Confirm is made: the record is live, and its links, which stand in buckets that the pass has shut, are those of a live
 -- record and name its id.
