@@ -45,7 +45,7 @@ use Rattle.track_rule.proofs.Confirms.{lawful, none_there, state_on}
 use Rattle.track_rule.proofs.Events.{get_last, kept_on, passes_made}
 use Rattle.track_rule.proofs.Frames.{SameChains, chain_stays, hooks_stay, links_stay, walk_stays}
 use Rattle.track_rule.proofs.HookLists.{hook_test, hook_there, some_hook}
-use Rattle.track_rule.proofs.Named.{born_ledger, chains_both, chains_off, chains_on, hooks_else, named_chain, named_chains, named_here, named_in_chain, named_ordered, named_shuts, records_else}
+use Rattle.track_rule.proofs.Named.{born_ledger, chains_both, hooks_else, named_chains, named_here, records_else, told_linked, told_mine, told_ordered, told_shuts, told_walks}
 use Rattle.track_rule.proofs.HistoryWord.{word_other, word_phase, word_refs, word_same, word_turn}
 use Rattle.track_rule.proofs.LastRead.{stored_on}
 use Rattle.track_rule.proofs.Lists.{other_bit, same_bit, unlisted_less, unlisted_out}
@@ -288,11 +288,7 @@ module _ (l : Ledger) (s : State Slot View) (id : ℕ) (v : View) (r : Record) (
       up_weighs false n e = refl
 
   same_shuts : (b : ℕ) → shuts_of b after_it ≡ shuts_of b v
-  same_shuts b = named_shuts r.place (Some (length l.log)) b v.buckets.shut
-
-  -- no other pass has a bucket that this one has shut
-  shut_alone : (b : ℕ) → b < v.passes.sizes.buckets → (j : ℕ) (u : View) → j ≢ id → get_elem? s.views j ≡ some u → 0 < shuts_of b u → shuts_of b v ≡ 0
-  shut_alone b below j u other there any = omega (arith, any, h.chains.gens b below, total_two (shuts_of b) s.views id j v u at there other)
+  same_shuts = told_shuts v.passes.sizes l s id v after_it h at r.place (Some (length l.log)) refl
 
   -- THE PARTS
 
@@ -302,21 +298,11 @@ module _ (l : Ledger) (s : State Slot View) (id : ℕ) (v : View) (r : Record) (
       let n : ℕ = length l.log in
       let same : SameChains z s.words words = word_same z s.words (packed made) in
       record {
-        linked = λ b below.
-            chains_both r.place (Some n) v l.chains b (IsChain z words b (slice_index words (head_word z b))) (λ off. linked_on b below)
-            (λ on. named_chain r.place (Some n) z words b (slice_index words (head_word z b)) (l.chains b) (linked_on b below));
-        ordered = λ b below.
-            chains_both r.place (Some n) v l.chains b IsOrdered (λ off. h.chains.ordered b below) (λ on. named_ordered r.place (Some n) (l.chains b) (h.chains.ordered b below));
+        linked = told_linked z l s id v after_it h at r.place (Some (length l.log)) refl words same;
+        ordered = told_ordered z l s id v after_it h at r.place (Some (length l.log)) refl;
         gens = λ b below.
             ap (λ (k : ℕ). k % 2) (same.gens b below) ∙ h.chains.gens b below ∙ sym (total_same (shuts_of b) s.views id v after_it at (same_shuts b));
-        mine = λ b below.
-            each_other (λ (u : View). 0 < shuts_of b u → chain_in b u.buckets.shut ≡ named_chains r.place (Some (length l.log)) v l.chains b) s.views id after_it
-            (λ j u other there any.
-            h.chains.mine b below j u there any ∙ sym (chains_off r.place (Some n) v l.chains b (shut_alone b below j u other there any)))
-            (λ any.
-            let was : 0 < shuts_of b v = omega (arith, any, same_shuts b) in
-            named_in_chain r.place (Some n) b v.buckets.shut ∙ ap (map (named r.place n)) (h.chains.mine b below id v at was)
-            ∙ sym (chains_on r.place (Some n) v l.chains b (λ e. omega (arith, was, e))));
+        mine = told_mine z l s id v after_it h at r.place (Some (length l.log)) refl;
         chained = λ b below f.
             chains_both r.place (Some n) v l.chains b (λ es. total f es ≡ total (links_in z b f) (records_after made) + total (loose_of z b f) (set s.views id after_it))
             (λ off. else_weighs b below off f) (λ on. told_weighs b below f);
@@ -338,13 +324,6 @@ module _ (l : Ledger) (s : State Slot View) (id : ℕ) (v : View) (r : Record) (
           total_set (hooks_at link) s.views id v after_it at,
         );
       }
-    where
-      linked_on : (b : ℕ) → b < v.passes.sizes.buckets → IsChain v.passes.sizes words b (slice_index words (head_word v.passes.sizes b)) (l.chains b)
-      linked_on b below =
-          let z : Sizes = v.passes.sizes in
-          let same : SameChains z s.words words = word_same z s.words (packed made) in
-          subst (λ (n : ℕ). IsChain z words b n (l.chains b)) (sym (same.links.heads b below))
-          (chain_stays z s.words words same.links b (slice_index s.words (head_word z b)) (l.chains b) (h.chains.linked b below))
 
   -- links in chains are of places that the pass still owns
   born_linked : Each (IsOwned after_it.places) after_it.buckets.hooks
@@ -520,33 +499,9 @@ module _ (l : Ledger) (s : State Slot View) (id : ℕ) (v : View) (r : Record) (
         ∙ find_last (has_id (length l.log)) (records_after l.log) subject (low_ids (length l.log) (records_after l.log) low) (eq-eqb (length l.log) (length l.log) refl);
   })
 
-  -- a note speaks of even generations, and so of chains that are told nothing
-  walk_named : (front : List Event) (n : Walk) → IsWalk v.passes.sizes s.words l.chains front n
-      → IsWalk v.passes.sizes s.words (named_chains r.place (Some (length l.log)) v l.chains) front n
-  walk_named front n w = record {
-    bucket = w.bucket;
-    least = w.least;
-    stands = λ here even. subst (λ es. Stands es n) (sym (untold here even)) (w.stands here even);
-    known = λ point e.
-        let k = w.known point e in
-        record { seen = k.seen; live = λ here even. subst (HasLive v.passes.sizes n.bucket front) (sym (untold here even)) (k.live here even) };
-    gone = w.gone;
-  }
-    where
-      untold : gen_at v.passes.sizes s.words n.bucket ≡ n.generation → n.generation % 2 ≡ 0
-          → named_chains r.place (Some (length l.log)) v l.chains n.bucket ≡ l.chains n.bucket
-      untold here even =
-          chains_off r.place (Some (length l.log)) v l.chains n.bucket
-          (omega (arith, here, even, h.chains.gens n.bucket w.bucket, total_term (shuts_of n.bucket) s.views id v at))
-
   born_walks : AreWalks v.passes.sizes words (set s.views id after_it) (named_chains r.place (Some (length l.log)) v l.chains)
-  born_walks = record {
-    each = each_put (λ (u : View). (n : Walk) → u.walk ≡ Some n → IsWalk v.passes.sizes words (named_chains r.place (Some (length l.log)) v l.chains) u.seen.front n) s.views id after_it
-        (λ i u at' n e.
-        walk_stays v.passes.sizes s.words words (word_same v.passes.sizes s.words (packed made)) (named_chains r.place (Some (length l.log)) v l.chains) u.seen.front n
-        (walk_named u.seen.front n (h.walks.each i u at' n e)))
-        (λ n e. absurd (none-some n e));
-  }
+  born_walks =
+      told_walks v.passes.sizes l s id v after_it h at r.place (Some (length l.log)) refl words (word_same v.passes.sizes s.words (packed made)) refl
 
   pub born_kept : IsKept v.passes.sizes (born_ledger l r v)
       (record { words = slice_set s.words 0 (packed (with_confirm l.log r)); homes = s.homes; views = set s.views id (confirmed l.log r v) })

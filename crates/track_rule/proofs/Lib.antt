@@ -31,6 +31,7 @@ pub mod AllPasses
 pub mod HistoryWord
 pub mod LivePlaces
 pub mod EventSteps
+pub mod OneRecord
 pub mod Confirming
 pub mod Confirms
 pub mod Named

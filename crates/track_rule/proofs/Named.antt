@@ -1,5 +1,15 @@
 -- A Confirm tells the links of its place the id: what that leaves of chains, and what it changes of what they weigh.
-use Rattle.std.proofs.Common.{◌≡◌, ◌≢◌, ℕ, ◌-◌, Bool, Option, Some, List, [], ◌∷◌, length, map, refl, sym, ap, ◌∙◌, arith, eq-eqb, ne_eqb}
+use Rattle.track_rule.proofs.Frames.{SameChains, chain_stays, walk_stays}
+use Rattle.track_rule.specs.Walks.{AreWalks, HasLive, IsWalk, Stands}
+use Rattle.track_rule.specs.Commits.{shuts_in}
+use Rattle.track_rule.specs.declared.view.Walk.{Walk}
+use Rattle.track_rule.specs.declared.slot.Slot.{Slot}
+use Rattle.history_book.specs.declared.event.Event.{Event}
+use Rattle.atomic_table.specs.Table.{State}
+use Rattle.std.proofs.lemmas.Option.{none-some}
+use lib.ListN.{get_elem?}
+use mathlib.Core.Option.{some}
+use Rattle.std.proofs.Common.{Bool, List, None, Option, Some, [], ap, arith, eq-eqb, length, map, ne_eqb, refl, set, subst, sym, ℕ, ◌%◌, ◌+◌, ◌-◌, ◌<◌, ◌∙◌, ◌∷◌, ◌≡◌, ◌≢◌}
 use Rattle.std.specs.Prelude.{slice_index, ◌==◌, if◌then◌else◌}
 use Rattle.std.proofs.lemmas.Bool.{cond_both, eqb-true, false≢true}
 use Rattle.history_book.specs.declared.record.Record.{Record}
@@ -10,10 +20,10 @@ use Rattle.track_rule.specs.declared.view.Shut.{Shut}
 use Rattle.track_rule.specs.declared.view.View.{View}
 use Rattle.track_rule.specs.Chains.{IsChain, IsOrdered, bucket_of, chain_in, entry_of, is_at_link, links_in, original_of, reply_of, shuts_of, side}
 use Rattle.track_rule.specs.CommitSteps.{told, told_in, with_confirm}
-use Rattle.track_rule.specs.Layout.{next_word, place_of}
-use Rattle.track_rule.specs.Rule.{Ledger}
+use Rattle.track_rule.specs.Layout.{gen_at, head_word, next_word, place_of}
+use Rattle.track_rule.specs.Rule.{IsKept, Ledger}
 use Rattle.track_rule.specs.Sums.{Each, bit, total}
-use Rattle.track_rule.proofs.Sums.{total_alike, total_map}
+use Rattle.track_rule.proofs.Sums.{each_other, each_put, total_alike, total_map, total_term, total_two}
 
 module _ (p : ℕ) (o : Option ℕ) where
   -- a chain in words stays one, and in order
@@ -85,3 +95,62 @@ module _ (p : ℕ) (o : Option ℕ) (v : View) (chains : ℕ → List Entry) (b 
 -- what no word shows, after a Confirm
 abbrev pub born_ledger : Ledger → Record → View → Ledger
 born_ledger l r v = record l { log = with_confirm l.log r; chains = named_chains r.place (Some (length l.log)) v l.chains }
+
+-- a pass tells the links of a place the id of an entry, or that they are of none, in the buckets that it has shut
+module _ (z : Sizes) (l : Ledger) (s : State Slot View) (id : ℕ) (v w : View) (h : IsKept z l s) (at : get_elem? s.views id ≡ some v)
+    (p : ℕ) (o : Option ℕ) (shut : w.buckets.shut ≡ told_in p o v.buckets.shut) where
+  pub told_shuts : (b : ℕ) → shuts_of b w ≡ shuts_of b v
+  told_shuts b = ap (shuts_in b) shut ∙ named_shuts p o b v.buckets.shut
+
+  -- no other pass has a bucket that this one has shut
+  shut_alone : (b : ℕ) → b < z.buckets → (j : ℕ) (u : View) → j ≢ id → get_elem? s.views j ≡ some u → 0 < shuts_of b u → shuts_of b v ≡ 0
+  shut_alone b below j u other there any = omega (arith, any, h.chains.gens b below, total_two (shuts_of b) s.views id j v u at there other)
+
+  pub told_linked : (ws : List ℕ) → SameChains z s.words ws → (b : ℕ) → b < z.buckets
+      → IsChain z ws b (slice_index ws (head_word z b)) (named_chains p o v l.chains b)
+  told_linked ws same b below =
+      chains_both p o v l.chains b (IsChain z ws b (slice_index ws (head_word z b))) (λ off. was)
+      (λ on. named_chain p o z ws b (slice_index ws (head_word z b)) (l.chains b) was)
+    where
+      was : IsChain z ws b (slice_index ws (head_word z b)) (l.chains b)
+      was =
+          subst (λ (n : ℕ). IsChain z ws b n (l.chains b)) (sym (same.links.heads b below))
+          (chain_stays z s.words ws same.links b (slice_index s.words (head_word z b)) (l.chains b) (h.chains.linked b below))
+
+  pub told_ordered : (b : ℕ) → b < z.buckets → IsOrdered (named_chains p o v l.chains b)
+  told_ordered b below =
+      chains_both p o v l.chains b IsOrdered (λ off. h.chains.ordered b below) (λ on. named_ordered p o (l.chains b) (h.chains.ordered b below))
+
+  pub told_mine : (b : ℕ) → b < z.buckets → Each (λ u. 0 < shuts_of b u → chain_in b u.buckets.shut ≡ named_chains p o v l.chains b) (set s.views id w)
+  told_mine b below =
+      each_other (λ (u : View). 0 < shuts_of b u → chain_in b u.buckets.shut ≡ named_chains p o v l.chains b) s.views id w
+      (λ j u other there any.
+      h.chains.mine b below j u there any ∙ sym (chains_off p o v l.chains b (shut_alone b below j u other there any)))
+      (λ any.
+      let was : 0 < shuts_of b v = omega (arith, any, told_shuts b) in
+      ap (chain_in b) shut ∙ named_in_chain p o b v.buckets.shut ∙ ap (map (told p o)) (h.chains.mine b below id v at was)
+      ∙ sym (chains_on p o v l.chains b (λ e. omega (arith, was, e))))
+
+  -- a note speaks of even generations, and so of chains that are told nothing
+  told_walk : (front : List Event) (n : Walk) → IsWalk z s.words l.chains front n → IsWalk z s.words (named_chains p o v l.chains) front n
+  told_walk front n k = record {
+    bucket = k.bucket;
+    least = k.least;
+    stands = λ here even. subst (λ es. Stands es n) (sym (untold here even)) (k.stands here even);
+    known = λ point e.
+        let j = k.known point e in
+        record { seen = j.seen; live = λ here even. subst (HasLive z n.bucket front) (sym (untold here even)) (j.live here even) };
+    gone = k.gone;
+  }
+    where
+      untold : gen_at z s.words n.bucket ≡ n.generation → n.generation % 2 ≡ 0 → named_chains p o v l.chains n.bucket ≡ l.chains n.bucket
+      untold here even =
+          chains_off p o v l.chains n.bucket (omega (arith, here, even, h.chains.gens n.bucket k.bucket, total_term (shuts_of n.bucket) s.views id v at))
+
+  -- the pass that tells has no note of a walk then
+  pub told_walks : (ws : List ℕ) → SameChains z s.words ws → w.walk ≡ None → AreWalks z ws (set s.views id w) (named_chains p o v l.chains)
+  told_walks ws same none = record {
+    each = each_put (λ (u : View). (n : Walk) → u.walk ≡ Some n → IsWalk z ws (named_chains p o v l.chains) u.seen.front n) s.views id w
+        (λ i u at' n e. walk_stays z s.words ws same (named_chains p o v l.chains) u.seen.front n (told_walk u.seen.front n (h.walks.each i u at' n e)))
+        (λ n e. absurd (none-some n (sym none ∙ e)));
+  }

@@ -1,4 +1,5 @@
 -- A Touch keeps the rule: the record of its id goes on with the new part, and the pass that has its turn knows it so.
+use Rattle.track_rule.proofs.OneRecord.{one_commit, one_record}
 use Rattle.std.proofs.Common.{◌≡◌, ◌≢◌, ℕ, ◌+◌, ◌-◌, ◌%◌, ◌^◌, ◌<◌, ◌≤◌, Bool, true, false, Option, Some, None, List, [], ◌∷◌, ◌++◌, length, map, refl, sym, ap, subst, ◌∙◌, ⊎_elim, arith, set, ne_eqb, length-append}
 use Rattle.std.specs.Prelude.{slice_index, slice_set, find, if◌then◌else◌}
 use Rattle.std.proofs.lemmas.Bool.{cases_Bool, cond_both, eqb-true, false≢true}
@@ -182,26 +183,6 @@ module _ (l : Ledger) (s : State Slot View) (id : ℕ) (v : View) (t : Touching)
       ap (find (has_id t.id)) records_on ∙ find_part t.id t.part (records_after l.log) subject.0 (known_before ∙ subject.1)
       ∙ sym (ap (goes_on t.part) subject.1)
 
-  -- of a place that is LIVE of another id, or not at all
-  shown_stays : (q : ℕ) → q < v.passes.sizes.entries → q ≢ own.0.place → 3 ≤ phase_at v.passes.sizes s.words q
-      → record_of (phase_at v.passes.sizes s.words q - 3) (state_after made) ≡ record_of (phase_at v.passes.sizes s.words q - 3) (state_after l.log)
-  shown_stays q below other live =
-      other_stays (phase_at v.passes.sizes s.words q - 3) (λ e.
-      other (one_place l.log t.id q own.0.place (shown_confirmed v.passes.sizes l s h low q t.id below (omega (arith, e, live))) own_place))
-
-  -- what other passes know
-  hand_else : (x : Hand) → x.place ≢ own.0.place → IsHand v.passes.sizes l.log s.words x → IsHand v.passes.sizes made words x
-  hand_else x other k = record {
-    below = k.below;
-    shown = λ shown. word_phase v.passes.sizes s.words (packed made) x.place ∙ k.shown shown;
-    idle = λ idle. omega (arith, k.idle idle, word_phase v.passes.sizes s.words (packed made) x.place);
-    live = λ live.
-        let shown : phase_at v.passes.sizes s.words x.place ≡ x.phase = k.shown (omega (arith, live)) in
-        k.live live
-        ∙ sym (subst (λ (n : ℕ). record_of (n - 3) (state_after made) ≡ record_of (n - 3) (state_after l.log)) shown
-        (shown_stays x.place k.below other (omega (arith, live, shown))));
-  }
-
   hand_mine : IsHand v.passes.sizes made words (record own.0 { subject = goes_on t.part own.0.subject })
   hand_mine = record {
     below = own_hand.below;
@@ -217,78 +198,14 @@ module _ (l : Ledger) (s : State Slot View) (id : ℕ) (v : View) (t : Touching)
 
   touched_records : AreRecords v.passes.sizes made words s.homes (set s.views id after_it)
   touched_records =
-      let z : Sizes = v.passes.sizes in
-      record {
-        turn = λ q below.
-            word_turn z s.words (packed made) q ∙ h.records.turn q below ∙ sym (total_same (has_hand q) s.views id v after_it at (same_hands q t.part v.commit.hand));
-        single = λ q. omega (arith, h.records.single q, total_same (has_hand q) s.views id v after_it at (same_hands q t.part v.commit.hand));
-        home = λ q below calm.
-            let free = sym (word_turn z s.words (packed made) q) ∙ calm in
-            let k = h.records.home q below free in
-            let other : q ≢ own.0.place = λ e. omega (
-              arith,
-              free,
-              h.records.turn q below,
-              total_term (has_hand q) s.views id v at,
-              own_turn,
-              ap (λ (n : ℕ). has_hand n v) e,
-            ) in
-            record {
-              slot = k.slot;
-              there = k.there;
-              kind = k.kind;
-              live = subst (λ (ph : ℕ). 3 ≤ ph → record_in k.slot ≡ record_of (ph - 3) (state_after made)) (sym (word_phase z s.words (packed made) q))
-                  (λ live. k.live live ∙ sym (shown_stays q below other live));
-            };
-        away = each_other (λ u. (x : Hand) → u.commit.hand ≡ Some x → IsHand z made words x) s.views id after_it
-            (λ j u apart at' x e.
-            hand_else x (λ same. omega (
-              arith,
-              h.records.single own.0.place,
-              total_two (has_hand own.0.place) s.views id j v u at at' apart,
-              own_turn,
-              ap (is_hand_of own.0.place) e,
-              same_bit x.place own.0.place same,
-            )) (h.records.away j u at' x e))
-            (λ x e. subst (IsHand z made words) (one_hand _ x (sym (ap (hand_goes_on t.part) own.1) ∙ e)) hand_mine);
-      }
+      one_record l s id v h at low made t.id own.0.place own_place own_turn other_stays after_it (λ q. same_hands q t.part v.commit.hand)
+      (λ x e. subst (IsHand v.passes.sizes made words) (one_hand _ x (sym (ap (hand_goes_on t.part) own.1) ∙ e)) hand_mine)
     where
       one_hand : (a b : Hand) → Some a ≡ Some b → a ≡ b
       one_hand a b e = cc
 
-  -- a pass in the middle of a commit has the turn of another record
-  committing_on : (j : ℕ) (u : View) → j ≢ id → get_elem? s.views j ≡ some u → (r : Record)
-      → IsCommitting v.passes.sizes l.log u.commit.hand u.places.carried u.buckets.shut r
-      → IsCommitting v.passes.sizes made u.commit.hand u.places.carried u.buckets.shut r
-  committing_on j u apart at' r k = record {
-    turn = k.turn;
-    reference = k.reference;
-    original = k.original;
-    reply = k.reply;
-    live = other_stays r.id (λ e.
-        let here : r.place ≡ own.0.place = one_place l.log t.id r.place own.0.place
-        (subst (λ (n : ℕ). WasConfirmed l.log n r.place) e (found_confirmed v.passes.sizes l s h low r.id r k.live).1) own_place in
-        omega (
-          arith,
-          h.records.single own.0.place,
-          total_two (has_hand own.0.place) s.views id j v u at at' apart,
-          own_turn,
-          k.turn,
-          ap (λ (n : ℕ). is_hand_of n u.commit.hand) here,
-        )) ∙ k.live;
-  }
-
   touched_commits : AreCommits v.passes.sizes made (set s.views id after_it)
-  touched_commits =
-      each_other (IsMiddleOf v.passes.sizes made) s.views id after_it (λ j u apart at'. middle_on j u apart at' u.commit.middle (h.commits j u at'))
-      (subst (λ (m : Middle). IsMiddle v.passes.sizes made m after_it.commit.hand v.places.carried v.buckets.shut v.expected) (sym can.calm) tt)
-    where
-      middle_on : (j : ℕ) (u : View) → j ≢ id → get_elem? s.views j ≡ some u → (m : Middle)
-          → IsMiddle v.passes.sizes l.log m u.commit.hand u.places.carried u.buckets.shut u.expected
-          → IsMiddle v.passes.sizes made m u.commit.hand u.places.carried u.buckets.shut u.expected
-      middle_on j u apart at' Calm k = tt
-      middle_on j u apart at' (Born r) k = committing_on j u apart at' r k
-      middle_on j u apart at' (Dying r) k = (committing_on j u apart at' r k.0, k.1)
+  touched_commits = one_commit l s id v h at low made t.id own.0.place own_place own_turn other_stays after_it can.calm
 
   touched_expected : AreExpected v.passes.sizes made words s.homes (set s.views id after_it)
   touched_expected =
