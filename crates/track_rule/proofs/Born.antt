@@ -4,7 +4,6 @@ use Rattle.std.specs.Prelude.{slice_index, slice_set, ◌==◌, ◌||◌, if◌t
 use Rattle.std.specs.List.{All}
 use Rattle.std.proofs.lemmas.Bool.{cases_eq}
 use Rattle.std.proofs.lemmas.List.{get_or-set_same, length-set}
-use Rattle.std.proofs.lemmas.Option.{none-some}
 use mathlib.Core.Option.{some}
 use lib.ListN.{get_elem?}
 use Rattle.atomic_table.specs.Table.{State}
@@ -24,14 +23,13 @@ use Rattle.track_rule.specs.declared.view.Hook.{Hook}
 use Rattle.track_rule.specs.declared.view.Middle.{Middle}
 use Rattle.track_rule.specs.declared.view.Middle.TheVariants.{Calm, Born, Dying}
 use Rattle.track_rule.specs.declared.view.View.{View}
-use Rattle.track_rule.specs.declared.view.Walk.{Walk}
-use Rattle.track_rule.specs.Chains.{AreChains, IsChain, IsOrdered, bucket_of, chain_in, each_link, entry_of, hooks_at, links_in, loose_of, original_of, pair_of, reply_of, shuts_of, side}
+use Rattle.track_rule.specs.Chains.{AreChains, bucket_of, each_link, entry_of, hooks_at, links_in, loose_of, original_of, pair_of, reply_of, shuts_of, side}
 use Rattle.track_rule.specs.CommitSteps.{CanConfirm, HasLink, born, confirmed, dropped, named, with_confirm}
 use Rattle.track_rule.specs.Commits.{IsMiddle, IsMiddleOf}
 use Rattle.track_rule.specs.Expected.{has_expected}
-use Rattle.track_rule.specs.Free.{IsFreeList, has_turn, owes, unlisted}
+use Rattle.track_rule.specs.Free.{IsFreeList, has_turn, owes}
 use Rattle.track_rule.specs.History.{packed, records_after, state_after}
-use Rattle.track_rule.specs.Layout.{gen_at, head_word, phase_at, place_of}
+use Rattle.track_rule.specs.Layout.{phase_at, place_of}
 use Rattle.track_rule.specs.Links.{AreLinks, HasHooks, IsHook, IsOwned, hook_of, hooks_of}
 use Rattle.track_rule.specs.Phases.{ArePhases, middle_of, middle_weight, of_both, of_place, shows, table_keeps}
 use Rattle.track_rule.specs.Readings.{stored}
@@ -39,34 +37,17 @@ use Rattle.track_rule.specs.Records.{AreRecords, IsHand, has_hand, record_in}
 use Rattle.track_rule.specs.References.{AreKept, AreReferences, ends, held_times, keeps, takes}
 use Rattle.track_rule.specs.Rule.{IsKept, Ledger}
 use Rattle.track_rule.specs.Sums.{Each, bit, times, total}
-use Rattle.track_rule.specs.Walks.{AreWalks, HasLive, IsWalk, Stands}
+use Rattle.track_rule.specs.Walks.{AreWalks}
 use Rattle.track_rule.proofs.Confirming.{each_dropped, find_last, find_more, find_same, held_kept, held_long, held_taken, hook_else, kept_for, low_both, low_ids, total_dropped}
 use Rattle.track_rule.proofs.Confirms.{lawful, none_there, state_on}
 use Rattle.track_rule.proofs.Events.{get_last, kept_on, passes_made}
-use Rattle.track_rule.proofs.Frames.{SameChains, chain_stays, hooks_stay, links_stay, walk_stays}
+use Rattle.track_rule.proofs.Frames.{SameChains, hooks_stay, links_stay}
 use Rattle.track_rule.proofs.HookLists.{hook_test, hook_there, some_hook}
-use Rattle.track_rule.proofs.Named.{born_ledger, chains_both, hooks_else, named_chains, named_here, records_else, told_linked, told_mine, told_ordered, told_shuts, told_walks}
+use Rattle.track_rule.proofs.Named.{born_ledger, chains_both, hooks_else, named_chains, named_here, records_else, shut_else, told_linked, told_mine, told_ordered, told_shuts, told_walks, two_links}
 use Rattle.track_rule.proofs.HistoryWord.{word_other, word_phase, word_refs, word_same, word_turn}
 use Rattle.track_rule.proofs.LastRead.{stored_on}
 use Rattle.track_rule.proofs.Lists.{other_bit, same_bit, unlisted_less, unlisted_out}
-use Rattle.track_rule.proofs.Sums.{each_other, each_put, total_append, total_but, total_map, total_same, total_set, total_term, total_two}
-
--- the two links of a place
-two_links : (p link : ℕ) → 0 < link → bit (1 + 2 * p == link) + bit (2 + 2 * p == link) ≡ bit (p == place_of link)
-two_links p link some_link =
-    ⊎_elim
-    (λ (e : 1 + 2 * p ≡ link).
-    omega (arith, same_bit (1 + 2 * p) link e, other_bit (2 + 2 * p) link (λ x. omega (arith, x, e)), same_bit p (place_of link) (omega (arith, e))))
-    (λ (e : 1 + 2 * p ≢ link).
-    ⊎_elim
-    (λ (f : 2 + 2 * p ≡ link). omega (arith, other_bit (1 + 2 * p) link e, same_bit (2 + 2 * p) link f, same_bit p (place_of link) (omega (arith, f))))
-    (λ (f : 2 + 2 * p ≢ link).
-    omega (arith, other_bit (1 + 2 * p) link e, other_bit (2 + 2 * p) link f, other_bit p (place_of link) (λ x. neither p link some_link e f x)))
-    (cases_eq (2 + 2 * p) link))
-    (cases_eq (1 + 2 * p) link)
-  where
-    neither : (p link : ℕ) → 0 < link → 1 + 2 * p ≢ link → 2 + 2 * p ≢ link → p ≡ place_of link → ⊥
-    neither p link some_link e f x = omega (arith, some_link, e, f, x)
+use Rattle.track_rule.proofs.Sums.{each_put, total_append, total_but, total_map, total_same, total_set, total_term, total_two}
 
 module _ (l : Ledger) (s : State Slot View) (id : ℕ) (v : View) (r : Record) (h : IsKept v.passes.sizes l s) (at : get_elem? s.views id ≡ some v)
     (has_some : 0 < v.passes.shares) (can : CanConfirm r v) (follow : StatesFollow) (go_on : LegalHistoriesGoOn) (confirmed_low : LiveRecordsAreConfirmed) where
@@ -238,13 +219,6 @@ module _ (l : Ledger) (s : State Slot View) (id : ℕ) (v : View) (r : Record) (
 
   -- WHAT CHAINS WEIGH
 
-  -- in a bucket that the pass has not shut the record has no link
-  shut_else : (b : ℕ) (t : Tuple) → 0 < shuts_of (bucket_of v.passes.sizes (pair_of t)) v → shuts_of b v ≡ 0 → (f : Entry → ℕ) (e : Entry) → e.pair ≡ pair_of t
-      → side v.passes.sizes b f e ≡ 0
-  shut_else b t shut off f e pair =
-      ap (λ (k : Bool). if k then f e else 0)
-      (ne_eqb (bucket_of v.passes.sizes e.pair) b (λ same. omega (arith, off, shut, ap (λ (c : ℕ). shuts_of c v) (sym (ap (bucket_of v.passes.sizes) pair) ∙ same))))
-
   -- a chain that is told the id
   told_weighs : (b : ℕ) → b < v.passes.sizes.buckets → (f : Entry → ℕ)
       → total f (map (named r.place (length l.log)) (l.chains b)) ≡ total (links_in v.passes.sizes b f) (records_after made) + total (loose_of v.passes.sizes b f) (set s.views id after_it)
@@ -273,13 +247,13 @@ module _ (l : Ledger) (s : State Slot View) (id : ℕ) (v : View) (r : Record) (
         arith,
         h.chains.chained b below f,
         weighs (links_in z b f),
-        shut_else b r.original can.original.shut off f (original_of subject) refl,
-        shut_else b r.reply can.reply.shut off f (reply_of subject) refl,
+        shut_else z b r.original v can.original.shut off f (original_of subject) refl,
+        shut_else z b r.reply v can.reply.shut off f (reply_of subject) refl,
         total_left (λ (k : Hook). (if k.up then side z b f (entry_of k) else 0)),
         up_weighs (hook_of (1 + 2 * r.place) v.buckets.hooks).up (side z b f (entry_of (hook_of (1 + 2 * r.place) v.buckets.hooks)))
-            (shut_else b r.original can.original.shut off f (entry_of (hook_of (1 + 2 * r.place) v.buckets.hooks)) can.original.pair),
+            (shut_else z b r.original v can.original.shut off f (entry_of (hook_of (1 + 2 * r.place) v.buckets.hooks)) can.original.pair),
         up_weighs (hook_of (2 + 2 * r.place) v.buckets.hooks).up (side z b f (entry_of (hook_of (2 + 2 * r.place) v.buckets.hooks)))
-            (shut_else b r.reply can.reply.shut off f (entry_of (hook_of (2 + 2 * r.place) v.buckets.hooks)) can.reply.pair),
+            (shut_else z b r.reply v can.reply.shut off f (entry_of (hook_of (2 + 2 * r.place) v.buckets.hooks)) can.reply.pair),
         total_set (loose_of z b f) s.views id v after_it at,
       )
     where

@@ -40,3 +40,6 @@ pub mod Confirmations
 pub mod Living
 pub mod Touching
 pub mod Dying
+pub mod Leaving
+pub mod Ending
+pub mod Destroying

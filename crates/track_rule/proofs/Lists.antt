@@ -225,3 +225,13 @@ module _ {X : Type 0} (q : X → Bool) where
     where
       found_is : (a b : X) → Some a ≡ Some b → a ≡ b
       found_is a b k = cc
+
+-- an item that counts is there
+module _ {X : Type 0} (q : X → Bool) where
+  pub counted_there : (xs : List X) → 0 < total (λ x. bit (q x)) xs → (j : ℕ) × (x : X) × (get_elem? xs j ≡ some x) × (q x ≡ true)
+  counted_there [] any = absurd (omega (arith, any))
+  counted_there (y ∷ ys) any =
+      ⊎_elim
+      (λ (t : q y ≡ true). (0, y, refl, t))
+      (λ (t : q y ≡ false). let rest = counted_there ys (omega (arith, any, ap bit t)) in (suc rest.0, rest.1, rest.2, rest.3))
+      (cases_Bool (q y))

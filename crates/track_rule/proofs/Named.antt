@@ -1,4 +1,6 @@
 -- A Confirm tells the links of its place the id: what that leaves of chains, and what it changes of what they weigh.
+use Rattle.track_rule.proofs.Lists.{other_bit, same_bit}
+use Rattle.tuple_core.specs.declared.Tuple.{Tuple}
 use Rattle.track_rule.proofs.Frames.{SameChains, chain_stays, walk_stays}
 use Rattle.track_rule.specs.Walks.{AreWalks, HasLive, IsWalk, Stands}
 use Rattle.track_rule.specs.Commits.{shuts_in}
@@ -9,16 +11,16 @@ use Rattle.atomic_table.specs.Table.{State}
 use Rattle.std.proofs.lemmas.Option.{none-some}
 use lib.ListN.{get_elem?}
 use mathlib.Core.Option.{some}
-use Rattle.std.proofs.Common.{Bool, List, None, Option, Some, [], ap, arith, eq-eqb, length, map, ne_eqb, refl, set, subst, sym, ℕ, ◌%◌, ◌+◌, ◌-◌, ◌<◌, ◌∙◌, ◌∷◌, ◌≡◌, ◌≢◌}
+use Rattle.std.proofs.Common.{Bool, List, None, Option, Some, [], ap, arith, eq-eqb, length, map, ne_eqb, refl, set, subst, sym, ℕ, ⊎_elim, ◌%◌, ◌*◌, ◌+◌, ◌-◌, ◌<◌, ◌∙◌, ◌∷◌, ◌≡◌, ◌≢◌}
 use Rattle.std.specs.Prelude.{slice_index, ◌==◌, if◌then◌else◌}
-use Rattle.std.proofs.lemmas.Bool.{cond_both, eqb-true, false≢true}
+use Rattle.std.proofs.lemmas.Bool.{cases_eq, cond_both, eqb-true, false≢true}
 use Rattle.history_book.specs.declared.record.Record.{Record}
 use Rattle.history_book.specs.declared.sizes.Sizes.{Sizes}
 use Rattle.track_rule.specs.declared.view.Entry.{Entry}
 use Rattle.track_rule.specs.declared.view.Hook.{Hook}
 use Rattle.track_rule.specs.declared.view.Shut.{Shut}
 use Rattle.track_rule.specs.declared.view.View.{View}
-use Rattle.track_rule.specs.Chains.{IsChain, IsOrdered, bucket_of, chain_in, entry_of, is_at_link, links_in, original_of, reply_of, shuts_of, side}
+use Rattle.track_rule.specs.Chains.{IsChain, IsOrdered, bucket_of, chain_in, entry_of, is_at_link, links_in, original_of, pair_of, reply_of, shuts_of, side}
 use Rattle.track_rule.specs.CommitSteps.{told, told_in, with_confirm}
 use Rattle.track_rule.specs.Layout.{gen_at, head_word, next_word, place_of}
 use Rattle.track_rule.specs.Rule.{IsKept, Ledger}
@@ -75,6 +77,30 @@ module _ (p : ℕ) (o : Option ℕ) where
     hooks_else hooks others =
         total_alike (λ (h : Hook). (if h.up then side z b (λ x. f (told p o x)) (entry_of h) else 0)) (λ (h : Hook). (if h.up then side z b f (entry_of h) else 0)) hooks
         (λ j h at. ap (λ (n : ℕ). if h.up then n else 0) (side_else (entry_of h) (others j h at)))
+
+-- in a bucket that a pass has not shut, a tuple of which it has shut the bucket weighs nothing
+pub shut_else : (z : Sizes) (b : ℕ) (t : Tuple) (v : View) → 0 < shuts_of (bucket_of z (pair_of t)) v → shuts_of b v ≡ 0 → (f : Entry → ℕ) (e : Entry)
+    → e.pair ≡ pair_of t → side z b f e ≡ 0
+shut_else z b t v shut off f e pair =
+    ap (λ (k : Bool). if k then f e else 0)
+    (ne_eqb (bucket_of z e.pair) b (λ same. omega (arith, off, shut, ap (λ (c : ℕ). shuts_of c v) (sym (ap (bucket_of z) pair) ∙ same))))
+
+-- the two links of a place
+pub two_links : (p link : ℕ) → 0 < link → bit (1 + 2 * p == link) + bit (2 + 2 * p == link) ≡ bit (p == place_of link)
+two_links p link some_link =
+    ⊎_elim
+    (λ (e : 1 + 2 * p ≡ link).
+    omega (arith, same_bit (1 + 2 * p) link e, other_bit (2 + 2 * p) link (λ x. omega (arith, x, e)), same_bit p (place_of link) (omega (arith, e))))
+    (λ (e : 1 + 2 * p ≢ link).
+    ⊎_elim
+    (λ (f : 2 + 2 * p ≡ link). omega (arith, other_bit (1 + 2 * p) link e, same_bit (2 + 2 * p) link f, same_bit p (place_of link) (omega (arith, f))))
+    (λ (f : 2 + 2 * p ≢ link).
+    omega (arith, other_bit (1 + 2 * p) link e, other_bit (2 + 2 * p) link f, other_bit p (place_of link) (λ x. neither p link some_link e f x)))
+    (cases_eq (2 + 2 * p) link))
+    (cases_eq (1 + 2 * p) link)
+  where
+    neither : (p link : ℕ) → 0 < link → 1 + 2 * p ≢ link → 2 + 2 * p ≢ link → p ≡ place_of link → ⊥
+    neither p link some_link e f x = omega (arith, some_link, e, f, x)
 
 -- the chains, with the id told in buckets that the pass has shut
 abbrev pub named_chains : ℕ → Option ℕ → View → (ℕ → List Entry) → ℕ → List Entry

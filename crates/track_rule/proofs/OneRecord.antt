@@ -1,7 +1,7 @@
 -- An event that changes the record of one id alone, whose turn the pass has that makes it: what the rule says of records and of
 -- other passes' commits.
-use Rattle.std.proofs.Common.{◌≡◌, ◌≢◌, ℕ, ◌+◌, ◌-◌, ◌<◌, ◌≤◌, Some, List, refl, sym, ap, subst, ◌∙◌, arith, set}
-use Rattle.std.specs.Prelude.{slice_index, slice_set}
+use Rattle.std.proofs.Common.{◌≡◌, ◌≢◌, ℕ, ◌-◌, ◌<◌, ◌≤◌, Some, List, sym, ap, subst, ◌∙◌, arith, set}
+use Rattle.std.specs.Prelude.{slice_set}
 use mathlib.Core.Option.{some}
 use lib.ListN.{get_elem?}
 use Rattle.atomic_table.specs.Table.{State}
@@ -21,7 +21,6 @@ use Rattle.track_rule.specs.Layout.{phase_at}
 use Rattle.track_rule.specs.Records.{AreRecords, IsHand, has_hand, is_hand_of, record_in}
 use Rattle.track_rule.specs.References.{WasConfirmed}
 use Rattle.track_rule.specs.Rule.{IsKept, Ledger}
-use Rattle.track_rule.specs.Sums.{Each, total}
 use Rattle.track_rule.proofs.HistoryWord.{word_phase, word_turn}
 use Rattle.track_rule.proofs.LivePlaces.{found_confirmed, one_place, shown_confirmed}
 use Rattle.track_rule.proofs.Lists.{same_bit}

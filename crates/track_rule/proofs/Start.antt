@@ -28,7 +28,7 @@ use Rattle.track_rule.specs.Commits.{IsMiddleOf}
 use Rattle.track_rule.specs.Phases.{of_both, of_place, shows, table_keeps}
 use Rattle.track_rule.specs.Links.{HasHooks}
 use Rattle.track_rule.specs.Walks.{IsWalk}
-use Rattle.track_rule.specs.declared.view.Middle.TheVariants.{Calm, Dying}
+use Rattle.track_rule.specs.declared.view.Middle.TheVariants.{Dying}
 use Rattle.track_rule.specs.declared.view.Walk.{Walk}
 use Rattle.track_rule.specs.References.{AreKept, held_times, takes}
 use Rattle.track_rule.specs.Readings.{last_read}

@@ -1,6 +1,6 @@
 -- A Touch keeps the rule: the record of its id goes on with the new part, and the pass that has its turn knows it so.
 use Rattle.track_rule.proofs.OneRecord.{one_commit, one_record}
-use Rattle.std.proofs.Common.{◌≡◌, ◌≢◌, ℕ, ◌+◌, ◌-◌, ◌%◌, ◌^◌, ◌<◌, ◌≤◌, Bool, true, false, Option, Some, None, List, [], ◌∷◌, ◌++◌, length, map, refl, sym, ap, subst, ◌∙◌, ⊎_elim, arith, set, ne_eqb, length-append}
+use Rattle.std.proofs.Common.{◌≡◌, ◌≢◌, ℕ, ◌+◌, ◌-◌, ◌%◌, ◌^◌, ◌<◌, Bool, true, false, Option, Some, None, List, [], ◌∷◌, ◌++◌, length, map, refl, sym, ap, subst, ◌∙◌, ⊎_elim, arith, set, ne_eqb, length-append}
 use Rattle.std.specs.Prelude.{slice_index, slice_set, find, if◌then◌else◌}
 use Rattle.std.proofs.lemmas.Bool.{cases_Bool, cond_both, eqb-true, false≢true}
 use mathlib.Core.Option.{none, some}
@@ -21,17 +21,14 @@ use Rattle.history_book.specs.declared.record.Record.{Record}
 use Rattle.history_book.specs.declared.sizes.Sizes.{Sizes}
 use Rattle.track_rule.specs.declared.slot.Slot.{Slot}
 use Rattle.track_rule.specs.declared.view.Hand.{Hand}
-use Rattle.track_rule.specs.declared.view.Middle.{Middle}
-use Rattle.track_rule.specs.declared.view.Middle.TheVariants.{Calm, Born, Dying}
 use Rattle.track_rule.specs.declared.view.View.{View}
 use Rattle.track_rule.specs.Chains.{links_in}
-use Rattle.track_rule.specs.Commits.{AreCommits, IsCommitting, IsMiddle, IsMiddleOf}
+use Rattle.track_rule.specs.Commits.{AreCommits}
 use Rattle.track_rule.specs.Expected.{AreExpected, has_expected}
 use Rattle.track_rule.specs.History.{events_in, packed, records_after, state_after}
-use Rattle.track_rule.specs.Layout.{phase_at}
 use Rattle.track_rule.specs.Phases.{of_both, of_place}
 use Rattle.track_rule.specs.Readings.{stored}
-use Rattle.track_rule.specs.Records.{AreRecords, IsHand, has_hand, is_hand_of, record_in}
+use Rattle.track_rule.specs.Records.{AreRecords, IsHand, has_hand, is_hand_of}
 use Rattle.track_rule.specs.References.{WasConfirmed}
 use Rattle.track_rule.specs.Rule.{Holds, IsKept, Ledger}
 use Rattle.track_rule.specs.Slots.{expected_number, free_number, hand_number}
@@ -39,12 +36,12 @@ use Rattle.track_rule.specs.Sums.{total}
 use Rattle.track_rule.specs.TouchSteps.{CanTouch, HasTouched, MayTouch, TouchStep, Touching, goes_on, hand_goes_on, known_phase, known_record, touched, with_touch}
 use Rattle.track_rule.proofs.Confirms.{state_on}
 use Rattle.track_rule.proofs.EventSteps.{SameRecords, event_kept}
-use Rattle.track_rule.proofs.HistoryWord.{word_other, word_phase, word_turn}
-use Rattle.track_rule.proofs.LivePlaces.{found_confirmed, hand_confirmed, one_place, shown_confirmed}
+use Rattle.track_rule.proofs.HistoryWord.{word_other, word_phase}
+use Rattle.track_rule.proofs.LivePlaces.{hand_confirmed}
 use Rattle.track_rule.proofs.Lists.{same_bit}
 use Rattle.track_rule.proofs.Loads.{all_events, word_events}
 use Rattle.track_rule.proofs.Seats.{StaysAt, same_at}
-use Rattle.track_rule.proofs.Sums.{each_other, each_put, total_alike, total_map, total_same, total_term, total_two}
+use Rattle.track_rule.proofs.Sums.{each_put, total_alike, total_map, total_same}
 
 -- RECORDS WITH ANOTHER PART
 

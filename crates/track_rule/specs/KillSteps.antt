@@ -1,15 +1,29 @@
 -- What the steps of a kill tell its pass: the phase of the place is DEAD, and then the Destroy is made. v is what the pass knew
 -- before, w what it knows after.
-use Rattle.std.specs.Prelude.{◌≡◌, ℕ, ◌<◌, Option, Some, None, ◌∷◌}
+use Rattle.std.specs.Prelude.{◌≡◌, ℕ, ◌+◌, ◌*◌, ◌<◌, ◌^◌, true, Option, Some, None, List, [], ◌∷◌, ◌++◌, length}
 use Rattle.atomic_table.specs.Table.{Me, Step}
+use Rattle.tuple_core.specs.declared.Tuple.{Tuple}
+use Rattle.expect_table.specs.Expectations.{without_master}
+use Rattle.expect_table.specs.declared.expectation.Expectation.{Expectation}
+use Rattle.history_book.specs.History.{is_legal}
+use Rattle.history_book.specs.Legality.{is_reason}
+use Rattle.history_book.specs.State.{record_of}
+use Rattle.history_book.specs.declared.event.Event.{Event}
+use Rattle.history_book.specs.declared.event.Event.TheVariants.{Confirm, Touch, Destroy, Expect, Claim, Unexpect}
+use Rattle.history_book.specs.declared.event.Why.{Why}
 use Rattle.history_book.specs.declared.record.Record.{Record}
 use Rattle.track_rule.specs.declared.slot.Slot.{Slot}
-use Rattle.track_rule.specs.declared.view.Middle.TheVariants.{Dying}
+use Rattle.track_rule.specs.declared.view.Hook.{Hook}
+use Rattle.track_rule.specs.declared.view.Middle.{Middle}
+use Rattle.track_rule.specs.declared.view.Middle.TheVariants.{Calm, Born, Dying}
 use Rattle.track_rule.specs.declared.view.View.{View}
 use Rattle.track_rule.specs.Chains.{bucket_of, pair_of, shuts_of}
+use Rattle.track_rule.specs.CommitSteps.{told_in}
 use Rattle.track_rule.specs.Commits.{HasItsTurn}
+use Rattle.track_rule.specs.History.{packed, state_after}
 use Rattle.track_rule.specs.Layout.{phase_word}
 use Rattle.track_rule.specs.Readings.{noted, stored}
+use Rattle.track_rule.specs.Steps.{AreAll}
 use Rattle.track_rule.specs.TouchSteps.{known_record}
 
 -- DEAD
@@ -36,6 +50,74 @@ shown_dead place r v = noted (stored (phase_word v.passes.sizes place) phase_dea
   commit = record { hand = Some (record { place = place; phase = phase_dead; subject = Some r }); middle = Dying r };
 })
 
+-- DESTROY
+
+-- what a Destroy says
+pub record Destroying : Type 0 where
+  pub id : ℕ
+  pub why : Why
+
+abbrev pub destroy_in : Event → Option Destroying
+destroy_in (Confirm r) = None
+destroy_in (Touch id direction segment moment after) = None
+destroy_in (Destroy id why) = Some (record { id = id; why = why })
+destroy_in (Expect expectation replaced moment) = None
+destroy_in (Claim expectation master tuple moment) = None
+destroy_in (Unexpect expectation moment) = None
+
+-- the history with it
+abbrev pub with_destroy : List Event → Destroying → List Event
+with_destroy log d = log ++ Destroy d.id d.why ∷ []
+
+-- so it is of the record that dies, if one does
+abbrev pub OfDying : (Record → Type 0) → Middle → Type 0
+OfDying F Calm = ⊥
+OfDying F (Born r) = ⊥
+OfDying F (Dying r) = F r
+
+-- The record that dies is that of the id, the reason holds of it, and the pass has room for an event.
+pub record MayDestroy (d : Destroying) (v : View) (r : Record) : Type 0 where
+  pub same : r.id ≡ d.id
+  pub reason : is_reason d.why r ≡ true
+  pub few : length v.seen.own < 2 ^ 30
+
+-- a link of a destroyed record, which still stands in its chain
+abbrev pub loose_hook : ℕ → Tuple → Hook
+loose_hook link t = record { link = link; pair = pair_of t; next = None; up = true }
+
+-- what is expected, without that of the entry
+abbrev pub without_its : ℕ → Option (List Expectation) → Option (List Expectation)
+without_its id None = None
+without_its id (Some list) = Some (without_master id list)
+
+-- The Destroy is made: the record is live no longer. Its links, which stand in buckets that the pass has shut, are the pass's now,
+-- and name no id. The pass still carries the table's reference to the place.
+abbrev pub destroyed : List Event → Destroying → Record → View → View
+destroyed log d r v = noted (stored 0 (packed (with_destroy log d))) (record v {
+  seen = record v.seen {
+    front = with_destroy log d;
+    own = v.seen.own ++ record { number = length log; event = Destroy d.id d.why } ∷ [];
+  };
+  places = record v.places { ended = r.place ∷ v.places.ended };
+  buckets = record {
+    shut = told_in r.place None v.buckets.shut;
+    hooks = loose_hook (1 + 2 * r.place) r.original ∷ loose_hook (2 + 2 * r.place) r.reply ∷ v.buckets.hooks;
+  };
+  commit = record v.commit { middle = Calm };
+  expected = without_its d.id v.expected;
+  walk = None;
+})
+
+-- These were all events before; the number of this one is how many they are. It was lawful: the record of the id was the one that
+-- the pass knows.
+pub record Destroys (d : Destroying) (v : View) (word : ℕ) (w : View) (r : Record) : Type 0 where
+  pub log : List Event
+  pub all : AreAll v log
+  pub word_is : word ≡ packed log
+  pub view : w ≡ destroyed log d r v
+  pub legal : is_legal v.passes.sizes (with_destroy log d) ≡ true
+  pub before : record_of d.id (state_after log) ≡ Some r
+
 -- WHAT THE STEPS ARE ON THE TABLE
 
 -- the word of the step is the phase of this place
@@ -43,3 +125,25 @@ abbrev pub DeadStep : Step Slot → Me Slot View → ℕ → Me Slot View → Ty
 DeadStep step me n me' =
     (p : ℕ) (r : Record) → step.word ≡ phase_word me.0.passes.sizes p → known_record me.0.commit.hand ≡ Some r
     → (me'.0 ≡ shown_dead p r me.0) × (me'.1 ≡ me.1)
+
+-- what an event asks that is added as a Destroy, and what its step is
+abbrev pub CanDestroy : Option Destroying → View → Type 0
+CanDestroy None v = ⊥
+CanDestroy (Some d) v = OfDying (MayDestroy d v) v.commit.middle
+
+abbrev pub DestroyStep : Option Destroying → Step Slot → Me Slot View → ℕ → Me Slot View → Type 0
+DestroyStep None step me n me' = Unit {0}
+DestroyStep (Some d) step me n me' = OfDying (Destroys d me.0 n me'.0) me.0.commit.middle × (me'.1 ≡ me.1)
+
+-- the number of the Destroy is n, with all that its step tells
+pub record HasDestroy (d : Destroying) (v : View) (n : ℕ) (w : View) (r : Record) : Type 0 where
+  pub log : List Event
+  pub all : AreAll v log
+  pub number : n ≡ length log
+  pub view : w ≡ destroyed log d r v
+  pub legal : is_legal v.passes.sizes (with_destroy log d) ≡ true
+  pub before : record_of d.id (state_after log) ≡ Some r
+
+abbrev pub HasDestroyed : Option Destroying → View → ℕ → View → Type 0
+HasDestroyed None v n w = ⊥
+HasDestroyed (Some d) v n w = OfDying (HasDestroy d v n w) v.commit.middle

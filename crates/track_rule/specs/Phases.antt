@@ -10,7 +10,7 @@ use Rattle.track_rule.specs.declared.view.Middle.TheVariants.{Calm, Born, Dying}
 use Rattle.track_rule.specs.declared.view.View.{View}
 use Rattle.track_rule.specs.History.{records_after}
 use Rattle.track_rule.specs.Layout.{phase_at}
-use Rattle.track_rule.specs.Sums.{bit, total}
+use Rattle.track_rule.specs.Sums.{Each, bit, total}
 
 -- how many references to a place the table has: one while the phase is LIVE of some id
 abbrev pub table_keeps : ℕ → ℕ
