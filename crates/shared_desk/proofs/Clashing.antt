@@ -64,7 +64,6 @@ pub record IsTheRival (flow : Flow) (rival : Rival) (log : List Event) (v : View
 
 module _ (flow : Flow) (place : ℕ) (rival : Rival) (v : PassSight) (word : ℕ) (u : PassSight) (blocked : IsBlocked place flow rival v) (looks : Looks v.view word u.view)
     (laws : AreLaws) where
-
   linked : (t : Tuple) → bucket_in (sizes_of v) t < (sizes_of v).buckets → 0 < shuts_of (bucket_in (sizes_of v) t) v.view → AreLinked (sizes_of v) t (chain_of (sizes_of v) t v.view.buckets.shut) (records_after u.view.seen.front)
   linked t below shut weight =
       omega (

@@ -59,16 +59,20 @@ clash_opens (Clash id direction both at) place flow locked v w x is h unlocks =
     let walk : x.view.walk ≡ w.view.walk = ap (λ (k : PassSight). k.view.walk) unlocks.same in
     record {
       same = unlocks.same
-          ∙ ap (λ (k : PassSight). record k { view = record k.view {
-            buckets = record k.view.buckets { shut = open_both locked k.view.buckets.shut };
-            readings = x.view.readings;
-          } }) h.same
-          ∙ (λ i. record v { view = record v.view {
-            seen = record v.view.seen { front = sym front i };
-            buckets = record v.view.buckets { shut = opens_all i };
-            walk = sym walk i;
-            readings = x.view.readings;
-          } });
+          ∙ ap (λ (k : PassSight). record k {
+            view = record k.view {
+              buckets = record k.view.buckets { shut = open_both locked k.view.buckets.shut };
+              readings = x.view.readings;
+            };
+          }) h.same
+          ∙ (λ i. record v {
+            view = record v.view {
+              seen = record v.view.seen { front = sym front i };
+              buckets = record v.view.buckets { shut = opens_all i };
+              walk = sym walk i;
+              readings = x.view.readings;
+            };
+          });
       all = subst (λ (l : List Event). AreAll v.view l) (sym front) h.all;
       point = h.point ∙ ap (λ (l : List Event). length l) (sym front);
       clash = subst (λ (l : List Event). IsClash place flow id direction both (state_after l)) (sym front) h.clash;
@@ -101,10 +105,12 @@ commit_opens place flow id locked r v w x y is h unlocks r_is swapped =
       number = h.number;
       legal = h.legal;
       same = swapped ∙ ap (λ (q : Record). record x { slots = with_subject place (Some q) x.slots }) r_is
-          ∙ ap (λ (k : PassSight). record k { slots = with_subject place (Some (record_for flow id place)) k.slots }) (opens ∙ ap (λ (k : PassSight). record k { view = record k.view {
-            buckets = record { shut = []; hooks = dropped (reply_link place) (dropped (original_link place) v.view.buckets.hooks) };
-            readings = x.view.readings;
-          } }) h.same)
+          ∙ ap (λ (k : PassSight). record k { slots = with_subject place (Some (record_for flow id place)) k.slots }) (opens ∙ ap (λ (k : PassSight). record k {
+            view = record k.view {
+              buckets = record { shut = []; hooks = dropped (reply_link place) (dropped (original_link place) v.view.buckets.hooks) };
+              readings = x.view.readings;
+            };
+          }) h.same)
           ∙ (λ i. record v {
             view = record v.view {
               seen = record v.view.seen {
@@ -231,20 +237,22 @@ pub answered : (o : ConfirmOutcome) (place : ℕ) (flow : Flow) (v u w x y : Pas
     → y ≡ record x { view = gave_turn place x.view; slots = rest x.slots } → ConfirmsFlow place flow o v y
 answered (Confirmed id) place flow v u w x y can stores turn h gave =
     let before = turned place flow v u w can stores turn in
-    let whole : y ≡ record v { view = record v.view {
-      seen = record v.view.seen {
-        front = h.log ++ event.Confirm (record_for flow id place) ∷ [];
-        own = v.view.seen.own ++ record { number = id; event = event.Confirm (record_for flow id place) } ∷ [];
+    let whole : y ≡ record v {
+      view = record v.view {
+        seen = record v.view.seen {
+          front = h.log ++ event.Confirm (record_for flow id place) ∷ [];
+          own = v.view.seen.own ++ record { number = id; event = event.Confirm (record_for flow id place) } ∷ [];
+        };
+        places = record v.view.places {
+          held = held_for place id v.view.places.held;
+          owned = unlisted (place ∷ []) v.view.places.owned;
+        };
+        buckets = record { shut = []; hooks = dropped (reply_link place) (dropped (original_link place) u.view.buckets.hooks) };
+        commit = record { hand = None; middle = Calm };
+        walk = None;
+        readings = x.view.readings ++ stored (turn_word x.view.passes.sizes place) 0 ∷ [];
       };
-      places = record v.view.places {
-        held = held_for place id v.view.places.held;
-        owned = unlisted (place ∷ []) v.view.places.owned;
-      };
-      buckets = record { shut = []; hooks = dropped (reply_link place) (dropped (original_link place) u.view.buckets.hooks) };
-      commit = record { hand = None; middle = Calm };
-      walk = None;
-      readings = x.view.readings ++ stored (turn_word x.view.passes.sizes place) 0 ∷ [];
-    } } =
+    } =
     gave ∙ ap (λ (k : PassSight). record k {
       view = record k.view { commit = record k.view.commit { hand = None }; readings = x.view.readings ++ stored (turn_word x.view.passes.sizes place) 0 ∷ [] };
       slots = rest k.slots;
@@ -275,41 +283,47 @@ answered (Confirmed id) place flow v u w x y can stores turn h gave =
       all = record { front = all.front; told = all.told; legal = all.legal; few = all.few; passes = all.passes; shares = all.shares; alone = all.alone };
       number = h.number;
       legal = subst (λ (k : PassSight). is_legal (sizes_of k) (h.log ++ event.Confirm (record_for flow id place) ∷ []) ≡ true) before h.legal;
-      same = whole ∙ (λ i. record v { view = record v.view {
-        seen = record v.view.seen {
-          front = h.log ++ event.Confirm (record_for flow id place) ∷ [];
-          own = v.view.seen.own ++ record { number = id; event = event.Confirm (record_for flow id place) } ∷ [];
+      same = whole ∙ (λ i. record v {
+        view = record v.view {
+          seen = record v.view.seen {
+            front = h.log ++ event.Confirm (record_for flow id place) ∷ [];
+            own = v.view.seen.own ++ record { number = id; event = event.Confirm (record_for flow id place) } ∷ [];
+          };
+          places = record v.view.places {
+            held = held_for place id v.view.places.held;
+            owned = unlisted (place ∷ []) v.view.places.owned;
+          };
+          buckets = record { shut = sym can.shut i; hooks = sym (ap (λ (k : PassSight). k.view.buckets.hooks) whole) i };
+          commit = sym can.idle i;
+          walk = sym (ap (λ (k : PassSight). k.view.walk) whole) i;
+          readings = sym (ap (λ (k : PassSight). k.view.readings) whole) i;
         };
-        places = record v.view.places {
-          held = held_for place id v.view.places.held;
-          owned = unlisted (place ∷ []) v.view.places.owned;
-        };
-        buckets = record { shut = sym can.shut i; hooks = sym (ap (λ (k : PassSight). k.view.buckets.hooks) whole) i };
-        commit = sym can.idle i;
-        walk = sym (ap (λ (k : PassSight). k.view.walk) whole) i;
-        readings = sym (ap (λ (k : PassSight). k.view.readings) whole) i;
-      } });
+      });
       stands = ap (λ (k : PassSight). standing k.view.buckets.hooks) whole
           ∙ same_without (original_link place) (reply_link place) u.view.buckets.hooks v.view.buckets.hooks stores.stands;
     }
 answered (Clash id direction both at) place flow v u w x y can stores turn h gave =
     let before = turned place flow v u w can stores turn in
-    let whole : y ≡ record v { view = record v.view {
-      seen = record v.view.seen { front = x.view.seen.front };
-      buckets = record { shut = []; hooks = u.view.buckets.hooks };
-      commit = record { hand = None; middle = Calm };
-      walk = x.view.walk;
-      readings = x.view.readings ++ stored (turn_word x.view.passes.sizes place) 0 ∷ [];
-    } } =
+    let whole : y ≡ record v {
+      view = record v.view {
+        seen = record v.view.seen { front = x.view.seen.front };
+        buckets = record { shut = []; hooks = u.view.buckets.hooks };
+        commit = record { hand = None; middle = Calm };
+        walk = x.view.walk;
+        readings = x.view.readings ++ stored (turn_word x.view.passes.sizes place) 0 ∷ [];
+      };
+    } =
     gave ∙ ap (λ (k : PassSight). record k {
       view = record k.view { commit = record k.view.commit { hand = None }; readings = x.view.readings ++ stored (turn_word x.view.passes.sizes place) 0 ∷ [] };
       slots = rest k.slots;
-    }) (h.same ∙ ap (λ (k : PassSight). record k { view = record k.view {
-      seen = record k.view.seen { front = x.view.seen.front };
-      buckets = record k.view.buckets { shut = [] };
-      walk = x.view.walk;
-      readings = x.view.readings;
-    } }) before) in
+    }) (h.same ∙ ap (λ (k : PassSight). record k {
+      view = record k.view {
+        seen = record k.view.seen { front = x.view.seen.front };
+        buckets = record k.view.buckets { shut = [] };
+        walk = x.view.walk;
+        readings = x.view.readings;
+      };
+    }) before) in
     let front : y.view.seen.front ≡ x.view.seen.front = ap (λ (k : PassSight). k.view.seen.front) whole in
     let all : AreAll (record v.view {
       buckets = record v.view.buckets { hooks = u.view.buckets.hooks };
@@ -317,13 +331,15 @@ answered (Clash id direction both at) place flow v u w x y can stores turn h gav
       readings = w.view.readings;
     }) x.view.seen.front = subst (λ (k : PassSight). AreAll k.view x.view.seen.front) before h.all in
     record {
-      same = whole ∙ (λ i. record v { view = record v.view {
-        seen = record v.view.seen { front = sym front i };
-        buckets = record { shut = sym can.shut i; hooks = sym (ap (λ (k : PassSight). k.view.buckets.hooks) whole) i };
-        commit = sym can.idle i;
-        walk = sym (ap (λ (k : PassSight). k.view.walk) whole) i;
-        readings = sym (ap (λ (k : PassSight). k.view.readings) whole) i;
-      } });
+      same = whole ∙ (λ i. record v {
+        view = record v.view {
+          seen = record v.view.seen { front = sym front i };
+          buckets = record { shut = sym can.shut i; hooks = sym (ap (λ (k : PassSight). k.view.buckets.hooks) whole) i };
+          commit = sym can.idle i;
+          walk = sym (ap (λ (k : PassSight). k.view.walk) whole) i;
+          readings = sym (ap (λ (k : PassSight). k.view.readings) whole) i;
+        };
+      });
       stands = ap (λ (k : PassSight). standing k.view.buckets.hooks) whole ∙ stores.stands;
       all = subst (λ (l : List Event). AreAll v.view l) (sym front)
           (record { front = all.front; told = all.told; legal = all.legal; few = all.few; passes = all.passes; shares = all.shares; alone = all.alone });

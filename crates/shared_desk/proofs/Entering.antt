@@ -239,12 +239,14 @@ two_links place flow locked v can = record {
 
 -- what the pass is once both links stand, and it carries the table's reference
 entering : (place : ℕ) (v u w : PassSight) → ChangesBuckets (linked_buckets (sizes_of v) place v.view.buckets) v u → AddsReference place u w
-    → w ≡ record v { view = record v.view {
-      places = record v.view.places { carried = place ∷ v.view.places.carried };
-      buckets = linked_buckets (sizes_of v) place v.view.buckets;
-      walk = u.view.walk;
-      readings = w.view.readings;
-    } }
+    → w ≡ record v {
+      view = record v.view {
+        places = record v.view.places { carried = place ∷ v.view.places.carried };
+        buckets = linked_buckets (sizes_of v) place v.view.buckets;
+        walk = u.view.walk;
+        readings = w.view.readings;
+      };
+    }
 entering place v u w changes adds =
     adds.same ∙ ap (λ (k : PassSight). record k { view = record k.view { places = record k.view.places { carried = place ∷ k.view.places.carried }; readings = w.view.readings } }) changes.same
 

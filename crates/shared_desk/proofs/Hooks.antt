@@ -207,10 +207,12 @@ tuple_done z x first second word word' t v u w sizes some any word_is word_is' t
     let hooks : w.view.buckets.hooks ≡ map (tuple_in (sizes_of v) (second_word (sizes_of v) x) second) (map (tuple_in (sizes_of v) (first_word (sizes_of v) x) first) v.view.buckets.hooks) =
     ap (λ (k : PassSight). k.view.buckets.hooks) whole ∙ (λ i. map (tuple_in (sizes_of v) (at' i) second) (map (tuple_in (sizes_of v) (at i) first) v.view.buckets.hooks)) in
     record {
-      same = whole ∙ (λ i. record v { view = record v.view {
-        buckets = record v.view.buckets { hooks = sym (ap (λ (k : PassSight). k.view.buckets.hooks) whole) i };
-        readings = sym (ap (λ (k : PassSight). k.view.readings) whole) i;
-      } });
+      same = whole ∙ (λ i. record v {
+        view = record v.view {
+          buckets = record v.view.buckets { hooks = sym (ap (λ (k : PassSight). k.view.buckets.hooks) whole) i };
+          readings = sym (ap (λ (k : PassSight). k.view.readings) whole) i;
+        };
+      });
       stands = ap standing hooks
           ∙ tuple_stands (sizes_of v) (second_word (sizes_of v) x) second (map (tuple_in (sizes_of v) (first_word (sizes_of v) x) first) v.view.buckets.hooks)
           ∙ tuple_stands (sizes_of v) (first_word (sizes_of v) x) first v.view.buckets.hooks;

@@ -114,7 +114,6 @@ still_down x y (h ∷ hs) other =
 
 -- SUMS
 
-
 -- no other hook is at the link
 raise_none : (x : ℕ) (hooks : List Hook) → hooks_of x hooks ≡ 0 → map (raise x) hooks ≡ hooks
 raise_none x [] e = refl

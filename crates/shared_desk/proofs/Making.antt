@@ -234,7 +234,6 @@ desk_held place (x ∷ xs) e =
 
 module _ (v : PassSight) (notes : Roomed Note) (spare place : ℕ) (flow : Flow) (h : IsAtRest v notes spare)
     (taken : desk.is_taken place (map hold_of v.view.places.held) ≡ true) where
-
   took : is_taken place v.view.places.held ≡ true
   took = taken_back place v.view.places.held h.settled.purposes taken
 

@@ -110,7 +110,6 @@ AreLinked z t chain rs = (weight : Entry → ℕ) → total weight chain ≡ tot
 
 module _ (z : Sizes) (t : Tuple) (chain : List Entry) (rs : List Record) (sums : AreLinked z t chain rs)
     (valid : (r : Record) → IsIn r rs → is_of_one_protocol r ≡ true) (valid_t : is_valid t ≡ true) (words : WordsDetermineTheTuple) where
-
   -- the record of an entry of the chain
   owner : (passed : List Entry) (e : Entry) (rest : List Entry) → chain ≡ rev_onto passed (e ∷ rest)
       → (r : Record) × IsIn r rs × ((is_entry e (original_of r) ≡ true) ⊎ (is_entry e (reply_of r) ≡ true))

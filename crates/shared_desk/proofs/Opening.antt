@@ -64,11 +64,13 @@ locked_flow z flow a b locked v w none_shut sizes a_is a_below b_is b_below lock
     let upper : IsChainOf (sizes_of w) locked.upper (chain_in locked.upper w.view.buckets.shut) =
     subst (λ (y : Sizes). IsChainOf y locked.upper (chain_in locked.upper w.view.buckets.shut)) (sym sizes ∙ now) locks.upper in
     record {
-      same = locks.same ∙ (λ i. record v { view = record v.view {
-        buckets = (sym buckets ∙ alone) i;
-        walk = w.view.walk;
-        readings = w.view.readings;
-      } });
+      same = locks.same ∙ (λ i. record v {
+        view = record v.view {
+          buckets = (sym buckets ∙ alone) i;
+          walk = w.view.walk;
+          readings = w.view.readings;
+        };
+      });
       is = record {
         locked_are = are;
         original_below = subst (λ (k : ℕ). k < (sizes_of w).buckets) first (subst (λ (y : Sizes). a < y.buckets) now a_below);

@@ -41,7 +41,6 @@ pub record AreLaws : Type 0 where
   pub one : RecordsAreOfOneProtocol
 
 module _ (z : Sizes) (log : List Event) (legal : is_legal z log ≡ true) (laws : AreLaws) where
-
   valid_in : (r : Record) → IsIn r (records_after log) → is_of_one_protocol r ≡ true
   valid_in r i = holds_in (λ r. is_of_one_protocol r ≡ true) r (records_after log) (recursion_from_All (λ r. is_of_one_protocol r ≡ true) (records_after log) (laws.one z log (length log) legal)) i
 
@@ -84,7 +83,6 @@ module _ (z : Sizes) (log : List Event) (legal : is_legal z log ≡ true) (laws 
     pub named : entry.id ≡ Some subject.id
 
   module _ (t : Tuple) (chain : List Entry) (sums : AreLinked z t chain (records_after log)) (valid_t : is_valid t ≡ true) where
-
     no_original : link_with 0 (address_word t) (flow_word t) chain ≡ None → find (has_original t) (records_after log) ≡ None
     no_original e = found_none (has_original t) (records_after log) (λ q i k. original_free z t chain (records_after log) sums valid_in valid_t laws.words e q i ((laws.same q.original t).0 k))
 
@@ -156,7 +154,7 @@ module _ (z : Sizes) (log : List Event) (legal : is_legal z log ≡ true) (laws 
     under_none e =
         let parts = none_of (link_with 0 (address_word t) (flow_word t) chain) (link_with 1 (address_word t) (flow_word t) chain) e in (
           ap (λ (k : Option Record). state.original_first k (find (has_reply t) (records_after log))) (no_original parts.0)
-          ∙ ap (λ (k : Option Record). state.original_first None k) (no_reply parts.1),
+              ∙ ap (λ (k : Option Record). state.original_first None k) (no_reply parts.1),
           λ r i. has_not r i parts.0,
         )
       where

@@ -97,13 +97,15 @@ pub record Commits (place : ℕ) (flow : Flow) (id : ℕ) (v w : PassSight) : Ty
   pub all : AreAll v.view log
   pub number : id ≡ length log
   pub legal : is_legal (sizes_of v) (log ++ confirm_of flow id place ∷ []) ≡ true
-  pub same : w ≡ record v { view = record v.view {
-    seen = seen_with log id (confirm_of flow id place) v.view.seen;
-    places = entered place id v.view.places;
-    buckets = w.view.buckets;
-    commit = record { hand = Some (record { place = place; phase = 3 + id; subject = Some (record_for flow id place) }); middle = Calm };
-    walk = None;
-    readings = w.view.readings;
-  } }
+  pub same : w ≡ record v {
+    view = record v.view {
+      seen = seen_with log id (confirm_of flow id place) v.view.seen;
+      places = entered place id v.view.places;
+      buckets = w.view.buckets;
+      commit = record { hand = Some (record { place = place; phase = 3 + id; subject = Some (record_for flow id place) }); middle = Calm };
+      walk = None;
+      readings = w.view.readings;
+    };
+  }
   pub hooks : w.view.buckets.hooks ≡ dropped (reply_link place) (dropped (original_link place) v.view.buckets.hooks)
   pub buckets : shut_buckets w.view.buckets.shut ≡ shut_buckets v.view.buckets.shut

@@ -49,12 +49,14 @@ pub record LocksFlow (flow : Flow) (locked : Buckets) (v w : PassSight) : Type 0
 -- The pass has seen all events up to this point, where the entry of the id stood in the flow's way, and has shut no bucket. All else
 -- is as it was, but the note of a walk and the readings.
 pub record IsBlockedAt (place : ℕ) (flow : Flow) (id : ℕ) (direction : Direction) (both : Bool) (at : ℕ) (v w : PassSight) : Type 0 where
-  pub same : w ≡ record v { view = record v.view {
-    seen = record v.view.seen { front = w.view.seen.front };
-    buckets = record v.view.buckets { shut = [] };
-    walk = w.view.walk;
-    readings = w.view.readings;
-  } }
+  pub same : w ≡ record v {
+    view = record v.view {
+      seen = record v.view.seen { front = w.view.seen.front };
+      buckets = record v.view.buckets { shut = [] };
+      walk = w.view.walk;
+      readings = w.view.readings;
+    };
+  }
   pub all : AreAll v.view w.view.seen.front
   pub point : at ≡ length w.view.seen.front
   pub clash : IsClash place flow id direction both (state_after w.view.seen.front)
@@ -125,24 +127,28 @@ pub record IsConfirmed (place : ℕ) (flow : Flow) (id : ℕ) (v w : PassSight) 
   pub all : AreAll v.view log
   pub number : id ≡ length log
   pub legal : is_legal (sizes_of v) (log ++ confirm_of flow id place ∷ []) ≡ true
-  pub same : w ≡ record v { view = record v.view {
-    seen = seen_with log id (confirm_of flow id place) v.view.seen;
-    places = entered place id v.view.places;
-    buckets = record v.view.buckets { hooks = w.view.buckets.hooks };
-    walk = w.view.walk;
-    readings = w.view.readings;
-  } }
+  pub same : w ≡ record v {
+    view = record v.view {
+      seen = seen_with log id (confirm_of flow id place) v.view.seen;
+      places = entered place id v.view.places;
+      buckets = record v.view.buckets { hooks = w.view.buckets.hooks };
+      walk = w.view.walk;
+      readings = w.view.readings;
+    };
+  }
   pub stands : standing w.view.buckets.hooks ≡ standing (dropped (reply_link place) (dropped (original_link place) v.view.buckets.hooks))
 
 -- The pass has seen all events up to this point, where the entry of the id stood in the flow's way. All else is as it was, but the
 -- tuples of hooks, the note of a walk and the readings.
 pub record IsInTheWay (place : ℕ) (flow : Flow) (id : ℕ) (direction : Direction) (both : Bool) (at : ℕ) (v w : PassSight) : Type 0 where
-  pub same : w ≡ record v { view = record v.view {
-    seen = record v.view.seen { front = w.view.seen.front };
-    buckets = record v.view.buckets { hooks = w.view.buckets.hooks };
-    walk = w.view.walk;
-    readings = w.view.readings;
-  } }
+  pub same : w ≡ record v {
+    view = record v.view {
+      seen = record v.view.seen { front = w.view.seen.front };
+      buckets = record v.view.buckets { hooks = w.view.buckets.hooks };
+      walk = w.view.walk;
+      readings = w.view.readings;
+    };
+  }
   pub stands : standing w.view.buckets.hooks ≡ standing v.view.buckets.hooks
   pub all : AreAll v.view w.view.seen.front
   pub point : at ≡ length w.view.seen.front

@@ -40,9 +40,9 @@ fn blocked(
     requires blocked { IsBlocked place flow.now rival.now pass.old }
     ensures { BlocksAndOpens place flow.now result pass.old pass.new }
 {
-    let outcome = clash(pass, place, flow, rival);
+    let answer = clash(pass, place, flow, rival);
     unlock_two(pass, locked);
-    outcome
+    answer
 }
 
 /// Makes the flow an entry, gives both buckets back, and puts the record in its slot, under its turn. Gives its id.
