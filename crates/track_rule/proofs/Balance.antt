@@ -26,8 +26,8 @@ use Rattle.track_rule.specs.Commits.{IsMiddleOf, shuts_in}
 use Rattle.track_rule.specs.Free.{IsFreeList, IsHome, has_turn, owes, turn_of}
 use Rattle.track_rule.specs.History.{records_after}
 use Rattle.track_rule.specs.Layout.{phase_at, place_of, refs_at}
-use Rattle.track_rule.specs.Links.{HasHooks, hooks_of}
-use Rattle.track_rule.specs.Phases.{of_place, table_keeps}
+use Rattle.track_rule.specs.Links.{HasHooks, IsOwned, hooks_of}
+use Rattle.track_rule.specs.Phases.{middle_of, middle_weight, of_place, table_keeps}
 use Rattle.track_rule.specs.Passes.{AreFronts, ArePasses, IsPass, has_share, made_weight, shares_of}
 use Rattle.track_rule.specs.References.{AreKept, AreReferences, ends, held_times, is_at, is_for_new, keeps, taken_times, takes}
 use Rattle.track_rule.specs.Readings.{AreRead}
@@ -160,6 +160,7 @@ pub record RefsStep (z : Sizes) (log : List Event) (ws ws' : List ℕ) (vs : Lis
   pub beyond : (p : ℕ) → z.entries ≤ p → keeps p w ≡ keeps p v
   pub phases : (p : ℕ) → phase_at z ws' p ≡ phase_at z ws p
   pub carried : (p : ℕ) → times p w.places.carried ≤ held_times p w.places.held
+  pub carried_for : (p : ℕ) → times p w.places.carried ≤ takes p w + middle_of (of_place p) w + ends p w
   pub taken : (p : ℕ) → total (takes p) vs + total (ends p) vs + total (of_place p) (records_after log) + takes p w + ends p w ≤ 1 + takes p v + ends p v
   pub purposes : AreKept log w.places.held
 
@@ -170,21 +171,30 @@ references_moved z log ws ws' vs i v w at t h = record {
       omega (arith, h.counted p below, t.count p below, total_set (keeps p) vs i v w at, ap table_keeps (t.phases p));
   beyond = λ p above. omega (arith, h.beyond p above, t.beyond p above, total_set (keeps p) vs i v w at);
   carried = each_put (λ u. (p : ℕ) → times p u.places.carried ≤ held_times p u.places.held) vs i w h.carried t.carried;
+  carried_for = each_put (λ u. (p : ℕ) → times p u.places.carried ≤ takes p u + middle_of (of_place p) u + ends p u) vs i w h.carried_for t.carried_for;
   taken = λ p. omega (arith, t.taken p, total_set (takes p) vs i v w at, total_set (ends p) vs i v w at);
   purposes = each_put (λ u. AreKept log u.places.held) vs i w h.purposes t.purposes;
 }
 
 -- a step that leaves all references
 pub references_left : (z : Sizes) (log : List Event) (ws ws' : List ℕ) (vs : List View) (i : ℕ) (v w : View) → get_elem? vs i ≡ some v
-    → w.places.held ≡ v.places.held → w.places.carried ≡ v.places.carried → w.places.ended ≡ v.places.ended → ((p : ℕ) → refs_at z ws' p ≡ refs_at z ws p)
+    → w.places.held ≡ v.places.held → w.places.carried ≡ v.places.carried → w.places.ended ≡ v.places.ended → w.commit.middle ≡ v.commit.middle → ((p : ℕ) → refs_at z ws' p ≡ refs_at z ws p)
     → ((p : ℕ) → phase_at z ws' p ≡ phase_at z ws p) → AreReferences z log ws vs → AreReferences z log ws' (set vs i w)
-references_left z log ws ws' vs i v w at held carried ended refs phases h =
+references_left z log ws ws' vs i v w at held carried ended middle refs phases h =
     let keep : (p : ℕ) → keeps p w ≡ keeps p v = λ p k. held_times p (held k) + times p (carried k) in
     references_moved z log ws ws' vs i v w at (record {
       count = λ p below. omega (arith, refs p, keep p);
       beyond = λ p above. keep p;
       phases = phases;
       carried = λ p. omega (arith, h.carried i v at p, ap (held_times p) held, ap (times p) carried);
+      carried_for = λ p. omega (
+        arith,
+        h.carried_for i v at p,
+        ap (times p) carried,
+        ap (λ (ks : List Keep). total (λ k. bit (is_at p k && is_for_new k.purpose)) ks) held,
+        ap (middle_weight (of_place p)) middle,
+        ap (times p) ended,
+      );
       taken = λ p. omega (arith, h.taken p, ap (λ (ks : List Keep). total (λ k. bit (is_at p k && is_for_new k.purpose)) ks) held, ap (times p) ended);
       purposes = subst (AreKept log) (sym held) (h.purposes i v at);
     }) h

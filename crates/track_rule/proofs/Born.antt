@@ -345,6 +345,13 @@ module _ (l : Ledger) (s : State Slot View) (id : ℕ) (v : View) (r : Record) (
         beyond = λ q above. total_same (keeps q) s.views id v after_it at (same q) ∙ h.references.beyond q above;
         carried = each_put (λ u. (q : ℕ) → times q u.places.carried ≤ held_times q u.places.held) s.views id after_it h.references.carried
             (λ q. omega (arith, h.references.carried id v at q, held_kept r.place (length l.log) q v.places.held));
+        carried_for = each_put (λ u. (q : ℕ) → times q u.places.carried ≤ takes q u + middle_of (of_place q) u + ends q u) s.views id after_it h.references.carried_for
+            (λ q. omega (
+              arith,
+              h.references.carried_for id v at q,
+              held_taken r.place (length l.log) q v.places.held can.taken,
+              ap (middle_weight (of_place q)) can.calm,
+            ));
         taken = λ q. omega (
           arith,
           h.references.taken q,

@@ -1,4 +1,5 @@
 -- Steps that change a word of a bucket or of a link: what they leave. A generation is made odd, and even again.
+use Rattle.track_rule.specs.declared.view.Commit.{Commit}
 use Rattle.std.proofs.Common.{◌≡◌, ◌≢◌, ℕ, ◌+◌, ◌%◌, ◌^◌, ◌<◌, ◌≤◌, Bool, eqb, Option, Some, None, List, [], ◌∷◌, length, refl, sym, ap, subst, ◌∙◌, ⊎_elim, arith, set}
 use Rattle.std.specs.Prelude.{slice_index, slice_set, ◌==◌, if◌then◌else◌}
 use Rattle.std.proofs.lemmas.Bool.{cases_eq, cond_both, eq-eqb, eqb-true, ne_eqb}
@@ -65,7 +66,7 @@ bucket_moved z l s id v w ws' chains' h at m has_some seen places free rest long
     (passes_moved z l.log s.views id v w at m.made
     (pass_moved z l.log v w one m.made has_some (subst (StartsWith l.log) (sym (ap (λ (x : Seen). x.front) seen)) one.front)
     (subst (AreFronts l.log) (sym (ap (λ (x : Seen). x.told) seen)) one.told)) h.passes)
-    (references_left z l.log s.words ws' s.views id v w at (ap (λ (x : Places). x.held) places) (ap (λ (x : Places). x.carried) places) (ap (λ (x : Places). x.ended) places) rest.refs
+    (references_left z l.log s.words ws' s.views id v w at (ap (λ (x : Places). x.held) places) (ap (λ (x : Places). x.carried) places) (ap (λ (x : Places). x.ended) places) (ap (λ (x : Commit). x.middle) m.commit) rest.refs
     rest.still.phases h.references)
     (free_left z s.words ws' s.homes s.homes s.views id v w l.free at places free rest.refs rest.still.phases rest.free refl h.free_list)
     chains links walks readings (each_put (IsMiddleOf z l.log) s.views id w h.commits middle)

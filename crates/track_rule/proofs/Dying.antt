@@ -115,6 +115,8 @@ module _ (l : Ledger) (s : State Slot View) (id : ℕ) (v : View) (r : Record) (
             subst (λ (x : ℕ). times x (r.place ∷ v.places.carried) ≤ held_times x v.places.held) (sym e) (omega (arith, carried_here, k.held)))
             (λ (e : q ≢ r.place). omega (arith, carried_else q e, h.references.carried id v at q))
             (cases_eq q r.place));
+        carried_for = each_put (λ u. (q : ℕ) → times q u.places.carried ≤ takes q u + middle_of (of_place q) u + ends q u) s.views id w h.references.carried_for
+            (λ q. omega (arith, h.references.carried_for id v at q, calm (of_place q)));
         taken = λ q. omega (arith, h.references.taken q, total_same (takes q) s.views id v w at refl, total_same (ends q) s.views id v w at refl);
         purposes = each_put (λ u. AreKept l.log u.places.held) s.views id w h.references.purposes (h.references.purposes id v at);
       }
@@ -329,7 +331,6 @@ module _ (l : Ledger) (s : State Slot View) (id : ℕ) (v : View) (r : Record) (
 -- what a pass is to know of a place, before it shows it DEAD
 pub record AsksDead (place : ℕ) (v : View) : Type 0 where
   pub held : is_held place v.places.held ≡ true
-  pub apart : is_among place v.places.carried ≡ false
   pub turn : has_hand place v ≡ 1
   pub live : 3 ≤ known_phase v.commit.hand
   pub calm : v.commit.middle ≡ Calm
@@ -348,14 +349,27 @@ knows_live l s id v place r h at low a known =
     let found = found_confirmed z l s h low (own.0.phase - 3) r live in
     let same : r.place ≡ place = one_place l.log (own.0.phase - 3) r.place own.0.place found.1
     (hand_confirmed z l s h low own.0 (own.0.phase - 3) j (omega (arith, shown))) ∙ own.2 in
-    let here : own.0.place ≡ r.place = own.2 ∙ sym same in (
+    let here : own.0.place ≡ r.place = own.2 ∙ sym same in
+    let below : r.place < z.entries = omega (arith, j.below, here) in
+    let shown_here : phase_at z s.words r.place ≡ 3 + r.id =
+    ap (phase_at z s.words) (sym here) ∙ j.shown (omega (arith, shown)) ∙ omega (arith, shown, found.0) in (
       same,
       record {
-        below = omega (arith, j.below, here);
+        below = below;
         held = subst (λ (q : ℕ). 0 < held_times q v.places.held) (sym same) (total_some (is_at place) v.places.held a.held);
-        apart = subst (λ (q : ℕ). times q v.places.carried ≡ 0) (sym same) (total_none (λ q. q == place) v.places.carried a.apart);
+        apart = omega (
+          arith,
+          h.references.carried_for id v at r.place,
+          h.references.taken r.place,
+          total_term (takes r.place) s.views id v at,
+          total_term (ends r.place) s.views id v at,
+          h.phases.used r.place below,
+          ap table_keeps shown_here,
+          live_keeps r.id,
+          ap (middle_weight (of_place r.place)) a.calm,
+        );
         turn = ap (λ (q : ℕ). has_hand q v) same ∙ a.turn;
-        shown = ap (phase_at z s.words) (sym here) ∙ j.shown (omega (arith, shown)) ∙ omega (arith, shown, found.0);
+        shown = shown_here;
         live = ap (λ (n : ℕ). record_of n (state_after l.log)) found.0 ∙ live;
         calm = a.calm;
       },

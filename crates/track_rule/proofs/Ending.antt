@@ -234,6 +234,8 @@ module _ (l : Ledger) (s : State Slot View) (id : ℕ) (v : View) (d : Destroyin
         beyond = λ q above. total_same (keeps q) s.views id v after_it at refl ∙ h.references.beyond q above;
         carried = each_put (λ u. (q : ℕ) → times q u.places.carried ≤ held_times q u.places.held) s.views id after_it h.references.carried
             (h.references.carried id v at);
+        carried_for = each_put (λ u. (q : ℕ) → times q u.places.carried ≤ takes q u + middle_of (of_place q) u + ends q u) s.views id after_it h.references.carried_for
+            (λ q. omega (arith, h.references.carried_for id v at q, mine (of_place q)));
         taken = λ q. omega (
           arith,
           h.references.taken q,

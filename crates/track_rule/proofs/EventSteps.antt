@@ -78,6 +78,15 @@ module _ (l : Ledger) (s : State Slot View) (id : ℕ) (v w : View) (e : Event) 
         beyond = λ q above. total_same (keeps q) s.views id v w at (same_keeps q) ∙ h.references.beyond q above;
         carried = each_put (λ u. (q : ℕ) → times q u.places.carried ≤ held_times q u.places.held) s.views id w h.references.carried
             (subst (λ (x : Places). (q : ℕ) → times q x.carried ≤ held_times q x.held) (sym parts.places) (h.references.carried id v at));
+        carried_for = each_put (λ u. (q : ℕ) → times q u.places.carried ≤ takes q u + middle_of (of_place q) u + ends q u) s.views id w h.references.carried_for
+            (λ q. omega (
+              arith,
+              h.references.carried_for id v at q,
+              ap (λ (x : Places). times q x.carried) parts.places,
+              ap (λ (x : Places). taken_times q x.held) parts.places,
+              ap (λ (x : Places). times q x.ended) parts.places,
+              ap (middle_weight (of_place q)) parts.middle,
+            ));
         taken = λ q. omega (
           arith,
           h.references.taken q,

@@ -29,8 +29,8 @@ use Rattle.track_rule.specs.History.{events_in, live_in, records_after}
 use Rattle.track_rule.specs.Layout.{phase_at}
 use Rattle.track_rule.specs.Links.{HasHooks, hooks_of}
 use Rattle.track_rule.specs.Passes.{AreFronts, ArePasses, HasNothing, IsPass, IsSpent, has_share, made_weight, no_places, shares_of}
-use Rattle.track_rule.specs.References.{AreKept, AreReferences, held_times, is_at, is_for_new, keeps, taken_times}
-use Rattle.track_rule.specs.Phases.{table_keeps}
+use Rattle.track_rule.specs.References.{AreKept, AreReferences, ends, held_times, is_at, is_for_new, keeps, taken_times, takes}
+use Rattle.track_rule.specs.Phases.{middle_of, middle_weight, of_place, table_keeps}
 use Rattle.track_rule.specs.Readings.{AreRead}
 use Rattle.track_rule.specs.Rule.{Holds, IsKept, Ledger}
 use Rattle.track_rule.specs.Shares.{IsLast, further, joined, shares_left, spent_view}
@@ -43,11 +43,12 @@ use Rattle.track_rule.proofs.Sums.{each_more, each_put, total_append, total_only
 
 -- the references and the free list where all views together have the same places and the same turn
 references_carry : (z : Sizes) (log : List Event) (ws : List ℕ) (vs vs' : List View) → Carries (λ (v : View). v.places) no_places vs vs'
-    → AreReferences z log ws vs → AreReferences z log ws vs'
-references_carry z log ws vs vs' c h = record {
+    → Each (λ v. (p : ℕ) → times p v.places.carried ≤ takes p v + middle_of (of_place p) v + ends p v) vs' → AreReferences z log ws vs → AreReferences z log ws vs'
+references_carry z log ws vs vs' c carried h = record {
   counted = λ p below. h.counted p below ∙ ap (λ (n : ℕ). n + table_keeps (phase_at z ws p)) (sym (kept_by p));
   beyond = λ p above. kept_by p ∙ h.beyond p above;
   carried = c.each (λ (x : Places). (p : ℕ) → times p x.carried ≤ held_times p x.held) (λ p. omega arith) h.carried;
+  carried_for = carried;
   taken = λ p. omega (
     arith,
     h.taken p,
@@ -99,7 +100,9 @@ handed z l s vs' h passes leaves places free buckets commits walk readings =
       each = λ P base all. buckets.each (λ (x : Places × HeldBuckets). P x.1.shut) base all;
     } in
     kept z l s s.words s.homes vs' l.free l.chains h (quiet_still z s.words s.words quiet) refl (λ k a. refl) leaves passes
-    (references_carry z l.log s.words s.views vs' places h.references)
+    (references_carry z l.log s.words s.views vs' places
+    (commits.each (λ (x : Holding). (p : ℕ) → times p x.1.carried ≤ taken_times p x.1.held + middle_weight (of_place p) x.0.middle + times p x.1.ended) (λ p. omega arith)
+    h.references.carried_for) h.references)
     (free_carry z s.words s.homes s.views vs' l.free places free h.free_list)
     (chains_stay z s.words s.words same l.log s.views vs' l.chains shut
     (λ b weight. buckets.sums (λ (x : Places × HeldBuckets). total (λ (y : Hook). (if y.up then side z b weight (entry_of y) else 0)) x.1.hooks) refl)

@@ -151,6 +151,20 @@ module _ (l : Ledger) (s : State Slot View) (id : ℕ) (v : View) (r : Record) (
             (omega (arith, carried_here, h.references.carried id v at r.place)))
             (λ (e : q ≢ r.place). omega (arith, carried_else q e, h.references.carried id v at q))
             (cases_eq q r.place));
+        carried_for = each_put (λ u. (q : ℕ) → times q u.places.carried ≤ takes q u + middle_of (of_place q) u + ends q u) s.views id w h.references.carried_for
+            (λ q.
+            ⊎_elim
+            (λ (e : q ≡ r.place).
+            subst (λ (x : ℕ). times x (taken_out r.place v.places.carried) ≤ takes x v + 0 + ends x v) (sym e)
+            (omega (arith, carried_here, h.references.carried_for id v at r.place, mine (of_place r.place), same_bit r.place r.place refl)))
+            (λ (e : q ≢ r.place). omega (
+              arith,
+              carried_else q e,
+              h.references.carried_for id v at q,
+              mine (of_place q),
+              other_bit r.place q (λ x. e (sym x)),
+            ))
+            (cases_eq q r.place));
         taken = λ q. omega (arith, h.references.taken q, total_same (takes q) s.views id v w at refl, total_same (ends q) s.views id v w at refl);
         purposes = each_put (λ u. AreKept l.log u.places.held) s.views id w h.references.purposes (h.references.purposes id v at);
       }

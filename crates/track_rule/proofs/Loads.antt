@@ -1,4 +1,5 @@
 -- Steps that change no word: a load, and an exchange that fails. What a load tells of the history and of the references.
+use Rattle.track_rule.specs.declared.view.Commit.{Commit}
 use Rattle.std.specs.Prelude.{nat_lt, ◌&&◌}
 use Rattle.track_rule.proofs.Lists.{bit_low, total_some}
 use Rattle.track_rule.proofs.ShutChains.{shut_weighs}
@@ -41,7 +42,7 @@ pub reads : (z : Sizes) (l : Ledger) (s : State Slot View) (id i : ℕ) (v w : V
 reads z l s id i v w h at m p places free lines has_some read =
     subst (λ (ws : List ℕ). IsKept z l (record { words = ws; homes = s.homes; views = set s.views id w })) (sym (set-get_or s.words i 0))
     (moved z l s id v w s.words s.homes l.free h at m p (λ k a b. refl) refl (λ k a. refl)
-    (references_left z l.log s.words s.words s.views id v w at (ap (λ (x : Places). x.held) places) (ap (λ (x : Places). x.carried) places) (ap (λ (x : Places). x.ended) places) (λ p. refl)
+    (references_left z l.log s.words s.words s.views id v w at (ap (λ (x : Places). x.held) places) (ap (λ (x : Places). x.carried) places) (ap (λ (x : Places). x.ended) places) (ap (λ (x : Commit). x.middle) m.commit) (λ p. refl)
     (λ p. refl) h.references)
     (free_left z s.words s.words s.homes s.homes s.views id v w l.free at places free (λ p. refl) (λ p. refl) refl refl h.free_list) lines
     (read_on z l.log s.words s.words s.views id i (slice_index s.words i) v w h.passes at has_some refl (λ k other. refl) read h.readings)

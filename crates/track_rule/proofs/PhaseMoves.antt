@@ -253,6 +253,8 @@ module _ (l : Ledger) (s : State Slot View) (id p to : ℕ) (v : View) (h : IsKe
     beyond = λ q above. omega (arith, h.references.beyond q above, total_same (keeps q) s.views id v (phase_stored p to v) at refl);
     carried = each_put (λ u. (q : ℕ) → times q u.places.carried ≤ held_times q u.places.held) s.views id (phase_stored p to v) h.references.carried
         (h.references.carried id v at);
+    carried_for = each_put (λ u. (q : ℕ) → times q u.places.carried ≤ takes q u + middle_of (of_place q) u + ends q u) s.views id (phase_stored p to v)
+        h.references.carried_for (h.references.carried_for id v at);
     taken = λ q. omega (
       arith,
       h.references.taken q,

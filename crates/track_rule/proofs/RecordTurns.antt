@@ -96,7 +96,7 @@ module _ (l : Ledger) (s : State Slot View) (id p : ℕ) (v : View) (h : IsKept 
         count = length-set s.words (turn_word z p) n ∙ h.count;
         passes = passes_moved z l.log s.views id v w at m (pass_moved z l.log v w one m has_some one.front one.told) h.passes;
         history = record { legal = h.history.legal; word = turn_first z s.words p n 0 (omega arith) ∙ h.history.word };
-        references = references_left z l.log s.words new s.views id v w at refl refl refl (turn_refs z s.words p n) (turn_phase z s.words p n) h.references;
+        references = references_left z l.log s.words new s.views id v w at refl refl refl refl (turn_refs z s.words p n) (turn_phase z s.words p n) h.references;
         free_list = free_left z s.words new s.homes hs' s.views id v w l.free at refl refl (turn_refs z s.words p n) (turn_phase z s.words p n)
             (turn_first z s.words p n 1 (omega arith)) first h.free_list;
         records = records;

@@ -16,12 +16,12 @@ use Rattle.atomic_table.proofs.Lists.{exchanged}
 use Rattle.history_book.specs.declared.sizes.Sizes.{Sizes}
 use Rattle.track_rule.specs.declared.slot.Slot.{Slot}
 use Rattle.track_rule.specs.declared.view.View.{View}
-use Rattle.track_rule.specs.Free.{IsHome, has_turn, is_among, known_free, owes, taken_out, turn_of}
+use Rattle.track_rule.specs.Free.{IsHome, has_turn, is_among, known_free, owes, taken_out, turn_of, unlisted}
 use Rattle.track_rule.specs.Layout.{phase_at, phase_word, refs_at, refs_word}
 use Rattle.track_rule.specs.Passes.{AreFronts, IsPass}
 use Rattle.track_rule.specs.Readings.{found, noted, stored}
 use Rattle.track_rule.specs.History.{records_after}
-use Rattle.track_rule.specs.Phases.{of_place}
+use Rattle.track_rule.specs.Phases.{middle_of, middle_weight, of_place}
 use Rattle.track_rule.specs.Records.{has_hand}
 use Rattle.track_rule.specs.References.{AreKept, ends, held_times, is_at, is_for_new, is_held, is_taken, keeps, taken_times, takes, without}
 use Rattle.track_rule.specs.Rule.{Holds, IsKept, Ledger}
@@ -32,7 +32,7 @@ use Rattle.track_rule.proofs.LastRead.{ReadsAt, stored_on}
 use Rattle.track_rule.specs.declared.view.Middle.{Middle}
 use Rattle.track_rule.specs.declared.view.Middle.TheVariants.{Calm}
 use Rattle.track_rule.specs.Commits.{IsMiddle, IsMiddleOf}
-use Rattle.track_rule.proofs.Lists.{bit_low, kept_without, length_without, other_bit, other_taken, other_without, same_bit, same_taken, same_without, taken_else, takes_held, takes_other, takes_testing, takes_without, total_none, total_some, unlisted_less, unlisted_low}
+use Rattle.track_rule.proofs.Lists.{bit_low, kept_without, length_without, other_bit, other_taken, other_without, same_bit, same_taken, same_without, taken_else, takes_held, takes_other, takes_testing, takes_without, total_none, total_some, unlisted_else, unlisted_less, unlisted_low}
 use Rattle.track_rule.proofs.Loads.{one_place, reads, refs_told}
 use Rattle.track_rule.proofs.Balance.{Lines, Moves, free_moved, moved, pass_moved, references_moved, same_lines}
 use Rattle.track_rule.proofs.Hooks.{ended_lines, hooks_new, lowered_lines, new_hooks, no_record_there, none_ended, opened_lines, still_owned}
@@ -66,6 +66,7 @@ pub record RefsMove (v w : View) (p n : ℕ) (free free' : List ℕ) (before : �
   pub once_else : (q : ℕ) → q ≢ p → times q free' + owes q w ≡ times q free + owes q v
   pub fewer : (q : ℕ) → times q free' ≤ times q free
   pub carried : (q : ℕ) → times q w.places.carried ≤ held_times q w.places.held
+  pub carried_for : (q : ℕ) → times q w.places.carried ≤ takes q w + middle_of (of_place q) w + ends q w
   pub turn : has_turn w ≡ has_turn v
   pub holder : (free' ≡ free) ⊎ (has_turn v ≡ 1)
   pub away : (list : List ℕ) → w.free ≡ Some list → list ≡ free'
@@ -98,6 +99,7 @@ counts z l s id p n v w free' h at has_some below t lines taken purposes middle 
       beyond = λ q above. t.keeps_else q (λ e. omega (arith, e, above, below));
       phases = refs_phase z ws p n;
       carried = t.carried;
+      carried_for = t.carried_for;
       taken = taken;
       purposes = purposes;
     }) h.references)
@@ -170,6 +172,7 @@ opening slots id p v c below has_some on room s (l, h) sized at range =
               (omega (arith, ap (times p) known, same_taken p (known_free v) on)))
               (λ (e : p ≢ q). omega (arith, ap (times q) known, other_taken p q (known_free v) on e)) (cases_eq p q);
           carried = λ q. omega (arith, h.references.carried id v at q);
+          carried_for = λ q. omega (arith, h.references.carried_for id v at q);
           turn = sym turn;
           holder = inr turn;
           away = λ list e. some_injective_list (taken_out p (known_free v)) list e;
@@ -240,13 +243,9 @@ module _ (slots id p seen : ℕ) (v : View) (c : List (ℕ × Slot)) (below : p 
       })
   raised_hit true is room hit =
       let parts = and_parts (is_taken p v.places.held && has_hand p v == 1) (not (is_among p v.places.carried)) is in
-      let mine : 1 ≤ held_times p v.places.held =
-      omega (
-        arith,
-        takes_held p v.places.held,
-        total_some (λ k. is_at p k && is_for_new k.purpose) v.places.held
-            (and_parts (is_taken p v.places.held) (has_hand p v == 1) parts.0).0,
-      ) in
+      let taking : 1 ≤ takes p v =
+      total_some (λ k. is_at p k && is_for_new k.purpose) v.places.held (and_parts (is_taken p v.places.held) (has_hand p v == 1) parts.0).0 in
+      let mine : 1 ≤ held_times p v.places.held = omega (arith, takes_held p v.places.held, taking) in
       let none : times p v.places.carried ≡ 0 = total_none (λ q. q == p) v.places.carried (not-true (is_among p v.places.carried) parts.1) in
       counts v.passes.sizes l s id p (seen + 1) v (raised true p seen v) l.free h at has_some below (record {
         moves = record { made = record { passes = refl; own = refl; gathered = refl }; commit = refl; expected = refl };
@@ -261,6 +260,12 @@ module _ (slots id p seen : ℕ) (v : View) (c : List (ℕ × Slot)) (below : p 
             ⊎_elim
             (λ (e : p ≡ q). subst (λ (k : ℕ). times k (p ∷ v.places.carried) ≤ held_times k v.places.held) e (omega (arith, none, mine, same_bit p p refl)))
             (λ (e : p ≢ q). omega (arith, other_bit p q e, h.references.carried id v at q)) (cases_eq p q);
+        carried_for = λ q.
+            ⊎_elim
+            (λ (e : p ≡ q).
+            subst (λ (k : ℕ). times k (p ∷ v.places.carried) ≤ takes k v + middle_of (of_place k) v + ends k v) e
+            (omega (arith, none, taking, same_bit p p refl)))
+            (λ (e : p ≢ q). omega (arith, other_bit p q e, h.references.carried_for id v at q)) (cases_eq p q);
         turn = refl;
         holder = inl refl;
         away = h.free_list.away id v at;
@@ -284,6 +289,7 @@ module _ (slots id p seen : ℕ) (v : View) (c : List (ℕ × Slot)) (below : p 
         once_else = λ q other. refl;
         fewer = λ q. omega arith;
         carried = λ q. omega (arith, h.references.carried id v at q);
+        carried_for = λ q. omega (arith, h.references.carried_for id v at q, takes_testing q p);
         turn = refl;
         holder = inl refl;
         away = h.free_list.away id v at;
@@ -401,6 +407,26 @@ module _ (id p : ℕ) (v : View) (below : p < v.passes.sizes.entries) (has_some 
             (λ (e : p ≡ q). subst (λ (k : ℕ). times k (taken_out p v.places.carried) ≤ held_times k v.places.held) e
             (omega (arith, h.references.carried id v at p, same_taken p v.places.carried is)))
             (λ (e : p ≢ q). omega (arith, h.references.carried id v at q, other_taken p q v.places.carried is e)) (cases_eq p q);
+        carried_for = λ q.
+            ⊎_elim
+            (λ (e : p ≡ q).
+            subst (λ (k : ℕ). times k (taken_out p v.places.carried) ≤ takes k v + middle_of (of_place k) v + times k (unlisted (p ∷ []) v.places.ended)) e
+            (omega (
+              arith,
+              h.references.carried_for id v at p,
+              same_taken p v.places.carried is,
+              ap (middle_weight (of_place p)) (calm is),
+              h.references.taken p,
+              total_term (takes p) s.views id v at,
+              total_term (ends p) s.views id v at,
+            )))
+            (λ (e : p ≢ q). omega (
+              arith,
+              h.references.carried_for id v at q,
+              other_taken p q v.places.carried is e,
+              unlisted_else p q v.places.ended (λ x. e (sym x)),
+            ))
+            (cases_eq p q);
         turn = refl;
         holder = inl refl;
         away = h.free_list.away id v at;
@@ -432,6 +458,11 @@ module _ (id p : ℕ) (v : View) (below : p < v.passes.sizes.entries) (has_some 
             ⊎_elim
             (λ (e : p ≡ q). subst (λ (k : ℕ). times k v.places.carried ≤ held_times k (without p v.places.held)) e (omega (arith, none)))
             (λ (e : p ≢ q). omega (arith, h.references.carried id v at q, other_without p q v.places.held held e)) (cases_eq p q);
+        carried_for = λ q.
+            ⊎_elim
+            (λ (e : p ≡ q).
+            subst (λ (k : ℕ). times k v.places.carried ≤ taken_times k (without p v.places.held) + middle_of (of_place k) v + ends k v) e (omega (arith, none)))
+            (λ (e : p ≢ q). omega (arith, h.references.carried_for id v at q, taken_else p q v.places.held held (λ x. e (sym x)))) (cases_eq p q);
         turn = refl;
         holder = inl refl;
         away = h.free_list.away id v at;

@@ -25,12 +25,12 @@ use Rattle.track_rule.specs.Opening.{IsWhole, first_slots}
 use Rattle.track_rule.specs.Passes.{IsPass, has_share, no_places}
 use Rattle.track_rule.specs.Chains.{chain_in, links_in, shuts_of, each_link, loose_of}
 use Rattle.track_rule.specs.Commits.{IsMiddleOf}
-use Rattle.track_rule.specs.Phases.{of_both, of_place, shows, table_keeps}
+use Rattle.track_rule.specs.Phases.{middle_of, of_both, of_place, shows, table_keeps}
 use Rattle.track_rule.specs.Links.{HasHooks}
 use Rattle.track_rule.specs.Walks.{IsWalk}
 use Rattle.track_rule.specs.declared.view.Middle.TheVariants.{Dying}
 use Rattle.track_rule.specs.declared.view.Walk.{Walk}
-use Rattle.track_rule.specs.References.{AreKept, held_times, takes}
+use Rattle.track_rule.specs.References.{AreKept, ends, held_times, takes}
 use Rattle.track_rule.specs.Readings.{last_read}
 use Rattle.track_rule.specs.Records.{IsHand}
 use Rattle.track_rule.specs.Rule.{Holds, Ledger, first_view}
@@ -110,6 +110,7 @@ starts z list table limits whole nothing room =
           counted = λ p below. omega (arith, word (refs_word z p), ap table_keeps (word (phase_word z p)));
           beyond = λ p above. omega arith;
           carried = one_view z (λ v. (p : ℕ) → times p v.places.carried ≤ held_times p v.places.held) (λ p. omega arith);
+          carried_for = one_view z (λ v. (p : ℕ) → times p v.places.carried ≤ takes p v + middle_of (of_place p) v + ends p v) (λ p. omega arith);
           taken = λ p. omega (arith, ap (total (of_place p)) no_records);
           purposes = one_view z (λ v. AreKept [] v.places.held) tt;
         };

@@ -63,7 +63,7 @@ module _ (l : Ledger) (s : State Slot View) (id : ℕ) (v : View) (h : IsKept v.
       moved v.passes.sizes l s id v w (slice_set s.words 1 1) (slice_set s.homes 0 none) l.free h at m
       (pass_moved v.passes.sizes l.log v w p m.made has_some p.front p.told) (turn_quiet v.passes.sizes s.words 1) (length-set s.words 1 1)
       (λ k other. set_else s.homes 0 k none other)
-      (references_left v.passes.sizes l.log s.words (slice_set s.words 1 1) s.views id v w at refl refl refl (turn_refs v.passes.sizes s.words 1)
+      (references_left v.passes.sizes l.log s.words (slice_set s.words 1 1) s.views id v w at refl refl refl refl (turn_refs v.passes.sizes s.words 1)
       (turn_phase v.passes.sizes s.words 1) h.references)
       (free_moved v.passes.sizes s.words (slice_set s.words 1 1) s.homes (slice_set s.homes 0 none) s.views id v w l.free l.free at (record {
         once = λ q below. ap (λ (n : ℕ). times q l.free + owes q v + min n 1) (turn_refs v.passes.sizes s.words 1 q);
@@ -144,7 +144,7 @@ module _ (l : Ledger) (s : State Slot View) (id : ℕ) (v : View) (h : IsKept v.
       moved v.passes.sizes l s id v w (slice_set s.words 1 0) (slice_set s.homes 0 (some (Free list))) list.items h at m
       (pass_moved v.passes.sizes l.log v w p m.made has_some p.front p.told) (turn_quiet v.passes.sizes s.words 0) (length-set s.words 1 0)
       (λ k other. set_else s.homes 0 k (some (Free list)) other)
-      (references_left v.passes.sizes l.log s.words (slice_set s.words 1 0) s.views id v w at refl refl refl (turn_refs v.passes.sizes s.words 0)
+      (references_left v.passes.sizes l.log s.words (slice_set s.words 1 0) s.views id v w at refl refl refl refl (turn_refs v.passes.sizes s.words 0)
       (turn_phase v.passes.sizes s.words 0) h.references)
       (free_moved v.passes.sizes s.words (slice_set s.words 1 0) s.homes (slice_set s.homes 0 (some (Free list))) s.views id v w l.free list.items at (record {
         once = λ q below. omega (arith, can.whole q, ap (times q) known, turn_refs v.passes.sizes s.words 0 q);

@@ -1,6 +1,6 @@
 -- References. The references word of a place is the number of references that passes keep to it, those of the table that
 -- they carry among them, and one more while the place is live. A pass that carries the table's reference to a place also holds
--- that place. No other place is held. A place is taken for a new entry by one pass, or a live entry has it, or a pass has
+-- that place: it has taken it, or is in the middle of a commit there, or has destroyed its entry. No other place is held. A place is taken for a new entry by one pass, or a live entry has it, or a pass has
 -- destroyed its entry and not let go of the table's reference: never two of these. A place that a pass holds for an id is that
 -- of the entry of this id.
 use Rattle.std.specs.Prelude.{◌≡◌, ℕ, ◌+◌, ◌<◌, ◌≤◌, ◌==◌, ◌&&◌, Bool, true, false, if◌then◌else◌, Some, List, [], ◌∷◌, slice_get}
@@ -15,7 +15,7 @@ use Rattle.track_rule.specs.declared.view.Purpose.TheVariants.{Taken, Testing, S
 use Rattle.track_rule.specs.declared.view.View.{View}
 use Rattle.track_rule.specs.History.{records_after}
 use Rattle.track_rule.specs.Layout.{phase_at, refs_at}
-use Rattle.track_rule.specs.Phases.{of_place, table_keeps}
+use Rattle.track_rule.specs.Phases.{middle_of, of_place, table_keeps}
 use Rattle.track_rule.specs.Sums.{Each, bit, times, total}
 
 abbrev pub is_at : ℕ → Keep → Bool
@@ -81,5 +81,6 @@ pub record AreReferences (z : Sizes) (log : List Event) (words : List ℕ) (view
   pub counted : (p : ℕ) → p < z.entries → refs_at z words p ≡ total (keeps p) views + table_keeps (phase_at z words p)
   pub beyond : (p : ℕ) → z.entries ≤ p → total (keeps p) views ≡ 0
   pub carried : Each (λ v. (p : ℕ) → times p v.places.carried ≤ held_times p v.places.held) views
+  pub carried_for : Each (λ v. (p : ℕ) → times p v.places.carried ≤ takes p v + middle_of (of_place p) v + ends p v) views
   pub taken : (p : ℕ) → total (takes p) views + total (ends p) views + total (of_place p) (records_after log) ≤ 1
   pub purposes : Each (λ v. AreKept log v.places.held) views

@@ -1,9 +1,8 @@
 //! The steps of a kill: the phase of the place is DEAD, and then the Destroy of its record is made, by one addition to the
 //! history word.
 
-ghost use Rattle.std.specs.Prelude.{◌≡◌, ◌≤◌, Some, true, false};
+ghost use Rattle.std.specs.Prelude.{◌≡◌, ◌≤◌, Some, true};
 ghost use Rattle.track_rule.specs.declared.view.Middle.TheVariants.{Calm};
-ghost use Rattle.track_rule.specs.Free.{is_among};
 ghost use Rattle.track_rule.specs.KillSteps.{CanDestroy, DeadStep, DestroyStep, HasDestroyed, MayDie, destroy_in, shown_dead};
 ghost use Rattle.track_rule.specs.Records.{has_hand};
 ghost use Rattle.track_rule.specs.References.{is_held};
@@ -50,7 +49,6 @@ impl<'b> Pass<'b> {
     /// reference to the place is the pass's to carry then.
     pub fn phase_dead(&mut self, place: u32)
         requires held { is_held place self.old.view.places.held ≡ true }
-        requires apart { is_among place self.old.view.places.carried ≡ false }
         requires turn { has_hand place self.old.view ≡ 1 }
         requires live { 3 ≤ known_phase self.old.view.commit.hand }
         requires calm { self.old.view.commit.middle ≡ Calm }

@@ -30,7 +30,6 @@ store-requires c =
     let word : c.phase_word-word.result ≡ phase_word z place = c.phase_word-word.ensures.word ∙ ap (λ (y : Sizes). phase_word y place) h.sizes_are in
     let asks : AsksDead place p.seat.me.0 = subst (λ (x : PassSight). AsksDead place x.view) (sym c.self.view_is) (record {
       held = c.requires.held;
-      apart = c.requires.apart;
       turn = c.requires.turn;
       live = c.requires.live;
       calm = c.requires.calm;
