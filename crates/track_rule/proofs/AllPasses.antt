@@ -53,4 +53,4 @@ last_alone z l s i j place v u h at at' other one below mine =
     omega (arith, h.references.counted place below, one, total_two (keeps place) s.views i j v u at at' other, mine)
 
 pub taken_new : TakenPlacesAreNew
-taken_new z l s place h = omega (arith, h.references.taken place)
+taken_new z l s place h = h.references.taken place

@@ -10,7 +10,7 @@ use Rattle.track_rule.specs.Free.{has_turn, is_among, known_free, owes}
 use Rattle.track_rule.specs.Layout.{refs_at}
 use Rattle.track_rule.specs.History.{records_after}
 use Rattle.track_rule.specs.Phases.{of_place}
-use Rattle.track_rule.specs.References.{keeps, takes}
+use Rattle.track_rule.specs.References.{ends, keeps, takes}
 use Rattle.track_rule.specs.Rule.{IsKept, Ledger}
 use Rattle.track_rule.specs.Sums.{times, total}
 
@@ -52,8 +52,9 @@ LastReferenceIsAlone =
     (z : Sizes) (l : Ledger) (s : State Slot View) (i j place : ℕ) (v u : View) → IsKept z l s
     → get_elem? s.views i ≡ some v → get_elem? s.views j ≡ some u → j ≢ i → refs_at z s.words place ≡ 1 → place < z.entries → 0 < keeps place v → keeps place u ≡ 0
 
--- A place is taken for a new entry by one pass at most, and then no live entry has it.
+-- A place is taken for a new entry by one pass at most, and then no live entry has it, nor has a pass destroyed its entry and still
+-- carries the table's reference.
 abbrev pub TakenPlacesAreNew : Type 0
 TakenPlacesAreNew =
     (z : Sizes) (l : Ledger) (s : State Slot View) (place : ℕ) → IsKept z l s
-    → total (takes place) s.views + total (of_place place) (records_after l.log) ≤ 1
+    → total (takes place) s.views + total (ends place) s.views + total (of_place place) (records_after l.log) ≤ 1

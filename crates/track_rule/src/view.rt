@@ -81,7 +81,7 @@ pub struct Shut {
     pub chain: LinkedList<Entry>,
 }
 
-/// A link of a place that a pass has taken, or whose entry it is about to destroy.
+/// A link of a place that a pass has taken, or whose entry it has destroyed.
 pub struct Hook {
     pub link: u64,
     pub pair: Pair,
