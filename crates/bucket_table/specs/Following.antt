@@ -105,7 +105,7 @@ pub record Encloses (word generation : ℕ) (readings : List Reading) : Type 0 w
 
 -- The chain of the bucket, which was this one from the first load of the even generation to the second, is the links that the
 -- walk met, and has none with the tuple. Between the two the pass has seen all events up to the point, which the history word
--- named; the chain has what was live there.
+-- named; the chain is what was live there, and no other.
 pub record IsEnd (t : Tuple) (at : ℕ) (v w : PassSight) : Type 0 where
   pub reads : OnlyReads v w
   pub point : at ≡ length w.view.seen.front

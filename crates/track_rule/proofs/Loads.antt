@@ -2,7 +2,7 @@
 use Rattle.track_rule.specs.declared.view.Commit.{Commit}
 use Rattle.std.specs.Prelude.{nat_lt, ◌&&◌}
 use Rattle.track_rule.proofs.Lists.{bit_low, total_some}
-use Rattle.track_rule.proofs.ShutChains.{shut_weighs}
+use Rattle.track_rule.proofs.ShutChains.{open_weighs, shut_weighs}
 use Rattle.std.proofs.Common.{◌≡◌, ℕ, ◌+◌, ◌-◌, ◌*◌, ◌/◌, ◌%◌, ◌^◌, ◌<◌, ◌≤◌, suc, Option, Some, None, List, [], ◌∷◌, length, refl, sym, ap, subst, ◌∙◌, ⊎_elim, arith, set, append-nil}
 use Rattle.std.specs.Prelude.{slice_index, slice_set}
 use Rattle.std.proofs.lemmas.Bool.{cases_lt}
@@ -92,7 +92,7 @@ word_events e r few = omega arith
 pub word_live : (e r : ℕ) → e < 2 ^ 40 → (e + 2 ^ 40 * r) / 2 ^ 40 ≡ r
 word_live e r few = omega arith
 
--- the note of the walk has the point, at which the chain has what is live
+-- the note of the walk has the point, at which the chain is what is live
 look_note : (z : Sizes) (l : Ledger) (s : State Slot View) (id : ℕ) (v : View) → IsKept z l s → get_elem? s.views id ≡ some v
     → (n : Walk) → at_point (length l.log) v.walk ≡ Some n → IsWalk z s.words l.chains l.log n
 look_note z l s id v h at = with_note v.walk (h.walks.each id v at)
@@ -109,7 +109,7 @@ look_note z l s id v h at = with_note v.walk (h.walks.each id v at)
           stands = λ here even. let t = w.stands here even in record { passed = t.passed; rest = t.rest; all = t.all; matches = t.matches; ended = t.ended };
           known = λ point same. record {
             seen = same_number point same;
-            live = λ here even weight. omega (arith, h.chains.chained m.bucket w.bucket weight);
+            live = λ here even weight. open_weighs z l s h m.bucket w.bucket (omega (arith, here, even)) weight;
           };
           gone = w.gone;
         })

@@ -1,5 +1,6 @@
--- What the rule says of the chain of a bucket that a pass has shut: what it weighs, and that who is named there is live.
-use Rattle.std.proofs.Common.{◌≡◌, ◌≢◌, ℕ, ◌+◌, ◌*◌, ◌<◌, ◌≤◌, Bool, true, false, Option, Some, None, List, [], ◌∷◌, refl, ap, subst, ◌∙◌, ⊎_elim, arith, eq-eqb, ne_eqb}
+-- What the rule says of the chain of a bucket that a pass has shut, what it weighs, and that who is named there is live; and of the
+-- chain of one that is open.
+use Rattle.std.proofs.Common.{◌≡◌, ◌≢◌, ℕ, ◌+◌, ◌*◌, ◌%◌, ◌<◌, ◌≤◌, Bool, true, false, Option, Some, None, List, [], ◌∷◌, refl, ap, subst, ◌∙◌, ⊎_elim, arith, eq-eqb, ne_eqb}
 use Rattle.std.specs.Prelude.{◌==◌, ◌&&◌, if◌then◌else◌}
 use Rattle.std.proofs.lemmas.Bool.{and_parts, cases_Bool, cases_eq, cases_lt, eqb-true}
 use mathlib.Core.Option.{some}
@@ -21,13 +22,13 @@ use Rattle.track_rule.specs.BucketSteps.{IsShutAt}
 use Rattle.track_rule.specs.Chains.{bucket_of, chain_in, each_link, entry_of, links_in, loose_of, original_of, pair_of, reply_of, shuts_of, side}
 use Rattle.track_rule.specs.Commits.{IsCommitting, IsMiddle, shuts_in}
 use Rattle.track_rule.specs.History.{records_after}
-use Rattle.track_rule.specs.Layout.{phase_at, place_of}
+use Rattle.track_rule.specs.Layout.{gen_at, phase_at, place_of}
 use Rattle.track_rule.specs.Phases.{middle_of, middle_weight, of_both, of_place}
 use Rattle.track_rule.specs.Rule.{IsKept, Ledger}
 use Rattle.track_rule.specs.Sums.{bit, total}
 use Rattle.track_rule.proofs.ChainLists.{loose_zero, side_low, total_rev}
 use Rattle.track_rule.proofs.Lists.{bit_both, bit_fails, find_there, other_bit, same_bit}
-use Rattle.track_rule.proofs.Sums.{total_le, total_only, total_term, total_times}
+use Rattle.track_rule.proofs.Sums.{total_alike, total_le, total_only, total_term, total_times}
 
 -- links that are not in a bucket weigh nothing there
 loose_none : (z : Sizes) (b : ℕ) (f : Entry → ℕ) (hooks : List Hook)
@@ -42,6 +43,26 @@ loose_none z b f (h ∷ hs) none_there =
     off true false m n any e = refl
     off false k m n any e = refl
 
+module _ (z : Sizes) (l : Ledger) (s : State Slot View) (h : IsKept z l s) (b : ℕ) (below : b < z.buckets) where
+  -- a pass has no link that is up in a bucket that it has not shut
+  loose_else : (f : Entry → ℕ) (j : ℕ) (u : View) → get_elem? s.views j ≡ some u → shuts_of b u ≡ 0 → loose_of z b f u ≡ 0
+  loose_else f j u there none_shut =
+      loose_none z b f u.buckets.hooks
+      (⊎_elim (λ (e : 0 < loose_of z b each_link u). absurd (omega (arith, none_shut, h.chains.home j u there b below e)))
+      (λ (e : loose_of z b each_link u ≤ 0). omega (arith, e)) (cases_lt 0 (loose_of z b each_link u)))
+
+  -- so the chain of one that nobody has shut is that of the live records
+  pub open_weighs : gen_at z s.words b % 2 ≡ 0 → (f : Entry → ℕ) → total f (l.chains b) ≡ total (links_in z b f) (records_after l.log)
+  open_weighs even f = omega (
+    arith,
+    h.chains.chained b below f,
+    total_alike (loose_of z b f) (shuts_of b) s.views (λ j u there.
+        let off : shuts_of b u ≡ 0 = omega (arith, even, h.chains.gens b below, total_term (shuts_of b) s.views j u there) in
+        omega (arith, off, loose_else f j u there off)),
+    even,
+    h.chains.gens b below,
+  )
+
 module _ (z : Sizes) (l : Ledger) (s : State Slot View) (id : ℕ) (v : View) (h : IsKept z l s) (at : get_elem? s.views id ≡ some v)
     (b : ℕ) (below : b < z.buckets) (mine : 0 < shuts_of b v) where
   -- no other pass has the bucket
@@ -50,11 +71,7 @@ module _ (z : Sizes) (l : Ledger) (s : State Slot View) (id : ℕ) (v : View) (h
 
   -- so none has a link that is up in it
   loose_only : (f : Entry → ℕ) → total (loose_of z b f) s.views ≡ loose_of z b f v
-  loose_only f =
-      total_only (loose_of z b f) (shuts_of b) s.views id v at shut_only (λ j u there none_shut.
-      loose_none z b f u.buckets.hooks
-      (⊎_elim (λ (e : 0 < loose_of z b each_link u). absurd (omega (arith, none_shut, h.chains.home j u there b below e)))
-      (λ (e : loose_of z b each_link u ≤ 0). omega (arith, e)) (cases_lt 0 (loose_of z b each_link u))))
+  loose_only f = total_only (loose_of z b f) (shuts_of b) s.views id v at shut_only (λ j u there off. loose_else z l s h b below f j u there off)
 
   -- what its chain weighs
   pub shut_weighs : (f : Entry → ℕ) → total f (chain_in b v.buckets.shut) ≡ total (links_in z b f) (records_after l.log) + loose_of z b f v

@@ -35,7 +35,7 @@ pub record IsChainOf (z : Sizes) (bucket : ℕ) (chain : List Entry) : Type 0 wh
   pub few : length chain ≤ last_link z
   pub ordered : IsOrdered chain
 
--- This was the chain all the time from the load that began the note to this one: what was met begins it, and it has what was
+-- This was the chain all the time from the load that began the note to this one: what was met begins it, and it is what was
 -- live at the noted point, which is that of all events that the pass has seen.
 pub record WasChain (z : Sizes) (front : List Event) (m : Walk) : Type 0 where
   pub chain : List Entry

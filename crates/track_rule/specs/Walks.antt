@@ -1,6 +1,6 @@
 -- What a pass noted on a walk along a chain without a lock. A noted generation is at most the present one. Where it still
--- is that one, and even, what was met begins the chain, and the chain has the tuples of this bucket of all entries that were
--- live at the noted point. Otherwise the note says nothing. Where something was met that shows that the generation has
+-- is that one, and even, what was met begins the chain, and the chain is the tuples of this bucket of all entries that were
+-- live at the noted point, and no other. Otherwise the note says nothing. Where something was met that shows that the generation has
 -- passed, it has. A note speaks of the words, of the history and of the chains alone, and of no other pass.
 use Rattle.std.specs.Prelude.{◌≡◌, ℕ, ◌<◌, ◌≤◌, ◌%◌, true, Option, Some, None, List, [], ◌∷◌, length}
 use Rattle.history_book.specs.declared.event.Event.{Event}
@@ -39,11 +39,11 @@ pub record Stands (chain : List Entry) (n : Walk) : Type 0 where
   pub matches : Matches n.met passed
   pub ended : n.ended ≡ true → rest ≡ []
 
--- the chain has a link for each tuple of the bucket that an entry has which was live after these events
+-- the chain is the tuples of the bucket that were live after these events, and no other
 abbrev pub HasLive : Sizes → ℕ → List Event → List Entry → Type 0
-HasLive z bucket front chain = (weight : Entry → ℕ) → total (links_in z bucket weight) (records_after front) ≤ total weight chain
+HasLive z bucket front chain = (weight : Entry → ℕ) → total weight chain ≡ total (links_in z bucket weight) (records_after front)
 
--- the pass has seen the events up to the noted point, and the chain has what was live there
+-- the pass has seen the events up to the noted point, and the chain is what was live there
 pub record IsKnown (z : Sizes) (words : List ℕ) (chain : List Entry) (front : List Event) (n : Walk) (point : ℕ) : Type 0 where
   pub seen : point ≡ length front
   pub live : gen_at z words n.bucket ≡ n.generation → n.generation % 2 ≡ 0 → HasLive z n.bucket front chain
