@@ -1,6 +1,6 @@
 -- A Confirm keeps the rule: the record is live from then on, and its links are those of a live record.
 use Rattle.std.proofs.Common.{◌≡◌, ◌≢◌, ℕ, ◌+◌, ◌-◌, ◌*◌, ◌%◌, ◌<◌, ◌≤◌, Bool, true, false, Some, List, [], ◌∷◌, ◌++◌, length, map, refl, sym, ap, subst, ◌∙◌, ⊎_elim, arith, set, eq-eqb, ne_eqb}
-use Rattle.std.specs.Prelude.{slice_index, slice_set, ◌==◌, ◌||◌, if◌then◌else◌, find, min}
+use Rattle.std.specs.Prelude.{slice_index, slice_set, ◌&&◌, ◌==◌, ◌||◌, if◌then◌else◌, find, min}
 use Rattle.std.specs.List.{All}
 use Rattle.std.proofs.lemmas.Bool.{cases_eq}
 use Rattle.std.proofs.lemmas.List.{get_or-set_same, length-set}
@@ -31,22 +31,22 @@ use Rattle.track_rule.specs.Free.{IsFreeList, has_turn, owes}
 use Rattle.track_rule.specs.History.{packed, records_after, state_after}
 use Rattle.track_rule.specs.Layout.{phase_at, place_of}
 use Rattle.track_rule.specs.Links.{AreLinks, HasHooks, IsHook, IsOwned, hook_of, hooks_of}
-use Rattle.track_rule.specs.Phases.{ArePhases, middle_of, middle_weight, of_both, of_place, shows, table_keeps}
+use Rattle.track_rule.specs.Phases.{ArePhases, IsMiddlePhase, middle_of, middle_weight, of_both, of_place, shows, table_keeps}
 use Rattle.track_rule.specs.Readings.{stored}
 use Rattle.track_rule.specs.Records.{AreRecords, IsHand, has_hand, record_in}
-use Rattle.track_rule.specs.References.{AreKept, AreReferences, ends, held_times, keeps, takes}
+use Rattle.track_rule.specs.References.{AreKept, AreReferences, ends, held_times, is_at, is_for_new, keeps, takes}
 use Rattle.track_rule.specs.Rule.{IsKept, Ledger}
 use Rattle.track_rule.specs.Sums.{Each, bit, times, total}
 use Rattle.track_rule.specs.Walks.{AreWalks}
 use Rattle.track_rule.proofs.Confirming.{each_dropped, find_last, find_more, find_same, held_kept, held_long, held_taken, hook_else, kept_for, low_both, low_ids, total_dropped}
 use Rattle.track_rule.proofs.Confirms.{lawful, none_there, state_on}
 use Rattle.track_rule.proofs.Events.{get_last, kept_on, passes_made}
-use Rattle.track_rule.proofs.Frames.{SameChains, hooks_stay, links_stay}
+use Rattle.track_rule.proofs.Frames.{SameChains, hooks_stay, links_stay, middle_same}
 use Rattle.track_rule.proofs.HookLists.{hook_test, hook_there, some_hook}
 use Rattle.track_rule.proofs.Named.{born_ledger, chains_both, hooks_else, named_chains, named_here, records_else, shut_else, told_linked, told_mine, told_ordered, told_shuts, told_walks, two_links}
 use Rattle.track_rule.proofs.HistoryWord.{word_other, word_phase, word_refs, word_same, word_turn}
 use Rattle.track_rule.proofs.LastRead.{stored_on}
-use Rattle.track_rule.proofs.Lists.{other_bit, same_bit, unlisted_less, unlisted_out}
+use Rattle.track_rule.proofs.Lists.{other_bit, same_bit, total_some, unlisted_less, unlisted_out}
 use Rattle.track_rule.proofs.Sums.{each_put, total_append, total_but, total_map, total_same, total_set, total_term, total_two}
 
 module _ (l : Ledger) (s : State Slot View) (id : ℕ) (v : View) (r : Record) (h : IsKept v.passes.sizes l s) (at : get_elem? s.views id ≡ some v)
@@ -401,8 +401,20 @@ module _ (l : Ledger) (s : State Slot View) (id : ℕ) (v : View) (r : Record) (
             (λ q on. let c = h.free_list.ended id v at q on in (c.0, word_phase z s.words (packed made) q ∙ c.1));
       }
 
-  born_lives : (x y : Record) → Born x ≡ Dying y → ⊥
-  born_lives x y e = cc
+  -- the place is OWNED, since its links are in chains
+  phase_is : phase_at v.passes.sizes s.words r.place ≡ 1
+  phase_is =
+      let owned : IsOwned v.places (hook_of (1 + 2 * r.place) v.buckets.hooks) =
+      (hook_there (1 + 2 * r.place) (IsOwned v.places) v.buckets.hooks one_hook.0 (h.links.hooks id v at).linked).0 in
+      let here : place_of (hook_of (1 + 2 * r.place) v.buckets.hooks).link ≡ r.place = omega (arith, one_hook.3) in
+      (h.free_list.owned id v at r.place (omega (
+        arith,
+        subst (λ (q : ℕ). 0 < times q v.places.owned + times q v.places.ended) here (owned one_hook.2),
+        h.references.taken r.place,
+        total_term (takes r.place) s.views id v at,
+        total_term (ends r.place) s.views id v at,
+        total_some (λ k. is_at r.place k && is_for_new k.purpose) v.places.held can.taken,
+      ))).1
 
   born_phases : ArePhases v.passes.sizes made words (set s.views id after_it)
   born_phases =
@@ -425,8 +437,9 @@ module _ (l : Ledger) (s : State Slot View) (id : ℕ) (v : View) (r : Record) (
           calm (of_place q),
           total_set (middle_of (of_place q)) s.views id v after_it at,
         );
-        dead = each_put (λ u. (x : Record) → u.commit.middle ≡ Dying x → phase_at z words x.place ≡ 2) s.views id after_it
-            (λ i u at' x e. word_phase z s.words (packed made) x.place ∙ h.phases.dead i u at' x e) (λ x e. absurd (born_lives subject x e));
+        middle = each_put (λ u. IsMiddlePhase z words u.commit.middle) s.views id after_it
+            (λ i u at'. middle_same z s.words words (word_phase z s.words (packed made)) u.commit.middle (h.phases.middle i u at'))
+            (word_phase z s.words (packed made) r.place ∙ phase_is);
       }
 
   -- what a pass knows of a record

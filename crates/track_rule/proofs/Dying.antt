@@ -25,7 +25,7 @@ use Rattle.track_rule.specs.KillSteps.{DeadStep, IsShutFor, MayDie, shown_dead}
 use Rattle.track_rule.specs.Layout.{phase_at, phase_word, refs_at, turn_at}
 use Rattle.track_rule.specs.Links.{HasHooks}
 use Rattle.track_rule.specs.Passes.{IsPass}
-use Rattle.track_rule.specs.Phases.{ArePhases, middle_of, middle_weight, of_both, of_place, shows, table_keeps}
+use Rattle.track_rule.specs.Phases.{ArePhases, IsMiddlePhase, middle_of, middle_weight, of_both, of_place, shows, table_keeps}
 use Rattle.track_rule.specs.Readings.{stored}
 use Rattle.track_rule.specs.Records.{AreRecords, IsHand, has_hand, is_hand_of, record_in}
 use Rattle.track_rule.specs.References.{AreKept, AreReferences, ends, held_times, is_at, is_held, keeps, takes}
@@ -36,7 +36,7 @@ use Rattle.track_rule.specs.TouchSteps.{known_phase, known_record}
 use Rattle.track_rule.specs.Walks.{IsWalk}
 use Rattle.track_rule.proofs.Balance.{MakesNone, pass_moved, passes_moved}
 use Rattle.track_rule.proofs.Carried.{carries_set}
-use Rattle.track_rule.proofs.Frames.{SameChains, chains_stay, hooks_stay, links_stay, walk_stays}
+use Rattle.track_rule.proofs.Frames.{SameChains, chains_stay, hooks_stay, links_stay, middle_on, walk_stays}
 use Rattle.track_rule.proofs.LastRead.{stored_on}
 use Rattle.track_rule.proofs.LivePlaces.{both_shown, found_confirmed, hand_confirmed, live_keeps, none_else, one_place}
 use Rattle.track_rule.proofs.Lists.{other_bit, same_bit, total_none, total_some}
@@ -157,9 +157,6 @@ module _ (l : Ledger) (s : State Slot View) (id : ℕ) (v : View) (r : Record) (
             (λ q on. let c = h.free_list.ended id v at q on in (omega (arith, c.0), low_stays q 2 (omega arith) c.1));
       }
 
-  one_dying : (a b : Record) → Dying a ≡ Dying b → a ≡ b
-  one_dying a b e = cc
-
   dead_phases : ArePhases v.passes.sizes l.log new (set s.views id w)
   dead_phases =
       let z : Sizes = v.passes.sizes in
@@ -208,9 +205,11 @@ module _ (l : Ledger) (s : State Slot View) (id : ℕ) (v : View) (r : Record) (
               total_set (middle_of (of_place q)) s.views id v w at,
             ))
             (cases_eq q r.place);
-        dead = each_other (λ u. (x : Record) → u.commit.middle ≡ Dying x → phase_at z new x.place ≡ 2) s.views id w
-            (λ j u other at' x e. low_stays x.place 2 (omega arith) (h.phases.dead j u at' x e))
-            (λ x e. ap (λ (y : Record). phase_at z new y.place) (sym (one_dying r x e)) ∙ here);
+        middle = each_other (λ u. IsMiddlePhase z new u.commit.middle) s.views id w
+            (λ j u other at'.
+            middle_on z l.log s.words new u.commit.middle u.commit.hand u.places.carried u.buckets.shut u.expected (h.commits j u at')
+            (λ x n low committing weighs phase. low_stays x.place n low phase) (h.phases.middle j u at'))
+            here;
       }
 
   own_hand : (x : Hand) × (v.commit.hand ≡ Some x) × (x.place ≡ r.place)

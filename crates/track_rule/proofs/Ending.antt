@@ -35,7 +35,7 @@ use Rattle.track_rule.specs.History.{packed, records_after, state_after}
 use Rattle.track_rule.specs.KillSteps.{Destroying, MayDestroy, destroyed, loose_hook, with_destroy, without_its}
 use Rattle.track_rule.specs.Layout.{first_word, head_word, phase_at, place_of, second_word}
 use Rattle.track_rule.specs.Links.{AreLinks, HasHooks, IsHook, IsOwned, last_link}
-use Rattle.track_rule.specs.Phases.{ArePhases, middle_of, middle_weight, of_both, of_place, shows, table_keeps}
+use Rattle.track_rule.specs.Phases.{ArePhases, IsMiddlePhase, middle_of, middle_weight, of_both, of_place, shows, table_keeps}
 use Rattle.track_rule.specs.Readings.{stored}
 use Rattle.track_rule.specs.Records.{AreRecords, is_hand_of}
 use Rattle.track_rule.specs.References.{AreKept, AreReferences, WasConfirmed, ends, held_times, keeps, takes}
@@ -44,7 +44,7 @@ use Rattle.track_rule.specs.Sums.{Each, bit, times, total}
 use Rattle.track_rule.proofs.ChainLists.{chain_each}
 use Rattle.track_rule.proofs.Confirms.{bucket_low, state_on}
 use Rattle.track_rule.proofs.Events.{kept_on, passes_made}
-use Rattle.track_rule.proofs.Frames.{SameChains, calm_lives, hooks_stay, links_stay}
+use Rattle.track_rule.proofs.Frames.{SameChains, hooks_stay, links_stay, middle_same}
 use Rattle.track_rule.proofs.HistoryWord.{word_other, word_phase, word_refs, word_same}
 use Rattle.track_rule.proofs.LastRead.{stored_on}
 use Rattle.track_rule.proofs.Leaving.{length_others, none_expected, others, total_others}
@@ -198,7 +198,7 @@ module _ (l : Ledger) (s : State Slot View) (id : ℕ) (v : View) (d : Destroyin
   other_stays i other = ap (find (has_id i)) records_on ∙ leaving.find_others d.id i (records_after l.log) other
 
   phase_is : phase_at v.passes.sizes s.words r.place ≡ 2
-  phase_is = h.phases.dead id v at r dying
+  phase_is = subst (IsMiddlePhase v.passes.sizes s.words) dying (h.phases.middle id v at)
 
   ended_records : AreRecords v.passes.sizes made words s.homes (set s.views id after_it)
   ended_records =
@@ -304,8 +304,8 @@ module _ (l : Ledger) (s : State Slot View) (id : ℕ) (v : View) (d : Destroyin
           mine (of_place q),
           total_set (middle_of (of_place q)) s.views id v after_it at,
         );
-        dead = each_put (λ u. (x : Record) → u.commit.middle ≡ Dying x → phase_at z words x.place ≡ 2) s.views id after_it
-            (λ i u at' x e. word_phase z s.words (packed made) x.place ∙ h.phases.dead i u at' x e) (λ x e. absurd (calm_lives x e));
+        middle = each_put (λ u. IsMiddlePhase z words u.commit.middle) s.views id after_it
+            (λ i u at'. middle_same z s.words words (word_phase z s.words (packed made)) u.commit.middle (h.phases.middle i u at')) tt;
       }
 
   -- THE LINKS

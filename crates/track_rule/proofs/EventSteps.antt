@@ -24,7 +24,7 @@ use Rattle.track_rule.specs.Expected.{AreExpected}
 use Rattle.track_rule.specs.History.{packed, records_after}
 use Rattle.track_rule.specs.Layout.{phase_at, place_of}
 use Rattle.track_rule.specs.Links.{HasHooks, hooks_of}
-use Rattle.track_rule.specs.Phases.{middle_of, middle_weight, of_both, of_place, shows, table_keeps}
+use Rattle.track_rule.specs.Phases.{IsMiddlePhase, middle_of, middle_weight, of_both, of_place, shows, table_keeps}
 use Rattle.track_rule.specs.Records.{AreRecords}
 use Rattle.track_rule.specs.References.{AreKept, AreReferences, ends, held_times, keeps, taken_times, takes}
 use Rattle.track_rule.specs.Rule.{IsKept, Ledger}
@@ -33,7 +33,7 @@ use Rattle.track_rule.specs.Walks.{IsWalk}
 use Rattle.track_rule.proofs.Balance.{free_left}
 use Rattle.track_rule.proofs.Carried.{carries_set}
 use Rattle.track_rule.proofs.Events.{kept_on, note_of, passes_made}
-use Rattle.track_rule.proofs.Frames.{SameChains, chains_stay, hooks_stay, links_stay, walk_stays}
+use Rattle.track_rule.proofs.Frames.{SameChains, chains_stay, hooks_stay, links_stay, middle_same, walk_stays}
 use Rattle.track_rule.proofs.HistoryWord.{word_other, word_phase, word_refs, word_same}
 use Rattle.track_rule.proofs.LastRead.{ReadsAt, stored_on}
 use Rattle.track_rule.proofs.Sums.{each_put, total_same}
@@ -119,12 +119,12 @@ module _ (l : Ledger) (s : State Slot View) (id : ℕ) (v w : View) (e : Event) 
     total_same (middle_of (of_place q)) s.views id v w at (ap (middle_weight (of_place q)) parts.middle),
   )
 
-  event_dead : Each (λ u. (x : Record) → u.commit.middle ≡ Dying x → phase_at v.passes.sizes words x.place ≡ 2) (set s.views id w)
-  event_dead =
+  event_middle : Each (λ u. IsMiddlePhase v.passes.sizes words u.commit.middle) (set s.views id w)
+  event_middle =
       let z : Sizes = v.passes.sizes in
-      each_put (λ u. (x : Record) → u.commit.middle ≡ Dying x → phase_at z words x.place ≡ 2) s.views id w
-      (λ i u at' x k. word_phase z s.words (packed made) x.place ∙ h.phases.dead i u at' x k)
-      (λ x k. word_phase z s.words (packed made) x.place ∙ h.phases.dead id v at x (sym parts.middle ∙ k))
+      each_put (λ u. IsMiddlePhase z words u.commit.middle) s.views id w
+      (λ i u at'. middle_same z s.words words (word_phase z s.words (packed made)) u.commit.middle (h.phases.middle i u at'))
+      (middle_same z s.words words (word_phase z s.words (packed made)) w.commit.middle (subst (IsMiddlePhase z s.words) (sym parts.middle) (h.phases.middle id v at)))
 
   -- the chains weigh what they did
   told_chains : AreChains v.passes.sizes made s.words s.views l.chains
@@ -186,7 +186,7 @@ module _ (l : Ledger) (s : State Slot View) (id : ℕ) (v w : View) (e : Event) 
         free_list = free_left z s.words words s.homes s.homes s.views id v w l.free at parts.places parts.free (word_refs z s.words (packed made))
             (word_phase z s.words (packed made)) (word_other z s.words (packed made) 1 (omega arith)) refl h.free_list;
         records = records;
-        phases = record { shown = event_phases; used = event_used; dead = event_dead };
+        phases = record { shown = event_phases; used = event_used; middle = event_middle };
         commits = commits;
         chains = event_chains;
         links = links_stay z s.words words stays s.views (set s.views id w)

@@ -26,7 +26,7 @@ use Rattle.track_rule.specs.Expected.{AreExpected, expected_turn}
 use Rattle.track_rule.specs.History.{IsHistory, records_after, state_after}
 use Rattle.track_rule.specs.Layout.{first_word, gen_at, gen_word, head_word, next_word, phase_at, phase_word, place_of, record_slot, refs_word, second_word, turn_at, turn_word}
 use Rattle.track_rule.specs.Passes.{ArePasses}
-use Rattle.track_rule.specs.Phases.{ArePhases, middle_of, middle_weight, of_both, of_place, shows, table_keeps}
+use Rattle.track_rule.specs.Phases.{ArePhases, IsMiddlePhase, middle_of, middle_weight, of_both, of_place, shows, table_keeps}
 use Rattle.track_rule.specs.Readings.{AreRead}
 use Rattle.track_rule.specs.Records.{AreRecords, IsHand, has_hand, is_hand_of, record_in}
 use Rattle.track_rule.specs.References.{AreReferences}
@@ -96,9 +96,20 @@ module _ (z : Sizes) (ws ws' : List ℕ) (quiet : Quiet z ws ws') where
     };
   }
 
--- a record that dies does so in the middle of a commit
-pub calm_lives : (r : Record) → Calm ≡ Dying r → ⊥
-calm_lives r e = cc
+-- The phase of a pass in the middle of a commit, where that of its record's place stays.
+pub middle_on : (z : Sizes) (log : List Event) (ws ws' : List ℕ) (m : Middle) (hand : Option Hand) (carried : List ℕ) (shut : List Shut) (expected : Option (List Expectation))
+    → IsMiddle z log m hand carried shut expected
+    → ((x : Record) (n : ℕ) → n ≤ 2 → IsCommitting z log hand carried shut x → ((f : Record → ℕ) → middle_weight f m ≡ f x) → phase_at z ws x.place ≡ n → phase_at z ws' x.place ≡ n)
+    → IsMiddlePhase z ws m → IsMiddlePhase z ws' m
+middle_on z log ws ws' Calm hand carried shut expected is stays h = tt
+middle_on z log ws ws' (Born r) hand carried shut expected is stays h = stays r 1 (omega arith) is (λ f. refl) h
+middle_on z log ws ws' (Dying r) hand carried shut expected is stays h = stays r 2 (omega arith) is.0 (λ f. refl) h
+
+-- and where all phases do
+pub middle_same : (z : Sizes) (ws ws' : List ℕ) → ((p : ℕ) → phase_at z ws' p ≡ phase_at z ws p) → (m : Middle) → IsMiddlePhase z ws m → IsMiddlePhase z ws' m
+middle_same z ws ws' same Calm h = tt
+middle_same z ws ws' same (Born r) h = same r.place ∙ h
+middle_same z ws ws' same (Dying r) h = same r.place ∙ h
 
 module _ (z : Sizes) (ws ws' : List ℕ) (still : Still z ws ws') where
   history_stays : (log : List Event) → IsHistory z log ws → IsHistory z log ws'
@@ -143,8 +154,8 @@ module _ (z : Sizes) (ws ws' : List ℕ) (still : Still z ws ws') where
         h.used p below
         ∙ ap (λ (ph : ℕ). table_keeps ph + total (middle_of (of_place p)) vs) (sym (still.phases p))
         ∙ ap (λ (n : ℕ). table_keeps (phase_at z ws' p) + n) (sym (middles (of_place p)));
-    dead = leaves.commit.each (λ (c : Commit). (r : Record) → c.middle ≡ Dying r → phase_at z ws' r.place ≡ 2) (λ r e. absurd (calm_lives r e))
-        (λ i v at r e. still.phases r.place ∙ h.dead i v at r e);
+    middle = leaves.commit.each (λ (c : Commit). IsMiddlePhase z ws' c.middle) tt
+        (λ i v at. middle_same z ws ws' still.phases v.commit.middle (h.middle i v at));
   }
     where
       middles : (weight : Record → ℕ) → total (middle_of weight) vs' ≡ total (middle_of weight) vs

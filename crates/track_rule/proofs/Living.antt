@@ -27,7 +27,7 @@ use Rattle.track_rule.specs.History.{records_after, state_after}
 use Rattle.track_rule.specs.Layout.{phase_at, phase_word, refs_at, turn_at}
 use Rattle.track_rule.specs.Links.{HasHooks}
 use Rattle.track_rule.specs.Passes.{IsPass}
-use Rattle.track_rule.specs.Phases.{ArePhases, middle_of, middle_weight, of_both, of_place, shows, table_keeps}
+use Rattle.track_rule.specs.Phases.{ArePhases, IsMiddlePhase, middle_of, middle_weight, of_both, of_place, shows, table_keeps}
 use Rattle.track_rule.specs.Readings.{stored}
 use Rattle.track_rule.specs.Records.{AreRecords, IsHand, has_hand, is_hand_of, record_in}
 use Rattle.track_rule.specs.References.{AreKept, AreReferences, ends, held_times, keeps, takes}
@@ -36,7 +36,7 @@ use Rattle.track_rule.specs.Sums.{bit, times, total}
 use Rattle.track_rule.specs.Walks.{IsWalk}
 use Rattle.track_rule.proofs.Balance.{MakesNone, pass_moved, passes_moved}
 use Rattle.track_rule.proofs.Carried.{carries_set}
-use Rattle.track_rule.proofs.Frames.{SameChains, calm_lives, chains_stay, hooks_stay, links_stay, walk_stays}
+use Rattle.track_rule.proofs.Frames.{SameChains, chains_stay, hooks_stay, links_stay, middle_on, walk_stays}
 use Rattle.track_rule.proofs.LastRead.{stored_on}
 use Rattle.track_rule.proofs.LivePlaces.{both_shown, live_keeps, none_else}
 use Rattle.track_rule.proofs.Lists.{other_bit, other_taken, same_bit, same_taken, some_of}
@@ -276,18 +276,20 @@ module _ (l : Ledger) (s : State Slot View) (id : ℕ) (v : View) (r : Record) (
               total_set (middle_of (of_place q)) s.views id v w at,
             ))
             (cases_eq q r.place);
-        dead = each_other (λ u. (x : Record) → u.commit.middle ≡ Dying x → phase_at z new x.place ≡ 2) s.views id w
-            (λ j u other at' x e.
-            let there = subst (λ (m : Middle). IsMiddle z l.log m u.commit.hand u.places.carried u.buckets.shut u.expected) e (h.commits j u at') in
+        middle = each_other (λ u. IsMiddlePhase z new u.commit.middle) s.views id w
+            (λ j u other at'.
+            middle_on z l.log s.words new u.commit.middle u.commit.hand u.places.carried u.buckets.shut u.expected (h.commits j u at')
+            (λ x n low committing weighs phase.
             phase_else z s.words r.place (3 + r.id) x.place (λ same. omega (
               arith,
               h.records.single r.place,
               total_two (has_hand r.place) s.views id j v u at at' other,
               commit.turn,
-              there.0.turn,
+              committing.turn,
               ap (λ (q : ℕ). is_hand_of q u.commit.hand) same,
-            )) ∙ h.phases.dead j u at' x e)
-            (λ x e. absurd (calm_lives x e));
+            )) ∙ phase)
+            (h.phases.middle j u at'))
+            tt;
       }
 
   own_hand : (x : Hand) × (v.commit.hand ≡ Some x) × (x.place ≡ r.place)

@@ -27,7 +27,7 @@ use Rattle.track_rule.specs.Layout.{first_word, gen_word, head_word, next_word, 
 use Rattle.track_rule.specs.Links.{HasHooks}
 use Rattle.track_rule.specs.Passes.{IsPass}
 use Rattle.track_rule.specs.PhaseSteps.{LoadPhaseStep, LoadsPhase, StorePhaseStep, may_store, phase_stored}
-use Rattle.track_rule.specs.Phases.{ArePhases, middle_of, middle_weight, of_both, of_place, shows, table_keeps}
+use Rattle.track_rule.specs.Phases.{ArePhases, IsMiddlePhase, middle_of, middle_weight, of_both, of_place, shows, table_keeps}
 use Rattle.track_rule.specs.Readings.{found, noted, stored}
 use Rattle.track_rule.specs.Records.{AreRecords, IsHand, has_hand, record_in}
 use Rattle.track_rule.specs.References.{AreKept, AreReferences, ends, held_times, is_at, is_for_new, is_taken, keeps, takes}
@@ -37,7 +37,7 @@ use Rattle.track_rule.specs.Sums.{times, total}
 use Rattle.track_rule.specs.Walks.{IsWalk}
 use Rattle.track_rule.proofs.Balance.{Moves, pass_moved, passes_moved, same_lines}
 use Rattle.track_rule.proofs.Carried.{carries_set}
-use Rattle.track_rule.proofs.Frames.{SameChains, chains_stay, hooks_stay, links_stay, walk_stays}
+use Rattle.track_rule.proofs.Frames.{SameChains, chains_stay, hooks_stay, links_stay, middle_on, walk_stays}
 use Rattle.track_rule.proofs.Lists.{other_bit, same_bit, some_of, takes_held, total_some}
 use Rattle.track_rule.proofs.Seats.{held_below, owed_below}
 use Rattle.track_rule.proofs.Loads.{reads}
@@ -429,14 +429,15 @@ module _ (l : Ledger) (s : State Slot View) (id p to : ℕ) (v : View) (h : IsKe
         live = k.live;
       }
 
-  -- and so is one whose entry dies
-  still_dead : (i : ℕ) (u : View) → get_elem? s.views i ≡ some u → (x : Record) → u.commit.middle ≡ Dying x
-      → phase_at v.passes.sizes (slice_set s.words (phase_word v.passes.sizes p) to) x.place ≡ 2
+  -- and so is one in the middle of a commit
+  still_middle : (i : ℕ) (u : View) → get_elem? s.views i ≡ some u → IsMiddlePhase v.passes.sizes (slice_set s.words (phase_word v.passes.sizes p) to) u.commit.middle
   unfolding MayStore
-  still_dead i u at' x dies =
-      let k = subst (λ (m : Middle). IsMiddle v.passes.sizes l.log m u.commit.hand u.places.carried u.buckets.shut u.expected) dies (h.commits i u at') in
+  still_middle i u at' =
+      middle_on v.passes.sizes l.log s.words (slice_set s.words (phase_word v.passes.sizes p) to) u.commit.middle u.commit.hand u.places.carried u.buckets.shut u.expected
+      (h.commits i u at')
+      (λ x n few committing weighs phase.
       let other : x.place ≢ p = λ e.
-      let carrying : 0 < times p u.places.carried = subst (λ (q : ℕ). 0 < times q u.places.carried) e k.0.reference in
+      let carrying : 0 < times p u.places.carried = subst (λ (q : ℕ). 0 < times q u.places.carried) e committing.reference in
       ⊎_elim
       (λ (t : (to ≡ 0) × (0 < owes p v)). held_and_owed i u at' (omega (arith, carrying, h.references.carried i u at' p)) t.1)
       (λ (t : (to ≡ 1) × (0 < takes p v)). omega (
@@ -446,10 +447,11 @@ module _ (l : Ledger) (s : State Slot View) (id p to : ℕ) (v : View) (h : IsKe
         total_term (takes p) s.views id v at,
         h.phases.used p below,
         total_term (middle_of (of_place p)) s.views i u at',
-        ap (middle_weight (of_place p)) dies,
+        weighs (of_place p),
         same_bit x.place p e,
       )) may in
-      phase_else v.passes.sizes s.words p to x.place other ∙ h.phases.dead i u at' x dies
+      phase_else v.passes.sizes s.words p to x.place other ∙ phase)
+      (h.phases.middle i u at')
 
   stored_phases : ArePhases v.passes.sizes l.log (slice_set s.words (phase_word v.passes.sizes p) to) (set s.views id (phase_stored p to v))
   stored_phases =
@@ -468,8 +470,7 @@ module _ (l : Ledger) (s : State Slot View) (id p to : ℕ) (v : View) (h : IsKe
           total_same (middle_of (of_place q)) s.views id v w at refl,
           same_keeps q,
         );
-        dead = each_put (λ u. (x : Record) → u.commit.middle ≡ Dying x → phase_at z (slice_set s.words (phase_word v.passes.sizes p) to) x.place ≡ 2) s.views id w
-            still_dead (still_dead id v at);
+        middle = each_put (λ u. IsMiddlePhase z (slice_set s.words (phase_word v.passes.sizes p) to) u.commit.middle) s.views id w still_middle (still_middle id v at);
       }
 
   phase_kept : IsKept v.passes.sizes l (record { words = slice_set s.words (phase_word v.passes.sizes p) to; homes = s.homes; views = set s.views id (phase_stored p to v) })

@@ -28,7 +28,7 @@ use Rattle.track_rule.specs.History.{state_after}
 use Rattle.track_rule.specs.Layout.{first_word, gen_word, head_word, next_word, phase_at, phase_word, record_slot, refs_at, refs_word, second_word, turn_at, turn_word}
 use Rattle.track_rule.specs.Links.{HasHooks}
 use Rattle.track_rule.specs.Passes.{IsPass}
-use Rattle.track_rule.specs.Phases.{middle_of, of_both, of_place, shows, table_keeps}
+use Rattle.track_rule.specs.Phases.{IsMiddlePhase, middle_of, of_both, of_place, shows, table_keeps}
 use Rattle.track_rule.specs.Readings.{found, noted, stored}
 use Rattle.track_rule.specs.Records.{AreRecords, IsHand, IsRecordHome, has_hand, is_hand_of, is_records, record_in, slot_of_record}
 use Rattle.track_rule.specs.Rule.{Holds, IsKept, Ledger}
@@ -37,7 +37,7 @@ use Rattle.track_rule.specs.TurnSteps.{CanGiveTurn, GiveTurnStep, TakeTurnStep, 
 use Rattle.track_rule.specs.Walks.{IsWalk}
 use Rattle.track_rule.proofs.Balance.{MakesNone, Moves, free_left, pass_moved, passes_moved, references_left, same_lines}
 use Rattle.track_rule.proofs.Carried.{carries_set}
-use Rattle.track_rule.proofs.Frames.{SameChains, chains_stay, hooks_stay, links_stay, walk_stays, middle_calm}
+use Rattle.track_rule.proofs.Frames.{SameChains, chains_stay, hooks_stay, links_stay, walk_stays, middle_calm, middle_same}
 use Rattle.track_rule.proofs.Lists.{other_bit, same_bit}
 use Rattle.track_rule.proofs.Loads.{others_there, reads}
 use Rattle.track_rule.proofs.LastRead.{ReadsAt, stored_on}
@@ -113,9 +113,9 @@ module _ (l : Ledger) (s : State Slot View) (id p : ℕ) (v : View) (h : IsKept 
             ap table_keeps (turn_phase z s.words p n q),
             total_same (middle_of (of_place q)) s.views id v w at refl,
           );
-          dead = each_put (λ u. (x : Record) → u.commit.middle ≡ Dying x → phase_at z new x.place ≡ 2) s.views id w
-              (λ i u at' x e. turn_phase z s.words p n x.place ∙ h.phases.dead i u at' x e)
-              (λ x e. turn_phase z s.words p n x.place ∙ h.phases.dead id v at x e);
+          middle = each_put (λ u. IsMiddlePhase z new u.commit.middle) s.views id w
+              (λ i u at'. middle_same z s.words new (turn_phase z s.words p n) u.commit.middle (h.phases.middle i u at'))
+              (middle_same z s.words new (turn_phase z s.words p n) v.commit.middle (h.phases.middle id v at));
         };
         commits = each_put (IsMiddleOf z l.log) s.views id w h.commits middle;
         chains = chains_stay z s.words new same l.log s.views (set s.views id w) l.chains (carries_set (λ (u : View). u.buckets.shut) [] s.views id v w at refl)

@@ -1,5 +1,4 @@
 -- The rule holds where one pass has all shares of a table at which nothing was done yet.
-use Rattle.track_rule.proofs.Frames.{calm_lives}
 use Rattle.std.specs.Prelude.{map, slice_index, replicate}
 use Rattle.std.proofs.Common.{◌^◌, ◌≡◌, ℕ, ◌+◌, ◌*◌, ◌%◌, ◌<◌, ◌≤◌, zero, suc, true, Some, List, [], ◌∷◌, length, refl, sym, ap, subst, ◌∙◌, arith}
 use Rattle.std.proofs.lemmas.Bool.Decides.{nat_tests}
@@ -25,7 +24,7 @@ use Rattle.track_rule.specs.Opening.{IsWhole, first_slots}
 use Rattle.track_rule.specs.Passes.{IsPass, has_share, no_places}
 use Rattle.track_rule.specs.Chains.{chain_in, links_in, shuts_of, each_link, loose_of}
 use Rattle.track_rule.specs.Commits.{IsMiddleOf}
-use Rattle.track_rule.specs.Phases.{middle_of, of_both, of_place, shows, table_keeps}
+use Rattle.track_rule.specs.Phases.{IsMiddlePhase, of_both, of_place, shows, table_keeps}
 use Rattle.track_rule.specs.Links.{HasHooks}
 use Rattle.track_rule.specs.Walks.{IsWalk}
 use Rattle.track_rule.specs.declared.view.Middle.TheVariants.{Dying}
@@ -143,7 +142,7 @@ starts z list table limits whole nothing room =
         phases = record {
           shown = λ p id below. omega (arith, ap (total (of_both p id)) no_records, ap (λ (ph : ℕ). shows ph id) (word (phase_word z p)), no_show id);
           used = λ p below. omega (arith, ap (total (of_place p)) no_records, ap table_keeps (word (phase_word z p)));
-          dead = one_view z (λ v. (x : Record) → v.commit.middle ≡ Dying x → phase_at z ws x.place ≡ 2) (λ x e. absurd (calm_lives x e));
+          middle = one_view z (λ v. IsMiddlePhase z ws v.commit.middle) tt;
         };
         commits = one_view z (IsMiddleOf z []) tt;
         chains = record {

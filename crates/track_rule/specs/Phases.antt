@@ -1,6 +1,6 @@
 -- The phases of the places: 0 is FREE, 1 OWNED, 2 DEAD, and 3 plus an id is LIVE of that id. A place that is live is that
 -- of the entry of its id, and the place of a live entry is live, except in the middle of a commit: there the record was
--- born and is not yet shown, or it dies and is shown no longer, and then the place is DEAD.
+-- born and is not yet shown, and the place is still OWNED, or it dies and is shown no longer, and the place is DEAD.
 use Rattle.std.specs.Prelude.{◌≡◌, ℕ, ◌+◌, ◌<◌, ◌==◌, ◌&&◌, nat_lt, List}
 use Rattle.history_book.specs.declared.event.Event.{Event}
 use Rattle.history_book.specs.declared.record.Record.{Record}
@@ -37,7 +37,13 @@ middle_weight weight (Dying r) = weight r
 abbrev pub middle_of : (Record → ℕ) → View → ℕ
 middle_of weight v = middle_weight weight v.commit.middle
 
+-- in the middle of a commit: OWNED until LIVE is stored, DEAD until the Destroy is made
+abbrev pub IsMiddlePhase : Sizes → List ℕ → Middle → Type 0
+IsMiddlePhase z words Calm = Unit {0}
+IsMiddlePhase z words (Born r) = phase_at z words r.place ≡ 1
+IsMiddlePhase z words (Dying r) = phase_at z words r.place ≡ 2
+
 pub record ArePhases (z : Sizes) (log : List Event) (words : List ℕ) (views : List View) : Type 0 where
   pub shown : (p id : ℕ) → p < z.entries → total (of_both p id) (records_after log) ≡ shows (phase_at z words p) id + total (middle_of (of_both p id)) views
   pub used : (p : ℕ) → p < z.entries → total (of_place p) (records_after log) ≡ table_keeps (phase_at z words p) + total (middle_of (of_place p)) views
-  pub dead : Each (λ v. (r : Record) → v.commit.middle ≡ Dying r → phase_at z words r.place ≡ 2) views
+  pub middle : Each (λ v. IsMiddlePhase z words v.commit.middle) views
