@@ -162,7 +162,7 @@ module _ (place : ℕ) (o r : Hook) (lo : o.link ≡ original_link place) (lr : 
 
 -- a word of a tuple of the place may be stored
 module _ (place : ℕ) (v : PassSight) (h : HasLinks false place v) where
-  calm_links : (q : ℕ) → is_up q v.view.buckets.hooks ≡ false
+  pub calm_links : (q : ℕ) → is_up q v.view.buckets.hooks ≡ false
   calm_links q = ap (is_up q) h.all ∙ none_up place h.original h.reply h.links.0 h.links.1 h.ups.0 h.ups.1 q
 
   abbrev test : ℕ → Hook → Bool

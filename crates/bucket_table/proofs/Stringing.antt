@@ -2,13 +2,14 @@
 use Rattle.std.proofs.Common.{◌≡◌, ◌≢◌, ℕ, ◌-◌, ◌<◌, Bool, true, false, Option, Some, None, List, [], ◌∷◌, map, refl, sym, ap, subst, ◌∙◌, ⊎_elim, inl, inr, arith}
 use Rattle.std.specs.Prelude.{◌==◌, ◌&&◌, ◌||◌, not, if◌then◌else◌}
 use Rattle.std.specs.List.{list_any}
-use Rattle.std.proofs.lemmas.Bool.{and_parts, cases_Bool, cond_both, eq-eqb, eqb-true, false≢true, ne_eqb}
+use Rattle.std.proofs.lemmas.Bool.{and_parts, cases_Bool, cond_both, eq-eqb, eqb-true, false≢true, ne_eqb, or_cases}
+use Rattle.std.proofs.Math.Bool.{or-true}
 use Rattle.history_book.specs.declared.sizes.Sizes.{Sizes}
 use Rattle.track_rule.specs.BucketSteps.{LoadsLink, MayString, Strings, aim, aimed, first_of, lower, put_in, raise, strung, with_chain}
 use Rattle.track_rule.specs.Chains.{bucket_of, chain_in, entry_of, shuts_of}
 use Rattle.track_rule.specs.Layout.{head_word, place_of, next_word, side_of}
 use Rattle.track_rule.specs.Free.{is_among}
-use Rattle.track_rule.specs.Links.{hook_of, hooks_of, is_down, is_link_word}
+use Rattle.track_rule.specs.Links.{hook_of, hooks_of, is_down, is_link_word, is_up}
 use Rattle.track_rule.specs.Notes.{link_note}
 use Rattle.track_rule.specs.Readings.{found, noted}
 use Rattle.track_rule.specs.Sights.{PassSight, sizes_of}
@@ -73,6 +74,26 @@ raise_else x h other = ap (λ (t : Bool). if t then record h { next = None; up =
 pub lower_else : (x : ℕ) (h : Hook) → h.link ≢ x → lower x h ≡ h
 lower_else x h other = ap (λ (t : Bool). if t then record h { next = None; up = false } else h) (ne_eqb h.link x other)
 
+-- aiming a link puts none into a chain
+up_aimed : (x to q : ℕ) (hooks : List Hook) → is_up q (map (aim x to) hooks) ≡ is_up q hooks
+up_aimed x to q [] = refl
+up_aimed x to q (h ∷ hs) = (λ i. (place_of (aim_link x to h i) == q && aim_up x to h i) || up_aimed x to q hs i)
+
+-- and raising it none of another place
+pub raised_alone : (x p q : ℕ) (hooks : List Hook) → place_of x ≡ p → (is_up q hooks ≡ true → q ≡ p) → is_up q (map (raise x) hooks) ≡ true → q ≡ p
+raised_alone x p q [] here alone e = alone e
+raised_alone x p q (h ∷ hs) here alone e =
+    ⊎_elim
+    (λ (t : (place_of (raise x h).link == q && (raise x h).up) ≡ true).
+    cond_both (h.link == x) (record h { next = None; up = true }) h (λ (k : Hook). (place_of k.link == q && k.up) ≡ true → q ≡ p)
+    (λ same u. sym (eqb-true (place_of h.link) q (and_parts (place_of h.link == q) true u).0) ∙ ap place_of (eqb-true h.link x same) ∙ here)
+    (λ other u. alone (ap (λ (b : Bool). b || is_up q hs) u))
+    t)
+    (λ (t : is_up q (map (raise x) hs) ≡ true).
+    raised_alone x p q hs here
+    (λ u. alone (ap (λ (b : Bool). (place_of h.link == q && h.up) || b) u ∙ or-true (place_of h.link == q && h.up))) t)
+    (or_cases (place_of (raise x h).link == q && (raise x h).up) (is_up q (map (raise x) hs)) e)
+
 -- a hook that passes a test is there
 pub some_there : (t : Hook → Bool) (x : ℕ) (hooks : List Hook) → list_any (λ (h : Hook). h.link == x && t h) hooks ≡ true → 0 < hooks_of x hooks
 some_there t x [] e = absurd (false≢true e)
@@ -110,8 +131,9 @@ pub put_may : (z : Sizes) (b x first head word : ℕ) (v u w : PassSight) → z 
     → LoadsLink head v.view first u.view → u ≡ record v { view = u.view } → Strings word first u.view w.view
     → 0 < shuts_of b v.view → is_down x v.view.buckets.hooks ≡ true → hook_bucket (sizes_of v) x v.view.buckets.hooks ≡ b
     → is_among (place_of x) v.view.places.owned ≡ true → (side_of x ≡ 1 → is_down (x - 1) v.view.buckets.hooks ≡ true)
+    → ((q : ℕ) → is_up q v.view.buckets.hooks ≡ true → q ≡ place_of x)
     → MayString head x w.view × (w.view.buckets ≡ aimed x first v.view.buckets)
-put_may z b x first head word v u w sizes below head_is word_is loads kept strings mine down placed owned before =
+put_may z b x first head word v u w sizes below head_is word_is loads kept strings mine down placed owned before alone =
     let z' : sizes_of u ≡ sizes_of v = ap sizes_of kept ∙ ap (λ (k : View). k.passes.sizes) loads.view in
     let buckets : u.view.buckets ≡ v.view.buckets = ap (λ (k : View). k.buckets) loads.view in
     let aims : w.view ≡ strung word first (aimed x first u.view.buckets) u.view =
@@ -140,6 +162,7 @@ put_may z b x first head word v u w sizes below head_is word_is loads kept strin
         owned = ap (λ (k : View). is_among (place_of x) k.places.owned) aims ∙ ap (λ (k : View). is_among (place_of x) k.places.owned) loads.view ∙ owned;
         before = λ reply. subst (λ (s : HeldBuckets). is_down (x - 1) s.hooks ≡ true) (sym now)
             (test_map (aim x first) (aim_link x first) (λ (h : Hook). not h.up) (x - 1) (λ h e. ap not (aim_up x first h)) v.view.buckets.hooks ∙ before reply);
+        alone = λ q up. alone q (sym (up_aimed x first q v.view.buckets.hooks) ∙ subst (λ (s : HeldBuckets). is_up q s.hooks ≡ true) now up);
       })),
       now,
     )
@@ -155,10 +178,11 @@ pub put_done : (z : Sizes) (b x first head word : ℕ) (v u w y : PassSight) →
     → LoadsLink head v.view first u.view → u ≡ record v { view = u.view } → Strings word first u.view w.view → w ≡ record u { view = w.view }
     → 0 < shuts_of b v.view → is_down x v.view.buckets.hooks ≡ true → hook_bucket (sizes_of v) x v.view.buckets.hooks ≡ b
     → is_among (place_of x) v.view.places.owned ≡ true → (side_of x ≡ 1 → is_down (x - 1) v.view.buckets.hooks ≡ true)
+    → ((q : ℕ) → is_up q v.view.buckets.hooks ≡ true → q ≡ place_of x)
     → Strings head x w.view y.view → y ≡ record w { view = y.view }
     → ChangesBuckets (put_in b x v.view.buckets) v y
-put_done z b x first head word v u w y link link' sizes below head_is word_is loads kept strings kept' mine down placed owned before strings' kept'' =
-    let may = put_may z b x first head word v u w sizes below head_is word_is loads kept strings mine down placed owned before in
+put_done z b x first head word v u w y link link' sizes below head_is word_is loads kept strings kept' mine down placed owned before alone strings' kept'' =
+    let may = put_may z b x first head word v u w sizes below head_is word_is loads kept strings mine down placed owned before alone in
     let z' : sizes_of u ≡ sizes_of v = ap sizes_of kept ∙ ap (λ (k : View). k.passes.sizes) loads.view in
     let buckets : u.view.buckets ≡ v.view.buckets = ap (λ (k : View). k.buckets) loads.view in
     let any : 0 < hooks_of x v.view.buckets.hooks = some_there (λ (h : Hook). not h.up) x v.view.buckets.hooks down in

@@ -1,6 +1,6 @@
 //! The chains of locked buckets: finding a tuple in one, and putting the links of a place in and taking them out.
 
-ghost use Rattle.std.specs.Prelude.{◌≡◌, ◌+◌, ◌-◌, ◌*◌, ◌<◌, ◌≤◌, ◌==◌, ◌&&◌, true, if◌then◌else◌};
+ghost use Rattle.std.specs.Prelude.{◌≡◌, ℕ, ◌+◌, ◌-◌, ◌*◌, ◌<◌, ◌≤◌, ◌==◌, ◌&&◌, true, if◌then◌else◌};
 ghost use Rattle.history_book.specs.Sizes.{AreWithinLimits};
 ghost use Rattle.bucket_table.specs.Following.{bucket_in};
 ghost use Rattle.bucket_table.specs.LockedChain.{ChangesBuckets, IsReady, IsThere, IsTuple, OnlyLoads, found_in, has_bucket, hook_bucket, link_with, linked_buckets, original_link, place_in, reply_link, unlinked_buckets};
@@ -9,7 +9,7 @@ ghost use Rattle.track_rule.specs.BucketSteps.{put_in, taken_from};
 ghost use Rattle.track_rule.specs.Chains.{chain_in, shuts_of};
 ghost use Rattle.track_rule.specs.Free.{is_among};
 ghost use Rattle.track_rule.specs.Layout.{place_of, side_of};
-ghost use Rattle.track_rule.specs.Links.{hook_of, hooks_of, is_down, is_raised, last_link};
+ghost use Rattle.track_rule.specs.Links.{hook_of, hooks_of, is_down, is_raised, is_up, last_link};
 ghost use Rattle.track_rule.specs.Sights.{sizes_of};
 ghost use Rattle.tuple_core.specs.Words.{address_word, flow_word};
 
@@ -52,6 +52,7 @@ fn put_link(pass: &mut Pass, sizes: &Sizes, bucket: u32, link: u64)
     requires placed { hook_bucket (sizes_of pass.old) link pass.old.view.buckets.hooks ≡ bucket }
     requires owned { is_among (place_of link) pass.old.view.places.owned ≡ true }
     requires before { side_of link ≡ 1 → is_down (link - 1) pass.old.view.buckets.hooks ≡ true }
+    requires alone { (p : ℕ) → is_up p pass.old.view.buckets.hooks ≡ true → p ≡ place_of link }
     ensures { ChangesBuckets (put_in bucket link pass.old.view.buckets) pass.old pass.new }
 {
     let head = head_word(sizes, bucket);
@@ -84,13 +85,15 @@ fn take_link(pass: &mut Pass, sizes: &Sizes, bucket: u32, link: u64)
     pass.link_store(word, next);
 }
 
-/// Puts both tuples of a place that the pass owns into their chains. The reply link comes behind the original one.
+/// Puts both tuples of a place that the pass owns into their chains, where no link of another place of the pass stands in one.
+/// The reply link comes behind the original one.
 pub fn link(pass: &mut Pass, locked: &Locked, place: u32)
     requires place { place < (sizes_of pass.old).entries }
     requires shut { AreShut locked.now pass.old.view }
     requires original { is_down (original_link place) pass.old.view.buckets.hooks ≡ true }
     requires reply { is_down (reply_link place) pass.old.view.buckets.hooks ≡ true }
     requires owned { is_among place pass.old.view.places.owned ≡ true }
+    requires alone { (p : ℕ) → is_up p pass.old.view.buckets.hooks ≡ true → p ≡ place }
     requires original_ready { IsReady (sizes_of pass.old) locked.now (original_link place) pass.old.view.buckets.hooks }
     requires reply_ready { IsReady (sizes_of pass.old) locked.now (reply_link place) pass.old.view.buckets.hooks }
     ensures { ChangesBuckets (linked_buckets (sizes_of pass.old) place pass.old.view.buckets) pass.old pass.new }

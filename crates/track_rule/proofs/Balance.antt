@@ -26,7 +26,7 @@ use Rattle.track_rule.specs.Commits.{IsMiddleOf, shuts_in}
 use Rattle.track_rule.specs.Free.{IsFreeList, IsHome, has_turn, owes, turn_of}
 use Rattle.track_rule.specs.History.{records_after}
 use Rattle.track_rule.specs.Layout.{phase_at, place_of, refs_at}
-use Rattle.track_rule.specs.Links.{HasHooks, IsOwned, hooks_of}
+use Rattle.track_rule.specs.Links.{HasHooks, hooks_of}
 use Rattle.track_rule.specs.Phases.{middle_of, middle_weight, of_place, table_keeps}
 use Rattle.track_rule.specs.Passes.{AreFronts, ArePasses, IsPass, has_share, made_weight, shares_of}
 use Rattle.track_rule.specs.References.{AreKept, AreReferences, ends, held_times, is_at, is_for_new, keeps, taken_times, takes}
@@ -78,6 +78,7 @@ bucket_lines z l s id v w h at buckets more owned walk =
         each = hooks.each;
         held = λ link some. omega (arith, hooks.held link some, more (place_of link));
         linked = λ i x at' up. omega (arith, hooks.linked i x at' up, owned (place_of x.link));
+        one = hooks.one;
       });
       walk = walk;
     }

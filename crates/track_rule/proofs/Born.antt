@@ -47,6 +47,7 @@ use Rattle.track_rule.proofs.Named.{born_ledger, chains_both, hooks_else, named_
 use Rattle.track_rule.proofs.HistoryWord.{word_other, word_phase, word_refs, word_same, word_turn}
 use Rattle.track_rule.proofs.LastRead.{stored_on}
 use Rattle.track_rule.proofs.Lists.{other_bit, same_bit, total_some, unlisted_less, unlisted_out}
+use Rattle.track_rule.proofs.UpHooks.{one_fewer, up_dropped}
 use Rattle.track_rule.proofs.Sums.{each_put, total_append, total_but, total_map, total_same, total_set, total_term, total_two}
 
 module _ (l : Ledger) (s : State Slot View) (id : ℕ) (v : View) (r : Record) (h : IsKept v.passes.sizes l s) (at : get_elem? s.views id ≡ some v)
@@ -328,6 +329,8 @@ module _ (l : Ledger) (s : State Slot View) (id : ℕ) (v : View) (r : Record) (
           held_kept r.place (length l.log) (place_of link) v.places.held,
         );
         linked = born_linked;
+        one = one_fewer v.buckets.hooks after_it.buckets.hooks
+            (λ q e. up_dropped (1 + 2 * r.place) q v.buckets.hooks (up_dropped (2 + 2 * r.place) q (dropped (1 + 2 * r.place) v.buckets.hooks) e)) mine.one;
       }))) h.links
 
   born_references : AreReferences v.passes.sizes made words (set s.views id after_it)

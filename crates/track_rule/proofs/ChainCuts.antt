@@ -1,5 +1,5 @@
 -- A pass that has shut a bucket takes a link of its own out of the chain. What a store of a link tells.
-use Rattle.std.proofs.Common.{◌≡◌, ◌≢◌, ℕ, ◌+◌, ◌<◌, ◌≤◌, Bool, true, false, Option, Some, None, List, [], ◌∷◌, length, refl, sym, ap, subst, ◌∙◌, arith, set}
+use Rattle.std.proofs.Common.{◌≡◌, ◌≢◌, ℕ, ◌+◌, ◌<◌, ◌≤◌, Bool, true, false, Option, Some, None, List, [], ◌∷◌, length, refl, sym, ap, subst, ◌∙◌, arith, set, map}
 use Rattle.std.specs.Prelude.{slice_index, slice_set, ◌==◌, ◌&&◌, if◌then◌else◌, is_some}
 use Rattle.std.proofs.lemmas.Bool.{cond_both, eq-eqb, false≢true, ne_eqb}
 use Rattle.std.proofs.lemmas.Option.{none-some}
@@ -22,6 +22,7 @@ use Rattle.track_rule.proofs.BucketLoads.{shut_chain}
 use Rattle.track_rule.proofs.ChainLists.{alone, chain_each, chain_first, total_rev, unlinked, unnamed}
 use Rattle.track_rule.proofs.ChainStores.{down_at, rechained, restrung}
 use Rattle.track_rule.proofs.ChainWords.{IsPassed, IsString, bucket_there, chain_join, chain_local, chain_split, first_head, first_next, next_head, one_head, one_next, passed_to, second_head, second_next, string_head, string_next, word_else, word_here}
+use Rattle.track_rule.proofs.UpHooks.{one_fewer, up_map}
 use Rattle.track_rule.proofs.HookLists.{each_change, hook_test, hook_there, links_kept, ordered_rev, some_hook, total_change, with_else, with_here, with_shuts, without_first, without_rev}
 use Rattle.track_rule.proofs.Lists.{same_bit}
 use Rattle.track_rule.proofs.Sums.{total_term}
@@ -248,8 +249,15 @@ module _ (l : Ledger) (s : State Slot View) (id b : ℕ) (v : View) (h : IsKept 
               }));
           linked = each_change (IsOwned v.places) (IsOwned v.places) (lower e.link) v.buckets.hooks (h.links.hooks id v at).linked (λ k is.
               cond_both (k.link == e.link) (record k { next = None; up = false }) k (IsOwned v.places) (λ p up. absurd (false≢true up)) (λ p. is));
+          one = one_fewer v.buckets.hooks (map (lower e.link) v.buckets.hooks)
+              (λ q t. up_map (lower e.link) lowered_up q v.buckets.hooks t) (h.links.hooks id v at).one;
         })
       where
+        lowered_up : (k : Hook) → (lower e.link k).up ≡ true → ((lower e.link k).link ≡ k.link) × (k.up ≡ true)
+        lowered_up k =
+            cond_both (k.link == e.link) (record k { next = None; up = false }) k (λ (n : Hook). n.up ≡ true → (n.link ≡ k.link) × (k.up ≡ true))
+            (λ p up. absurd (false≢true up)) (λ p up. (refl, up))
+
         low_first : (es : List Entry) → Each (IsLinked v.passes.sizes s.words b) es → first_of es ≤ last_link v.passes.sizes
         low_first [] each = omega arith
         low_first (x ∷ xs) each = low_link x.link (each 0 x refl).some (each 0 x refl).below

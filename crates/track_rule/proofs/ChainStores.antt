@@ -1,5 +1,5 @@
 -- A pass that has shut a bucket puts a link in at the head of its chain, or takes one out of it.
-use Rattle.std.proofs.Common.{◌≡◌, ◌≢◌, ℕ, zero, suc, ◌+◌, ◌-◌, ◌%◌, ◌<◌, ◌≤◌, Bool, true, false, Some, None, List, [], ◌∷◌, length, refl, sym, ap, subst, ◌∙◌, ⊎_elim, arith, set}
+use Rattle.std.proofs.Common.{◌≡◌, ◌≢◌, ℕ, zero, suc, ◌+◌, ◌-◌, ◌%◌, ◌<◌, ◌≤◌, Bool, true, false, Some, None, List, [], ◌∷◌, length, refl, sym, ap, subst, ◌∙◌, ⊎_elim, arith, set, map}
 use Rattle.std.specs.Prelude.{slice_index, slice_set, ◌==◌, ◌&&◌, ◌||◌, not, if◌then◌else◌}
 use Rattle.std.proofs.lemmas.Bool.{cases_eq, cond_both, eq-eqb, eqb-true, false≢true, ne_eqb}
 use Rattle.std.proofs.lemmas.List.{length-set}
@@ -19,7 +19,7 @@ use Rattle.track_rule.specs.BucketSteps.{first_of, put_in, raise, strung}
 use Rattle.track_rule.specs.Chains.{IsChain, IsOrdered, bucket_of, chain_in, entry_of, hooks_at, is_at_link, links_in, loose_of, shuts_of, side, each_link}
 use Rattle.track_rule.specs.History.{records_after}
 use Rattle.track_rule.specs.Layout.{first_word, gen_at, head_word, next_word, place_of, second_word, side_of}
-use Rattle.track_rule.specs.Links.{HasHooks, IsHook, IsOwned, hook_of, hooks_of, is_down, last_link}
+use Rattle.track_rule.specs.Links.{AreOfOne, HasHooks, IsHook, IsOwned, hook_of, hooks_of, is_down, last_link, is_up}
 use Rattle.track_rule.specs.Readings.{stored}
 use Rattle.track_rule.specs.Rule.{IsKept, Ledger}
 use Rattle.track_rule.specs.Sums.{Each, total, times}
@@ -32,6 +32,7 @@ use Rattle.track_rule.proofs.ChainWords.{IsString, chain_local, first_head, next
 use Rattle.track_rule.proofs.HookLists.{each_change, hook_there, links_kept, total_change, with_else, with_here, with_shuts}
 use Rattle.track_rule.proofs.Lists.{total_some}
 use Rattle.track_rule.proofs.OwnWords.{hook_stays, own_link}
+use Rattle.track_rule.proofs.UpHooks.{one_only, up_raised}
 use Rattle.track_rule.proofs.Sums.{each_put, each_other, total_same, total_set, total_term, total_two}
 
 -- a hook that is in no chain is one at its link
@@ -71,6 +72,7 @@ pub record Restrings (z : Sizes) (s : State Slot View) (chains : ℕ → List En
   pub there : (c : ℕ) → c ≢ b → chain_in c buckets.shut ≡ chain_in c v.buckets.shut
   pub hooks : Each (IsHook z (slice_set s.words word to)) buckets.hooks
   pub linked : Each (IsOwned v.places) buckets.hooks
+  pub one : AreOfOne buckets.hooks
 
 module _ (l : Ledger) (s : State Slot View) (id b : ℕ) (v : View) (h : IsKept v.passes.sizes l s) (at : get_elem? s.views id ≡ some v)
     (has_some : 0 < v.passes.shares) (below : b < v.passes.sizes.buckets) (mine : 0 < shuts_of b v) where
@@ -186,8 +188,9 @@ module _ (l : Ledger) (s : State Slot View) (id b : ℕ) (v : View) (h : IsKept 
                     };
                 held = k.held;
                 linked = k.linked;
+                one = k.one;
               })
-              (record { each = t.hooks; held = λ link any. (h.links.hooks id v at).held link (omega (arith, any, t.links link)); linked = t.linked });
+              (record { each = t.hooks; held = λ link any. (h.links.hooks id v at).held link (omega (arith, any, t.links link)); linked = t.linked; one = t.one });
         })
         (record {
           each = each_other (λ (u : View). (m : Walk) → u.walk ≡ Some m → IsWalk z new (rechained l.chains b es) u.seen.front m) s.views id w
@@ -202,7 +205,8 @@ module _ (l : Ledger) (s : State Slot View) (id b x : ℕ) (v : View) (h : IsKep
     (has_some : 0 < v.passes.shares) (below : b < v.passes.sizes.buckets) (mine : 0 < shuts_of b v) (down : is_down x v.buckets.hooks ≡ true)
     (next : (hook_of x v.buckets.hooks).next ≡ Some (first_of (chain_in b v.buckets.shut)))
     (placed : bucket_of v.passes.sizes (hook_of x v.buckets.hooks).pair ≡ b)
-    (owned : is_among (place_of x) v.places.owned ≡ true) (before : side_of x ≡ 1 → is_down (x - 1) v.buckets.hooks ≡ true) where
+    (owned : is_among (place_of x) v.places.owned ≡ true) (before : side_of x ≡ 1 → is_down (x - 1) v.buckets.hooks ≡ true)
+    (alone : (place : ℕ) → is_up place v.buckets.hooks ≡ true → place ≡ place_of x) where
   raised_hook : (k : Hook) → k.link ≡ x → raise x k ≡ record k { next = None; up = true }
   raised_hook k e = ap (λ (t : Bool). if t then record k { next = None; up = true } else k) (eq-eqb k.link x e)
 
@@ -318,6 +322,8 @@ module _ (l : Ledger) (s : State Slot View) (id b x : ℕ) (v : View) (h : IsKep
             cond_both (y.link == x) (record y { next = None; up = true }) y (IsOwned v.places)
             (λ e up. subst (λ (k : ℕ). 0 < times (place_of k) v.places.owned + times (place_of k) v.places.ended) (sym (eqb-true y.link x e))
             (omega (arith, total_some (λ q. q == place_of x) v.places.owned owned))) (λ e. is));
+        one = one_only (place_of x) (map (raise x) v.buckets.hooks)
+            (λ q e. ⊎_elim (λ (t : q ≡ place_of x). t) (λ (t : is_up q v.buckets.hooks ≡ true). alone q t) (up_raised x q v.buckets.hooks e));
       })
     where
       behind : (y : ℕ) → 0 < y → side_of y ≡ 1 → 0 < y - 1

@@ -1,5 +1,5 @@
 -- The phase of a place whose entry is live is made DEAD, before the Destroy of its record.
-use Rattle.std.proofs.Common.{◌≡◌, ◌≢◌, ℕ, ◌+◌, ◌-◌, ◌<◌, ◌≤◌, true, false, Option, Some, None, List, [], ◌∷◌, ◌++◌, length, refl, sym, ap, subst, ◌∙◌, ⊎_elim, arith, set}
+use Rattle.std.proofs.Common.{◌≡◌, ◌≢◌, ℕ, ◌+◌, ◌-◌, ◌<◌, ◌≤◌, true, Option, Some, None, List, [], ◌∷◌, ◌++◌, length, refl, sym, ap, subst, ◌∙◌, ⊎_elim, arith, set}
 use Rattle.std.specs.Prelude.{slice_index, slice_set, min, ◌==◌}
 use Rattle.std.proofs.lemmas.Bool.{cases_eq}
 use Rattle.std.proofs.lemmas.List.{get_or-set_same, length-set}
@@ -13,13 +13,13 @@ use Rattle.history_book.specs.declared.record.Record.{Record}
 use Rattle.history_book.specs.declared.sizes.Sizes.{Sizes}
 use Rattle.track_rule.specs.declared.slot.Slot.{Slot}
 use Rattle.track_rule.specs.declared.view.Hand.{Hand}
-use Rattle.track_rule.specs.declared.view.Middle.TheVariants.{Calm, Dying}
+use Rattle.track_rule.specs.declared.view.Middle.TheVariants.{Calm}
 use Rattle.track_rule.specs.declared.view.View.{View}
 use Rattle.track_rule.specs.declared.view.Walk.{Walk}
 use Rattle.track_rule.specs.Chains.{each_link, hooks_at, loose_of, shuts_of}
 use Rattle.track_rule.specs.Commits.{AreCommits, IsMiddleOf}
 use Rattle.track_rule.specs.Expected.{has_expected}
-use Rattle.track_rule.specs.Free.{IsFreeList, has_turn, is_among, owes}
+use Rattle.track_rule.specs.Free.{IsFreeList, has_turn, owes}
 use Rattle.track_rule.specs.History.{records_after, state_after}
 use Rattle.track_rule.specs.KillSteps.{DeadStep, IsShutFor, MayDie, shown_dead}
 use Rattle.track_rule.specs.Layout.{phase_at, phase_word, refs_at, turn_at}
@@ -39,7 +39,7 @@ use Rattle.track_rule.proofs.Carried.{carries_set}
 use Rattle.track_rule.proofs.Frames.{SameChains, chains_stay, hooks_stay, links_stay, middle_on, walk_stays}
 use Rattle.track_rule.proofs.LastRead.{stored_on}
 use Rattle.track_rule.proofs.LivePlaces.{both_shown, found_confirmed, hand_confirmed, live_keeps, none_else, one_place}
-use Rattle.track_rule.proofs.Lists.{other_bit, same_bit, total_none, total_some}
+use Rattle.track_rule.proofs.Lists.{other_bit, same_bit, total_some}
 use Rattle.track_rule.proofs.PhaseMoves.{low_shows, one_phase, phase_else, phase_first, phase_refs, phase_same, phase_turn}
 use Rattle.track_rule.proofs.RecordTurns.{hand_there}
 use Rattle.track_rule.proofs.Seats.{StaysAt, same_at}
@@ -310,7 +310,7 @@ module _ (l : Ledger) (s : State Slot View) (id : ℕ) (v : View) (r : Record) (
             links_stay z s.words new same s.views (set s.views id w)
             (each_put (λ u. HasHooks z new u.places u.buckets.hooks) s.views id w
             (λ i u at'. hooks_stay z s.words new same.links u.places u.buckets.hooks (h.links.hooks i u at'))
-            (record { each = j.each; held = j.held; linked = j.linked })) h.links;
+            (record { each = j.each; held = j.held; linked = j.linked; one = j.one })) h.links;
         walks = record {
           each = each_put (λ (u : View). (n : Walk) → u.walk ≡ Some n → IsWalk z new l.chains u.seen.front n) s.views id w
               (λ i u at' n e. walk_stays z s.words new same l.chains u.seen.front n (h.walks.each i u at' n e))

@@ -53,6 +53,7 @@ use Rattle.track_rule.proofs.Lists.{counted_there, find_there, other_bit, same_b
 use Rattle.track_rule.proofs.LivePlaces.{both_confirmed, found_confirmed, one_place, own_both}
 use Rattle.track_rule.proofs.Named.{chains_both, hooks_else, named_chains, named_here, records_else, shut_else, told_linked, told_mine, told_ordered, told_shuts, told_walks, two_links}
 use Rattle.track_rule.proofs.OneRecord.{one_commit, one_record}
+use Rattle.track_rule.proofs.UpHooks.{one_only, up_two}
 use Rattle.track_rule.proofs.Sums.{each_other, each_put, total_alike, total_le, total_map, total_same, total_set, total_term, total_two}
 
 -- what is expected stays where it is known, or not known
@@ -477,6 +478,8 @@ module _ (l : Ledger) (s : State Slot View) (id : ℕ) (v : View) (d : Destroyin
             (λ up. omega (arith, same_bit r.place (place_of (1 + 2 * r.place)) (omega arith)))
             (λ up. omega (arith, same_bit r.place (place_of (2 + 2 * r.place)) (omega arith)))
             (λ i x at' up. omega (arith, k.linked i x at' up));
+        one = one_only r.place after_it.buckets.hooks
+            (up_two r.place (loose_hook (1 + 2 * r.place) r.original) (loose_hook (2 + 2 * r.place) r.reply) v.buckets.hooks (omega arith) (omega arith) may.down);
       }
 
   ended_links : AreLinks v.passes.sizes words (set s.views id after_it)

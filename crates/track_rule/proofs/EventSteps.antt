@@ -1,6 +1,4 @@
 -- An event that leaves the ids, the places and the tuples of live records.
-use Rattle.history_book.specs.declared.record.Record.{Record}
-use Rattle.track_rule.specs.declared.view.Middle.TheVariants.{Dying}
 use Rattle.std.proofs.Common.{◌≡◌, ℕ, ◌+◌, ◌^◌, ◌<◌, ◌≤◌, true, Some, None, List, [], ◌∷◌, ◌++◌, length, refl, sym, ap, subst, ◌∙◌, arith, set}
 use Rattle.std.specs.Prelude.{if◌then◌else◌, slice_set}
 use Rattle.std.proofs.lemmas.List.{get_or-set_same, length-set}

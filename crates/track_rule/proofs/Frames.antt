@@ -201,6 +201,7 @@ module _ (z : Sizes) (ws ws' : List ℕ) (same : SameLinks z ws ws') where
         };
     held = h.held;
     linked = h.linked;
+    one = h.one;
   }
 
 module _ (z : Sizes) (ws ws' : List ℕ) (same : SameChains z ws ws') where

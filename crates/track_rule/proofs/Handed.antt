@@ -1,5 +1,5 @@
 -- Shares are handed over, a pass takes in another one, the first pass begins, and the last one ends.
-use Rattle.std.proofs.lemmas.Bool.{cases_lt}
+use Rattle.std.proofs.lemmas.Bool.{cases_lt, false≢true}
 use Rattle.track_rule.proofs.Lists.{same_bit}
 use Rattle.std.specs.Prelude.{slice_get, slice_index, nat_le, nat_lt, ◌&&◌, if◌then◌else◌}
 use Rattle.std.proofs.Common.{List, None, Option, Some, [], ap, arith, length, length-append, refl, set, subst, sym, true, ℕ, ⊎_elim, ◌++◌, ◌+◌, ◌-◌, ◌<◌, ◌^◌, ◌∙◌, ◌∷◌, ◌≡◌, ◌≤◌}
@@ -116,7 +116,7 @@ handed z l s vs' h passes leaves places free buckets commits walk readings =
     (commits.each (λ (x : Holding). IsMiddle z l.log x.0.middle x.0.hand x.1.carried x.2.shut x.3) tt h.commits)
   where
     no_hooks : (z : Sizes) (ws : List ℕ) → HasHooks z ws no_places []
-    no_hooks z ws = record { each = λ i h at. absurd (some-ne-none h (sym at)); held = λ link any. absurd (omega (arith, any)); linked = λ i h at. absurd (some-ne-none h (sym at)) }
+    no_hooks z ws = record { each = λ i h at. absurd (some-ne-none h (sym at)); held = λ link any. absurd (omega (arith, any)); linked = λ i h at. absurd (some-ne-none h (sym at)); one = λ p q a b. absurd (false≢true a) }
 
 -- numbers below a place, and those from it on
 abbrev in_range : ℕ → ℕ → ℕ → ℕ

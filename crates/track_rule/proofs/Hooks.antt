@@ -28,6 +28,7 @@ use Rattle.track_rule.specs.Steps.{NewHooks, let_go_of, opened, owned_then}
 use Rattle.track_rule.specs.Sums.{Each, bit, times, total}
 use Rattle.track_rule.proofs.Balance.{Lines}
 use Rattle.track_rule.proofs.Lists.{other_bit, same_bit, unlisted_else, unlisted_in, unlisted_out}
+use Rattle.track_rule.proofs.UpHooks.{one_fewer, up_behind, up_left}
 use Rattle.track_rule.proofs.Sums.{total_only, total_set, total_term, total_le}
 
 -- a link of a place that is not in a chain, with what stands in its words
@@ -131,6 +132,10 @@ module _ (z : Sizes) (l : Ledger) (s : State Slot View) (h : IsKept z l s) (id :
         (cases_eq p (place_of link));
     linked = with_two (IsOwned v.places) (new_hook z s.words (1 + 2 * p)) (new_hook z s.words (2 + 2 * p)) (λ up. absurd (false≢true up))
         (λ up. absurd (false≢true up)) k.linked;
+    one = one_fewer v.buckets.hooks (new_hooks z s.words p v.buckets.hooks)
+        (λ q e.
+        up_behind q (new_hook z s.words (2 + 2 * p)) v.buckets.hooks refl
+        (up_behind q (new_hook z s.words (1 + 2 * p)) (new_hook z s.words (2 + 2 * p) ∷ v.buckets.hooks) refl e)) k.one;
   }
     where
       fresh : (link : ℕ) → 0 < link → link ≤ last_link z → IsHook z s.words (new_hook z s.words link)
@@ -303,6 +308,7 @@ lowered_lines z l s id p n v h at any less others down =
           (λ t. record {
             each = each_left p (IsHook z s.words) v.buckets.hooks hooks.each;
             linked = each_left p (IsOwned (let_go_of false p n v).places) v.buckets.hooks still;
+            one = one_fewer v.buckets.hooks (filter (λ (h : Hook). not (place_of h.link == p)) v.buckets.hooks) (λ q e. up_left p q v.buckets.hooks e) hooks.one;
             held = λ link some_hook.
                 ⊎_elim
                 (λ (e : place_of link ≡ p). absurd (omega (arith, some_hook, none_left p link e v.buckets.hooks)))
@@ -312,6 +318,7 @@ lowered_lines z l s id p n v h at any less others down =
           (λ t. record {
             each = hooks.each;
             linked = still;
+            one = hooks.one;
             held = λ link some_hook.
                 ⊎_elim
                 (λ (e : place_of link ≡ p).
@@ -355,8 +362,9 @@ ended_lines z l s id p n v h at down =
           (λ t. record {
             each = each_left p (IsHook z s.words) v.buckets.hooks hooks.each;
             linked = each_left p (IsOwned w.places) v.buckets.hooks still;
+            one = one_fewer v.buckets.hooks (filter (λ (h : Hook). not (place_of h.link == p)) v.buckets.hooks) (λ q e. up_left p q v.buckets.hooks e) hooks.one;
             held = λ link some_hook. hooks.held link (omega (arith, some_hook, fewer p link v.buckets.hooks));
           })
-          (λ t. record { each = hooks.each; linked = still; held = hooks.held });
+          (λ t. record { each = hooks.each; linked = still; one = hooks.one; held = hooks.held });
       walk = h.walks.each id v at;
     }

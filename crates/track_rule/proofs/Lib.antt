@@ -8,6 +8,7 @@ pub mod Balance
 pub mod Hooks
 pub mod ChainLists
 pub mod HookLists
+pub mod UpHooks
 pub mod Walking
 pub mod BucketLoads
 pub mod BucketMoves

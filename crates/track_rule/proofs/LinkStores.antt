@@ -118,7 +118,7 @@ stores_link slots id word to v c may has_some s (l, h) long at range =
     (λ (t : Puts word to v).
     subst (λ (k : ℕ). Told k to) (sym t.word_is) (
       strung (head_word z t.bucket) to (put_in t.bucket to v.buckets) v,
-      (_, puts_kept l s id t.bucket to v h at has_some t.below t.mine t.down t.next t.placed t.owned t.before),
+      (_, puts_kept l s id t.bucket to v h at has_some t.below t.mine t.down t.next t.placed t.owned t.before t.alone),
       puts_told l s id v h at has_some t.bucket to t.below t.down,
     ))
     (λ (t : Cuts word to v).

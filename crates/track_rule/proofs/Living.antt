@@ -387,7 +387,7 @@ module _ (l : Ledger) (s : State Slot View) (id : ℕ) (v : View) (r : Record) (
             links_stay z s.words new same s.views (set s.views id w)
             (each_put (λ u. HasHooks z new u.places u.buckets.hooks) s.views id w
             (λ i u at'. hooks_stay z s.words new same.links u.places u.buckets.hooks (h.links.hooks i u at'))
-            (record { each = k.each; held = k.held; linked = k.linked })) h.links;
+            (record { each = k.each; held = k.held; linked = k.linked; one = k.one })) h.links;
         walks = record {
           each = each_put (λ (u : View). (n : Walk) → u.walk ≡ Some n → IsWalk z new l.chains u.seen.front n) s.views id w
               (λ i u at' n e. walk_stays z s.words new same l.chains u.seen.front n (h.walks.each i u at' n e))

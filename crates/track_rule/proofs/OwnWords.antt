@@ -29,6 +29,7 @@ use Rattle.track_rule.proofs.BucketMoves.{bucket_moved}
 use Rattle.track_rule.proofs.ChainLists.{chain_each, unlinked}
 use Rattle.track_rule.proofs.ChainWords.{IsString, SameAt, chain_local, each_other_link, first_head, first_next, first_second, next_head, one_first, one_next, one_second, second_head, second_next, string_first, string_gens, string_next, string_rest, string_second, word_else, word_here}
 use Rattle.track_rule.proofs.HookLists.{each_change, hook_test, hook_there, links_kept, some_hook, total_change}
+use Rattle.track_rule.proofs.UpHooks.{one_fewer, up_map}
 use Rattle.track_rule.proofs.Sums.{each_other, each_put, total_same, total_term, total_two}
 
 -- a note stays true where no generation changes, and no chain
@@ -154,6 +155,7 @@ module _ (l : Ledger) (s : State Slot View) (id : ℕ) (v : View) (h : IsKept v.
               each = λ i y there. hook_stays z s.words new y (other_at z s.words word to x of y.link (k.each i y there).some (hooks_elsewhere x u.buckets.hooks elsewhere i y there)) (k.each i y there);
               held = k.held;
               linked = k.linked;
+              one = k.one;
             })
             (let k = h.links.hooks id v at in
             record {
@@ -161,6 +163,8 @@ module _ (l : Ledger) (s : State Slot View) (id : ℕ) (v : View) (h : IsKept v.
               held = λ link any. k.held link (omega (arith, any, links_kept link f (λ y. (keeps_link y).0) v.buckets.hooks));
               linked = each_change (IsOwned v.places) (IsOwned v.places) f v.buckets.hooks k.linked (λ y is up.
                   subst (λ (n : ℕ). 0 < times (place_of n) v.places.owned + times (place_of n) v.places.ended) (sym (keeps_link y).0) (is (sym (keeps_link y).1 ∙ up)));
+              one = one_fewer v.buckets.hooks (map f v.buckets.hooks)
+                  (λ q e. up_map f (λ y up. ((keeps_link y).0, sym (keeps_link y).1 ∙ up)) q v.buckets.hooks e) k.one;
             });
       })
       (record {

@@ -1,7 +1,4 @@
 -- The phase of a place: it is loaded, and FREE and OWNED are stored.
-use Rattle.history_book.specs.declared.record.Record.{Record}
-use Rattle.track_rule.specs.declared.view.Middle.TheVariants.{Dying}
-use Rattle.track_rule.specs.declared.view.Middle.{Middle}
 use Rattle.std.proofs.Common.{◌⊎◌, ◌≡◌, ◌≢◌, ℕ, zero, suc, ◌+◌, ◌-◌, ◌<◌, ◌≤◌, Bool, true, false, min, Option, Some, None, List, [], ◌∷◌, length, refl, sym, ap, subst, ◌∙◌, ⊎_elim, inl, inr, arith, set}
 use Rattle.std.specs.Prelude.{slice_index, slice_set, ◌==◌, ◌&&◌, ◌||◌, if◌then◌else◌}
 use Rattle.std.proofs.lemmas.Bool.{and_parts, cases_Bool, cases_eq, cases_lt, eqb-true}
@@ -18,7 +15,7 @@ use Rattle.track_rule.specs.declared.view.Hand.{Hand}
 use Rattle.track_rule.specs.declared.view.View.{View}
 use Rattle.track_rule.specs.declared.view.Walk.{Walk}
 use Rattle.track_rule.specs.Chains.{each_link, hooks_at, loose_of, shuts_of}
-use Rattle.track_rule.specs.Commits.{IsMiddle, IsMiddleOf}
+use Rattle.track_rule.specs.Commits.{IsMiddleOf}
 use Rattle.expect_table.specs.declared.expectation.Expectation.{Expectation}
 use Rattle.track_rule.specs.Expected.{has_expected}
 use Rattle.track_rule.specs.Free.{IsFreeList, has_turn, is_among, known_free, owes}
@@ -27,7 +24,7 @@ use Rattle.track_rule.specs.Layout.{first_word, gen_word, head_word, next_word, 
 use Rattle.track_rule.specs.Links.{HasHooks}
 use Rattle.track_rule.specs.Passes.{IsPass}
 use Rattle.track_rule.specs.PhaseSteps.{LoadPhaseStep, LoadsPhase, StorePhaseStep, may_store, phase_stored}
-use Rattle.track_rule.specs.Phases.{ArePhases, IsMiddlePhase, middle_of, middle_weight, of_both, of_place, shows, table_keeps}
+use Rattle.track_rule.specs.Phases.{ArePhases, IsMiddlePhase, middle_of, of_both, of_place, shows, table_keeps}
 use Rattle.track_rule.specs.Readings.{found, noted, stored}
 use Rattle.track_rule.specs.Records.{AreRecords, IsHand, has_hand, record_in}
 use Rattle.track_rule.specs.References.{AreKept, AreReferences, ends, held_times, is_at, is_for_new, is_taken, keeps, takes}
@@ -333,6 +330,7 @@ module _ (l : Ledger) (s : State Slot View) (id p to : ℕ) (v : View) (h : IsKe
     each = k.each;
     held = k.held;
     linked = λ i x at' up. omega (arith, more (to == 1) (place_of x.link), k.linked i x at' up);
+    one = k.one;
   }
     where
       more : (b : Bool) (q : ℕ) → times q v.places.owned ≤ times q (if b then p ∷ v.places.owned else v.places.owned)

@@ -1,5 +1,4 @@
 -- The turn of a record: it is taken, and given back.
-use Rattle.history_book.specs.declared.record.Record.{Record}
 use Rattle.std.proofs.Common.{◌≡◌, ◌≢◌, ℕ, ◌+◌, ◌-◌, ◌<◌, ◌≤◌, eqb, true, Bool, Option, Some, None, List, [], ◌∷◌, length, refl, sym, ap, subst, ◌∙◌, ⊎_elim, arith, set, eq-eqb, ne_eqb}
 use Rattle.std.specs.Prelude.{slice_index, slice_set, ◌==◌}
 use Rattle.std.proofs.lemmas.Bool.{cases_eq, cases_lt, false≢true}
@@ -17,7 +16,7 @@ use Rattle.track_rule.specs.declared.slot.Slot.{Slot}
 use Rattle.track_rule.specs.declared.slot.Slot.TheVariants.{Vacant, Free, Expects, Subject}
 use Rattle.track_rule.specs.declared.view.Hand.{Hand}
 use Rattle.track_rule.specs.declared.view.Middle.{Middle}
-use Rattle.track_rule.specs.declared.view.Middle.TheVariants.{Calm, Dying}
+use Rattle.track_rule.specs.declared.view.Middle.TheVariants.{Calm}
 use Rattle.track_rule.specs.declared.view.Reading.{Reading}
 use Rattle.track_rule.specs.declared.view.View.{View}
 use Rattle.track_rule.specs.declared.view.Walk.{Walk}

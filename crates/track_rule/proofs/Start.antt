@@ -1,4 +1,5 @@
 -- The rule holds where one pass has all shares of a table at which nothing was done yet.
+use Rattle.std.proofs.lemmas.Bool.{false≢true}
 use Rattle.std.specs.Prelude.{map, slice_index, replicate}
 use Rattle.std.proofs.Common.{◌^◌, ◌≡◌, ℕ, ◌+◌, ◌*◌, ◌%◌, ◌<◌, ◌≤◌, zero, suc, true, Some, List, [], ◌∷◌, length, refl, sym, ap, subst, ◌∙◌, arith}
 use Rattle.std.proofs.lemmas.Bool.Decides.{nat_tests}
@@ -24,10 +25,9 @@ use Rattle.track_rule.specs.Opening.{IsWhole, first_slots}
 use Rattle.track_rule.specs.Passes.{IsPass, has_share, no_places}
 use Rattle.track_rule.specs.Chains.{chain_in, links_in, shuts_of, each_link, loose_of}
 use Rattle.track_rule.specs.Commits.{IsMiddleOf}
-use Rattle.track_rule.specs.Phases.{IsMiddlePhase, of_both, of_place, shows, table_keeps}
+use Rattle.track_rule.specs.Phases.{IsMiddlePhase, middle_of, of_both, of_place, shows, table_keeps}
 use Rattle.track_rule.specs.Links.{HasHooks}
 use Rattle.track_rule.specs.Walks.{IsWalk}
-use Rattle.track_rule.specs.declared.view.Middle.TheVariants.{Dying}
 use Rattle.track_rule.specs.declared.view.Walk.{Walk}
 use Rattle.track_rule.specs.References.{AreKept, ends, held_times, takes}
 use Rattle.track_rule.specs.Readings.{last_read}
@@ -172,7 +172,7 @@ starts z list table limits whole nothing room =
     )
   where
     no_hooks : (z : Sizes) (ws : List ℕ) → HasHooks z ws no_places []
-    no_hooks z ws = record { each = λ i h at. absurd (some-ne-none h (sym at)); held = λ link any. absurd (omega (arith, any)); linked = λ i h at. absurd (some-ne-none h (sym at)) }
+    no_hooks z ws = record { each = λ i h at. absurd (some-ne-none h (sym at)); held = λ link any. absurd (omega (arith, any)); linked = λ i h at. absurd (some-ne-none h (sym at)); one = λ p q a b. absurd (false≢true a) }
 
     no_show : (id : ℕ) → shows 0 id ≡ 0
     no_show id = grind (arith, nat_tests)

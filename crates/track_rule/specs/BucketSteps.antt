@@ -210,7 +210,8 @@ pub record Aims (word to : ℕ) (v : View) : Type 0 where
   pub to_low : to ≤ last_link v.passes.sizes
 
 -- Such a link, whose next one is the first of a chain of its bucket, which the pass has shut, may begin that chain, where the
--- pass has set the phase of its place to OWNED. A reply link does so before the original link of its place.
+-- pass has set the phase of its place to OWNED, and no link of another place of the pass stands in a chain. A reply link does so
+-- before the original link of its place.
 pub record Puts (word to : ℕ) (v : View) : Type 0 where
   pub bucket : ℕ
   pub below : bucket < v.passes.sizes.buckets
@@ -221,6 +222,7 @@ pub record Puts (word to : ℕ) (v : View) : Type 0 where
   pub placed : bucket_of v.passes.sizes (hook_of to v.buckets.hooks).pair ≡ bucket
   pub owned : is_among (place_of to) v.places.owned ≡ true
   pub before : side_of to ≡ 1 → is_down (to - 1) v.buckets.hooks ≡ true
+  pub alone : (place : ℕ) → is_up place v.buckets.hooks ≡ true → place ≡ place_of to
 
 -- A link of the pass is taken out of its chain, in a bucket that the pass has shut, where the link before it, or the head, gets
 -- its next one.

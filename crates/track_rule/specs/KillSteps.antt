@@ -1,6 +1,7 @@
 -- What the steps of a kill tell its pass: the phase of the place is DEAD, and then the Destroy is made. v is what the pass knew
 -- before, w what it knows after.
-use Rattle.std.specs.Prelude.{◌≡◌, ℕ, ◌+◌, ◌*◌, ◌<◌, ◌^◌, true, Option, Some, None, List, [], ◌∷◌, ◌++◌, length}
+use Rattle.track_rule.specs.Links.{is_up}
+use Rattle.std.specs.Prelude.{◌≡◌, ℕ, ◌+◌, ◌*◌, ◌<◌, ◌^◌, true, false, Option, Some, None, List, [], ◌∷◌, ◌++◌, length}
 use Rattle.atomic_table.specs.Table.{Me, Step}
 use Rattle.tuple_core.specs.declared.Tuple.{Tuple}
 use Rattle.expect_table.specs.Expectations.{without_master}
@@ -75,11 +76,13 @@ OfDying F Calm = ⊥
 OfDying F (Born r) = ⊥
 OfDying F (Dying r) = F r
 
--- The record that dies is that of the id, the reason holds of it, and the pass has room for an event.
+-- The record that dies is that of the id, the reason holds of it, the pass has room for an event, and none of its links stands in a
+-- chain.
 pub record MayDestroy (d : Destroying) (v : View) (r : Record) : Type 0 where
   pub same : r.id ≡ d.id
   pub reason : is_reason d.why r ≡ true
   pub few : length v.seen.own < 2 ^ 30
+  pub down : (place : ℕ) → is_up place v.buckets.hooks ≡ false
 
 -- a link of a destroyed record, which still stands in its chain
 abbrev pub loose_hook : ℕ → Tuple → Hook

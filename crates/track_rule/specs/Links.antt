@@ -1,6 +1,7 @@
 -- The words of links, and the hooks of a pass. Each head and each word of a next link is 0 or a link of a place below the
 -- entries. A generation leaves room for one change more and back. A hook of a pass is of a place that it holds; the words of
 -- its tuple stand as the pass knows them, and so does the next link, where the pass stored it and the link is not in a chain.
+-- Those in chains are of one place at most.
 use Rattle.std.specs.Prelude.{◌≡◌, ℕ, ◌+◌, ◌-◌, ◌*◌, ◌%◌, ◌^◌, ◌<◌, ◌≤◌, ◌==◌, ◌&&◌, ◌||◌, nat_le, nat_lt, not, if◌then◌else◌, Bool, true, false, Some, None, List, [], ◌∷◌, slice_index}
 use Rattle.std.specs.List.{list_any}
 use Rattle.history_book.specs.declared.sizes.Sizes.{Sizes}
@@ -71,10 +72,15 @@ pub record IsHook (z : Sizes) (words : List ℕ) (h : Hook) : Type 0 where
 abbrev pub IsOwned : Places → Hook → Type 0
 IsOwned places h = h.up ≡ true → 0 < times (place_of h.link) places.owned + times (place_of h.link) places.ended
 
+-- the links of one place at most stand in chains without being those of a live entry
+abbrev pub AreOfOne : List Hook → Type 0
+AreOfOne hooks = (p q : ℕ) → is_up p hooks ≡ true → is_up q hooks ≡ true → p ≡ q
+
 pub record HasHooks (z : Sizes) (words : List ℕ) (places : Places) (hooks : List Hook) : Type 0 where
   pub each : Each (IsHook z words) hooks
   pub held : (link : ℕ) → 0 < hooks_of link hooks → 0 < held_times (place_of link) places.held
   pub linked : Each (IsOwned places) hooks
+  pub one : AreOfOne hooks
 
 pub record AreLinks (z : Sizes) (words : List ℕ) (views : List View) : Type 0 where
   pub heads : (b : ℕ) → b < z.buckets → slice_index words (head_word z b) ≤ last_link z

@@ -1,17 +1,17 @@
-use Rattle.std.proofs.Common.{◌≡◌, ℕ, ◌<◌, ap, arith, subst, sym, ◌∙◌}
+use Rattle.std.proofs.Common.{◌≡◌, ℕ, true, ◌<◌, ap, arith, subst, sym, ◌∙◌}
 use Rattle.std.specs.Prelude.{not}
 use Rattle.history_book.specs.declared.sizes.Sizes.{Sizes}
 use Rattle.track_rule.specs.BucketSteps.{put_in}
 use Rattle.track_rule.specs.Chains.{shuts_of}
 use Rattle.track_rule.specs.Free.{is_among}
 use Rattle.track_rule.specs.Layout.{place_of}
-use Rattle.track_rule.specs.Links.{hooks_of, is_down}
+use Rattle.track_rule.specs.Links.{hooks_of, is_down, is_up}
 use Rattle.track_rule.specs.Sights.{PassSight, sizes_of}
 use Rattle.track_rule.specs.declared.view.Hook.{Hook}
 use Rattle.bucket_table.specs.LockedChain.{hook_bucket, original_link, reply_link}
 use Rattle.bucket_table.proofs.Pairs.{bucket_shut, put_keeps, second_of}
 use Rattle.bucket_table.proofs.Passing.{changes_join, loads_join}
-use Rattle.bucket_table.proofs.Stringing.{some_there}
+use Rattle.bucket_table.proofs.Stringing.{raised_alone, some_there}
 use Rattle.bucket_table.proofs.locked_chain.link.Goals as goal
 
 of_original : (p : ℕ) → place_of (original_link p) ≡ p
@@ -80,3 +80,16 @@ put_link-requires-2-clause-owned c =
     ap (λ (x : PassSight). is_among (place_of (original_link c.args.place)) x.view.places.owned) c.put_link.ensures.same
     ∙ ap (λ (x : PassSight). is_among (place_of (original_link c.args.place)) x.view.places.owned) loads.same
     ∙ ap (λ (p : ℕ). is_among p c.args.pass.now.view.places.owned) (of_original c.args.place) ∙ c.requires.owned
+
+pub put_link-requires-clause-alone : goal.put_link-requires-clause-alone
+put_link-requires-clause-alone c =
+    let loads = loads_join c.args.pass.now c.bucket_of_link-first.new.pass c.bucket_of_link-second.new.pass c.bucket_of_link-first.ensures.loads c.bucket_of_link-second.ensures.loads in
+    λ q up. c.requires.alone q (subst (λ (x : PassSight). is_up q x.view.buckets.hooks ≡ true) loads.same up) ∙ sym (of_reply c.args.place)
+
+pub put_link-requires-2-clause-alone : goal.put_link-requires-2-clause-alone
+put_link-requires-2-clause-alone c =
+    let loads = loads_join c.args.pass.now c.bucket_of_link-first.new.pass c.bucket_of_link-second.new.pass c.bucket_of_link-first.ensures.loads c.bucket_of_link-second.ensures.loads in
+    λ q up.
+    raised_alone (reply_link c.args.place) c.args.place q c.bucket_of_link-second.new.pass.view.buckets.hooks (of_reply c.args.place)
+    (λ was. c.requires.alone q (subst (λ (x : PassSight). is_up q x.view.buckets.hooks ≡ true) loads.same was))
+    (subst (λ (x : PassSight). is_up q x.view.buckets.hooks ≡ true) c.put_link.ensures.same up) ∙ sym (of_original c.args.place)

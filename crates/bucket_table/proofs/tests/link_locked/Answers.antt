@@ -1,9 +1,13 @@
-use Rattle.std.proofs.Common.{ap, ◌∙◌}
+use Rattle.std.proofs.Common.{ap, sym, ◌∙◌}
+use Rattle.std.proofs.lemmas.Bool.{false≢true}
 use Rattle.track_rule.specs.Chains.{shuts_of}
 use Rattle.track_rule.specs.Sights.{PassSight, sizes_of}
 use Rattle.bucket_table.specs.TestPlace.{only_bucket}
-use Rattle.bucket_table.proofs.Placing.{linked_shuts, place_raised, shut_stays}
+use Rattle.bucket_table.proofs.Placing.{calm_links, linked_shuts, place_raised, shut_stays}
 use Rattle.bucket_table.proofs.tests.link_locked.Goals as goal
+
+pub link-requires-clause-alone : goal.link-requires-clause-alone
+link-requires-clause-alone c = λ q up. absurd (false≢true (sym (calm_links c.args.place c.args.pass.now c.requires.place.has q) ∙ up))
 
 pub returns-clause-shut : goal.returns-clause-shut
 returns-clause-shut c =

@@ -1,10 +1,11 @@
-use Rattle.std.proofs.Common.{ap, arith, ◌∙◌}
+use Rattle.std.proofs.Common.{ap, arith, sym, ◌∙◌}
+use Rattle.std.proofs.lemmas.Bool.{false≢true}
 use Rattle.track_rule.specs.Sights.{sizes_of}
 use Rattle.bucket_table.specs.Following.{bucket_in}
 use Rattle.bucket_table.specs.LockedChain.{has_bucket, original_link, reply_link}
 use Rattle.bucket_table.specs.Locks.{Buckets}
 use Rattle.shared_desk.proofs.Entering.{can_confirm, committed, has_second, held_after, is_ready, valid_reply}
-use Rattle.shared_desk.proofs.Linking.{down_from}
+use Rattle.shared_desk.proofs.Linking.{down_from, none_up}
 use Rattle.shared_desk.proofs.commit.commit.Goals as goal
 
 pub link-requires-clause-original : goal.link-requires-clause-original
@@ -12,6 +13,9 @@ link-requires-clause-original g c = down_from (original_link c.args.place) c.arg
 
 pub link-requires-clause-reply : goal.link-requires-clause-reply
 link-requires-clause-reply g c = down_from (reply_link c.args.place) c.args.pass.now.view.buckets.hooks (omega (arith, c.requires.reply)) c.requires.down
+
+pub link-requires-clause-alone : goal.link-requires-clause-alone
+link-requires-clause-alone g c = λ q up. absurd (false≢true (sym (none_up q c.args.pass.now.view.buckets.hooks c.requires.down) ∙ up))
 
 pub link-requires-clause-reply_ready : goal.link-requires-clause-reply_ready
 link-requires-clause-reply_ready g c =
