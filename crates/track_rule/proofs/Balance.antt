@@ -25,6 +25,7 @@ use Rattle.track_rule.specs.Chains.{each_link, entry_of, hooks_at, loose_of, shu
 use Rattle.track_rule.specs.Commits.{IsMiddleOf, shuts_in}
 use Rattle.track_rule.specs.Free.{IsFreeList, IsHome, has_turn, owes, turn_of}
 use Rattle.track_rule.specs.History.{records_after}
+use Rattle.track_rule.specs.KeptWords.{AreKeptWords}
 use Rattle.track_rule.specs.Layout.{phase_at, place_of, refs_at}
 use Rattle.track_rule.specs.Links.{HasHooks, hooks_of}
 use Rattle.track_rule.specs.Phases.{middle_of, middle_weight, of_place, table_keeps}
@@ -36,6 +37,7 @@ use Rattle.track_rule.specs.Sums.{Each, bit, times, total}
 use Rattle.track_rule.specs.Walks.{IsWalk}
 use Rattle.track_rule.proofs.Carried.{carries_set}
 use Rattle.track_rule.proofs.Frames.{Quiet, SameChains, Stays, chains_stay, hooks_stay, kept, links_stay, no_commit, quiet_chains, quiet_still, walk_stays}
+use Rattle.track_rule.proofs.KeptWords.{links_pairs, words_stay}
 use Rattle.track_rule.proofs.Lists.{total_long}
 use Rattle.track_rule.proofs.Sums.{each_other, each_put, total_le, total_same, total_set, total_times, total_two}
 
@@ -129,8 +131,9 @@ pub moved : (z : Sizes) (l : Ledger) (s : State Slot View) (id : ℕ) (v w : Vie
     → IsKept z l s → get_elem? s.views id ≡ some v → Moves v w → IsPass z l.log w
     → Quiet z s.words ws' → length ws' ≡ length s.words → Stays s.homes hs'
     → AreReferences z l.log ws' (set s.views id w) → IsFreeList z ws' hs' (set s.views id w) free' → Lines z l s id v w → AreRead z ws' (set s.views id w) → IsMiddleOf z l.log w
+    → AreKeptWords z l.log s.words (set s.views id w)
     → IsKept z (record l { free = free' }) (record { words = ws'; homes = hs'; views = set s.views id w })
-moved z l s id v w ws' hs' free' h at m p quiet long homes references free_list lines readings middle =
+moved z l s id v w ws' hs' free' h at m p quiet long homes references free_list lines readings middle words =
     let same : SameChains z s.words ws' = quiet_chains z s.words ws' quiet in
     kept z l s ws' hs' (set s.views id w) free' l.chains h (quiet_still z s.words ws' quiet) long homes
     (record {
@@ -154,6 +157,7 @@ moved z l s id v w ws' hs' free' h at m p quiet long homes references free_list 
           (λ n e. walk_stays z s.words ws' same l.chains w.seen.front n (lines.walk n e));
     }) readings
     (each_put (IsMiddleOf z l.log) s.views id w h.commits middle)
+    (words_stay z l.log l.log s.words ws' (set s.views id w) (λ i e at'. at') (λ p any. links_pairs z s.words ws' same.links p) words)
 
 -- what a step does to the references: a balance for each place
 pub record RefsStep (z : Sizes) (log : List Event) (ws ws' : List ℕ) (vs : List View) (v w : View) : Type 0 where

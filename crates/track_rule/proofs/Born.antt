@@ -22,6 +22,7 @@ use Rattle.track_rule.specs.declared.view.Hand.{Hand}
 use Rattle.track_rule.specs.declared.view.Hook.{Hook}
 use Rattle.track_rule.specs.declared.view.Middle.{Middle}
 use Rattle.track_rule.specs.declared.view.Middle.TheVariants.{Calm, Born, Dying}
+use Rattle.track_rule.specs.declared.view.Pair.{Pair}
 use Rattle.track_rule.specs.declared.view.View.{View}
 use Rattle.track_rule.specs.Chains.{AreChains, bucket_of, each_link, entry_of, hooks_at, links_in, loose_of, original_of, pair_of, reply_of, shuts_of, side}
 use Rattle.track_rule.specs.CommitSteps.{CanConfirm, HasLink, born, confirmed, dropped, named, with_confirm}
@@ -29,7 +30,7 @@ use Rattle.track_rule.specs.Commits.{IsMiddle, IsMiddleOf}
 use Rattle.track_rule.specs.Expected.{has_expected}
 use Rattle.track_rule.specs.Free.{IsFreeList, has_turn, owes}
 use Rattle.track_rule.specs.History.{packed, records_after, state_after}
-use Rattle.track_rule.specs.Layout.{phase_at, place_of}
+use Rattle.track_rule.specs.Layout.{first_word, phase_at, place_of, second_word}
 use Rattle.track_rule.specs.Links.{AreLinks, HasHooks, IsHook, IsOwned, hook_of, hooks_of}
 use Rattle.track_rule.specs.Phases.{ArePhases, IsMiddlePhase, middle_of, middle_weight, of_both, of_place, shows, table_keeps}
 use Rattle.track_rule.specs.Readings.{stored}
@@ -38,10 +39,14 @@ use Rattle.track_rule.specs.References.{AreKept, AreReferences, ends, held_times
 use Rattle.track_rule.specs.Rule.{IsKept, Ledger}
 use Rattle.track_rule.specs.Sums.{Each, bit, times, total}
 use Rattle.track_rule.specs.Walks.{AreWalks}
-use Rattle.track_rule.proofs.Confirming.{each_dropped, find_last, find_more, find_same, held_kept, held_long, held_taken, hook_else, kept_for, low_both, low_ids, total_dropped}
+use Rattle.track_rule.proofs.Confirming.{each_dropped, find_last, find_more, find_same, held_kept, held_long, held_taken, hook_else, kept_for, low_both, low_ids, total_dropped, words_for}
+use Rattle.track_rule.proofs.KeptWords.{GrowsTo, SamePairs, links_pairs, tuples_stay, words_stay}
+use Rattle.track_rule.specs.KeptWords.{AreKeptWords, HasPair, HasTuples, link_of, pair_in}
+use Rattle.tuple_core.specs.declared.Direction.{Direction}
+use Rattle.tuple_core.specs.declared.Direction.TheVariants.{Original, Reply}
 use Rattle.track_rule.proofs.Confirms.{lawful, none_there, state_on}
-use Rattle.track_rule.proofs.Events.{get_last, kept_on, passes_made}
-use Rattle.track_rule.proofs.Frames.{SameChains, hooks_stay, links_stay, middle_same}
+use Rattle.track_rule.proofs.Events.{get_append, get_last, kept_on, passes_made}
+use Rattle.track_rule.proofs.Frames.{SameChains, hooks_stay, links_stay}
 use Rattle.track_rule.proofs.HookLists.{hook_test, hook_there, some_hook}
 use Rattle.track_rule.proofs.Named.{born_ledger, chains_both, hooks_else, named_chains, named_here, records_else, shut_else, told_linked, told_mine, told_ordered, told_shuts, told_walks, two_links}
 use Rattle.track_rule.proofs.HistoryWord.{word_other, word_phase, word_refs, word_same, word_turn}
@@ -500,6 +505,34 @@ module _ (l : Ledger) (s : State Slot View) (id : ℕ) (v : View) (r : Record) (
   born_walks =
       told_walks v.passes.sizes l s id v after_it h at r.place (Some (length l.log)) refl words (word_same v.passes.sizes s.words (packed made)) refl
 
+  -- both tuples stand in the words of the place, as the pass knows of its links
+  born_tuples : HasTuples v.passes.sizes made s.words (length l.log) r.place
+  born_tuples = record {
+    was = record { subject = subject; event = get_last l.log (Confirm subject); its_place = refl };
+    stand = λ d. stands d;
+  }
+    where
+      of_link : (link : ℕ) (t : Tuple) → HasLink link t v → 0 < hooks_of link v.buckets.hooks → HasPair v.passes.sizes s.words link (pair_of t)
+      of_link link t has any =
+          let there = hook_there link (IsHook v.passes.sizes s.words) v.buckets.hooks any (h.links.hooks id v at).each in
+          record {
+            first = ap (λ (k : ℕ). slice_index s.words (first_word v.passes.sizes k)) (sym there.1) ∙ there.0.first ∙ ap (λ (p : Pair). p.first) has.pair;
+            second = ap (λ (k : ℕ). slice_index s.words (second_word v.passes.sizes k)) (sym there.1) ∙ there.0.second ∙ ap (λ (p : Pair). p.second) has.pair;
+          }
+
+      stands : (d : Direction) → HasPair v.passes.sizes s.words (link_of d r.place) (pair_in d subject)
+      stands Original = of_link (1 + 2 * r.place) r.original can.original one_hook.0
+      stands Reply = of_link (2 + 2 * r.place) r.reply can.reply two_hook.0
+
+  born_words : AreKeptWords v.passes.sizes made words (set s.views id after_it)
+  born_words =
+      let z : Sizes = v.passes.sizes in
+      let grows : GrowsTo l.log made = λ i e at'. get_append l.log (Confirm subject ∷ []) i e at' in
+      let same : (p : ℕ) → SamePairs z s.words words p = links_pairs z s.words words (word_same z s.words (packed made)).links in
+      words_for z made words s.views id r.place (length l.log) v after_it at can.taken refl (omega (arith, h.references.taken r.place))
+      (tuples_stay z made made s.words words (length l.log) r.place (λ i e at'. at') (same r.place) born_tuples)
+      (words_stay z l.log made s.words words s.views grows (λ p any. same p) h.kept_words)
+
   pub born_kept : IsKept v.passes.sizes (born_ledger l r v)
       (record { words = slice_set s.words 0 (packed (with_confirm l.log r)); homes = s.homes; views = set s.views id (confirmed l.log r v) })
   born_kept =
@@ -524,6 +557,7 @@ module _ (l : Ledger) (s : State Slot View) (id : ℕ) (v : View) (r : Record) (
         walks = born_walks;
         readings = stored_on z l.log s.words s.views id 0 (packed made) v after_it h.passes at has_some long
             (record { reading = stored 0 (packed made); more = refl; word = refl; value = refl }) h.readings;
+        kept_words = born_words;
         expected = record {
           turn = expected ∙ h.expected.turn ∙ sym (total_same has_expected s.views id v after_it at refl);
           single = omega (arith, expected, h.expected.single);

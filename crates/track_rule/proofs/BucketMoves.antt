@@ -28,6 +28,7 @@ use Rattle.track_rule.specs.Links.{AreLinks, HasHooks, last_gen}
 use Rattle.track_rule.specs.Passes.{AreFronts, IsPass}
 use Rattle.track_rule.specs.Readings.{found, noted, stored}
 use Rattle.track_rule.specs.Rule.{Holds, IsKept, Ledger}
+use Rattle.track_rule.specs.KeptWords.{shows_held}
 use Rattle.track_rule.specs.Sums.{bit, total}
 use Rattle.track_rule.specs.Walks.{AreWalks, IsWalk}
 use Rattle.track_rule.proofs.Balance.{Moves, free_left, pass_moved, passes_moved, references_left}
@@ -38,6 +39,7 @@ use Rattle.track_rule.proofs.BucketLoads.{note_read, one_gen}
 use Rattle.track_rule.proofs.Carried.{carries_set}
 use Rattle.track_rule.proofs.ChainLists.{chain_of}
 use Rattle.track_rule.proofs.Frames.{SameLinks, Still, chain_stays, hooks_stay, kept, no_commit, middle_more}
+use Rattle.track_rule.proofs.KeptWords.{SamePairs, links_pairs, words_same, words_stay}
 use Rattle.track_rule.proofs.Lists.{other_bit, same_bit}
 use Rattle.track_rule.specs.declared.view.Middle.{Middle}
 use Rattle.track_rule.specs.declared.view.Middle.TheVariants.{Calm}
@@ -54,9 +56,10 @@ pub record SameRest (z : Sizes) (ws ws' : List ℕ) : Type 0 where
 pub bucket_moved : (z : Sizes) (l : Ledger) (s : State Slot View) (id : ℕ) (v w : View) (ws' : List ℕ) (chains' : ℕ → List Entry)
     → IsKept z l s → get_elem? s.views id ≡ some v → Moves v w → 0 < v.passes.shares → w.seen ≡ v.seen → w.places ≡ v.places → w.free ≡ v.free
     → SameRest z s.words ws' → length ws' ≡ length s.words
+    → ((p : ℕ) → 0 < total (shows_held p) s.views → SamePairs z s.words ws' p)
     → AreChains z l.log ws' (set s.views id w) chains' → AreLinks z ws' (set s.views id w) → AreWalks z ws' (set s.views id w) chains' → AreRead z ws' (set s.views id w) → IsMiddleOf z l.log w
     → IsKept z (record l { chains = chains' }) (record { words = ws'; homes = s.homes; views = set s.views id w })
-bucket_moved z l s id v w ws' chains' h at m has_some seen places free rest long chains links walks readings middle =
+bucket_moved z l s id v w ws' chains' h at m has_some seen places free rest long pairs chains links walks readings middle =
     let one : IsPass z l.log v = h.passes.each id v at in
     kept z l s ws' s.homes (set s.views id w) l.free chains' h rest.still long (λ k other. refl)
     (record {
@@ -70,6 +73,8 @@ bucket_moved z l s id v w ws' chains' h at m has_some seen places free rest long
     rest.still.phases h.references)
     (free_left z s.words ws' s.homes s.homes s.views id v w l.free at places free rest.refs rest.still.phases rest.free refl h.free_list)
     chains links walks readings (each_put (IsMiddleOf z l.log) s.views id w h.commits middle)
+    (words_same z l.log ws' s.views id v w at (ap (λ (x : Places). x.held) places)
+    (words_stay z l.log l.log s.words ws' s.views (λ i e at'. at') pairs h.kept_words))
 
 -- one generation changes
 module _ (z : Sizes) (ws : List ℕ) (b n : ℕ) (below : b < z.buckets) where
@@ -171,6 +176,7 @@ module _ (l : Ledger) (s : State Slot View) (id b : ℕ) (v : View) (h : IsKept 
       let here : gen_at z new b ≡ n = gen_here z s.words b n below long in
       let same : SameLinks z s.words new = gen_links z s.words b n below in
       bucket_moved z l s id v w new l.chains h at m has_some seen places free (gen_rest z s.words b n below) (length-set s.words (gen_word z b) n)
+      (λ p any. links_pairs z s.words new same p)
       (record {
         linked = λ c under.
             subst (λ (k : ℕ). IsChain z new c k (l.chains c)) (sym (same.heads c under))

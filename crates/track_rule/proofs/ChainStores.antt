@@ -18,6 +18,7 @@ use Rattle.track_rule.specs.declared.view.Walk.{Walk}
 use Rattle.track_rule.specs.BucketSteps.{first_of, put_in, raise, strung}
 use Rattle.track_rule.specs.Chains.{IsChain, IsOrdered, bucket_of, chain_in, entry_of, hooks_at, is_at_link, links_in, loose_of, shuts_of, side, each_link}
 use Rattle.track_rule.specs.History.{records_after}
+use Rattle.track_rule.specs.KeptWords.{link_of}
 use Rattle.track_rule.specs.Layout.{first_word, gen_at, head_word, next_word, place_of, second_word, side_of}
 use Rattle.track_rule.specs.Links.{AreOfOne, HasHooks, IsHook, IsOwned, hook_of, hooks_of, is_down, last_link, is_up}
 use Rattle.track_rule.specs.Readings.{stored}
@@ -131,6 +132,10 @@ module _ (l : Ledger) (s : State Slot View) (id b : ℕ) (v : View) (h : IsKept 
         let w : View = strung word to buckets v in
         bucket_moved z l s id v w new (rechained l.chains b es) h at (record { made = record { passes = refl; own = refl; gathered = refl }; commit = refl; expected = refl }) has_some refl refl refl
         (string_rest z s.words word to t.string) (length-set s.words word to)
+        (λ p any d. record {
+          first = word_else z s.words word to (first_word z (link_of d p)) (t.firsts (link_of d p));
+          second = word_else z s.words word to (second_word z (link_of d p)) (t.seconds (link_of d p));
+        })
         (record {
           linked = on_each (λ c xs. c < z.buckets → IsChain z new c (slice_index new (head_word z c)) xs) (λ under. t.chain)
               (λ c other under.

@@ -1,9 +1,10 @@
 -- The Confirm of a record whose links its pass has put in.
-use Rattle.std.proofs.Common.{◌≡◌, ◌≢◌, ℕ, ◌+◌, ◌<◌, zero, suc, Bool, true, false, Some, None, List, [], ◌∷◌, ◌++◌, length, refl, sym, ap, subst, ◌∙◌, ⊎_elim, arith, eq-eqb, ne_eqb}
+use Rattle.std.proofs.Common.{◌⊎◌, ◌≤◌, inl, inr, set, ◌≡◌, ◌≢◌, ℕ, ◌+◌, ◌<◌, zero, suc, Bool, true, false, Some, None, List, [], ◌∷◌, ◌++◌, length, refl, sym, ap, subst, ◌∙◌, ⊎_elim, arith, eq-eqb, ne_eqb}
 use Rattle.std.specs.Prelude.{slice_get, ◌==◌, ◌&&◌, ◌||◌, if◌then◌else◌, find}
 use Rattle.std.specs.List.{All, list_any}
-use Rattle.std.proofs.lemmas.Bool.{and_from, and_parts, cases_Bool, cond_both, eqb-true, false≢true, or_from}
-use mathlib.Core.Option.{some-injective}
+use Rattle.std.proofs.lemmas.Bool.{and_from, and_parts, cases_Bool, cases_eq, cond_both, eqb-true, false≢true, or_from}
+use mathlib.Core.Option.{some, some-injective}
+use lib.ListN.{get_elem?}
 use Rattle.tuple_core.specs.Tuple.{number_of}
 use Rattle.tuple_core.specs.Words.{address_word, flow_word}
 use Rattle.tuple_core.specs.declared.Tuple.{Tuple}
@@ -17,12 +18,16 @@ use Rattle.track_rule.specs.declared.view.Hook.{Hook}
 use Rattle.track_rule.specs.declared.view.Keep.{Keep}
 use Rattle.track_rule.specs.declared.view.Pair.{Pair}
 use Rattle.track_rule.specs.declared.view.Purpose.TheVariants.{For}
+use Rattle.track_rule.specs.declared.view.View.{View}
 use Rattle.track_rule.specs.Chains.{bucket_of, links_in, original_of, pair_of, reply_of, side}
 use Rattle.track_rule.specs.CommitSteps.{dropped, has_pair, held_for}
+use Rattle.track_rule.specs.KeptWords.{AreKeptWords, HasTuples, is_for, is_for_entry, is_kept_for, shown_times, shows_held}
 use Rattle.track_rule.specs.Links.{hook_of, hooks_of}
 use Rattle.track_rule.specs.Phases.{of_both}
-use Rattle.track_rule.specs.References.{AreKept, held_times, is_at, is_for_new, is_taken}
+use Rattle.track_rule.specs.References.{AreKept, held_times, is_at, is_for_new, is_taken, taken_times, takes}
 use Rattle.track_rule.specs.Sums.{Each, bit, total}
+use Rattle.track_rule.proofs.Lists.{other_bit, same_bit}
+use Rattle.track_rule.proofs.Sums.{each_put, total_set}
 
 -- LISTS
 
@@ -89,6 +94,45 @@ held_long place id [] = refl
 held_long place id (k ∷ ks) =
     cond_both (is_at place k && is_for_new k.purpose) (record k { purpose = For id } ∷ ks) (k ∷ held_for place id ks) (λ xs. length xs ≡ suc (length ks))
     (λ e. refl) (λ e. ap suc (held_long place id ks))
+
+-- what is held for an id then was, or is that place, for that id
+kept_held : (place id p i : ℕ) (held : List Keep) → is_kept_for p i (held_for place id held) ≡ true
+    → (is_kept_for p i held ≡ true) ⊎ (p ≡ place) × (i ≡ id)
+kept_held place id p i [] e = inl e
+kept_held place id p i (k ∷ ks) e =
+    cond_both (is_at place k && is_for_new k.purpose) (record k { purpose = For id } ∷ ks) (k ∷ held_for place id ks)
+    (λ ys. is_kept_for p i ys ≡ true → (((is_for i k.purpose && is_at p k) || is_kept_for p i ks) ≡ true) ⊎ (p ≡ place) × (i ≡ id))
+    (λ c f.
+    ⊎_elim
+    (λ (t : (id == i && is_at p k) ≡ true).
+    let parts = and_parts (id == i) (is_at p k) t in
+    let here : k.place ≡ place = eqb-true k.place place (and_parts (is_at place k) (is_for_new k.purpose) c).0 in
+    inr (sym (eqb-true k.place p parts.1) ∙ here, sym (eqb-true id i parts.0)))
+    (λ (t : (id == i && is_at p k) ≡ false).
+    inl (more_true (is_for i k.purpose && is_at p k) (is_kept_for p i ks) (sym (ap (λ (b : Bool). b || is_kept_for p i ks) t) ∙ f)))
+    (cases_Bool (id == i && is_at p k)))
+    (λ c f.
+    ⊎_elim
+    (λ (t : (is_for i k.purpose && is_at p k) ≡ true). inl (ap (λ (b : Bool). b || is_kept_for p i ks) t))
+    (λ (t : (is_for i k.purpose && is_at p k) ≡ false).
+    ⊎_elim
+    (λ (g : is_kept_for p i ks ≡ true). inl (more_true (is_for i k.purpose && is_at p k) (is_kept_for p i ks) g))
+    (λ (g : (p ≡ place) × (i ≡ id)). inr g)
+    (kept_held place id p i ks (sym (ap (λ (b : Bool). b || is_kept_for p i (held_for place id ks)) t) ∙ f)))
+    (cases_Bool (is_for i k.purpose && is_at p k))) e
+  where
+    more_true : (a b : Bool) → b ≡ true → (a || b) ≡ true
+    more_true true b f = refl
+    more_true false b f = f
+
+-- that is once more there, and no more elsewhere
+held_shown : (place id q : ℕ) (held : List Keep) → shown_times q (held_for place id held) ≤ shown_times q held + bit (place == q)
+held_shown place id q [] = omega arith
+held_shown place id q (k ∷ ks) =
+    cond_both (is_at place k && is_for_new k.purpose) (record k { purpose = For id } ∷ ks) (k ∷ held_for place id ks)
+    (λ ys. shown_times q ys ≤ bit (is_for_entry k.purpose && is_at q k) + shown_times q ks + bit (place == q))
+    (λ c. omega (arith, ap (λ (n : ℕ). bit (n == q)) (eqb-true k.place place (and_parts (is_at place k) (is_for_new k.purpose) c).0)))
+    (λ c. omega (arith, held_shown place id q ks))
 
 -- it is taken once less there, and no more elsewhere
 pub held_taken : (place id q : ℕ) (held : List Keep) → is_taken place held ≡ true
@@ -192,3 +236,32 @@ free_there z t (r ∷ rs) none_weighs =
     (λ (e : has_reply t r ≡ true). absurd (omega (arith, none_weighs, weighs_one z t (reply_of r) (same_pair r.reply t e))))
     (λ (e : has_reply t r ≡ false). e) (cases_Bool (has_reply t r))))
     (free_there z t rs (omega (arith, none_weighs)))
+
+-- The place that a pass has taken is held for the id of the entry that was confirmed there: no pass has taken it then.
+pub words_for : (z : Sizes) (log : List Event) (ws : List ℕ) (vs : List View) (i place id : ℕ) (v w : View) → get_elem? vs i ≡ some v
+    → is_taken place v.places.held ≡ true → w.places.held ≡ held_for place id v.places.held → total (takes place) vs ≤ 1
+    → HasTuples z log ws id place → AreKeptWords z log ws vs → AreKeptWords z log ws (set vs i w)
+words_for z log ws vs i place id v w at taken held one its h = record {
+  each = each_put (λ u. (p n : ℕ) → is_kept_for p n u.places.held ≡ true → HasTuples z log ws n p) vs i w h.each
+      (λ p n is.
+      ⊎_elim
+      (λ (e : is_kept_for p n v.places.held ≡ true). h.each i v at p n e)
+      (λ (e : (p ≡ place) × (n ≡ id)). subst (λ (k : ℕ). HasTuples z log ws k p) (sym e.1) (subst (HasTuples z log ws id) (sym e.0) its))
+      (kept_held place id p n v.places.held (sym (ap (is_kept_for p n) held) ∙ is)));
+  apart = λ p any.
+      let took = total_set (takes p) vs i v w at in
+      let less = held_taken place id p v.places.held taken in
+      ⊎_elim
+      (λ (e : place ≡ p).
+      absurd (omega (arith, any, took, ap (taken_times p) held, less, same_bit place p e, ap (λ (k : ℕ). total (takes k) vs) e, one)))
+      (λ (e : place ≢ p).
+      omega (
+        arith,
+        h.apart p (omega (arith, any, took, ap (taken_times p) held, less)),
+        total_set (shows_held p) vs i v w at,
+        ap (shown_times p) held,
+        held_shown place id p v.places.held,
+        other_bit place p e,
+      ))
+      (cases_eq place p);
+}

@@ -39,7 +39,8 @@ use Rattle.track_rule.proofs.Carried.{carries_set}
 use Rattle.track_rule.proofs.Frames.{SameChains, chains_stay, hooks_stay, links_stay, middle_on, walk_stays}
 use Rattle.track_rule.proofs.LastRead.{stored_on}
 use Rattle.track_rule.proofs.LivePlaces.{both_shown, found_confirmed, hand_confirmed, live_keeps, none_else, one_place}
-use Rattle.track_rule.proofs.Lists.{other_bit, same_bit, total_some}
+use Rattle.track_rule.proofs.KeptWords.{words_left}
+use Rattle.track_rule.proofs.Lists.{other_bit, same_bit, total_none, total_some}
 use Rattle.track_rule.proofs.PhaseMoves.{low_shows, one_phase, phase_else, phase_first, phase_refs, phase_same, phase_turn}
 use Rattle.track_rule.proofs.RecordTurns.{hand_there}
 use Rattle.track_rule.proofs.Seats.{StaysAt, same_at}
@@ -318,6 +319,7 @@ module _ (l : Ledger) (s : State Slot View) (id : ℕ) (v : View) (r : Record) (
         };
         readings = stored_on z l.log s.words s.views id (phase_word z r.place) 2 v w h.passes at has_some (omega (arith, h.count, k.below))
             (record { reading = stored (phase_word z r.place) 2; more = refl; word = refl; value = refl }) h.readings;
+        kept_words = words_left z l.log s.words s.views id v w at l.log new (λ i e at'. at') same.links refl h.kept_words;
         expected = record {
           turn = expected ∙ h.expected.turn ∙ sym (total_same has_expected s.views id v w at refl);
           single = omega (arith, expected, h.expected.single);

@@ -43,9 +43,10 @@ use Rattle.track_rule.specs.Rule.{IsKept, Ledger}
 use Rattle.track_rule.specs.Sums.{Each, bit, times, total}
 use Rattle.track_rule.proofs.ChainLists.{chain_each}
 use Rattle.track_rule.proofs.Confirms.{bucket_low, state_on}
-use Rattle.track_rule.proofs.Events.{kept_on, passes_made}
-use Rattle.track_rule.proofs.Frames.{SameChains, hooks_stay, links_stay, middle_same}
+use Rattle.track_rule.proofs.Events.{get_append, kept_on, passes_made}
+use Rattle.track_rule.proofs.Frames.{SameChains, calm_lives, hooks_stay, links_stay}
 use Rattle.track_rule.proofs.HistoryWord.{word_other, word_phase, word_refs, word_same}
+use Rattle.track_rule.proofs.KeptWords.{words_left}
 use Rattle.track_rule.proofs.LastRead.{stored_on}
 use Rattle.track_rule.proofs.Leaving.{length_others, none_expected, others, total_others}
 use Rattle.track_rule.proofs.Leaving as leaving
@@ -546,4 +547,5 @@ module _ (l : Ledger) (s : State Slot View) (id : ℕ) (v : View) (d : Destroyin
         readings = stored_on z l.log s.words s.views id 0 (packed made) v after_it h.passes at has_some long
             (record { reading = stored 0 (packed made); more = refl; word = refl; value = refl }) h.readings;
         expected = ended_expected;
+        kept_words = words_left z l.log s.words s.views id v after_it at made words (λ i x at'. get_append l.log (event ∷ []) i x at') (word_same z s.words (packed made)).links refl h.kept_words;
       }

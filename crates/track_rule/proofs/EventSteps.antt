@@ -30,9 +30,10 @@ use Rattle.track_rule.specs.Sums.{Each, times, total}
 use Rattle.track_rule.specs.Walks.{IsWalk}
 use Rattle.track_rule.proofs.Balance.{free_left}
 use Rattle.track_rule.proofs.Carried.{carries_set}
-use Rattle.track_rule.proofs.Events.{kept_on, note_of, passes_made}
-use Rattle.track_rule.proofs.Frames.{SameChains, chains_stay, hooks_stay, links_stay, middle_same, walk_stays}
+use Rattle.track_rule.proofs.Events.{get_append, kept_on, note_of, passes_made}
+use Rattle.track_rule.proofs.Frames.{SameChains, chains_stay, hooks_stay, links_stay, walk_stays}
 use Rattle.track_rule.proofs.HistoryWord.{word_other, word_phase, word_refs, word_same}
+use Rattle.track_rule.proofs.KeptWords.{words_left}
 use Rattle.track_rule.proofs.LastRead.{ReadsAt, stored_on}
 use Rattle.track_rule.proofs.Sums.{each_put, total_same}
 
@@ -197,4 +198,5 @@ module _ (l : Ledger) (s : State Slot View) (id : ℕ) (v w : View) (e : Event) 
         };
         readings = stored_on z l.log s.words s.views id 0 (packed made) v w h.passes at has_some long reads h.readings;
         expected = expected;
+        kept_words = words_left z l.log s.words s.views id v w at made words (λ i x at'. get_append l.log (e ∷ []) i x at') stays.links (ap (λ (x : Places). x.held) parts.places) h.kept_words;
       }

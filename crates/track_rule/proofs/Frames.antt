@@ -24,6 +24,7 @@ use Rattle.track_rule.specs.declared.view.Hook.{Hook}
 use Rattle.track_rule.specs.declared.view.Shut.{Shut}
 use Rattle.track_rule.specs.Expected.{AreExpected, expected_turn}
 use Rattle.track_rule.specs.History.{IsHistory, records_after, state_after}
+use Rattle.track_rule.specs.KeptWords.{AreKeptWords}
 use Rattle.track_rule.specs.Layout.{first_word, gen_at, gen_word, head_word, next_word, phase_at, phase_word, place_of, record_slot, refs_word, second_word, turn_at, turn_word}
 use Rattle.track_rule.specs.Passes.{ArePasses}
 use Rattle.track_rule.specs.Phases.{ArePhases, IsMiddlePhase, middle_of, middle_weight, of_both, of_place, shows, table_keeps}
@@ -252,8 +253,9 @@ pub kept : (z : Sizes) (l : Ledger) (s : State Slot View) (ws' : List ℕ) (hs' 
     → IsKept z l s → Still z s.words ws' → length ws' ≡ length s.words → Stays s.homes hs' → Leaves s.views vs'
     → ArePasses z l.log vs' → AreReferences z l.log ws' vs' → IsFreeList z ws' hs' vs' free'
     → AreChains z l.log ws' vs' chains' → AreLinks z ws' vs' → AreWalks z ws' vs' chains' → AreRead z ws' vs' → AreCommits z l.log vs'
+    → AreKeptWords z l.log ws' vs'
     → IsKept z (record l { free = free'; chains = chains' }) (record { words = ws'; homes = hs'; views = vs' })
-kept z l s ws' hs' vs' free' chains' h still long homes leaves passes references free_list chains links walks readings commits = record {
+kept z l s ws' hs' vs' free' chains' h still long homes leaves passes references free_list chains links walks readings commits words = record {
   limits = h.limits;
   count = long ∙ h.count;
   passes = passes;
@@ -268,6 +270,7 @@ kept z l s ws' hs' vs' free' chains' h still long homes leaves passes references
   walks = walks;
   readings = readings;
   expected = expected_stay z s.words ws' still l.log s.homes hs' s.views vs' homes leaves h.expected;
+  kept_words = words;
 }
 
 -- the middle of a commit, where the pass has the same turn, carries no less and has no fewer buckets shut

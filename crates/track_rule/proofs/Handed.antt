@@ -38,6 +38,7 @@ use Rattle.track_rule.specs.Sums.{Each, bit, times, total}
 use Rattle.track_rule.specs.Walks.{IsWalk}
 use Rattle.track_rule.proofs.Carried.{Carries, carries_cut, carries_join}
 use Rattle.track_rule.proofs.Frames.{Leaves, Quiet, SameChains, chains_stay, kept, links_stay, no_commit, no_buckets, quiet_chains, quiet_still}
+use Rattle.track_rule.proofs.KeptWords.{words_carry}
 use Rattle.track_rule.proofs.Loads.{few_events, word_events, word_live}
 use Rattle.track_rule.proofs.Sums.{each_more, each_put, total_append, total_only, total_same, total_set, total_term, total_two}
 
@@ -114,6 +115,10 @@ handed z l s vs' h passes leaves places free buckets commits walk readings =
     (buckets.each (λ (x : Places × HeldBuckets). HasHooks z s.words x.0 x.1.hooks) (no_hooks z s.words) h.links.hooks) h.links)
     (record { each = walk (λ front o. (n : Walk) → o ≡ Some n → IsWalk z s.words l.chains front n) (λ front n e. absurd (none-some n e)) h.walks.each }) readings
     (commits.each (λ (x : Holding). IsMiddle z l.log x.0.middle x.0.hand x.1.carried x.2.shut x.3) tt h.commits)
+    (words_carry z l.log s.words s.views vs' (record {
+      sums = λ f none. places.sums (λ (x : Places). f x.held) none;
+      each = λ P base all. places.each (λ (x : Places). P x.held) base all;
+    }) h.kept_words)
   where
     no_hooks : (z : Sizes) (ws : List ℕ) → HasHooks z ws no_places []
     no_hooks z ws = record { each = λ i h at. absurd (some-ne-none h (sym at)); held = λ link any. absurd (omega (arith, any)); linked = λ i h at. absurd (some-ne-none h (sym at)); one = λ p q a b. absurd (false≢true a) }

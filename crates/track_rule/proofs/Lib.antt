@@ -3,6 +3,7 @@ pub mod Carried
 pub mod Frames
 pub mod LastRead
 pub mod Lists
+pub mod KeptWords
 pub mod Counting
 pub mod Balance
 pub mod Hooks

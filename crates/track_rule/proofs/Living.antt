@@ -39,6 +39,7 @@ use Rattle.track_rule.proofs.Carried.{carries_set}
 use Rattle.track_rule.proofs.Frames.{SameChains, chains_stay, hooks_stay, links_stay, middle_on, walk_stays}
 use Rattle.track_rule.proofs.LastRead.{stored_on}
 use Rattle.track_rule.proofs.LivePlaces.{both_shown, live_keeps, none_else}
+use Rattle.track_rule.proofs.KeptWords.{words_left}
 use Rattle.track_rule.proofs.Lists.{other_bit, other_taken, same_bit, same_taken, some_of}
 use Rattle.track_rule.proofs.PhaseMoves.{few_keeps, low_shows, one_phase, phase_else, phase_first, phase_refs, phase_same, phase_turn}
 use Rattle.track_rule.proofs.RecordTurns.{hand_there}
@@ -395,6 +396,7 @@ module _ (l : Ledger) (s : State Slot View) (id : ℕ) (v : View) (r : Record) (
         };
         readings = stored_on z l.log s.words s.views id (phase_word z r.place) (3 + r.id) v w h.passes at has_some (omega (arith, h.count, live_below))
             (record { reading = stored (phase_word z r.place) (3 + r.id); more = refl; word = refl; value = refl }) h.readings;
+        kept_words = words_left z l.log s.words s.views id v w at l.log new (λ i e at'. at') same.links refl h.kept_words;
         expected = record {
           turn = expected ∙ h.expected.turn ∙ sym (total_same has_expected s.views id v w at refl);
           single = omega (arith, expected, h.expected.single);

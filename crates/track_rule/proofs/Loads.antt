@@ -31,6 +31,7 @@ use Rattle.track_rule.specs.Steps.{AreAll, HasOthers, IsCount, LoadStep, LoadsRe
 use Rattle.track_rule.specs.Sums.{Each, times, total}
 use Rattle.track_rule.proofs.LastRead.{ReadsAt, read_on}
 use Rattle.track_rule.proofs.Frames.{middle_left}
+use Rattle.track_rule.proofs.KeptWords.{words_same}
 use Rattle.track_rule.proofs.Balance.{Lines, Moves, few_references, free_left, moved, pass_moved, references_left, same_lines, bucket_lines}
 use Rattle.track_rule.proofs.Sums.{length_total, total_gap, total_only, total_term, total_times}
 
@@ -46,7 +47,8 @@ reads z l s id i v w h at m p places free lines has_some read =
     (λ p. refl) h.references)
     (free_left z s.words s.words s.homes s.homes s.views id v w l.free at places free (λ p. refl) (λ p. refl) refl refl h.free_list) lines
     (read_on z l.log s.words s.words s.views id i (slice_index s.words i) v w h.passes at has_some refl (λ k other. refl) read h.readings)
-    (middle_left z l.log v w m.commit m.expected (ap (λ (x : Places). x.carried) places) lines.shut (h.commits id v at)))
+    (middle_left z l.log v w m.commit m.expected (ap (λ (x : Places). x.carried) places) lines.shut (h.commits id v at))
+    (words_same z l.log s.words s.views id v w at (ap (λ (x : Places). x.held) places) h.kept_words))
 
 -- as many notes as events
 pub length-notes : (k : ℕ) (es : List Event) → length (notes_from k es) ≡ length es

@@ -18,9 +18,11 @@ use Rattle.track_rule.specs.BucketSteps.{StoreTupleStep, aim, aimed, is_own_tupl
 use Rattle.track_rule.specs.Chains.{IsChain, chain_in, entry_of, hooks_at, links_in, loose_of, shuts_of, side, each_link}
 use Rattle.track_rule.specs.History.{records_after}
 use Rattle.track_rule.specs.Free.{is_among}
+use Rattle.track_rule.specs.KeptWords.{link_of, shows_held}
 use Rattle.track_rule.specs.Layout.{first_word, gen_at, head_word, next_word, place_of, second_word}
 use Rattle.track_rule.specs.Links.{HasHooks, IsHook, IsOwned, hook_of, hooks_of, is_down, last_link, is_up}
 use Rattle.track_rule.specs.Readings.{stored}
+use Rattle.track_rule.specs.References.{takes}
 use Rattle.track_rule.specs.Rule.{Holds, IsKept, Ledger}
 use Rattle.track_rule.specs.Sums.{Each, bit, total, times}
 use Rattle.track_rule.specs.Walks.{IsWalk}
@@ -29,7 +31,8 @@ use Rattle.track_rule.proofs.BucketMoves.{bucket_moved}
 use Rattle.track_rule.proofs.ChainLists.{chain_each, unlinked}
 use Rattle.track_rule.proofs.ChainWords.{IsString, SameAt, chain_local, each_other_link, first_head, first_next, first_second, next_head, one_first, one_next, one_second, second_head, second_next, string_first, string_gens, string_next, string_rest, string_second, word_else, word_here}
 use Rattle.track_rule.proofs.HookLists.{each_change, hook_test, hook_there, links_kept, some_hook, total_change}
-use Rattle.track_rule.proofs.UpHooks.{one_fewer, up_map}
+use Rattle.track_rule.proofs.KeptWords.{SamePairs, place_link, some_link}
+use Rattle.track_rule.proofs.Lists.{total_some}
 use Rattle.track_rule.proofs.Sums.{each_other, each_put, total_same, total_term, total_two}
 
 -- a note stays true where no generation changes, and no chain
@@ -109,18 +112,19 @@ module _ (l : Ledger) (s : State Slot View) (id : ℕ) (v : View) (h : IsKept v.
       → Each (λ k. k.link ≢ x → f k ≡ k) v.buckets.hooks → ((k : Hook) → ((f k).link ≡ k.link) × ((f k).up ≡ k.up))
       → ((k : Hook) → IsHook v.passes.sizes s.words k → IsHook v.passes.sizes (slice_set s.words word to) (f k))
       → ((y : ℕ) → 0 < y → y ≤ last_link v.passes.sizes → slice_index (slice_set s.words word to) (next_word v.passes.sizes y) ≤ last_link v.passes.sizes)
+      → ((p : ℕ) → 0 < total (shows_held p) s.views → SamePairs v.passes.sizes s.words (slice_set s.words word to) p)
       → IsKept v.passes.sizes l (record {
         words = slice_set s.words word to;
         homes = s.homes;
         views = set s.views id (strung word to (record v.buckets { hooks = map f v.buckets.hooks }) v);
       })
-  own_moved word to f low of others keeps_link hook nexts =
+  own_moved word to f low of others keeps_link hook nexts pairs =
       let z : Sizes = v.passes.sizes in
       let new : List ℕ = slice_set s.words word to in
       let w : View = strung word to (record v.buckets { hooks = map f v.buckets.hooks }) v in
       let own = own_link in
       bucket_moved z l s id v w new l.chains h at (record { made = record { passes = refl; own = refl; gathered = refl }; commit = refl; expected = refl }) has_some refl refl refl
-      (string_rest z s.words word to of.string) (length-set s.words word to)
+      (string_rest z s.words word to of.string) (length-set s.words word to) pairs
       (record {
         linked = λ b below.
             subst (λ (k : ℕ). IsChain z new b k (l.chains b)) (sym (word_else z s.words word to (head_word z b) (of.heads b below)))
@@ -223,6 +227,10 @@ aims_kept l s id v x to h at has_some down low =
     (λ (e : y ≡ x). omega (arith, ap (λ (k : ℕ). slice_index (slice_set s.words (next_word z x) to) (next_word z k)) e, here, low))
     (λ (e : y ≢ x). omega (arith, (other_at z s.words (next_word z x) to x (of_next z x own.0) y any e).next, h.links.nexts y any under))
     (cases_eq y x))
+    (λ p any d. record {
+      first = word_else z s.words (next_word z x) to (first_word z (link_of d p)) (first_next z (link_of d p) x);
+      second = word_else z s.words (next_word z x) to (second_word z (link_of d p)) (second_next z (link_of d p) x);
+    })
   where
     some_same : (a b : ℕ) → Some a ≡ Some b → a ≡ b
     some_same a b e = cc
@@ -260,26 +268,33 @@ tuple_hook z ws word to low apart k is =
       next = λ n off eq. word_else z ws word to (next_word z k.link) (apart k.link) ∙ is.next n off eq;
     }))
 
+-- the words of the links of another place
+other_pairs : (z : Sizes) (ws : List ℕ) (word to x p : ℕ) → IsOf z word x → p ≢ place_of x → SamePairs z ws (slice_set ws word to) p
+other_pairs z ws word to x p of other d =
+    let t = other_at z ws word to x of (link_of d p) (some_link d p) (λ e. other (sym (place_link d p) ∙ ap place_of e)) in
+    record { first = t.first; second = t.second }
+
 -- the link of such a word
 own_tuple : (z : Sizes) (ws : List ℕ) (word : ℕ) (owned : List ℕ) (all hooks : List Hook) → ((q : ℕ) → is_up q all ≡ false → is_up q hooks ≡ false)
     → list_any (λ (h : Hook). (not (is_up (place_of h.link) all) && (first_word z h.link == word || second_word z h.link == word)) && is_among (place_of h.link) owned) hooks ≡ true
-    → (x : ℕ) × (is_down x hooks ≡ true) × ((word ≡ first_word z x) ⊎ (word ≡ second_word z x))
+    → (x : ℕ) × (is_down x hooks ≡ true) × ((word ≡ first_word z x) ⊎ (word ≡ second_word z x)) × (is_among (place_of x) owned ≡ true)
 own_tuple z ws word owned all [] within e = absurd (false≢true e)
 own_tuple z ws word owned all (k ∷ ks) within e =
     ⊎_elim
     (λ (t : ((not (is_up (place_of k.link) all) && (first_word z k.link == word || second_word z k.link == word)) && is_among (place_of k.link) owned) ≡ true).
-    let parts = and_parts (not (is_up (place_of k.link) all)) (first_word z k.link == word || second_word z k.link == word)
-    (and_parts (not (is_up (place_of k.link) all) && (first_word z k.link == word || second_word z k.link == word)) (is_among (place_of k.link) owned) t).0 in
+    let all_parts = and_parts (not (is_up (place_of k.link) all) && (first_word z k.link == word || second_word z k.link == word)) (is_among (place_of k.link) owned) t in
+    let parts = and_parts (not (is_up (place_of k.link) all)) (first_word z k.link == word || second_word z k.link == word) all_parts.0 in
     let down : not k.up ≡ true = ap not (down_here (within (place_of k.link) (was_false (is_up (place_of k.link) all) parts.0))) in (
       k.link,
       ap (λ (b : Bool). (k.link == k.link && b) || is_down k.link ks) down ∙ ap (λ (b : Bool). (b && true) || is_down k.link ks) (eq-eqb k.link k.link refl),
       either_word (first_word z k.link) (second_word z k.link) word parts.1,
+      all_parts.1,
     ))
     (λ (t : ((not (is_up (place_of k.link) all) && (first_word z k.link == word || second_word z k.link == word)) && is_among (place_of k.link) owned) ≡ false).
     let rest = own_tuple z ws word owned all ks (λ q calm. (or_parts (place_of k.link == q && k.up) (is_up q ks) (within q calm)).1)
     (sym (ap (λ (b : Bool). b || list_any
     (λ (h : Hook). (not (is_up (place_of h.link) all) && (first_word z h.link == word || second_word z h.link == word)) && is_among (place_of h.link) owned) ks) t) ∙ e) in
-    (rest.0, down_more rest.0 k.link (not k.up) ks rest.1, rest.2))
+    (rest.0, down_more rest.0 k.link (not k.up) ks rest.1, rest.2, rest.3))
     (cases_Bool ((not (is_up (place_of k.link) all) && (first_word z k.link == word || second_word z k.link == word)) && is_among (place_of k.link) owned))
   where
     was_false : (b : Bool) → not b ≡ true → b ≡ false
@@ -305,13 +320,13 @@ own_tuple z ws word owned all (k ∷ ks) within e =
 
 tuples_kept : (l : Ledger) (s : State Slot View) (id : ℕ) (v : View) (x word to : ℕ) (h : IsKept v.passes.sizes l s) → get_elem? s.views id ≡ some v
     → 0 < v.passes.shares → is_down x v.buckets.hooks ≡ true → IsOf v.passes.sizes word x → word < length s.words
-    → ((y : ℕ) → next_word v.passes.sizes y ≢ word)
+    → ((y : ℕ) → next_word v.passes.sizes y ≢ word) → is_among (place_of x) v.places.owned ≡ true
     → IsKept v.passes.sizes l (record {
       words = slice_set s.words word to;
       homes = s.homes;
       views = set s.views id (tuple_stored word to v);
     })
-tuples_kept l s id v x word to h at has_some down of low apart =
+tuples_kept l s id v x word to h at has_some down of low apart owned =
     let z : Sizes = v.passes.sizes in
     let own = own_link l s id v h at has_some x down in
     own_moved l s id v h at has_some x down word to (tuple_in z word to) low of
@@ -325,6 +340,14 @@ tuples_kept l s id v x word to h at has_some down of low apart =
     (λ e. cond_both (second_word z k.link == word) (record k { pair = record k.pair { second = to } }) k (λ y. (y.link ≡ k.link) × (y.up ≡ k.up)) (λ f. (refl, refl)) (λ f. (refl, refl))))
     (tuple_hook z s.words word to low apart)
     (λ y any under. omega (arith, word_else z s.words word to (next_word z y) (apart y), h.links.nexts y any under))
+    (λ p any. other_pairs z s.words word to x p of (λ e. omega (arith, any, none_shown, ap (λ (k : ℕ). total (shows_held k) s.views) e)))
+  where
+    -- the pass has taken the place, and so none holds it for an id
+    none_shown : total (shows_held (place_of x)) s.views ≡ 0
+    none_shown =
+        let p : ℕ = place_of x in
+        let some_owned : 1 ≤ times p v.places.owned = total_some (λ q. q == p) v.places.owned owned in
+        h.kept_words.apart p (omega (arith, (h.free_list.owned id v at p some_owned).0, total_term (takes p) s.views id v at))
 
 -- storing a word of the tuple of a link in no chain keeps the rule
 pub stores_tuple : (slots id word to : ℕ) (v : View) (c : List (ℕ × Slot)) → is_own_tuple v.passes.sizes word v.buckets v.places.owned ≡ true → 0 < v.passes.shares
@@ -337,7 +360,7 @@ stores_tuple slots id word to v c own has_some s (l, h) long at range = (
   (refl, refl),
 )
   where
-    of_word : ((x : ℕ) × (is_down x v.buckets.hooks ≡ true) × ((word ≡ first_word v.passes.sizes x) ⊎ (word ≡ second_word v.passes.sizes x)))
+    of_word : ((x : ℕ) × (is_down x v.buckets.hooks ≡ true) × ((word ≡ first_word v.passes.sizes x) ⊎ (word ≡ second_word v.passes.sizes x)) × (is_among (place_of x) v.places.owned ≡ true))
         → IsKept v.passes.sizes l (record { words = slice_set s.words word to; homes = s.homes; views = set s.views id (tuple_stored word to v) })
     of_word t =
         let z : Sizes = v.passes.sizes in
@@ -346,8 +369,8 @@ stores_tuple slots id word to v c own has_some s (l, h) long at range = (
         ⊎_elim
         (λ (e : word ≡ first_word z t.0).
         tuples_kept l s id v t.0 word to h at has_some t.1 (subst (λ (k : ℕ). IsOf z k t.0) (sym e) (of_first z t.0 own.0))
-        (omega (arith, e, h.count, own.0, own.1)) (λ y k. first_next z t.0 y (sym e ∙ sym k)))
+        (omega (arith, e, h.count, own.0, own.1)) (λ y k. first_next z t.0 y (sym e ∙ sym k)) t.3)
         (λ (e : word ≡ second_word z t.0).
         tuples_kept l s id v t.0 word to h at has_some t.1 (subst (λ (k : ℕ). IsOf z k t.0) (sym e) (of_second z t.0 own.0))
-        (omega (arith, e, h.count, own.0, own.1)) (λ y k. second_next z t.0 y (sym e ∙ sym k)))
+        (omega (arith, e, h.count, own.0, own.1)) (λ y k. second_next z t.0 y (sym e ∙ sym k)) t.3)
         t.2

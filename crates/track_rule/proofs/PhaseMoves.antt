@@ -34,7 +34,8 @@ use Rattle.track_rule.specs.Sums.{times, total}
 use Rattle.track_rule.specs.Walks.{IsWalk}
 use Rattle.track_rule.proofs.Balance.{Moves, pass_moved, passes_moved, same_lines}
 use Rattle.track_rule.proofs.Carried.{carries_set}
-use Rattle.track_rule.proofs.Frames.{SameChains, chains_stay, hooks_stay, links_stay, middle_on, walk_stays}
+use Rattle.track_rule.proofs.Frames.{SameChains, chains_stay, hooks_stay, links_stay, walk_stays}
+use Rattle.track_rule.proofs.KeptWords.{words_left}
 use Rattle.track_rule.proofs.Lists.{other_bit, same_bit, some_of, takes_held, total_some}
 use Rattle.track_rule.proofs.Seats.{held_below, owed_below}
 use Rattle.track_rule.proofs.Loads.{reads}
@@ -505,6 +506,7 @@ module _ (l : Ledger) (s : State Slot View) (id p to : ℕ) (v : View) (h : IsKe
         };
         readings = stored_on z l.log s.words s.views id (phase_word z p) to v w h.passes at has_some (omega (arith, h.count, below))
             (record { reading = stored (phase_word z p) to; more = refl; word = refl; value = refl }) h.readings;
+        kept_words = words_left z l.log s.words s.views id v w at l.log new (λ i e at'. at') same.links refl h.kept_words;
         expected = record {
           turn = expected ∙ h.expected.turn ∙ sym (total_same has_expected s.views id v w at refl);
           single = omega (arith, expected, h.expected.single);

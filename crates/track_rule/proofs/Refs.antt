@@ -28,6 +28,8 @@ use Rattle.track_rule.specs.Rule.{Holds, IsKept, Ledger}
 use Rattle.track_rule.specs.Steps.{IsCount, LowerStep, LowersRefs, OpenStep, Opens, RaiseStep, RaisedRefs, RaisesRefs, is_second, keep, let_go, let_go_of, opened, owed_then, raised}
 use Rattle.track_rule.specs.Sums.{bit, times, total}
 use Rattle.track_rule.proofs.Frames.{Quiet, middle_more}
+use Rattle.track_rule.proofs.KeptWords.{words_opened, words_same, words_testing, words_without}
+use Rattle.track_rule.specs.KeptWords.{AreKeptWords}
 use Rattle.track_rule.proofs.LastRead.{ReadsAt, stored_on}
 use Rattle.track_rule.specs.declared.view.Middle.{Middle}
 use Rattle.track_rule.specs.declared.view.Middle.TheVariants.{Calm}
@@ -80,9 +82,9 @@ pub record RefsMove (v w : View) (p n : ℕ) (free free' : List ℕ) (before : �
 pub counts : (z : Sizes) (l : Ledger) (s : State Slot View) (id p n : ℕ) (v w : View) (free' : List ℕ) → IsKept z l s → get_elem? s.views id ≡ some v
     → 0 < v.passes.shares → p < z.entries → RefsMove v w p n l.free free' (refs_at z s.words p) → Lines z l s id v w
     → ((q : ℕ) → total (takes q) s.views + total (ends q) s.views + total (of_place q) (records_after l.log) + takes q w + ends q w ≤ 1 + takes q v + ends q v) → AreKept l.log w.places.held → IsMiddleOf z l.log w
-    → ReadsAt (refs_word z p) n v w
+    → ReadsAt (refs_word z p) n v w → AreKeptWords z l.log s.words (set s.views id w)
     → IsKept z (record l { free = free' }) (record { words = slice_set s.words (refs_word z p) n; homes = s.homes; views = set s.views id w })
-counts z l s id p n v w free' h at has_some below t lines taken purposes middle read =
+counts z l s id p n v w free' h at has_some below t lines taken purposes middle read words =
     let one : IsPass z l.log v = h.passes.each id v at in
     let ws : List ℕ = s.words in
     let now : refs_at z (slice_set ws (refs_word z p) n) p ≡ n = refs_here z ws p n (omega (arith, h.count, below)) in
@@ -135,7 +137,7 @@ counts z l s id p n v w free' h at has_some below t lines taken purposes middle 
       ended = λ q on.
           let c = t.ended q on in
           (c.0, refs_phase z ws p n q ∙ (h.free_list.ended id v at q c.1).1);
-    }) h.free_list) lines (stored_on z l.log ws s.views id (refs_word z p) n v w h.passes at has_some (omega (arith, h.count, below)) read h.readings) middle
+    }) h.free_list) lines (stored_on z l.log ws s.views id (refs_word z p) n v w h.passes at has_some (omega (arith, h.count, below)) read h.readings) middle words
 
 -- the first reference to a place from the free list
 pub opening : (slots id p : ℕ) (v : View) (c : List (ℕ × Slot)) → p < v.passes.sizes.entries → 0 < v.passes.shares
@@ -194,7 +196,8 @@ opening slots id p v c below has_some on room s (l, h) sized at range =
               bit_low (is_at p (keep p Taken) && is_for_new Taken),
             )))
             (λ (e : p ≢ q). omega (arith, h.references.taken q, takes_other q p true e)) (cases_eq p q))
-            (tt, h.references.purposes id v at) (h.commits id v at) (record { reading = stored (refs_word z p) 1; more = refl; word = refl; value = refl }),
+            (tt, h.references.purposes id v at) (h.commits id v at) (record { reading = stored (refs_word z p) 1; more = refl; word = refl; value = refl })
+            (words_opened z l.log s.words s.views id p v w at refl (omega (arith, h.references.counted p below, nobody)) h.kept_words),
       ),
       λ q same. subst (λ (k : ℕ). Opens k v w × (c ≡ c)) (one_place z p q same)
           (record { view = refl; hooks = hooks_new z s.words p v.buckets.hooks; held = omega (arith, not_held); owed = not_owed }, refl),
@@ -278,6 +281,7 @@ module _ (slots id p seen : ℕ) (v : View) (c : List (ℕ × Slot)) (below : p 
       (λ q. omega (arith, h.references.taken q)) (h.references.purposes id v at)
       (middle_more v.passes.sizes l.log v (raised true p seen v) refl refl (λ q. omega arith) (λ b. omega arith) (h.commits id v at))
       (record { reading = stored (refs_word v.passes.sizes p) (seen + 1); more = refl; word = refl; value = refl })
+      (words_same v.passes.sizes l.log s.words s.views id v (raised true p seen v) at refl h.kept_words)
   raised_hit false is room hit =
       counts v.passes.sizes l s id p (seen + 1) v (raised false p seen v) l.free h at has_some below (record {
         moves = record { made = record { passes = refl; own = refl; gathered = refl }; commit = refl; expected = refl };
@@ -300,6 +304,7 @@ module _ (slots id p seen : ℕ) (v : View) (c : List (ℕ × Slot)) (below : p 
         ended = λ q on. ((h.free_list.ended id v at q on).0, on);
       }) (same_lines v.passes.sizes l s id v (raised false p seen v) h at refl (λ q. omega arith) (λ q. omega arith) refl refl)
       (λ q. omega (arith, h.references.taken q, takes_testing q p)) (tt, h.references.purposes id v at) (h.commits id v at) (record { reading = stored (refs_word v.passes.sizes p) (seen + 1); more = refl; word = refl; value = refl })
+      (words_testing v.passes.sizes l.log s.words s.views id p v (raised false p seen v) at refl h.kept_words)
 
   raised_tells : refs_at v.passes.sizes s.words p ≡ seen → RaisedRefs p seen v (raised (is_second p v) p seen v)
   raised_tells hit = record {
@@ -441,6 +446,7 @@ module _ (id p : ℕ) (v : View) (below : p < v.passes.sizes.entries) (has_some 
       (λ q. omega (arith, h.references.taken q, unlisted_low p q v.places.ended)) (h.references.purposes id v at)
       (subst (λ (m : Middle). IsMiddle v.passes.sizes l.log m v.commit.hand (taken_out p v.places.carried) v.buckets.shut v.expected) (sym (calm is)) tt)
       (record { reading = stored (refs_word v.passes.sizes p) (n - 1); more = refl; word = refl; value = refl })
+      (words_same v.passes.sizes l.log s.words s.views id v (let_go_of true p n v) at refl h.kept_words)
   lowered false is =
       let n : ℕ = refs_at v.passes.sizes s.words p in
       let some_held : 1 ≤ held_times p v.places.held = total_some (is_at p) v.places.held held in
@@ -481,6 +487,7 @@ module _ (id p : ℕ) (v : View) (below : p < v.passes.sizes.entries) (has_some 
         ended = λ q on. ((h.free_list.ended id v at q on).0, on);
       }) (lowered_lines v.passes.sizes l s id p n v h at some_held less (λ q other. other_without p q v.places.held held (λ e. other (sym e))) down)
       (λ q. omega (arith, h.references.taken q, takes_without q p v.places.held)) (kept_without l.log p v.places.held (h.references.purposes id v at)) (h.commits id v at) (record { reading = stored (refs_word v.passes.sizes p) (n - 1); more = refl; word = refl; value = refl })
+      (words_without v.passes.sizes l.log s.words s.views id p v (let_go_of false p n v) at refl h.kept_words)
     where
       times_here : (p n : ℕ) (owed : List ℕ) → times p (owed_then p n owed) ≡ times p owed + bit (n == 1)
       times_here p n owed = times_then p p n owed ∙ ap (λ (b : Bool). times p owed + bit (n == 1 && b)) (eq-eqb p p refl) ∙ both (n == 1)

@@ -5,6 +5,7 @@ use Rattle.std.proofs.Common.{◌^◌, ◌≡◌, ℕ, ◌+◌, ◌*◌, ◌%◌
 use Rattle.std.proofs.lemmas.Bool.Decides.{nat_tests}
 use Rattle.std.proofs.lemmas.List.{length-replicate}
 use Rattle.std.proofs.lemmas.Option.{none-some}
+use Rattle.std.proofs.lemmas.Bool.{false≢true}
 use mathlib.Core.Option.{some, some-injective, some-ne-none}
 use lib.ListN.{get_elem?}
 use Rattle.atomic_table.specs.Table.{opening}
@@ -20,6 +21,7 @@ use Rattle.track_rule.specs.declared.slot.Slot.{Slot}
 use Rattle.track_rule.specs.declared.slot.Slot.TheVariants.{Vacant, Free, Expects}
 use Rattle.track_rule.specs.declared.view.Hand.{Hand}
 use Rattle.track_rule.specs.declared.view.View.{View}
+use Rattle.track_rule.specs.KeptWords.{HasTuples, is_kept_for}
 use Rattle.track_rule.specs.Layout.{gen_word, head_word, next_word, phase_at, phase_word, place_of, refs_word, turn_word, word_count}
 use Rattle.track_rule.specs.Opening.{IsWhole, first_slots}
 use Rattle.track_rule.specs.Passes.{IsPass, has_share, no_places}
@@ -162,6 +164,10 @@ starts z list table limits whole nothing room =
         };
         walks = record { each = one_view z (λ v. (n : Walk) → v.walk ≡ Some n → IsWalk z ws l.chains v.seen.front n) (λ n e. absurd (none-some n e)) };
         readings = λ one. one_view z (λ v. 0 < v.passes.shares → (k : ℕ) → slice_index ws k ≡ last_read k v) (λ has k. word k);
+        kept_words = record {
+          each = one_view z (λ v. (p id : ℕ) → is_kept_for p id v.places.held ≡ true → HasTuples z [] ws id p) (λ p id e. absurd (false≢true e));
+          apart = λ p any. absurd (omega (arith, any));
+        };
         expected = record {
           turn = word 2;
           single = omega (arith, word 2);

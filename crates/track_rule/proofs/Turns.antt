@@ -29,6 +29,7 @@ use Rattle.track_rule.proofs.Counting.{few_places}
 use Rattle.track_rule.proofs.Events.{notes_same}
 use Rattle.track_rule.proofs.Frames.{Quiet}
 use Rattle.track_rule.proofs.Hooks.{no_record_there}
+use Rattle.track_rule.proofs.KeptWords.{words_same}
 use Rattle.track_rule.proofs.Lists.{length_unlisted, unlisted_in, unlisted_out}
 use Rattle.track_rule.proofs.Loads.{others_there, reads}
 use Rattle.track_rule.proofs.LastRead.{stored_on}
@@ -81,6 +82,7 @@ module _ (l : Ledger) (s : State Slot View) (id : ℕ) (v : View) (h : IsKept v.
         ended = λ q on. let c = h.free_list.ended id v at q on in (c.0, turn_phase v.passes.sizes s.words 1 q ∙ c.1);
       }) h.free_list) (same_lines v.passes.sizes l s id v w h at refl (λ q. omega arith) (λ q. omega arith) refl refl)
       (stored_on v.passes.sizes l.log s.words s.views id 1 1 v w h.passes at has_some long (record { reading = stored 1 1; more = refl; word = refl; value = refl }) h.readings) (h.commits id v at)
+      (words_same v.passes.sizes l.log s.words s.views id v w at refl h.kept_words)
     where
       some_same : (a b f : List ℕ) → Some a ≡ Some b → a ≡ f → b ≡ f
       some_same a b f e x = cc
@@ -172,6 +174,7 @@ module _ (l : Ledger) (s : State Slot View) (id : ℕ) (v : View) (h : IsKept v.
         ended = λ q on. let c = h.free_list.ended id v at q on in (c.0, turn_phase v.passes.sizes s.words 0 q ∙ c.1);
       }) h.free_list) (same_lines v.passes.sizes l s id v w h at refl (λ q. omega arith) (λ q. omega arith) refl refl)
       (stored_on v.passes.sizes l.log s.words s.views id 1 0 v w h.passes at has_some long (record { reading = stored 1 0; more = refl; word = refl; value = refl }) h.readings) (h.commits id v at)
+      (words_same v.passes.sizes l.log s.words s.views id v w at refl h.kept_words)
 
 -- taking the turn keeps the rule
 pub taking : (slots id : ℕ) (v : View) (c : List (ℕ × Slot)) → 0 < v.passes.shares → v.free ≡ None

@@ -13,6 +13,7 @@ pub mod Commits
 pub mod Links
 pub mod Walks
 pub mod Expected
+pub mod KeptWords
 pub mod Opening
 pub mod Rule
 pub mod Sights

@@ -21,6 +21,7 @@ use Rattle.track_rule.specs.Links.{AreLinks}
 use Rattle.track_rule.specs.Readings.{AreRead}
 use Rattle.track_rule.specs.Walks.{AreWalks}
 use Rattle.track_rule.specs.Expected.{AreExpected}
+use Rattle.track_rule.specs.KeptWords.{AreKeptWords}
 
 -- what no word shows: the one history, the free list, and the chain of each bucket
 pub record Ledger : Type 0 where
@@ -46,6 +47,7 @@ pub record IsKept (z : Sizes) (l : Ledger) (s : State Slot View) : Type 0 where
   pub walks : AreWalks z s.words s.views l.chains
   pub readings : AreRead z s.words s.views
   pub expected : AreExpected z l.log s.words s.homes s.views
+  pub kept_words : AreKeptWords z l.log s.words s.views
 
 abbrev pub Holds : Sizes → State Slot View → Type 0
 Holds z s = (l : Ledger) × IsKept z l s
