@@ -26,6 +26,7 @@ use Rattle.track_rule.specs.Walks.{IsWalk, rev_onto}
 use Rattle.track_rule.proofs.Balance.{Moves, pass_moved, bucket_lines}
 use Rattle.track_rule.proofs.ChainLists.{chain_at, chain_first, chain_of, linked_up}
 use Rattle.track_rule.proofs.HookLists.{hook_test, hook_there, some_hook, test_there}
+use Rattle.track_rule.proofs.KeptWords.{tuples_told}
 use Rattle.track_rule.proofs.Loads.{others_there, reads}
 use Rattle.track_rule.proofs.Sums.{total_term}
 use Rattle.track_rule.proofs.Walking.{link_note_is, note_is, note_of, tuple_note_is, was_chain}
@@ -192,6 +193,9 @@ loads_tuple slots id word v c has_some s (l, h) long at range =
           own_second = λ x any there.
               let k = hook_there x (IsHook z s.words) v.buckets.hooks any (h.links.hooks id v at).each in
               ap (slice_index s.words) there ∙ ap (λ (y : ℕ). slice_index s.words (second_word z y)) (sym k.1) ∙ k.0.second;
+          kept = λ p i subject d held told.
+              let its = tuples_told z l.log v.seen.front s.words i p subject (h.passes.each id v at).front (h.kept_words.each id v at p i held) told d in
+              record { first = λ there. ap (slice_index s.words) there ∙ its.first; second = λ there. ap (slice_index s.words) there ∙ its.second };
         },
         refl,
       ),

@@ -1,6 +1,6 @@
 -- The tuple words of places that are held for ids: what leaves them, where a view changes, where words do, and where the
 -- history grows.
-use Rattle.std.proofs.Common.{◌≡◌, ◌≢◌, ℕ, ◌+◌, ◌*◌, ◌<◌, ◌≤◌, Bool, true, false, Some, List, [], ◌∷◌, refl, sym, ap, subst, ◌∙◌, ⊎_elim, arith, set}
+use Rattle.std.proofs.Common.{◌≡◌, ◌≢◌, ℕ, ◌+◌, ◌<◌, ◌≤◌, Bool, true, false, Some, List, [], ◌∷◌, refl, sym, ap, subst, ◌∙◌, ⊎_elim, arith, set}
 use Rattle.std.specs.List.{list_any, slice_get}
 use Rattle.std.specs.Prelude.{slice_index, ◌==◌, ◌&&◌, ◌||◌}
 use Rattle.std.proofs.lemmas.Bool.{cases_eq, cond_both, false≢true}
@@ -10,17 +10,20 @@ use Rattle.tuple_core.specs.declared.Direction.{Direction}
 use Rattle.tuple_core.specs.declared.Direction.TheVariants.{Original, Reply}
 use Rattle.history_book.specs.declared.event.Event.{Event}
 use Rattle.history_book.specs.declared.event.Event.TheVariants.{Confirm}
+use Rattle.history_book.specs.declared.record.Record.{Record}
 use Rattle.history_book.specs.declared.sizes.Sizes.{Sizes}
+use Rattle.history_book.specs.Point.{StartsWith}
 use Rattle.track_rule.specs.declared.view.Keep.{Keep}
 use Rattle.track_rule.specs.declared.view.Purpose.{Purpose}
 use Rattle.track_rule.specs.declared.view.Purpose.TheVariants.{Taken, Testing, Shown, For}
 use Rattle.track_rule.specs.declared.view.View.{View}
-use Rattle.track_rule.specs.KeptWords.{AreKeptWords, HasTuples, is_for, is_for_entry, is_kept_for, link_of, shown_times, shows_held}
+use Rattle.track_rule.specs.KeptWords.{AreKeptWords, HasPair, HasTuples, is_for, is_for_entry, is_kept_for, link_of, pair_in, shown_times, shows_held}
 use Rattle.track_rule.specs.Layout.{first_word, place_of, second_word}
 use Rattle.track_rule.specs.References.{held_times, is_at, keeps, taken_times, takes, without}
 use Rattle.track_rule.specs.Steps.{keep}
-use Rattle.track_rule.specs.Sums.{Each, bit, total}
+use Rattle.track_rule.specs.Sums.{bit, total}
 use Rattle.track_rule.proofs.Carried.{Carries, carries_set}
+use Rattle.track_rule.proofs.Events.{get_append}
 use Rattle.track_rule.proofs.Frames.{SameLinks}
 use Rattle.track_rule.proofs.Lists.{takes_other, takes_testing, takes_without, total_some}
 use Rattle.track_rule.proofs.Sums.{each_put, total_le, total_set, total_term}
@@ -103,6 +106,17 @@ tuples_stay z log log' ws ws' id p grows same h = record {
   was = record { subject = h.was.subject; event = grows id (Confirm h.was.subject) h.was.event; its_place = h.was.its_place };
   stand = λ d. record { first = (same d).first ∙ (h.stand d).first; second = (same d).second ∙ (h.stand d).second };
 }
+
+-- the Confirm of the id in a first part of the history is the one whose tuples stand there
+pub tuples_told : (z : Sizes) (log front : List Event) (ws : List ℕ) (id p : ℕ) (subject : Record) → StartsWith log front → HasTuples z log ws id p
+    → slice_get front id ≡ Some (Confirm subject) → (d : Direction) → HasPair z ws (link_of d p) (pair_in d subject)
+tuples_told z log front ws id p subject (rest, same) h told d =
+    let there : slice_get log id ≡ Some (Confirm subject) =
+    ap (λ (es : List Event). slice_get es id) same ∙ get_append front rest id (Confirm subject) told in
+    subst (λ (r : Record). HasPair z ws (link_of d p) (pair_in d r)) (one_confirm h.was.subject subject (sym h.was.event ∙ there)) (h.stand d)
+  where
+    one_confirm : (a b : Record) → Some (Confirm a) ≡ Some (Confirm b) → a ≡ b
+    one_confirm a b e = cc
 
 -- where the words stay at the places that are held for ids
 pub words_stay : (z : Sizes) (log log' : List Event) (ws ws' : List ℕ) (vs : List View) → GrowsTo log log'

@@ -1,17 +1,22 @@
 -- What the steps on the buckets tell a pass: v is what it knew before, w what it knows after, n what the step found.
-use Rattle.std.specs.Prelude.{◌⊎◌, ◌≡◌, ℕ, ◌+◌, ◌-◌, ◌%◌, ◌<◌, ◌≤◌, ◌==◌, ◌&&◌, ◌||◌, not, Bool, true, false, if◌then◌else◌, MatchBool, Some, None, List, [], ◌∷◌, map, length}
+use Rattle.std.specs.Prelude.{◌⊎◌, ◌≡◌, ℕ, ◌+◌, ◌-◌, ◌%◌, ◌<◌, ◌≤◌, ◌==◌, ◌&&◌, ◌||◌, not, Bool, true, false, if◌then◌else◌, MatchBool, Some, None, List, [], ◌∷◌, map, length, slice_get}
 use Rattle.std.specs.List.{list_any}
 use Rattle.atomic_table.specs.Table.{Me, Step}
+use Rattle.tuple_core.specs.declared.Direction.{Direction}
 use Rattle.history_book.specs.declared.event.Event.{Event}
+use Rattle.history_book.specs.declared.event.Event.TheVariants.{Confirm}
+use Rattle.history_book.specs.declared.record.Record.{Record}
 use Rattle.history_book.specs.declared.sizes.Sizes.{Sizes}
 use Rattle.track_rule.specs.declared.slot.Slot.{Slot}
 use Rattle.track_rule.specs.declared.view.Entry.{Entry}
 use Rattle.track_rule.specs.declared.view.Hook.{Hook}
 use Rattle.track_rule.specs.declared.view.Shut.{Shut}
 use Rattle.track_rule.specs.declared.view.HeldBuckets.{HeldBuckets}
+use Rattle.track_rule.specs.declared.view.Pair.{Pair}
 use Rattle.track_rule.specs.declared.view.View.{View}
 use Rattle.track_rule.specs.declared.view.Walk.{Walk}
 use Rattle.track_rule.specs.Chains.{IsOrdered, bucket_of, chain_in, entry_of, shuts_of}
+use Rattle.track_rule.specs.KeptWords.{is_kept_for, link_of, pair_in}
 use Rattle.track_rule.specs.Layout.{first_word, gen_word, head_word, next_word, place_of, second_word, side_of}
 use Rattle.track_rule.specs.Free.{is_among}
 use Rattle.track_rule.specs.Links.{hook_of, hooks_of, is_down, is_up, is_raised, last_gen, last_link}
@@ -133,8 +138,13 @@ pub record LoadsLink (word : ℕ) (v : View) (n : ℕ) (w : View) : Type 0 where
       → bucket_of v.passes.sizes (hook_of link v.buckets.hooks).pair ≡ bucket → has_link link (chain_in bucket v.buckets.shut) ≡ true
   pub whole : (bucket : ℕ) → bucket < v.passes.sizes.buckets → 0 < shuts_of bucket v → IsChainOf v.passes.sizes bucket (chain_in bucket v.buckets.shut)
 
+-- the word that was loaded, where it is one of the tuple of this link, is that of this tuple
+pub record ReadsPair (z : Sizes) (word n link : ℕ) (p : Pair) : Type 0 where
+  pub first : word ≡ first_word z link → n ≡ p.first
+  pub second : word ≡ second_word z link → n ≡ p.second
+
 -- A load of a word of a tuple. In a bucket that the pass has shut it is that of the chain, and of a link of its own it is the
--- one that the pass knows.
+-- one that the pass knows. Of a place that the pass holds for an id it is that of the tuple of the id's Confirm.
 pub record LoadsTuple (word : ℕ) (v : View) (n : ℕ) (w : View) : Type 0 where
   pub view : w ≡ noted (found word n) (record v { walk = tuple_note v.passes.sizes word n v.walk })
   pub sole : IsSole v → n ≡ last_read word v
@@ -144,6 +154,8 @@ pub record LoadsTuple (word : ℕ) (v : View) (n : ℕ) (w : View) : Type 0 wher
       → IsShutAt bucket v passed (e ∷ rest) → word ≡ second_word v.passes.sizes e.link → n ≡ e.pair.second
   pub own_first : (link : ℕ) → 0 < hooks_of link v.buckets.hooks → word ≡ first_word v.passes.sizes link → n ≡ (hook_of link v.buckets.hooks).pair.first
   pub own_second : (link : ℕ) → 0 < hooks_of link v.buckets.hooks → word ≡ second_word v.passes.sizes link → n ≡ (hook_of link v.buckets.hooks).pair.second
+  pub kept : (place id : ℕ) (subject : Record) (d : Direction) → is_kept_for place id v.places.held ≡ true → slice_get v.seen.front id ≡ Some (Confirm subject)
+      → ReadsPair v.passes.sizes word n (link_of d place) (pair_in d subject)
 
 -- STORES
 
