@@ -2,6 +2,7 @@
 use Rattle.std.proofs.Common.{◌⊎◌, ◌≤◌, inl, inr, set, ◌≡◌, ◌≢◌, ℕ, ◌+◌, ◌<◌, zero, suc, Bool, true, false, Some, None, List, [], ◌∷◌, ◌++◌, length, refl, sym, ap, subst, ◌∙◌, ⊎_elim, arith, eq-eqb, ne_eqb}
 use Rattle.std.specs.Prelude.{slice_get, ◌==◌, ◌&&◌, ◌||◌, if◌then◌else◌, find}
 use Rattle.std.specs.List.{All, list_any}
+use Rattle.std.proofs.Math.Bool.{or-true}
 use Rattle.std.proofs.lemmas.Bool.{and_from, and_parts, cases_Bool, cases_eq, cond_both, eqb-true, false≢true, or_from}
 use mathlib.Core.Option.{some, some-injective}
 use lib.ListN.{get_elem?}
@@ -109,21 +110,20 @@ kept_held place id p i (k ∷ ks) e =
     let here : k.place ≡ place = eqb-true k.place place (and_parts (is_at place k) (is_for_new k.purpose) c).0 in
     inr (sym (eqb-true k.place p parts.1) ∙ here, sym (eqb-true id i parts.0)))
     (λ (t : (id == i && is_at p k) ≡ false).
-    inl (more_true (is_for i k.purpose && is_at p k) (is_kept_for p i ks) (sym (ap (λ (b : Bool). b || is_kept_for p i ks) t) ∙ f)))
+    inl (more_true (sym (ap (λ (b : Bool). b || is_kept_for p i ks) t) ∙ f)))
     (cases_Bool (id == i && is_at p k)))
     (λ c f.
     ⊎_elim
     (λ (t : (is_for i k.purpose && is_at p k) ≡ true). inl (ap (λ (b : Bool). b || is_kept_for p i ks) t))
     (λ (t : (is_for i k.purpose && is_at p k) ≡ false).
     ⊎_elim
-    (λ (g : is_kept_for p i ks ≡ true). inl (more_true (is_for i k.purpose && is_at p k) (is_kept_for p i ks) g))
+    (λ (g : is_kept_for p i ks ≡ true). inl (more_true g))
     (λ (g : (p ≡ place) × (i ≡ id)). inr g)
     (kept_held place id p i ks (sym (ap (λ (b : Bool). b || is_kept_for p i (held_for place id ks)) t) ∙ f)))
     (cases_Bool (is_for i k.purpose && is_at p k))) e
   where
-    more_true : (a b : Bool) → b ≡ true → (a || b) ≡ true
-    more_true true b f = refl
-    more_true false b f = f
+    more_true : is_kept_for p i ks ≡ true → ((is_for i k.purpose && is_at p k) || is_kept_for p i ks) ≡ true
+    more_true g = ap (λ (b : Bool). (is_for i k.purpose && is_at p k) || b) g ∙ or-true (is_for i k.purpose && is_at p k)
 
 -- that is once more there, and no more elsewhere
 held_shown : (place id q : ℕ) (held : List Keep) → shown_times q (held_for place id held) ≤ shown_times q held + bit (place == q)

@@ -3,6 +3,7 @@
 use Rattle.std.proofs.Common.{◌≡◌, ◌≢◌, ℕ, ◌+◌, ◌<◌, ◌≤◌, Bool, true, false, Some, List, [], ◌∷◌, refl, sym, ap, subst, ◌∙◌, ⊎_elim, arith, set}
 use Rattle.std.specs.List.{list_any, slice_get}
 use Rattle.std.specs.Prelude.{slice_index, ◌==◌, ◌&&◌, ◌||◌}
+use Rattle.std.proofs.Math.Bool.{or-true}
 use Rattle.std.proofs.lemmas.Bool.{cases_eq, cond_both, false≢true}
 use mathlib.Core.Option.{some}
 use lib.ListN.{get_elem?}
@@ -58,12 +59,8 @@ any_without : (t : Keep → Bool) (q : ℕ) (held : List Keep) → list_any t (w
 any_without t q [] e = e
 any_without t q (k ∷ ks) e =
     cond_both (is_at q k) ks (k ∷ without q ks) (λ ys. list_any t ys ≡ true → (t k || list_any t ks) ≡ true)
-    (λ c f. more_true (t k) (list_any t ks) f) (λ c f. both_true (t k) (list_any t (without q ks)) (list_any t ks) (any_without t q ks) f) e
+    (λ c f. ap (λ (b : Bool). t k || b) f ∙ or-true (t k)) (λ c f. both_true (t k) (list_any t (without q ks)) (list_any t ks) (any_without t q ks) f) e
   where
-    more_true : (a b : Bool) → b ≡ true → (a || b) ≡ true
-    more_true true b f = refl
-    more_true false b f = f
-
     both_true : (a b c : Bool) → (b ≡ true → c ≡ true) → (a || b) ≡ true → (a || c) ≡ true
     both_true true b c g f = refl
     both_true false b c g f = g f

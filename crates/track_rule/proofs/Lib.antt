@@ -32,6 +32,7 @@ pub mod Columns
 pub mod AllPasses
 pub mod HistoryWord
 pub mod LivePlaces
+pub mod LiveWords
 pub mod EventSteps
 pub mod OneRecord
 pub mod Confirming

@@ -4,6 +4,8 @@ use Rattle.std.specs.Prelude.{slice_get, ◌==◌, ◌&&◌}
 use Rattle.std.specs.List.{All}
 use Rattle.std.proofs.lemmas.Bool.{and_parts, cases_Bool, cases_eq, eqb-true}
 use Rattle.std.proofs.lemmas.Bool.Decides.{nat_tests}
+use mathlib.Core.Option.{some}
+use lib.ListN.{get_elem?}
 use Rattle.atomic_table.specs.Table.{State}
 use Rattle.history_book.specs.Laws.{IsConfirmed, LiveRecordsAreConfirmed}
 use Rattle.history_book.specs.Record.{has_id}
@@ -25,22 +27,29 @@ use Rattle.track_rule.specs.Sums.{bit, total}
 use Rattle.track_rule.proofs.Lists.{find_there, other_bit, same_bit}
 use Rattle.track_rule.proofs.Sums.{total_term}
 
--- a record that is live with an id and a place was confirmed there
-pub both_confirmed : (log : List Event) (p i : ℕ) (rs : List Record) → All (IsConfirmed log) rs → 0 < total (of_both p i) rs → WasConfirmed log i p
-both_confirmed log p i [] all any = absurd (omega (arith, any))
-both_confirmed log p i (r ∷ rs) all any =
+-- one that counts of a place and an id is a record with both, and was confirmed
+pub both_live : (log : List Event) (p i : ℕ) (rs : List Record) → All (IsConfirmed log) rs → 0 < total (of_both p i) rs
+    → (j : ℕ) × (r : Record) × (get_elem? rs j ≡ some r) × IsConfirmed log r × (r.place ≡ p) × (r.id ≡ i)
+both_live log p i [] all any = absurd (omega (arith, any))
+both_live log p i (r ∷ rs) all any =
     ⊎_elim
     (λ (e : (r.place == p && r.id == i) ≡ true).
     let parts = and_parts (r.place == p) (r.id == i) e in
-    let c = all 0 r (omega arith) in
-    record {
-      subject = c.subject;
-      event = subst (λ (k : ℕ). slice_get log k ≡ Some (Confirm c.subject)) (eqb-true r.id i parts.1) c.event;
-      its_place = sym c.same.place ∙ eqb-true r.place p parts.0;
-    })
+    (0, r, refl, all 0 r (omega arith), eqb-true r.place p parts.0, eqb-true r.id i parts.1))
     (λ (e : (r.place == p && r.id == i) ≡ false).
-    both_confirmed log p i rs (λ k d short. all (suc k) d (omega (arith, short))) (omega (arith, any, ap bit e)))
+    let t = both_live log p i rs (λ k d short. all (suc k) d (omega (arith, short))) (omega (arith, any, ap bit e)) in
+    (suc t.0, t.1, t.2, t.3, t.4, t.5))
     (cases_Bool (r.place == p && r.id == i))
+
+-- it was confirmed there
+pub both_confirmed : (log : List Event) (p i : ℕ) (rs : List Record) → All (IsConfirmed log) rs → 0 < total (of_both p i) rs → WasConfirmed log i p
+both_confirmed log p i rs all any =
+    let t = both_live log p i rs all any in
+    record {
+      subject = t.3.subject;
+      event = subst (λ (k : ℕ). slice_get log k ≡ Some (Confirm t.3.subject)) t.5 t.3.event;
+      its_place = sym t.3.same.place ∙ t.4;
+    }
 
 -- it was confirmed once
 pub one_place : (log : List Event) (i p q : ℕ) → WasConfirmed log i p → WasConfirmed log i q → p ≡ q
@@ -80,7 +89,7 @@ pub own_both : (r : Record) → of_both r.place r.id r ≡ 1
 own_both r = ap bit (λ k. eq-eqb r.place r.place refl k && eq-eqb r.id r.id refl k)
 
 module _ (z : Sizes) (l : Ledger) (s : State Slot View) (h : IsKept z l s) (low : LiveRecordsAreConfirmed) where
-  all_confirmed : All (IsConfirmed l.log) (records_after l.log)
+  pub all_confirmed : All (IsConfirmed l.log) (records_after l.log)
   all_confirmed = (low z l.log (length l.log) h.history.legal).0
 
   -- the record that is found by its id

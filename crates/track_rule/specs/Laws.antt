@@ -7,7 +7,8 @@ use Rattle.history_book.specs.declared.sizes.Sizes.{Sizes}
 use Rattle.track_rule.specs.declared.slot.Slot.{Slot}
 use Rattle.track_rule.specs.declared.view.View.{View}
 use Rattle.track_rule.specs.Free.{has_turn, is_among, known_free, owes}
-use Rattle.track_rule.specs.Layout.{refs_at}
+use Rattle.track_rule.specs.KeptWords.{HasTuples, is_kept_for}
+use Rattle.track_rule.specs.Layout.{phase_at, refs_at}
 use Rattle.track_rule.specs.History.{records_after}
 use Rattle.track_rule.specs.Phases.{of_place}
 use Rattle.track_rule.specs.References.{ends, keeps, takes}
@@ -57,4 +58,16 @@ LastReferenceIsAlone =
 abbrev pub TakenPlacesAreNew : Type 0
 TakenPlacesAreNew =
     (z : Sizes) (l : Ledger) (s : State Slot View) (place : ℕ) → IsKept z l s
-    → total (takes place) s.views + total (ends place) s.views + total (of_place place) (records_after l.log) ≤ 1
+    → total (takes place) s.views + total (of_place place) (records_after l.log) ≤ 1
+
+-- Where the phase of a place is LIVE of an id, both tuples that the id's Confirm names stand in the words of the place.
+abbrev pub LivePlacesHaveTheirTuples : Type 0
+LivePlacesHaveTheirTuples =
+    (z : Sizes) (l : Ledger) (s : State Slot View) (place id : ℕ) → IsKept z l s → place < z.entries → phase_at z s.words place ≡ 3 + id
+    → HasTuples z l.log s.words id place
+
+-- And so they do where a pass holds the place for the id.
+abbrev pub HeldPlacesHaveTheirTuples : Type 0
+HeldPlacesHaveTheirTuples =
+    (z : Sizes) (l : Ledger) (s : State Slot View) (i place id : ℕ) (v : View) → IsKept z l s → get_elem? s.views i ≡ some v
+    → is_kept_for place id v.places.held ≡ true → HasTuples z l.log s.words id place

@@ -1,6 +1,8 @@
 //! What the rule says of all passes: each law is the contract of a function that does nothing.
 
-ghost use Rattle.track_rule.specs.Laws.{GivenPlacesAreUnused, LastReferenceIsAlone, NoOtherPlaces, OnePassHasTheList, PlacesHaveOneUse, TakenPlacesAreNew, TheListIsKnown};
+ghost use Rattle.track_rule.specs.Laws.{GivenPlacesAreUnused, HeldPlacesHaveTheirTuples, LastReferenceIsAlone, LivePlacesHaveTheirTuples, NoOtherPlaces, OnePassHasTheList, PlacesHaveOneUse, TakenPlacesAreNew, TheListIsKnown};
+
+use history_book::laws::live_records_are_confirmed;
 
 /// Between any two steps each place of the pool is free once, or owed once by one pass, or has a reference.
 pub fn places_have_one_use()
@@ -28,3 +30,11 @@ pub fn last_reference_is_alone()
 pub fn taken_places_are_new()
     ensures { TakenPlacesAreNew }
 {}
+
+/// The tuple words of a place that is LIVE of an id, or held for one, are those of the tuples of the id's Confirm.
+pub fn entries_have_their_tuples()
+    ensures live { LivePlacesHaveTheirTuples }
+    ensures held { HeldPlacesHaveTheirTuples }
+{
+    live_records_are_confirmed();
+}
