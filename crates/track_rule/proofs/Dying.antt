@@ -40,7 +40,7 @@ use Rattle.track_rule.proofs.Frames.{SameChains, chains_stay, hooks_stay, links_
 use Rattle.track_rule.proofs.LastRead.{stored_on}
 use Rattle.track_rule.proofs.LivePlaces.{both_shown, found_confirmed, hand_confirmed, live_keeps, none_else, one_place}
 use Rattle.track_rule.proofs.KeptWords.{words_left}
-use Rattle.track_rule.proofs.Lists.{other_bit, same_bit, total_none, total_some}
+use Rattle.track_rule.proofs.Lists.{other_bit, same_bit, total_some}
 use Rattle.track_rule.proofs.PhaseMoves.{low_shows, one_phase, phase_else, phase_first, phase_refs, phase_same, phase_turn}
 use Rattle.track_rule.proofs.RecordTurns.{hand_there}
 use Rattle.track_rule.proofs.Seats.{StaysAt, same_at}

@@ -44,7 +44,7 @@ use Rattle.track_rule.specs.Sums.{Each, bit, times, total}
 use Rattle.track_rule.proofs.ChainLists.{chain_each}
 use Rattle.track_rule.proofs.Confirms.{bucket_low, state_on}
 use Rattle.track_rule.proofs.Events.{get_append, kept_on, passes_made}
-use Rattle.track_rule.proofs.Frames.{SameChains, calm_lives, hooks_stay, links_stay}
+use Rattle.track_rule.proofs.Frames.{SameChains, hooks_stay, links_stay, middle_same}
 use Rattle.track_rule.proofs.HistoryWord.{word_other, word_phase, word_refs, word_same}
 use Rattle.track_rule.proofs.KeptWords.{words_left}
 use Rattle.track_rule.proofs.LastRead.{stored_on}

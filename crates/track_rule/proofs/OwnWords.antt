@@ -34,6 +34,7 @@ use Rattle.track_rule.proofs.HookLists.{each_change, hook_test, hook_there, link
 use Rattle.track_rule.proofs.KeptWords.{SamePairs, place_link, some_link}
 use Rattle.track_rule.proofs.Lists.{total_some}
 use Rattle.track_rule.proofs.Sums.{each_other, each_put, total_same, total_term, total_two}
+use Rattle.track_rule.proofs.UpHooks.{one_fewer, up_map}
 
 -- a note stays true where no generation changes, and no chain
 pub walk_gens : (z : Sizes) (ws ws' : List ℕ) (chains : ℕ → List Entry) (front : List Event) (m : Walk)

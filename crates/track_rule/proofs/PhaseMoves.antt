@@ -34,7 +34,7 @@ use Rattle.track_rule.specs.Sums.{times, total}
 use Rattle.track_rule.specs.Walks.{IsWalk}
 use Rattle.track_rule.proofs.Balance.{Moves, pass_moved, passes_moved, same_lines}
 use Rattle.track_rule.proofs.Carried.{carries_set}
-use Rattle.track_rule.proofs.Frames.{SameChains, chains_stay, hooks_stay, links_stay, walk_stays}
+use Rattle.track_rule.proofs.Frames.{SameChains, chains_stay, hooks_stay, links_stay, walk_stays, middle_on}
 use Rattle.track_rule.proofs.KeptWords.{words_left}
 use Rattle.track_rule.proofs.Lists.{other_bit, same_bit, some_of, takes_held, total_some}
 use Rattle.track_rule.proofs.Seats.{held_below, owed_below}

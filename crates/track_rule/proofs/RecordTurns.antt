@@ -36,7 +36,7 @@ use Rattle.track_rule.specs.TurnSteps.{CanGiveTurn, GiveTurnStep, TakeTurnStep, 
 use Rattle.track_rule.specs.Walks.{IsWalk}
 use Rattle.track_rule.proofs.Balance.{MakesNone, Moves, free_left, pass_moved, passes_moved, references_left, same_lines}
 use Rattle.track_rule.proofs.Carried.{carries_set}
-use Rattle.track_rule.proofs.Frames.{SameChains, chains_stay, hooks_stay, links_stay, walk_stays, middle_calm}
+use Rattle.track_rule.proofs.Frames.{SameChains, chains_stay, hooks_stay, links_stay, walk_stays, middle_calm, middle_same}
 use Rattle.track_rule.proofs.KeptWords.{words_left}
 use Rattle.track_rule.proofs.Lists.{other_bit, same_bit}
 use Rattle.track_rule.proofs.Loads.{others_there, reads}

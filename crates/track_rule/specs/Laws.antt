@@ -58,7 +58,7 @@ LastReferenceIsAlone =
 abbrev pub TakenPlacesAreNew : Type 0
 TakenPlacesAreNew =
     (z : Sizes) (l : Ledger) (s : State Slot View) (place : ℕ) → IsKept z l s
-    → total (takes place) s.views + total (of_place place) (records_after l.log) ≤ 1
+    → total (takes place) s.views + total (ends place) s.views + total (of_place place) (records_after l.log) ≤ 1
 
 -- Where the phase of a place is LIVE of an id, both tuples that the id's Confirm names stand in the words of the place.
 abbrev pub LivePlacesHaveTheirTuples : Type 0
