@@ -45,8 +45,8 @@ pub record IsPrepared (place : ℕ) (places : Places) (hooks : List Hook) : Type
 abbrev pub has_link : ℕ → List Hook → Bool
 has_link place hooks = list_any (λ (h : Hook). place_of h.link == place) hooks
 
--- Of places that were taken alone the pass has hooks, and owns them; none is in a chain, or at the end of one. Of owed places alone
--- it has made the phase FREE.
+-- Of places that were taken alone the pass has hooks, and owns them; none is in a chain, and none is 0, which is no link. Of owed
+-- places alone it has made the phase FREE.
 pub record AreSettled (places : Places) (hooks : List Hook) : Type 0 where
   pub purposes : AllByRecursion (λ (k : Keep). IsSettled k.purpose) places.held
   pub taken : (place : ℕ) → is_taken place places.held ≡ true → IsPrepared place places hooks

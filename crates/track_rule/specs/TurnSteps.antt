@@ -25,8 +25,8 @@ with_subject place subject slots = (record_slot place, slot_of_record subject) �
 abbrev pub with_hand : Option Hand → Reading → View → View
 with_hand hand r v = noted r (record v { commit = record v.commit { hand = hand } })
 
--- The turn was free, and the pass has it now, with the record out of its slot. What it knows of the phase is that of the place
--- where it is LIVE, and below that else.
+-- The turn was free, and the pass has it now, with the record out of its slot. Phase and record are what the rule's `IsHand`
+-- says.
 pub record TookTurn (place : ℕ) (v : View) (slots : List (ℕ × Slot)) (w : View) (slots' : List (ℕ × Slot)) : Type 0 where
   pub phase : ℕ
   pub view : w ≡ with_hand (Some (record { place = place; phase = phase; subject = subject_in slots' })) (stored (turn_word v.passes.sizes place) 1) v

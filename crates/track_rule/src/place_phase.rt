@@ -1,4 +1,4 @@
-//! The steps on the phases of places while no entry is live there. Each is one atomic step.
+//! The steps on the phases of places: a load, and the store of FREE or OWNED while no entry is live there. Each is one atomic step.
 
 ghost use Rattle.std.specs.Prelude.{◌≡◌, ◌<◌, true};
 ghost use Rattle.history_book.specs.Sizes.{AreWithinLimits};

@@ -30,7 +30,7 @@ impl<'b> Pass<'b> {
 
     /// Takes the turn of the free list, if no pass has it, and the list out of its slot.
     pub fn free_take(&mut self) -> bool
-        requires calm { self.old.view.free ≡ None }
+        requires free { self.old.view.free ≡ None }
         ensures takes { TakesFree result self.old.view self.old.slots self.new.view self.new.slots }
         ensures table { self.new.table ≡ self.old.table }
     {

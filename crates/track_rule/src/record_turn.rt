@@ -54,7 +54,7 @@ impl<'b> Pass<'b> {
     /// record, and not the free list.
     pub fn turn_take(&mut self, place: u32) -> bool
         requires place { place < (sizes_of self.old).entries }
-        requires calm { self.old.view.commit.hand ≡ None }
+        requires hand { self.old.view.commit.hand ≡ None }
         requires free { self.old.view.free ≡ None }
         ensures takes { TakesTurn result place self.old.view self.old.slots self.new.view self.new.slots }
         ensures table { self.new.table ≡ self.old.table }

@@ -13,10 +13,10 @@ pub compare_exchange-requires : goal.compare_exchange-requires
 compare_exchange-requires c =
     let p = c.self.inside in
     let h = c.self.invariant in
-    let calm : p.seat.me.0.free ≡ None = subst (λ (x : PassSight). x.view.free ≡ None) (sym c.self.view_is) c.requires.calm in
+    let free : p.seat.me.0.free ≡ None = subst (λ (x : PassSight). x.view.free ≡ None) (sym c.self.view_is) c.requires.free in
     let slots = p.shared.now.table_id.slots in (
       h.same,
       omega (arith, h.right.counts.words, ap (λ t. t.words) h.same),
       subst (λ (z : Sizes). Allows (Holds z) slots p.seat.id p.seat.me 1 (λ n. either (eqb n 0) 1 n) (TakeStep (step slots 1 0 1 none) p.seat.me))
-          h.key_is (taking slots p.seat.id p.seat.me.0 p.seat.me.1 h.right.some calm),
+          h.key_is (taking slots p.seat.id p.seat.me.0 p.seat.me.1 h.right.some free),
     )

@@ -20,12 +20,12 @@ compare_exchange-requires c =
     let slots = p.shared.now.table_id.slots in
     let word : c.turn_word-word.result ≡ turn_word z place = c.turn_word-word.ensures.word ∙ ap (λ (y : Sizes). turn_word y place) h.sizes_are in
     let below : place < z.entries = subst (λ (x : PassSight). place < (sizes_of x).entries) (sym c.self.view_is) c.requires.place in
-    let calm : p.seat.me.0.commit.hand ≡ None = subst (λ (x : PassSight). x.view.commit.hand ≡ None) (sym c.self.view_is) c.requires.calm in (
+    let hand : p.seat.me.0.commit.hand ≡ None = subst (λ (x : PassSight). x.view.commit.hand ≡ None) (sym c.self.view_is) c.requires.hand in (
       h.same,
       omega (arith, h.right.counts.words, ap (λ t. t.words) h.same, word, below),
       allowed z p.shared.now.key slots p.seat.id p.seat.me (turn_word z place) c.turn_word-word.result (λ n. either (eqb n 0) 1 n)
           (λ w. TakeTurnStep (step slots w 0 1 none) p.seat.me) h.key_is word
-          (taking_turn slots p.seat.id place p.seat.me.0 p.seat.me.1 below h.right.some calm),
+          (taking_turn slots p.seat.id place p.seat.me.0 p.seat.me.1 below h.right.some hand),
     )
 
 pub invariant_of-self : goal.invariant_of-self
@@ -36,4 +36,4 @@ invariant_of-self c =
     c.turn_word-word.ensures.word ∙ ap (λ (y : Sizes). turn_word y c.args.place) h.sizes_are in
     turned_at (c.compare_exchange.result == 0) c.args.place p.seat.table_id p.shared.now.table_id p.shared.now.key p.sizes c.compare_exchange.new.seat.table_id p.seat.me
     c.compare_exchange.new.seat.me h c.compare_exchange.ensures.0 (subst (λ (x : PassSight). x.view.free ≡ None) (sym c.self.view_is) c.requires.free)
-    (subst (λ (x : PassSight). x.view.commit.hand ≡ None) (sym c.self.view_is) c.requires.calm) (c.compare_exchange.ensures.2 c.args.place word)
+    (subst (λ (x : PassSight). x.view.commit.hand ≡ None) (sym c.self.view_is) c.requires.hand) (c.compare_exchange.ensures.2 c.args.place word)
