@@ -8,3 +8,4 @@ pub mod Commit
 pub mod Rival
 pub mod Confirm
 pub mod Noting
+pub mod TestCrew

@@ -1,4 +1,4 @@
-//! Two clerks of one tracker with a pool of two places, one after the other.
+//! Clerks of one tracker, one after the other and on threads.
 
 ghost use Rattle.std.specs.Prelude.{◌≡◌, None};
 ghost use Rattle.history_book.specs.Places.{HoldsNothing, HoldsOne};
@@ -15,6 +15,11 @@ use std::process::Abort;
 use std::sync::Wait;
 use std::test::Fail;
 
+mod confirms;
+mod crowd;
+mod flows;
+mod halt;
+
 /// A pool of two places, for two passes.
 fn sizes() -> Sizes
     ensures limits { AreWithinLimits result }
@@ -24,6 +29,20 @@ fn sizes() -> Sizes
         entries: 2,
         buckets: 1,
         seed: 0,
+        passes: 2,
+        expectations: 0,
+    }
+}
+
+/// A pool of four places with sixteen buckets, for two passes.
+fn sixteen_buckets() -> Sizes
+    ensures limits { AreWithinLimits result }
+    ensures passes { result.passes ≡ 2 }
+{
+    Sizes {
+        entries: 4,
+        buckets: 16,
+        seed: 1,
         passes: 2,
         expectations: 0,
     }

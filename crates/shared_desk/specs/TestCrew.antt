@@ -1,0 +1,24 @@
+-- For tests: the clerks of four threads, to which one clerk handed over its shares.
+use Rattle.std.specs.Prelude.{◌≡◌, ℕ, List, []}
+use Rattle.history_book.specs.Places.{HoldsNothing}
+use Rattle.history_book.specs.Sight.{Sight}
+
+-- a clerk of the tracker of four passes with one share, which keeps no place; nothing was returned to it
+pub record IsMember (numbers : List ℕ) (s : Sight) : Type 0 where
+  pub tracker : s.tracker ≡ numbers
+  pub passes : s.sizes.passes ≡ 4
+  pub shares : s.shares ≡ 1
+  pub returned : s.returned ≡ 0
+  pub nothing : HoldsNothing s
+
+-- one that made no event yet
+pub record IsNew (numbers : List ℕ) (s : Sight) : Type 0 where
+  pub member : IsMember numbers s
+  pub own : s.own ≡ []
+
+-- the first one of the tracker, which has all shares
+pub record IsWhole (s : Sight) : Type 0 where
+  pub passes : s.sizes.passes ≡ 4
+  pub shares : s.shares ≡ 4
+  pub returned : s.returned ≡ 0
+  pub own : s.own ≡ []

@@ -1,0 +1,83 @@
+//! Flows of UDP, and a clerk's way with one of them.
+
+ghost use Rattle.std.specs.Prelude.{◌≡◌, ◌+◌, ◌≤◌, true, []};
+ghost use Rattle.history_book.specs.Entry.{is_flow_of_one_protocol};
+ghost use Rattle.history_book.specs.Held.{is_held, without};
+ghost use Rattle.history_book.specs.Places.{HoldsNothing};
+ghost use Rattle.history_book.specs.WentOn.{IsSamePass};
+ghost use Rattle.proto_rules.specs.declared.PartKind.TheVariants as kind;
+ghost use Rattle.shared_desk.specs.Sights.{sight_of};
+ghost use Rattle.tuple_core.specs.declared.Proto.TheVariants.{Udp};
+
+use crate::clerk::Clerk;
+use ct_io::Gate;
+use history_book::outcome::{ConfirmOutcome, ReleaseOutcome, TakeOutcome};
+use history_book::record::Flow;
+use proto_rules::{Part, PartKind};
+use std::sync::Wait;
+use tuple_core::{Proto, Tuple};
+
+/// The tuple of a packet of UDP from one address and port to another.
+pub fn udp(src: u32, a: u16, dst: u32, b: u16) -> Tuple
+    ensures { result.proto ≡ Udp }
+{
+    Tuple {
+        proto: Proto::Udp,
+        src,
+        dst,
+        a,
+        b,
+    }
+}
+
+/// A flow of UDP with these tuples.
+pub fn flow(original: Tuple, reply: Tuple) -> Flow
+    requires original { original.proto ≡ Udp }
+    requires reply { reply.proto ≡ Udp }
+    ensures { is_flow_of_one_protocol result ≡ true }
+{
+    Flow {
+        original,
+        reply,
+        part: Part {
+            kind: PartKind::Udp,
+            replied: false,
+            assured: false,
+            deadline: 31_000_000,
+        },
+        helper: false,
+        master: None,
+    }
+}
+
+/// Gives up the one place that the clerk holds, and makes it free where nobody else has it.
+fn give_up<G: Gate, R: Wait>(rt: &R, clerk: &mut Clerk<G>, place: u32)
+    requires held { is_held place (sight_of clerk.old).held ≡ true }
+    requires only { without place (sight_of clerk.old).held ≡ [] }
+    requires owed { (sight_of clerk.old).owed ≡ [] }
+    ensures nothing { HoldsNothing (sight_of clerk.new) }
+    ensures same { IsSamePass (sight_of clerk.old) (sight_of clerk.new) }
+    ensures spare { (sight_of clerk.new).spare ≡ (sight_of clerk.old).spare }
+{
+    match clerk.release_now(place) {
+        ReleaseOutcome::Kept => {}
+        ReleaseOutcome::Last => clerk.recycle(rt, place),
+    }
+}
+
+/// Confirms a flow in a place that was taken for it, and gives the place up. None is that no place was free.
+pub fn answer<G: Gate, R: Wait>(rt: &R, clerk: &mut Clerk<G>, flow: &Flow) -> Option<ConfirmOutcome>
+    requires nothing { HoldsNothing (sight_of clerk.old) }
+    requires protocol { is_flow_of_one_protocol flow.now ≡ true }
+    requires spare { 1 ≤ (sight_of clerk.old).spare }
+    ensures nothing { HoldsNothing (sight_of clerk.new) }
+    ensures same { IsSamePass (sight_of clerk.old) (sight_of clerk.new) }
+    ensures spare { (sight_of clerk.old).spare ≤ (sight_of clerk.new).spare + 1 }
+{
+    let TakeOutcome::Taken { place } = clerk.take(rt) else {
+        return None;
+    };
+    let outcome = clerk.confirm(rt, place, flow);
+    give_up(rt, clerk, place);
+    Some(outcome)
+}
