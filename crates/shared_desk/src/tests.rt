@@ -53,6 +53,7 @@ fn take_one<G: Gate, R: Wait + Abort>(rt: &R, clerk: &mut Clerk<G>) -> u32
     requires { HoldsNothing (sight_of clerk.old) }
     ensures one { HoldsOne (record { place = result; id = None }) (sight_of clerk.new) }
     ensures same { IsSamePass (sight_of clerk.old) (sight_of clerk.new) }
+    ensures spare { (sight_of clerk.new).spare ≡ (sight_of clerk.old).spare }
 {
     let TakeOutcome::Taken { place } = clerk.take(rt) else {
         panic!(rt; "a place was free");

@@ -1,14 +1,14 @@
 //! Two clerks of one thread confirm flows, one after the other.
 
-ghost use Rattle.std.specs.Prelude.{◌≡◌, ◌+◌, ◌≤◌, true};
+ghost use Rattle.std.specs.Prelude.{◌≡◌, ◌+◌, ◌≤◌, true, None};
 ghost use Rattle.history_book.specs.Entry.{is_flow_of_one_protocol};
 ghost use Rattle.history_book.specs.Held.{is_held};
-ghost use Rattle.history_book.specs.Places.{HoldsNothing};
+ghost use Rattle.history_book.specs.Places.{HoldsNothing, HoldsOne};
 ghost use Rattle.history_book.specs.Sizes.{AreWithinLimits};
 ghost use Rattle.shared_desk.specs.Sights.{sight_of};
 
-use super::flows::{answer, flow, udp};
-use super::{sixteen_buckets, sizes};
+use super::flows::{answer, confirm_in, flow, udp};
+use super::{sixteen_buckets, sizes, take_one};
 use crate::clerk::Clerk;
 use crate::tracker::Tracker;
 use ct_io::{Crossing, Gate, NoGate};
@@ -95,6 +95,22 @@ fn after_two<R: Wait + Abort + AllocGlobal>(
     Ok(outcome)
 }
 
+/// Two clerks have a place each, and confirm one flow, one after the other.
+fn both_confirm<G: Gate, R: Wait>(
+    rt: &R,
+    one: &mut Clerk<G>,
+    two: &mut Clerk<G>,
+    place: u32,
+    other: u32,
+) -> (ConfirmOutcome, ConfirmOutcome)
+    requires one { HoldsOne (record { place = place; id = None }) (sight_of one.old) }
+    requires two { HoldsOne (record { place = other; id = None }) (sight_of two.old) }
+    requires spare { (1 ≤ (sight_of one.old).spare) × (1 ≤ (sight_of two.old).spare) }
+{
+    let first = confirm_in(rt, one, place, &query());
+    (first, confirm_in(rt, two, other, &query()))
+}
+
 #[test]
 fn one_flow_is_confirmed_once(rt: HostRuntime) -> Result<(), Fail> {
     let (tracker, spot) = Tracker::new(rt.alloc(), sizes())?;
@@ -103,18 +119,20 @@ fn one_flow_is_confirmed_once(rt: HostRuntime) -> Result<(), Fail> {
     let mut two = one.split(1, 1);
     one.ready(1)?;
     two.ready(1)?;
-    make(&rt, &mut one, &query(), 0);
-    assert_eq!(rt; gate.in_confirm.load(SeqCst), 1);
-    let clash = answer(&rt, &mut two, &query());
+    let place = take_one(&rt, &mut one);
+    let other = take_one(&rt, &mut two);
+    assert!(rt; place != other);
+    let (made, clash) = both_confirm(&rt, &mut one, &mut two, place, other);
+    assert!(rt; matches!(made, ConfirmOutcome::Confirmed { id: 0 }));
     assert!(rt;
         matches!(
             clash,
-            Some(ConfirmOutcome::Clash {
+            ConfirmOutcome::Clash {
                 id: 0,
                 direction: Direction::Original,
                 both: true,
                 at: 1
-            })
+            }
         )
     );
     assert_eq!(rt; gate.in_confirm.load(SeqCst), 1);

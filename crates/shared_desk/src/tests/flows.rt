@@ -1,9 +1,9 @@
 //! Flows of UDP, and a clerk's way with one of them.
 
-ghost use Rattle.std.specs.Prelude.{◌≡◌, ◌+◌, ◌≤◌, true, []};
+ghost use Rattle.std.specs.Prelude.{◌≡◌, ◌+◌, ◌≤◌, true, None, []};
 ghost use Rattle.history_book.specs.Entry.{is_flow_of_one_protocol};
 ghost use Rattle.history_book.specs.Held.{is_held, without};
-ghost use Rattle.history_book.specs.Places.{HoldsNothing};
+ghost use Rattle.history_book.specs.Places.{HoldsNothing, HoldsOne};
 ghost use Rattle.history_book.specs.WentOn.{IsSamePass};
 ghost use Rattle.proto_rules.specs.declared.PartKind.TheVariants as kind;
 ghost use Rattle.shared_desk.specs.Sights.{sight_of};
@@ -65,7 +65,26 @@ fn give_up<G: Gate, R: Wait>(rt: &R, clerk: &mut Clerk<G>, place: u32)
     }
 }
 
-/// Confirms a flow in a place that was taken for it, and gives the place up. None is that no place was free.
+/// Confirms a flow in the one place that the clerk has taken, and gives the place up.
+pub fn confirm_in<G: Gate, R: Wait>(
+    rt: &R,
+    clerk: &mut Clerk<G>,
+    place: u32,
+    flow: &Flow,
+) -> ConfirmOutcome
+    requires one { HoldsOne (record { place = place; id = None }) (sight_of clerk.old) }
+    requires protocol { is_flow_of_one_protocol flow.now ≡ true }
+    requires spare { 1 ≤ (sight_of clerk.old).spare }
+    ensures nothing { HoldsNothing (sight_of clerk.new) }
+    ensures same { IsSamePass (sight_of clerk.old) (sight_of clerk.new) }
+    ensures spare { (sight_of clerk.old).spare ≤ (sight_of clerk.new).spare + 1 }
+{
+    let outcome = clerk.confirm(rt, place, flow);
+    give_up(rt, clerk, place);
+    outcome
+}
+
+/// Takes a place for a flow, confirms it there, and gives the place up. None is that no place was free.
 pub fn answer<G: Gate, R: Wait>(rt: &R, clerk: &mut Clerk<G>, flow: &Flow) -> Option<ConfirmOutcome>
     requires nothing { HoldsNothing (sight_of clerk.old) }
     requires protocol { is_flow_of_one_protocol flow.now ≡ true }
@@ -74,10 +93,8 @@ pub fn answer<G: Gate, R: Wait>(rt: &R, clerk: &mut Clerk<G>, flow: &Flow) -> Op
     ensures same { IsSamePass (sight_of clerk.old) (sight_of clerk.new) }
     ensures spare { (sight_of clerk.old).spare ≤ (sight_of clerk.new).spare + 1 }
 {
-    let TakeOutcome::Taken { place } = clerk.take(rt) else {
-        return None;
-    };
-    let outcome = clerk.confirm(rt, place, flow);
-    give_up(rt, clerk, place);
-    Some(outcome)
+    match clerk.take(rt) {
+        TakeOutcome::Taken { place } => Some(confirm_in(rt, clerk, place, flow)),
+        TakeOutcome::Full { .. } => None,
+    }
 }
