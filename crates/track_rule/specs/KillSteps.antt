@@ -76,8 +76,8 @@ OfDying F Calm = ⊥
 OfDying F (Born r) = ⊥
 OfDying F (Dying r) = F r
 
--- The record that dies is that of the id, the reason holds of it, the pass has room for an event, and none of its links stands in a
--- chain.
+-- The record that dies is that of the id, and the reason holds of it. The pass has room for an event, and no link of its own stands
+-- in a chain.
 pub record MayDestroy (d : Destroying) (v : View) (r : Record) : Type 0 where
   pub same : r.id ≡ d.id
   pub reason : is_reason d.why r ≡ true
