@@ -29,8 +29,9 @@ pub record Ledger : Type 0 where
   pub free : List ℕ
   pub chains : ℕ → List Entry
 
--- The nine parts of the rule. What it says of phases, and of chains, is in two parts each: of the phases and of the middle of a
--- commit, and of the chains and of the words of links. One more says of readings what holds where the table has one pass.
+-- The nine parts of the rule. What it says of references, of phases and of chains is in two parts each: of the references and of
+-- the tuple words of places that are held for ids, of the phases and of the middle of a commit, and of the chains and of the
+-- words of links. One more says of readings what holds where the table has one pass.
 pub record IsKept (z : Sizes) (l : Ledger) (s : State Slot View) : Type 0 where
   pub limits : AreWithinLimits z
   pub count : length s.words ≡ word_count z
