@@ -339,7 +339,8 @@ pub record AsksDead (place : ℕ) (v : View) : Type 0 where
 
 -- the record that it has is the live one of the place
 knows_live : (l : Ledger) (s : State Slot View) (id : ℕ) (v : View) (place : ℕ) (r : Record) → IsKept v.passes.sizes l s → get_elem? s.views id ≡ some v
-    → LiveRecordsAreConfirmed → AsksDead place v → known_record v.commit.hand ≡ Some r → (r.place ≡ place) × KnowsLive l s v r
+    → LiveRecordsAreConfirmed → AsksDead place v → known_record v.commit.hand ≡ Some r
+    → (r.place ≡ place) × (known_phase v.commit.hand ≡ 3 + r.id) × KnowsLive l s v r
 knows_live l s id v place r h at low a known =
     let z : Sizes = v.passes.sizes in
     let own = hand_there place v.commit.hand a.turn in
@@ -355,6 +356,7 @@ knows_live l s id v place r h at low a known =
     let shown_here : phase_at z s.words r.place ≡ 3 + r.id =
     ap (phase_at z s.words) (sym here) ∙ j.shown (omega (arith, shown)) ∙ omega (arith, shown, found.0) in (
       same,
+      omega (arith, ap known_phase own.1, shown, found.0),
       record {
         below = below;
         held = subst (λ (q : ℕ). 0 < held_times q v.places.held) (sym same) (total_some (is_at place) v.places.held a.held);
@@ -390,12 +392,18 @@ showing slots id place v c r has_some a low known shut s (l, h) long at range =
       (
         l,
         subst (λ (q : ℕ). IsKept z l (record { words = slice_set s.words (phase_word z q) 2; homes = s.homes; views = set s.views id (shown_dead q r v) })) found.0
-            (dead_kept l s id v r h at has_some found.1 shut),
+            (dead_kept l s id v r h at has_some found.2 shut),
       ),
       λ q x word same.
           let place_is : place ≡ q = one_phase z place q word in
-          let subject : r ≡ x = one_record r x (sym known ∙ same) in
-          (λ k. shown_dead (place_is k) (subject k) v, refl),
+          let subject : r ≡ x = one_record r x (sym known ∙ same) in (
+            record {
+              view = λ k. shown_dead (place_is k) (subject k) v;
+              placed = sym (ap (λ (y : Record). y.place) subject) ∙ found.0 ∙ place_is;
+              shown = found.1 ∙ ap (λ (y : Record). 3 + y.id) subject;
+            },
+            refl,
+          ),
     )
   where
     one_record : (a b : Record) → Some a ≡ Some b → a ≡ b
@@ -422,7 +430,7 @@ stays_dead place s me me' turn ready told word = by_record (known_record me.0.co
     by_record (Some r) e k =
         let t = told place r word e in
         let hand = hand_there place me.0.commit.hand turn in (
-          same_at me.0 me'.0 _ t.0 (record {
+          same_at me.0 me'.0 _ t.0.view (record {
             passes = refl;
             same = λ i. free_number me.0.free ++ ((λ j. (2 + sym hand.2 j) ∷ []) ∙ sym (ap hand_number hand.1)) i ++ expected_number me.0.expected;
             pool = λ x. record { held = x.held; owed = x.owed };

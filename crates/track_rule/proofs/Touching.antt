@@ -33,7 +33,7 @@ use Rattle.track_rule.specs.References.{WasConfirmed}
 use Rattle.track_rule.specs.Rule.{Holds, IsKept, Ledger}
 use Rattle.track_rule.specs.Slots.{expected_number, free_number, hand_number}
 use Rattle.track_rule.specs.Sums.{total}
-use Rattle.track_rule.specs.TouchSteps.{CanTouch, HasTouched, MayTouch, TouchStep, Touching, goes_on, hand_goes_on, known_phase, known_record, touched, with_touch}
+use Rattle.track_rule.specs.TouchSteps.{CanTouch, HasTouched, IsItsTurn, MayTouch, TouchStep, Touching, goes_on, hand_goes_on, known_phase, known_record, touched, with_touch}
 use Rattle.track_rule.proofs.Confirms.{state_on}
 use Rattle.track_rule.proofs.EventSteps.{SameRecords, event_kept}
 use Rattle.track_rule.proofs.HistoryWord.{word_other, word_phase}
@@ -148,6 +148,14 @@ module _ (l : Ledger) (s : State Slot View) (id : ℕ) (v : View) (t : Touching)
       less : (n i : ℕ) → n ≡ 3 + i → i ≡ n - 3
       less n i e = omega (arith, e)
 
+  -- it has the place of the turn
+  pub its_turn : IsItsTurn v.commit.hand
+  its_turn x r e known =
+      let k = h.records.away id v at x e in
+      let shown : x.phase ≡ 3 + t.id = sym (ap known_phase e) ∙ can.shown in
+      let live : record_of t.id (state_after l.log) ≡ Some r = known_before ∙ ap known_record e ∙ known in
+      one_place l.log t.id r.place x.place (found_confirmed v.passes.sizes l s h low t.id r live).1 (hand_confirmed v.passes.sizes l s h low x t.id k shown)
+
   subject : (r : Record) × (known_record v.commit.hand ≡ Some r)
   subject = some_record (known_record v.commit.hand) t.direction t.segment t.moment t.part can.may
 
@@ -252,6 +260,7 @@ touching slots id v c t has_some can follow go_on low s (l, h) long at range =
           view = refl;
           legal = touch_legal l s id v t h at has_some can follow go_on low;
           before = known_before l s id v t h at has_some can follow go_on low;
+          placed = its_turn l s id v t h at has_some can follow go_on low;
         },
         refl,
       ),
@@ -288,4 +297,5 @@ has_touched (Some t) s me me' word n can told is = record {
   view = told.0.view;
   legal = told.0.legal;
   before = told.0.before;
+  placed = told.0.placed;
 }

@@ -25,7 +25,7 @@ use Rattle.track_rule.specs.History.{packed, state_after}
 use Rattle.track_rule.specs.Layout.{phase_word}
 use Rattle.track_rule.specs.Readings.{noted, stored}
 use Rattle.track_rule.specs.Steps.{AreAll}
-use Rattle.track_rule.specs.TouchSteps.{known_record}
+use Rattle.track_rule.specs.TouchSteps.{known_phase, known_record}
 
 -- DEAD
 
@@ -50,6 +50,12 @@ shown_dead place r v = noted (stored (phase_word v.passes.sizes place) phase_dea
   places = record v.places { carried = place ∷ v.places.carried };
   commit = record { hand = Some (record { place = place; phase = phase_dead; subject = Some r }); middle = Dying r };
 })
+
+-- This was the record of the place and of the id that the phase showed.
+pub record ShowsDead (place : ℕ) (r : Record) (v w : View) : Type 0 where
+  pub view : w ≡ shown_dead place r v
+  pub placed : r.place ≡ place
+  pub shown : known_phase v.commit.hand ≡ 3 + r.id
 
 -- DESTROY
 
@@ -127,7 +133,7 @@ pub record Destroys (d : Destroying) (v : View) (word : ℕ) (w : View) (r : Rec
 abbrev pub DeadStep : Step Slot → Me Slot View → ℕ → Me Slot View → Type 0
 DeadStep step me n me' =
     (p : ℕ) (r : Record) → step.word ≡ phase_word me.0.passes.sizes p → known_record me.0.commit.hand ≡ Some r
-    → (me'.0 ≡ shown_dead p r me.0) × (me'.1 ≡ me.1)
+    → ShowsDead p r me.0 me'.0 × (me'.1 ≡ me.1)
 
 -- what an event asks that is added as a Destroy, and what its step is
 abbrev pub CanDestroy : Option Destroying → View → Type 0

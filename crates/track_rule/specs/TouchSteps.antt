@@ -65,6 +65,10 @@ abbrev pub hand_goes_on : Part → Option Hand → Option Hand
 hand_goes_on part None = None
 hand_goes_on part (Some h) = Some (record h { subject = goes_on part h.subject })
 
+-- the record that a pass knows has the place of the turn
+abbrev pub IsItsTurn : Option Hand → Type 0
+IsItsTurn hand = (h : Hand) (r : Record) → hand ≡ Some h → h.subject ≡ Some r → r.place ≡ h.place
+
 -- The Touch is made: the record has the part, and the pass knows it so.
 abbrev pub touched : List Event → Touching → View → View
 touched log t v = noted (stored 0 (packed (with_touch log t))) (record v {
@@ -77,7 +81,7 @@ touched log t v = noted (stored 0 (packed (with_touch log t))) (record v {
 })
 
 -- These were all events before; the number of this one is how many they are. It was lawful: the record of the id was the one that
--- the pass knows.
+-- the pass knows, which has the place of its turn.
 pub record Touches (t : Touching) (v : View) (word : ℕ) (w : View) : Type 0 where
   pub log : List Event
   pub all : AreAll v log
@@ -85,6 +89,7 @@ pub record Touches (t : Touching) (v : View) (word : ℕ) (w : View) : Type 0 wh
   pub view : w ≡ touched log t v
   pub legal : is_legal v.passes.sizes (with_touch log t) ≡ true
   pub before : record_of t.id (state_after log) ≡ known_record v.commit.hand
+  pub placed : IsItsTurn v.commit.hand
 
 -- WHAT THE STEP IS ON THE TABLE
 
@@ -105,6 +110,7 @@ pub record HasTouch (t : Touching) (v : View) (n : ℕ) (w : View) : Type 0 wher
   pub view : w ≡ touched log t v
   pub legal : is_legal v.passes.sizes (with_touch log t) ≡ true
   pub before : record_of t.id (state_after log) ≡ known_record v.commit.hand
+  pub placed : IsItsTurn v.commit.hand
 
 abbrev pub HasTouched : Option Touching → View → ℕ → View → Type 0
 HasTouched None v n w = ⊥

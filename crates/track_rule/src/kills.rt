@@ -3,7 +3,7 @@
 
 ghost use Rattle.std.specs.Prelude.{◌≡◌, ◌≤◌, Some, true};
 ghost use Rattle.track_rule.specs.declared.view.Middle.TheVariants.{Calm};
-ghost use Rattle.track_rule.specs.KillSteps.{CanDestroy, DeadStep, DestroyStep, HasDestroyed, MayDie, destroy_in, shown_dead};
+ghost use Rattle.track_rule.specs.KillSteps.{CanDestroy, DeadStep, DestroyStep, HasDestroyed, MayDie, ShowsDead, destroy_in};
 ghost use Rattle.track_rule.specs.Records.{has_hand};
 ghost use Rattle.track_rule.specs.References.{is_held};
 ghost use Rattle.track_rule.specs.TouchSteps.{known_phase, known_record};
@@ -53,7 +53,8 @@ impl<'b> Pass<'b> {
         requires live { 3 ≤ known_phase self.old.view.commit.hand }
         requires calm { self.old.view.commit.middle ≡ Calm }
         requires ready { MayDie self.old.view (known_record self.old.view.commit.hand) }
-        ensures { (r : _) → known_record self.old.view.commit.hand ≡ Some r → self.new ≡ record self.old { view = shown_dead place r self.old.view } }
+        ensures shows { (r : _) → known_record self.old.view.commit.hand ≡ Some r → ShowsDead place r self.old.view self.new.view }
+        ensures kept { self.new ≡ record self.old { view = self.new.view } }
     {
         live_records_are_confirmed();
         let word = phase_word(&self.sizes, place);
