@@ -61,6 +61,7 @@ loads_phase slots id p v c below has_some s (l, h) long at range =
       view = refl;
       idle = idle z l s id v h at;
       owned = λ some_owned. (h.free_list.owned id v at p some_owned).1;
+      ended = λ some_ended. (h.free_list.ended id v at p some_ended).1;
       sole = λ one. h.readings one id v at has_some (phase_word z p);
       hand = λ x has here.
           let k = h.records.away id v at x has in

@@ -23,15 +23,12 @@ use Rattle.track_rule.specs.CommitSteps.{told_in}
 use Rattle.track_rule.specs.Commits.{HasItsTurn}
 use Rattle.track_rule.specs.History.{packed, state_after}
 use Rattle.track_rule.specs.Layout.{phase_word}
+use Rattle.track_rule.specs.PhaseSteps.{phase_dead}
 use Rattle.track_rule.specs.Readings.{noted, stored}
 use Rattle.track_rule.specs.Steps.{AreAll}
 use Rattle.track_rule.specs.TouchSteps.{known_phase, known_record}
 
 -- DEAD
-
--- the number of the phase of a place whose entry dies
-abbrev pub phase_dead : ℕ
-phase_dead = 2
 
 -- The pass has shut both buckets of the record's tuples, and where the record has the helper, it has the turn of the expectations.
 pub record IsShutFor (v : View) (r : Record) : Type 0 where

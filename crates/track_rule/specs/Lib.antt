@@ -22,8 +22,8 @@ pub mod Shares
 pub mod TurnSteps
 pub mod CommitSteps
 pub mod TouchSteps
-pub mod KillSteps
 pub mod Notes
 pub mod BucketSteps
 pub mod PhaseSteps
+pub mod KillSteps
 pub mod Laws

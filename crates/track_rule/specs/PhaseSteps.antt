@@ -13,19 +13,23 @@ use Rattle.track_rule.specs.Readings.{IsSole, found, last_read, noted, stored}
 use Rattle.track_rule.specs.References.{is_taken}
 use Rattle.track_rule.specs.Sums.{times}
 
--- the numbers of the phases that a place has while no entry is live there
+-- the numbers of the phases that a place has while no entry is shown live there
 abbrev pub phase_free : ℕ
 phase_free = 0
 
 abbrev pub phase_owned : ℕ
 phase_owned = 1
 
+-- and of one whose entry dies, or is destroyed
+abbrev pub phase_dead : ℕ
+phase_dead = 2
+
 -- A pass stores FREE of a place that it owes, and OWNED of one that it has taken.
 abbrev pub may_store : ℕ → ℕ → View → Bool
 may_store place to v = (to == phase_free && is_among place v.places.owed) || (to == phase_owned && is_taken place v.places.held)
 
 -- A load: a place of the free list under the pass's own turn is FREE, and so is one whose phase the pass has set to that. One
--- that it has taken and set to OWNED is that.
+-- that it has taken and set to OWNED is that, and one whose entry it destroyed is DEAD while it carries the table's reference.
 -- Under the turn of the place's record it is the one that the pass knows, where that is LIVE, and else none such. Of a link that
 -- stands in a bucket which the pass has shut, and names an id, the place is LIVE of this id, unless the pass is in the middle of a
 -- commit itself.
@@ -33,6 +37,7 @@ pub record LoadsPhase (place : ℕ) (v : View) (n : ℕ) (w : View) : Type 0 whe
   pub view : w ≡ noted (found (phase_word v.passes.sizes place) n) v
   pub idle : 0 < times place (known_free v) + times place v.places.clear → n ≡ phase_free
   pub owned : 0 < times place v.places.owned → n ≡ phase_owned
+  pub ended : 0 < times place v.places.ended → n ≡ phase_dead
   pub sole : IsSole v → n ≡ last_read (phase_word v.passes.sizes place) v
   pub hand : (h : Hand) → v.commit.hand ≡ Some h → h.place ≡ place → (2 < h.phase → n ≡ h.phase) × (h.phase ≤ 2 → n ≤ 2)
   pub linked : (b : ℕ) (passed : List Entry) (e : Entry) (rest : List Entry) (id : ℕ) → b < v.passes.sizes.buckets → IsShutAt b v passed (e ∷ rest)

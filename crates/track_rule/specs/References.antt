@@ -1,8 +1,8 @@
 -- References. The references word of a place is the number of references that passes keep to it, those of the table that
 -- they carry among them, and one more while the place is live. A pass that carries the table's reference to a place also holds
--- that place: it has taken it, or is in the middle of a commit there, or has destroyed its entry. No other place is held. A place is taken for a new entry by one pass, or a live entry has it, or a pass has
--- destroyed its entry and not let go of the table's reference: never two of these. A place that a pass holds for an id is that
--- of the entry of this id.
+-- that place: it has taken it, or is in the middle of a commit there, or has destroyed its entry. No other place is held. A
+-- place is taken for a new entry by one pass, or a live entry has it, or a pass has destroyed its entry and not let go of the
+-- table's reference: never two of these. A place that a pass holds for an id is that of the entry of this id.
 use Rattle.std.specs.Prelude.{◌≡◌, ℕ, ◌+◌, ◌<◌, ◌≤◌, ◌==◌, ◌&&◌, Bool, true, false, if◌then◌else◌, Some, List, [], ◌∷◌, slice_get}
 use Rattle.std.specs.List.{list_any}
 use Rattle.history_book.specs.declared.event.Event.{Event}
