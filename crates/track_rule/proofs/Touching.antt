@@ -37,7 +37,7 @@ use Rattle.track_rule.specs.TouchSteps.{CanTouch, HasTouched, IsItsTurn, MayTouc
 use Rattle.track_rule.proofs.Confirms.{state_on}
 use Rattle.track_rule.proofs.EventSteps.{SameRecords, event_kept}
 use Rattle.track_rule.proofs.HistoryWord.{word_other, word_phase}
-use Rattle.track_rule.proofs.LivePlaces.{hand_confirmed}
+use Rattle.track_rule.proofs.LivePlaces.{found_confirmed, one_place, hand_confirmed}
 use Rattle.track_rule.proofs.Lists.{same_bit}
 use Rattle.track_rule.proofs.Loads.{all_events, word_events}
 use Rattle.track_rule.proofs.Seats.{StaysAt, same_at}
