@@ -5,7 +5,7 @@ use Rattle.track_rule.proofs.Lists.{bit_low, total_some}
 use Rattle.track_rule.proofs.ShutChains.{open_weighs, shut_weighs}
 use Rattle.std.proofs.Common.{◌≡◌, ℕ, ◌+◌, ◌-◌, ◌*◌, ◌/◌, ◌%◌, ◌^◌, ◌<◌, ◌≤◌, suc, Option, Some, None, List, [], ◌∷◌, length, refl, sym, ap, subst, ◌∙◌, ⊎_elim, arith, set, append-nil}
 use Rattle.std.specs.Prelude.{slice_index, slice_set}
-use Rattle.std.proofs.lemmas.Bool.{cases_lt}
+use Rattle.std.proofs.lemmas.Bool.{cases_lt, eqb-false}
 use Rattle.std.proofs.lemmas.List.{set-get_or}
 use Rattle.std.proofs.lemmas.Option.{none-some}
 use mathlib.Core.Option.{none, some}
@@ -14,6 +14,7 @@ use Rattle.atomic_table.specs.Table.{Allows, State, keeps as unchanged, step}
 use Rattle.history_book.specs.declared.event.Event.{Event}
 use Rattle.history_book.specs.declared.event.Note.{Note}
 use Rattle.history_book.specs.declared.sizes.Sizes.{Sizes}
+use Rattle.history_book.specs.Laws.{LiveRecordsAreConfirmed}
 use Rattle.history_book.specs.Sight.{notes_from}
 use Rattle.track_rule.specs.declared.slot.Slot.{Slot}
 use Rattle.track_rule.specs.declared.view.Places.{Places}
@@ -32,6 +33,7 @@ use Rattle.track_rule.specs.Sums.{Each, times, total}
 use Rattle.track_rule.proofs.LastRead.{ReadsAt, read_on}
 use Rattle.track_rule.proofs.Frames.{middle_left}
 use Rattle.track_rule.proofs.KeptWords.{words_same}
+use Rattle.track_rule.proofs.TurnsKnown.{gone}
 use Rattle.track_rule.proofs.Balance.{Lines, Moves, few_references, free_left, moved, pass_moved, references_left, same_lines, bucket_lines}
 use Rattle.track_rule.proofs.Sums.{length_total, total_gap, total_only, total_term, total_times}
 
@@ -156,15 +158,15 @@ all_events l s id v h at has_some =
     }
 
 -- a load of the history word keeps the rule, and shows the whole history
-pub looks : (slots id : ℕ) (v : View) (c : List (ℕ × Slot)) → 0 < v.passes.shares
+pub looks : LiveRecordsAreConfirmed → (slots id : ℕ) (v : View) (c : List (ℕ × Slot)) → 0 < v.passes.shares
     → Allows (Holds v.passes.sizes) slots id (v, c) 0 (λ n. n) (LookStep (step slots 0 0 0 none) (v, c))
-looks slots id v c has_some s (l, h) long at range =
+looks low slots id v c has_some s (l, h) long at range =
     let z : Sizes = v.passes.sizes in
     let w : View = noted (found_history (slice_index s.words 0) v) (saw l.log v) in
     let p : IsPass z l.log v = h.passes.each id v at in
     let m : Moves v w = record { made = record { passes = refl; own = refl; gathered = refl }; commit = refl; expected = refl } in
     let few = few_events z l.log s.views h.passes id v at has_some in
-    let low : length l.log < 2 ^ 40 = omega (arith, few, h.limits.passes) in (
+    let small : length l.log < 2 ^ 40 = omega (arith, few, h.limits.passes) in (
       w,
       unchanged,
       tt,
@@ -178,12 +180,14 @@ looks slots id v c has_some s (l, h) long at range =
         record {
           same = refl;
           all = all_events l s id v h at has_some;
-          events = ap events_in h.history.word ∙ word_events (length l.log) (length (records_after l.log)) low;
-          live = ap live_in h.history.word ∙ word_live (length l.log) (length (records_after l.log)) low;
+          events = ap events_in h.history.word ∙ word_events (length l.log) (length (records_after l.log)) small;
+          live = ap live_in h.history.word ∙ word_live (length l.log) (length (records_after l.log)) small;
           sole = λ one. h.readings one id v at has_some 0;
           chains = λ b below mine. shut_weighs z l s id v h at b below mine;
           taken = λ q taken.
               omega (arith, h.references.taken q, total_term (takes q) s.views id v at, total_some (λ k. is_at q k && is_for_new k.purpose) v.places.held taken);
+          hand = λ x turn live. (h.records.away id v at x turn).live live;
+          gone = λ x i turn calm kept other. gone z l s id v h at x turn low calm i kept (eqb-false x.phase (3 + i) other);
         },
         refl,
       ),

@@ -5,13 +5,16 @@ use Rattle.room_list.specs.Roomed.{Roomed}
 use Rattle.history_book.specs.History.{is_legal}
 use Rattle.history_book.specs.Point.{StartsWith}
 use Rattle.history_book.specs.Sight.{notes_from}
+use Rattle.history_book.specs.State.{record_of}
 use Rattle.history_book.specs.declared.event.Event.{Event}
 use Rattle.history_book.specs.declared.event.Note.{Note}
 use Rattle.track_rule.specs.declared.slot.Slot.{Slot}
 use Rattle.track_rule.specs.declared.slot.Slot.TheVariants.{Free}
 use Rattle.track_rule.specs.declared.view.Entry.{Entry}
+use Rattle.track_rule.specs.declared.view.Hand.{Hand}
 use Rattle.track_rule.specs.declared.view.Hook.{Hook}
 use Rattle.track_rule.specs.declared.view.Keep.{Keep}
+use Rattle.track_rule.specs.declared.view.Middle.TheVariants.{Calm}
 use Rattle.track_rule.specs.declared.view.Places.{Places}
 use Rattle.track_rule.specs.declared.view.Purpose.{Purpose}
 use Rattle.track_rule.specs.declared.view.Purpose.TheVariants.{Taken, Testing}
@@ -20,7 +23,8 @@ use Rattle.track_rule.specs.declared.view.View.{View}
 use Rattle.track_rule.specs.declared.view.Walk.{Walk}
 use Rattle.track_rule.specs.Chains.{chain_in, links_in, loose_of, shuts_of}
 use Rattle.track_rule.specs.Free.{is_among, known_free, taken_out, unlisted}
-use Rattle.track_rule.specs.History.{events_in, live_in, records_after}
+use Rattle.track_rule.specs.History.{events_in, live_in, records_after, state_after}
+use Rattle.track_rule.specs.KeptWords.{is_kept_for}
 use Rattle.track_rule.specs.Layout.{place_of, refs_word}
 use Rattle.track_rule.specs.Passes.{AreFronts}
 use Rattle.track_rule.specs.Readings.{IsSole, found, last_read, noted, stored}
@@ -74,7 +78,9 @@ abbrev pub saw : List Event → View → View
 saw log v = record v { seen = record v.seen { front = log }; walk = at_point (length log) v.walk }
 
 -- A load: the pass has seen all events, and the word is theirs. The chain of a bucket that the pass has shut weighs what the live
--- records weigh in it, and the pass's own links there. No live record has a place that the pass has taken.
+-- records weigh in it, and the pass's own links there. No live record has a place that the pass has taken. Under the turn of a
+-- place's record the pass has the record of the id of which the place is LIVE. An id for which it holds that place is live no
+-- more where the place is not LIVE of it, unless the pass is in the middle of a commit itself.
 pub record Looks (v : View) (word : ℕ) (w : View) : Type 0 where
   pub same : w ≡ noted (found_history word v) (saw w.seen.front v)
   pub all : AreAll v w.seen.front
@@ -84,6 +90,9 @@ pub record Looks (v : View) (word : ℕ) (w : View) : Type 0 where
   pub chains : (b : ℕ) → b < v.passes.sizes.buckets → 0 < shuts_of b v → (weight : Entry → ℕ)
       → total weight (chain_in b v.buckets.shut) ≡ total (links_in v.passes.sizes b weight) (records_after w.seen.front) + loose_of v.passes.sizes b weight v
   pub taken : (p : ℕ) → is_taken p v.places.held ≡ true → total (of_place p) (records_after w.seen.front) ≡ 0
+  pub hand : (h : Hand) → v.commit.hand ≡ Some h → 3 ≤ h.phase → h.subject ≡ record_of (h.phase - 3) (state_after w.seen.front)
+  pub gone : (h : Hand) (id : ℕ) → v.commit.hand ≡ Some h → v.commit.middle ≡ Calm → is_kept_for h.place id v.places.held ≡ true
+      → (h.phase == 3 + id) ≡ false → record_of id (state_after w.seen.front) ≡ None
 
 -- THE FREE LIST
 

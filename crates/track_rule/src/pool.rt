@@ -17,6 +17,7 @@ use crate::layout::{FREE_SLOT, FREE_WORD, HISTORY_WORD, refs_word};
 use crate::pass::Pass;
 use crate::plays::{GiveFree, LoadHistory, LoadRef, LowerRef, OpenRef, RaiseRef, TakeFree};
 use crate::slot::{free_of, with_free};
+use history_book::laws::live_records_are_confirmed;
 
 impl<'b> Pass<'b> {
     /// Loads the history word: the number of events, and of live entries above its low 40 bits.
@@ -24,6 +25,7 @@ impl<'b> Pass<'b> {
         ensures looks { Looks self.old.view result self.new.view }
         ensures kept { self.new ≡ record self.old { view = self.new.view } }
     {
+        live_records_are_confirmed();
         self.shared
             .load::<LoadHistory>(&mut self.seat, HISTORY_WORD)
     }

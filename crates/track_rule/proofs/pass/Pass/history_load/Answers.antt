@@ -15,5 +15,5 @@ load-requires c =
       h.same,
       omega (arith, h.right.counts.words, ap (λ t. t.words) h.same),
       subst (λ (z : Sizes). Allows (Holds z) slots p.seat.id p.seat.me 0 (λ n. n) (LookStep (step slots 0 0 0 none) p.seat.me))
-          h.key_is (looks slots p.seat.id p.seat.me.0 p.seat.me.1 h.right.some),
+          h.key_is (looks c.live_records_are_confirmed.ensures slots p.seat.id p.seat.me.0 p.seat.me.1 h.right.some),
     )
