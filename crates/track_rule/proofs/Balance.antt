@@ -157,7 +157,7 @@ moved z l s id v w ws' hs' free' h at m p quiet long homes references free_list 
           (λ n e. walk_stays z s.words ws' same l.chains w.seen.front n (lines.walk n e));
     }) readings
     (each_put (IsMiddleOf z l.log) s.views id w h.commits middle)
-    (words_stay z l.log l.log s.words ws' (set s.views id w) (λ i e at'. at') (λ p any. links_pairs z s.words ws' same.links p) words)
+    (words_stay z l.log l.log s.words ws' (set s.views id w) (λ i e at'. at') (λ p any i o. o) (λ p any. links_pairs z s.words ws' same.links p) words)
 
 -- what a step does to the references: a balance for each place
 pub record RefsStep (z : Sizes) (log : List Event) (ws ws' : List ℕ) (vs : List View) (v w : View) : Type 0 where

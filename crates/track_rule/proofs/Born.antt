@@ -40,8 +40,8 @@ use Rattle.track_rule.specs.Rule.{IsKept, Ledger}
 use Rattle.track_rule.specs.Sums.{Each, bit, times, total}
 use Rattle.track_rule.specs.Walks.{AreWalks}
 use Rattle.track_rule.proofs.Confirming.{each_dropped, find_last, find_more, find_same, held_kept, held_long, held_taken, hook_else, kept_for, low_both, low_ids, total_dropped, words_for}
-use Rattle.track_rule.proofs.KeptWords.{GrowsTo, SamePairs, links_pairs, tuples_stay, words_stay}
-use Rattle.track_rule.specs.KeptWords.{AreKeptWords, HasPair, HasTuples, link_of, pair_in}
+use Rattle.track_rule.proofs.KeptWords.{GrowsTo, SamePairs, links_pairs, tuples_stay, words_stay, StaysOnly}
+use Rattle.track_rule.specs.KeptWords.{AreKeptWords, HasPair, HasTuples, link_of, pair_in, shows_held}
 use Rattle.tuple_core.specs.declared.Direction.{Direction}
 use Rattle.tuple_core.specs.declared.Direction.TheVariants.{Original, Reply}
 use Rattle.track_rule.proofs.Confirms.{lawful, none_there, state_on}
@@ -51,9 +51,10 @@ use Rattle.track_rule.proofs.HookLists.{hook_test, hook_there, some_hook}
 use Rattle.track_rule.proofs.Named.{born_ledger, chains_both, hooks_else, named_chains, named_here, records_else, shut_else, told_linked, told_mine, told_ordered, told_shuts, told_walks, two_links}
 use Rattle.track_rule.proofs.HistoryWord.{word_other, word_phase, word_refs, word_same, word_turn}
 use Rattle.track_rule.proofs.LastRead.{stored_on}
-use Rattle.track_rule.proofs.Lists.{other_bit, same_bit, total_some, unlisted_less, unlisted_out}
+use Rattle.track_rule.proofs.Lists.{other_bit, same_bit, total_some, unlisted_less, unlisted_out, bit_both}
 use Rattle.track_rule.proofs.UpHooks.{one_fewer, up_dropped}
-use Rattle.track_rule.proofs.Sums.{each_put, total_append, total_but, total_map, total_same, total_set, total_term, total_two}
+use Rattle.track_rule.proofs.Sums.{each_put, total_append, total_but, total_map, total_same, total_set, total_term, total_two, total_le}
+use Rattle.track_rule.proofs.LivePlaces.{own_both}
 
 module _ (l : Ledger) (s : State Slot View) (id : ℕ) (v : View) (r : Record) (h : IsKept v.passes.sizes l s) (at : get_elem? s.views id ≡ some v)
     (has_some : 0 < v.passes.shares) (can : CanConfirm r v) (follow : StatesFollow) (go_on : LegalHistoriesGoOn) (confirmed_low : LiveRecordsAreConfirmed) where
@@ -505,11 +506,55 @@ module _ (l : Ledger) (s : State Slot View) (id : ℕ) (v : View) (r : Record) (
   born_walks =
       told_walks v.passes.sizes l s id v after_it h at r.place (Some (length l.log)) refl words (word_same v.passes.sizes s.words (packed made)) refl
 
+  -- no live record had the place
+  none_before : total (of_place r.place) (records_after l.log) ≡ 0
+  none_before = omega (
+    arith,
+    h.references.taken r.place,
+    total_term (takes r.place) s.views id v at,
+    total_some (λ k. is_at r.place k && is_for_new k.purpose) v.places.held can.taken,
+  )
+
+  -- nor does the new one come to a place that is held for an id
+  stays_only : (q : ℕ) → 0 < total (shows_held q) s.views → StaysOnly l.log made q
+  stays_only q any i o =
+      ⊎_elim
+      (λ (e : r.place ≡ q).
+      absurd (omega (
+        arith,
+        any,
+        h.kept_words.apart q (omega (
+          arith,
+          ap (λ (k : ℕ). takes k v) e,
+          total_term (takes q) s.views id v at,
+          total_some (λ k. is_at r.place k && is_for_new k.purpose) v.places.held can.taken,
+        )),
+      )))
+      (λ (e : r.place ≢ q).
+      omega (
+        arith,
+        o,
+        weighs (of_place q),
+        weighs (of_both q i),
+        other_bit r.place q e,
+        bit_both (r.place == q) (length l.log == i),
+      ))
+      (cases_eq r.place q)
+
   -- both tuples stand in the words of the place, as the pass knows of its links
   born_tuples : HasTuples v.passes.sizes made s.words (length l.log) r.place
   born_tuples = record {
     was = record { subject = subject; event = get_last l.log (Confirm subject); its_place = refl };
     stand = λ d. stands d;
+    only = omega (
+      arith,
+      weighs (of_place r.place),
+      weighs (of_both r.place (length l.log)),
+      none_before,
+      total_le (of_both r.place (length l.log)) (of_place r.place) (records_after l.log) (λ j x at'. bit_both (x.place == r.place) (x.id == length l.log)),
+      own_both subject,
+      same_bit r.place r.place refl,
+    );
   }
     where
       of_link : (link : ℕ) (t : Tuple) → HasLink link t v → 0 < hooks_of link v.buckets.hooks → HasPair v.passes.sizes s.words link (pair_of t)
@@ -530,8 +575,8 @@ module _ (l : Ledger) (s : State Slot View) (id : ℕ) (v : View) (r : Record) (
       let grows : GrowsTo l.log made = λ i e at'. get_append l.log (Confirm subject ∷ []) i e at' in
       let same : (p : ℕ) → SamePairs z s.words words p = links_pairs z s.words words (word_same z s.words (packed made)).links in
       words_for z made words s.views id r.place (length l.log) v after_it at can.taken refl (omega (arith, h.references.taken r.place))
-      (tuples_stay z made made s.words words (length l.log) r.place (λ i e at'. at') (same r.place) born_tuples)
-      (words_stay z l.log made s.words words s.views grows (λ p any. same p) h.kept_words)
+      (tuples_stay z made made s.words words (length l.log) r.place (λ i e at'. at') (λ i o. o) (same r.place) born_tuples)
+      (words_stay z l.log made s.words words s.views grows stays_only (λ p any. same p) h.kept_words)
 
   pub born_kept : IsKept v.passes.sizes (born_ledger l r v)
       (record { words = slice_set s.words 0 (packed (with_confirm l.log r)); homes = s.homes; views = set s.views id (confirmed l.log r v) })

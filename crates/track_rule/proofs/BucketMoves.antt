@@ -74,7 +74,7 @@ bucket_moved z l s id v w ws' chains' h at m has_some seen places free rest long
     (free_left z s.words ws' s.homes s.homes s.views id v w l.free at places free rest.refs rest.still.phases rest.free refl h.free_list)
     chains links walks readings (each_put (IsMiddleOf z l.log) s.views id w h.commits middle)
     (words_same z l.log ws' s.views id v w at (ap (λ (x : Places). x.held) places)
-    (words_stay z l.log l.log s.words ws' s.views (λ i e at'. at') pairs h.kept_words))
+    (words_stay z l.log l.log s.words ws' s.views (λ i e at'. at') (λ p any i o. o) pairs h.kept_words))
 
 -- one generation changes
 module _ (z : Sizes) (ws : List ℕ) (b n : ℕ) (below : b < z.buckets) where

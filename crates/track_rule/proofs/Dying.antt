@@ -319,7 +319,7 @@ module _ (l : Ledger) (s : State Slot View) (id : ℕ) (v : View) (r : Record) (
         };
         readings = stored_on z l.log s.words s.views id (phase_word z r.place) 2 v w h.passes at has_some (omega (arith, h.count, k.below))
             (record { reading = stored (phase_word z r.place) 2; more = refl; word = refl; value = refl }) h.readings;
-        kept_words = words_left z l.log s.words s.views id v w at l.log new (λ i e at'. at') same.links refl h.kept_words;
+        kept_words = words_left z l.log s.words s.views id v w at l.log new (λ i e at'. at') (λ p i o. o) same.links refl h.kept_words;
         expected = record {
           turn = expected ∙ h.expected.turn ∙ sym (total_same has_expected s.views id v w at refl);
           single = omega (arith, expected, h.expected.single);

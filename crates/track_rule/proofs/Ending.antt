@@ -46,11 +46,11 @@ use Rattle.track_rule.proofs.Confirms.{bucket_low, state_on}
 use Rattle.track_rule.proofs.Events.{get_append, kept_on, passes_made}
 use Rattle.track_rule.proofs.Frames.{SameChains, hooks_stay, links_stay, middle_same}
 use Rattle.track_rule.proofs.HistoryWord.{word_other, word_phase, word_refs, word_same}
-use Rattle.track_rule.proofs.KeptWords.{words_left}
+use Rattle.track_rule.proofs.KeptWords.{words_left, StaysOnly}
 use Rattle.track_rule.proofs.LastRead.{stored_on}
 use Rattle.track_rule.proofs.Leaving.{length_others, none_expected, others, total_others}
 use Rattle.track_rule.proofs.Leaving as leaving
-use Rattle.track_rule.proofs.Lists.{counted_there, find_there, other_bit, same_bit}
+use Rattle.track_rule.proofs.Lists.{counted_there, find_there, other_bit, same_bit, bit_both}
 use Rattle.track_rule.proofs.LivePlaces.{both_confirmed, found_confirmed, one_place, own_both}
 use Rattle.track_rule.proofs.Named.{chains_both, hooks_else, named_chains, named_here, records_else, shut_else, told_linked, told_mine, told_ordered, told_shuts, told_walks, two_links}
 use Rattle.track_rule.proofs.OneRecord.{one_commit, one_record}
@@ -526,6 +526,17 @@ module _ (l : Ledger) (s : State Slot View) (id : ℕ) (v : View) (d : Destroyin
             k.2 ∙ ap (without_master d.id) (h.expected.away id v at k.0 k.1) ∙ sym expects_on);
       }
 
+  -- no record comes to be live
+  stays_only : (q : ℕ) → StaysOnly l.log made q
+  stays_only q i o = omega (
+    arith,
+    o,
+    weighs (of_place q),
+    weighs (of_both q i),
+    bit_both (r.place == q) (r.id == i),
+    total_le (of_both q i) (of_place q) (records_after made) (λ j x there'. bit_both (x.place == q) (x.id == i)),
+  )
+
   pub ended_kept : IsKept v.passes.sizes (ended_ledger l d r v)
       (record { words = slice_set s.words 0 (packed (with_destroy l.log d)); homes = s.homes; views = set s.views id (destroyed l.log d r v) })
   ended_kept =
@@ -547,5 +558,5 @@ module _ (l : Ledger) (s : State Slot View) (id : ℕ) (v : View) (d : Destroyin
         readings = stored_on z l.log s.words s.views id 0 (packed made) v after_it h.passes at has_some long
             (record { reading = stored 0 (packed made); more = refl; word = refl; value = refl }) h.readings;
         expected = ended_expected;
-        kept_words = words_left z l.log s.words s.views id v after_it at made words (λ i x at'. get_append l.log (event ∷ []) i x at') (word_same z s.words (packed made)).links refl h.kept_words;
+        kept_words = words_left z l.log s.words s.views id v after_it at made words (λ i x at'. get_append l.log (event ∷ []) i x at') stays_only (word_same z s.words (packed made)).links refl h.kept_words;
       }

@@ -198,5 +198,5 @@ module _ (l : Ledger) (s : State Slot View) (id : ℕ) (v w : View) (e : Event) 
         };
         readings = stored_on z l.log s.words s.views id 0 (packed made) v w h.passes at has_some long reads h.readings;
         expected = expected;
-        kept_words = words_left z l.log s.words s.views id v w at made words (λ i x at'. get_append l.log (e ∷ []) i x at') stays.links (ap (λ (x : Places). x.held) parts.places) h.kept_words;
+        kept_words = words_left z l.log s.words s.views id v w at made words (λ i x at'. get_append l.log (e ∷ []) i x at') (λ q i o. omega (arith, o, same.places q, same.both q i)) stays.links (ap (λ (x : Places). x.held) parts.places) h.kept_words;
       }

@@ -18,7 +18,7 @@ use Rattle.track_rule.specs.declared.view.Keep.{Keep}
 use Rattle.track_rule.specs.declared.view.Purpose.{Purpose}
 use Rattle.track_rule.specs.declared.view.Purpose.TheVariants.{Taken, Testing, Shown, For}
 use Rattle.track_rule.specs.declared.view.View.{View}
-use Rattle.track_rule.specs.KeptWords.{AreKeptWords, HasPair, HasTuples, is_for, is_for_entry, is_kept_for, link_of, pair_in, shown_times, shows_held}
+use Rattle.track_rule.specs.KeptWords.{AreKeptWords, HasPair, HasTuples, IsOnly, is_for, is_for_entry, is_kept_for, link_of, pair_in, shown_times, shows_held}
 use Rattle.track_rule.specs.Layout.{first_word, place_of, second_word}
 use Rattle.track_rule.specs.References.{held_times, is_at, keeps, taken_times, takes, without}
 use Rattle.track_rule.specs.Steps.{keep}
@@ -97,11 +97,16 @@ links_pairs z ws ws' same p = λ d. record { first = same.firsts (link_of d p); 
 abbrev pub GrowsTo : List Event → List Event → Type 0
 GrowsTo log log' = (id : ℕ) (e : Event) → slice_get log id ≡ Some e → slice_get log' id ≡ Some e
 
-pub tuples_stay : (z : Sizes) (log log' : List Event) (ws ws' : List ℕ) (id p : ℕ) → GrowsTo log log' → SamePairs z ws ws' p
+-- and no other record has come to be live at the place
+abbrev pub StaysOnly : List Event → List Event → ℕ → Type 0
+StaysOnly log log' p = (id : ℕ) → IsOnly log id p → IsOnly log' id p
+
+pub tuples_stay : (z : Sizes) (log log' : List Event) (ws ws' : List ℕ) (id p : ℕ) → GrowsTo log log' → StaysOnly log log' p → SamePairs z ws ws' p
     → HasTuples z log ws id p → HasTuples z log' ws' id p
-tuples_stay z log log' ws ws' id p grows same h = record {
+tuples_stay z log log' ws ws' id p grows only same h = record {
   was = record { subject = h.was.subject; event = grows id (Confirm h.was.subject) h.was.event; its_place = h.was.its_place };
   stand = λ d. record { first = (same d).first ∙ (h.stand d).first; second = (same d).second ∙ (h.stand d).second };
+  only = only id h.only;
 }
 
 -- the Confirm of the id in a first part of the history is the one whose tuples stand there
@@ -115,13 +120,14 @@ tuples_told z log front ws id p subject (rest, same) h told d =
     one_confirm : (a b : Record) → Some (Confirm a) ≡ Some (Confirm b) → a ≡ b
     one_confirm a b e = cc
 
--- where the words stay at the places that are held for ids
+-- where the words stay at the places that are held for ids, and no record comes there
 pub words_stay : (z : Sizes) (log log' : List Event) (ws ws' : List ℕ) (vs : List View) → GrowsTo log log'
-    → ((p : ℕ) → 0 < total (shows_held p) vs → SamePairs z ws ws' p) → AreKeptWords z log ws vs → AreKeptWords z log' ws' vs
-words_stay z log log' ws ws' vs grows same h = record {
+    → ((p : ℕ) → 0 < total (shows_held p) vs → StaysOnly log log' p) → ((p : ℕ) → 0 < total (shows_held p) vs → SamePairs z ws ws' p)
+    → AreKeptWords z log ws vs → AreKeptWords z log' ws' vs
+words_stay z log log' ws ws' vs grows only same h = record {
   each = λ i v at p id is.
-      tuples_stay z log log' ws ws' id p grows (same p (omega (arith, total_term (shows_held p) vs i v at, kept_shown p id v.places.held is)))
-      (h.each i v at p id is);
+      let any : 0 < total (shows_held p) vs = omega (arith, total_term (shows_held p) vs i v at, kept_shown p id v.places.held is) in
+      tuples_stay z log log' ws ws' id p grows (only p any) (same p any) (h.each i v at p id is);
   apart = h.apart;
 }
 
@@ -136,11 +142,11 @@ words_carry z log ws vs vs' c h = record {
 -- where one view changes
 module _ (z : Sizes) (log : List Event) (ws : List ℕ) (vs : List View) (i : ℕ) (v w : View) (at : get_elem? vs i ≡ some v) where
   -- and holds what it held
-  pub words_left : (log' : List Event) (ws' : List ℕ) → GrowsTo log log' → SameLinks z ws ws' → w.places.held ≡ v.places.held
+  pub words_left : (log' : List Event) (ws' : List ℕ) → GrowsTo log log' → ((p : ℕ) → StaysOnly log log' p) → SameLinks z ws ws' → w.places.held ≡ v.places.held
       → AreKeptWords z log ws vs → AreKeptWords z log' ws' (set vs i w)
-  words_left log' ws' grows same held h =
+  words_left log' ws' grows only same held h =
       words_carry z log' ws' vs (set vs i w) (carries_set (λ (u : View). u.places.held) [] vs i v w at held)
-      (words_stay z log log' ws ws' vs grows (λ p any. links_pairs z ws ws' same p) h)
+      (words_stay z log log' ws ws' vs grows (λ p any. only p) (λ p any. links_pairs z ws ws' same p) h)
 
   pub words_same : w.places.held ≡ v.places.held → AreKeptWords z log ws vs → AreKeptWords z log ws (set vs i w)
   words_same held h = words_carry z log ws vs (set vs i w) (carries_set (λ (u : View). u.places.held) [] vs i v w at held) h

@@ -32,6 +32,7 @@ use Rattle.track_rule.specs.Rule.{Holds, IsKept, Ledger}
 use Rattle.track_rule.specs.Sights.{AreOfPool}
 use Rattle.track_rule.specs.Sums.{times, total}
 use Rattle.track_rule.specs.Walks.{IsWalk}
+use Rattle.track_rule.proofs.LiveWords.{kept_phase}
 use Rattle.track_rule.proofs.Balance.{Moves, pass_moved, passes_moved, same_lines}
 use Rattle.track_rule.proofs.Carried.{carries_set}
 use Rattle.track_rule.proofs.Frames.{SameChains, chains_stay, hooks_stay, links_stay, walk_stays, middle_on}
@@ -63,6 +64,7 @@ loads_phase slots id p v c below has_some s (l, h) long at range =
       owned = λ some_owned. (h.free_list.owned id v at p some_owned).1;
       ended = λ some_ended. (h.free_list.ended id v at p some_ended).1;
       sole = λ one. h.readings one id v at has_some (phase_word z p);
+      kept = λ i kept live. kept_phase z l s id v h at p i below kept live;
       hand = λ x has here.
           let k = h.records.away id v at x has in
           let same : phase_at z s.words x.place ≡ n = ap (phase_at z s.words) here in (
@@ -507,7 +509,7 @@ module _ (l : Ledger) (s : State Slot View) (id p to : ℕ) (v : View) (h : IsKe
         };
         readings = stored_on z l.log s.words s.views id (phase_word z p) to v w h.passes at has_some (omega (arith, h.count, below))
             (record { reading = stored (phase_word z p) to; more = refl; word = refl; value = refl }) h.readings;
-        kept_words = words_left z l.log s.words s.views id v w at l.log new (λ i e at'. at') same.links refl h.kept_words;
+        kept_words = words_left z l.log s.words s.views id v w at l.log new (λ i e at'. at') (λ p i o. o) same.links refl h.kept_words;
         expected = record {
           turn = expected ∙ h.expected.turn ∙ sym (total_same has_expected s.views id v w at refl);
           single = omega (arith, expected, h.expected.single);

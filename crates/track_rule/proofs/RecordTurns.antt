@@ -132,7 +132,7 @@ module _ (l : Ledger) (s : State Slot View) (id p : ℕ) (v : View) (h : IsKept 
               (λ x e. walk_stays z s.words new same l.chains v.seen.front x (h.walks.each id v at x e));
         };
         readings = stored_on z l.log s.words s.views id (turn_word z p) n v w h.passes at has_some low_word read h.readings;
-        kept_words = words_left z l.log s.words s.views id v w at l.log new (λ i e at'. at') same.links refl h.kept_words;
+        kept_words = words_left z l.log s.words s.views id v w at l.log new (λ i e at'. at') (λ p i o. o) same.links refl h.kept_words;
         expected = record {
           turn = expected ∙ h.expected.turn ∙ sym (total_same has_expected s.views id v w at refl);
           single = omega (arith, expected, h.expected.single);

@@ -1,6 +1,6 @@
--- The tuple words of a place that a pass holds for an id: they are those of the tuples that the id's Confirm names. They stay
--- so, since a pass stores such words at a place alone that it has taken for a new entry, and none has taken a place that one
--- holds for an id.
+-- The tuple words of a place that a pass holds for an id: they are those of the tuples that the id's Confirm names, and no other
+-- live entry has the place. They stay so, since a pass stores such words, and confirms an entry, at a place alone that it has
+-- taken for a new one, and none has taken a place that one holds for an id.
 use Rattle.std.specs.Prelude.{◌≡◌, ℕ, ◌+◌, ◌*◌, ◌<◌, ◌==◌, ◌&&◌, Bool, true, false, List, slice_index}
 use Rattle.std.specs.List.{list_any}
 use Rattle.tuple_core.specs.declared.Direction.{Direction}
@@ -14,7 +14,9 @@ use Rattle.track_rule.specs.declared.view.Purpose.{Purpose}
 use Rattle.track_rule.specs.declared.view.Purpose.TheVariants.{Taken, Testing, Shown, For}
 use Rattle.track_rule.specs.declared.view.View.{View}
 use Rattle.track_rule.specs.Chains.{pair_of}
+use Rattle.track_rule.specs.History.{records_after}
 use Rattle.track_rule.specs.Layout.{first_word, second_word}
+use Rattle.track_rule.specs.Phases.{of_both, of_place}
 use Rattle.track_rule.specs.References.{WasConfirmed, is_at, takes}
 use Rattle.track_rule.specs.Sums.{Each, bit, total}
 
@@ -56,10 +58,15 @@ pub record HasPair (z : Sizes) (words : List ℕ) (link : ℕ) (p : Pair) : Type
   pub first : slice_index words (first_word z link) ≡ p.first
   pub second : slice_index words (second_word z link) ≡ p.second
 
--- the entry of this id was confirmed at this place, and both of its tuples stand there
+-- no live record but that of the id has the place
+abbrev pub IsOnly : List Event → ℕ → ℕ → Type 0
+IsOnly log id place = total (of_place place) (records_after log) ≡ total (of_both place id) (records_after log)
+
+-- the entry of this id was confirmed at this place, both of its tuples stand there, and no other live one has the place
 pub record HasTuples (z : Sizes) (log : List Event) (words : List ℕ) (id place : ℕ) : Type 0 where
   pub was : WasConfirmed log id place
   pub stand : (d : Direction) → HasPair z words (link_of d place) (pair_in d was.subject)
+  pub only : IsOnly log id place
 
 pub record AreKeptWords (z : Sizes) (log : List Event) (words : List ℕ) (views : List View) : Type 0 where
   pub each : Each (λ v. (place id : ℕ) → is_kept_for place id v.places.held ≡ true → HasTuples z log words id place) views

@@ -1,5 +1,5 @@
 -- What the steps on a phase tell a pass: v is what it knew before, w what it knows after.
-use Rattle.std.specs.Prelude.{◌≡◌, ℕ, ◌+◌, ◌<◌, ◌≤◌, ◌==◌, ◌&&◌, ◌||◌, Bool, if◌then◌else◌, Some, List, ◌∷◌}
+use Rattle.std.specs.Prelude.{◌≡◌, ℕ, ◌+◌, ◌<◌, ◌≤◌, ◌==◌, ◌&&◌, ◌||◌, Bool, if◌then◌else◌, Some, List, ◌∷◌, true}
 use Rattle.atomic_table.specs.Table.{Me, Step}
 use Rattle.track_rule.specs.declared.slot.Slot.{Slot}
 use Rattle.track_rule.specs.declared.view.Entry.{Entry}
@@ -8,6 +8,7 @@ use Rattle.track_rule.specs.declared.view.Middle.TheVariants.{Calm}
 use Rattle.track_rule.specs.declared.view.View.{View}
 use Rattle.track_rule.specs.BucketSteps.{IsShutAt}
 use Rattle.track_rule.specs.Free.{is_among, known_free}
+use Rattle.track_rule.specs.KeptWords.{is_kept_for}
 use Rattle.track_rule.specs.Layout.{phase_word, place_of}
 use Rattle.track_rule.specs.Readings.{IsSole, found, last_read, noted, stored}
 use Rattle.track_rule.specs.References.{is_taken}
@@ -30,6 +31,7 @@ may_store place to v = (to == phase_free && is_among place v.places.owed) || (to
 
 -- A load: a place of the free list under the pass's own turn is FREE, and so is one whose phase the pass has set to that. One
 -- that it has taken and set to OWNED is that, and one whose entry it destroyed is DEAD while it carries the table's reference.
+-- One that it holds for an id is LIVE of no other.
 -- Under the turn of the place's record it is the one that the pass knows, where that is LIVE, and else none such. Of a link that
 -- stands in a bucket which the pass has shut, and names an id, the place is LIVE of this id, unless the pass is in the middle of a
 -- commit itself.
@@ -39,6 +41,7 @@ pub record LoadsPhase (place : ℕ) (v : View) (n : ℕ) (w : View) : Type 0 whe
   pub owned : 0 < times place v.places.owned → n ≡ phase_owned
   pub ended : 0 < times place v.places.ended → n ≡ phase_dead
   pub sole : IsSole v → n ≡ last_read (phase_word v.passes.sizes place) v
+  pub kept : (id : ℕ) → is_kept_for place id v.places.held ≡ true → 3 ≤ n → n ≡ 3 + id
   pub hand : (h : Hand) → v.commit.hand ≡ Some h → h.place ≡ place → (2 < h.phase → n ≡ h.phase) × (h.phase ≤ 2 → n ≤ 2)
   pub linked : (b : ℕ) (passed : List Entry) (e : Entry) (rest : List Entry) (id : ℕ) → b < v.passes.sizes.buckets → IsShutAt b v passed (e ∷ rest)
       → v.commit.middle ≡ Calm → e.id ≡ Some id → place_of e.link ≡ place → n ≡ 3 + id
