@@ -19,3 +19,5 @@ pub mod Opening
 pub mod Confirmed
 pub mod Entered
 pub mod Making
+pub mod Looking
+pub mod Peeking

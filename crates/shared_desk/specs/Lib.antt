@@ -8,4 +8,5 @@ pub mod Commit
 pub mod Rival
 pub mod Confirm
 pub mod Noting
+pub mod Looking
 pub mod TestCrew

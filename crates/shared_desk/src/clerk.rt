@@ -2,9 +2,9 @@
 
 ghost use Rattle.std.specs.Prelude.{◌≡◌, ◌+◌, ◌<◌, ◌≤◌, ◌^◌, true, length, OnOk, OnErr};
 ghost use Rattle.entry_pool.specs.GoesOn.{ReadingsStand};
-ghost use Rattle.history_book.specs.Desk.{ConfirmSays, CountSays, IsReady, RecycleSays, ReleaseSays};
+ghost use Rattle.history_book.specs.Desk.{ConfirmSays, CountSays, IsReady, PeekSays, RecycleSays, ReleaseSays};
 ghost use Rattle.history_book.specs.Entry.{is_flow_of_one_protocol};
-ghost use Rattle.history_book.specs.Held.{is_held, is_owed, is_taken};
+ghost use Rattle.history_book.specs.Held.{is_held, is_held_for_entry, is_owed, is_taken};
 ghost use Rattle.history_book.specs.Join.{CanJoin, Joins};
 ghost use Rattle.history_book.specs.Leave.{IsLeftOf};
 ghost use Rattle.history_book.specs.Places.{HoldsNothing};
@@ -17,12 +17,13 @@ ghost use Rattle.track_rule.specs.History.{events_in, live_in};
 ghost use Rattle.track_rule.specs.Sights.{sizes_of};
 
 use crate::confirm::confirm;
+use crate::entry::peek;
 use crate::noting::note_confirm;
 use crate::tracker::Spot;
 use ct_io::Gate;
 use entry_pool::hold::release;
 use entry_pool::take::{recycle, take};
-use history_book::outcome::{ConfirmOutcome, LiveCount, ReleaseOutcome, TakeOutcome};
+use history_book::outcome::{ConfirmOutcome, LiveCount, PeekOutcome, ReleaseOutcome, TakeOutcome};
 use history_book::record::Flow;
 use history_book::report::Notes;
 use std::alloc::Global;
@@ -184,6 +185,15 @@ impl<'t, G: Gate> Clerk<'t, G> {
         let outcome = confirm(rt, &mut self.pass, self.gate, self.worker, place, flow);
         note_confirm(&mut self.notes, &mut self.spare, place, flow, &outcome);
         outcome
+    }
+
+    /// Reads the entry for which a place is held. It may wait for the turn of the place's record.
+    pub fn peek<R: Wait>(&mut self, rt: &R, place: u32) -> PeekOutcome
+        requires { is_held_for_entry place (sight_of self.old).held ≡ true }
+        ensures says { PeekSays place (sight_of self.old) (sight_of self.new) result }
+        ensures knows { IsKnown (sight_of self.new) }
+    {
+        peek(rt, &mut self.pass, place)
     }
 
     /// Makes a place free again, of which this clerk gave up the last reference. It may wait for the turn of the free list.

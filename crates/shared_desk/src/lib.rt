@@ -4,6 +4,7 @@
 pub mod clerk;
 mod commit;
 mod confirm;
+mod entry;
 pub mod laws;
 mod noting;
 mod rival;

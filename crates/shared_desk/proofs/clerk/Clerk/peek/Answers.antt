@@ -1,0 +1,25 @@
+use Rattle.std.proofs.Common.{ap, ◌∙◌}
+use Rattle.history_book.specs.Held.{is_held_for_entry}
+use Rattle.shared_desk.specs.Sights.{ClerkSight, sight_of}
+use Rattle.shared_desk.proofs.Peeking.{free_for, rest_peeked, says_peeked}
+use Rattle.shared_desk.proofs.clerk.Clerk.peek.Goals as goal
+
+pub peek-requires : goal.peek-requires
+peek-requires g c =
+    free_for c.self.inside.pass c.self.inside.notes c.self.inside.spare c.args.place c.self.invariant
+    (ap (λ (s : ClerkSight). is_held_for_entry c.args.place (sight_of s).held) c.self.view_is ∙ c.requires)
+
+pub invariant_of-self : goal.invariant_of-self
+invariant_of-self g c =
+    rest_peeked c.self.inside.pass c.self.inside.notes c.self.inside.spare c.args.place c.self.invariant
+    (ap (λ (s : ClerkSight). is_held_for_entry c.args.place (sight_of s).held) c.self.view_is ∙ c.requires)
+    c.peek.result c.peek.new.pass c.peek.ensures
+
+pub returns-clause-says : goal.returns-clause-says
+returns-clause-says g c =
+    rw (← c.self.view_is) (says_peeked c.self.inside.pass c.self.inside.notes c.self.inside.spare c.args.place c.self.invariant
+    (ap (λ (s : ClerkSight). is_held_for_entry c.args.place (sight_of s).held) c.self.view_is ∙ c.requires)
+    c.peek.result c.peek.new.pass c.peek.ensures)
+
+pub returns-clause-knows : goal.returns-clause-knows
+returns-clause-knows g c = (invariant_of-self g c).knows

@@ -1,0 +1,53 @@
+//! The entry for which a place is held: it is read under the turn of the place's record.
+
+ghost use Rattle.std.specs.Prelude.{◌≡◌};
+ghost use Rattle.shared_desk.specs.Looking.{HasRecord, IsFreeFor, Peeks};
+ghost use Rattle.track_rule.specs.TurnSteps.{subject_in};
+
+use crate::clerk::events_in;
+use crate::commit::take_turn;
+use history_book::outcome::PeekOutcome;
+use history_book::record::Record;
+use std::sync::Wait;
+use track_rule::pass::Pass;
+
+/// The least phase of a place that is LIVE.
+const LIVE: u64 = 3;
+
+/// The record that is out of its slot, or none. It stays there.
+fn record_out(pass: &mut Pass, place: u32) -> Option<Record>
+    requires { HasRecord place pass.old }
+    ensures record { result ≡ subject_in pass.old.slots }
+    ensures same { pass.new ≡ pass.old }
+{
+    let subject = pass.record_swap(place, None);
+    let _ = pass.record_swap(place, subject);
+    subject
+}
+
+/// Reads the entry for which a place is held, under the turn of the place's record.
+fn read_record(pass: &mut Pass, place: u32) -> PeekOutcome
+    requires { HasRecord place pass.old }
+    ensures { Peeks place result pass.old pass.new }
+{
+    let phase = pass.phase_load(place);
+    let at = events_in(pass.history_load());
+    if phase < LIVE {
+        return PeekOutcome::Gone { at };
+    }
+    match record_out(pass, place) {
+        Some(subject) => PeekOutcome::Seen { subject, at },
+        None => PeekOutcome::Gone { at },
+    }
+}
+
+/// Waits for the turn of a place's record, and reads the entry for which the place is held.
+pub fn peek<R: Wait>(rt: &R, pass: &mut Pass, place: u32) -> PeekOutcome
+    requires { IsFreeFor place pass.old }
+    ensures { Peeks place result pass.old pass.new }
+{
+    take_turn(rt, pass, place);
+    let outcome = read_record(pass, place);
+    pass.turn_give(place);
+    outcome
+}
