@@ -34,7 +34,7 @@ pub get_last : {X : Type 0} (xs : List X) (x : X) → slice_get (xs ++ x ∷ [])
 get_last [] x = refl
 get_last (y ∷ xs) x = get_last xs x
 
-pairs_push : {X : Type 0} (R : X → X → Type 0) (xs : List X) (y : X) → AllPairs R xs → All (λ x. R x y) xs → AllPairs R (xs ++ y ∷ [])
+pub pairs_push : {X : Type 0} (R : X → X → Type 0) (xs : List X) (y : X) → AllPairs R xs → All (λ x. R x y) xs → AllPairs R (xs ++ y ∷ [])
 pairs_push R [] y h all = λ i j d before short. absurd (omega (arith, before, short))
 pairs_push R (x ∷ xs) y h all =
     AllPairs-cons R x (xs ++ y ∷ [])
@@ -50,7 +50,7 @@ length_map : {X : Type 0} (f : X → X) (xs : List X) → length (map f xs) ≡ 
 length_map f [] = refl
 length_map f (x ∷ xs) = ap suc (length_map f xs)
 
-notes_push : (k : ℕ) (log : List Event) (e : Event) → notes_from k (log ++ e ∷ []) ≡ notes_from k log ++ record { number = k + length log; event = e } ∷ []
+pub notes_push : (k : ℕ) (log : List Event) (e : Event) → notes_from k (log ++ e ∷ []) ≡ notes_from k log ++ record { number = k + length log; event = e } ∷ []
 notes_push k [] e = ap (λ (n : ℕ). record { number = n; event = e } ∷ []) (omega arith)
 notes_push k (x ∷ xs) e =
     ap (λ ns. record { number = k; event = x } ∷ ns)

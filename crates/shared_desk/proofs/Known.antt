@@ -21,7 +21,7 @@ event_later log front n e (more, same) at = subst (λ es. slice_get es n ≡ Som
 pub events_later : (log front : List Event) (notes : List Note) → StartsWith log front → AreEventsOf front notes → AreEventsOf log notes
 events_later log front notes starts h = λ i d short. event_later log front _ _ starts (h i d short)
 
-entry_later : (log front : List Event) (place : ℕ) (id : Option ℕ) → StartsWith log front → IsForEntryOf front place id → IsForEntryOf log place id
+pub entry_later : (log front : List Event) (place : ℕ) (id : Option ℕ) → StartsWith log front → IsForEntryOf front place id → IsForEntryOf log place id
 entry_later log front place None starts h = tt
 entry_later log front place (Some id) starts h = record { subject = h.subject; event = event_later log front id _ starts h.event; placed = h.placed }
 

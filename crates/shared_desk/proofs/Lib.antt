@@ -21,3 +21,6 @@ pub mod Entered
 pub mod Making
 pub mod Looking
 pub mod Peeking
+pub mod Stepping
+pub mod Touched
+pub mod Accepting

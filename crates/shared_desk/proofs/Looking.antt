@@ -1,10 +1,10 @@
 -- The entry for which a place is held, read under the turn of the place's record.
-use Rattle.std.proofs.Common.{◌≡◌, ℕ, ◌+◌, ◌<◌, Option, Some, None, List, ◌∷◌, ◌++◌, refl, sym, ap, subst, ◌∙◌, [], true}
+use Rattle.std.proofs.Common.{◌≡◌, ℕ, ◌<◌, Option, Some, None, List, ◌∷◌, ◌++◌, refl, sym, ap, subst, ◌∙◌, [], true}
 use Rattle.atomic_table.specs.Table.{rest}
 use Rattle.history_book.specs.declared.outcome.PeekOutcome.{PeekOutcome}
 use Rattle.history_book.specs.declared.record.Record.{Record}
 use Rattle.history_book.specs.declared.sizes.Sizes.{Sizes}
-use Rattle.track_rule.specs.Layout.{record_slot, turn_word}
+use Rattle.track_rule.specs.Layout.{turn_word}
 use Rattle.track_rule.specs.Readings.{stored}
 use Rattle.track_rule.specs.Records.{record_in, slot_of_record}
 use Rattle.track_rule.specs.Sights.{PassSight, sizes_of}

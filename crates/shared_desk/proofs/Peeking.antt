@@ -1,7 +1,7 @@
 -- A clerk that read the entry for which it holds a place.
 use Rattle.std.specs.List.{AllByRecursion}
 use Rattle.std.specs.Prelude.{◌==◌, ◌||◌, ◌&&◌, if◌then◌else◌, is_some, find}
-use Rattle.std.proofs.Common.{◌≡◌, ℕ, ◌+◌, ◌<◌, ◌≤◌, Bool, true, false, Option, Some, None, List, [], ◌∷◌, length, map, refl, sym, ap, subst, ◌∙◌, arith, ⊎_elim, length-append}
+use Rattle.std.proofs.Common.{◌≡◌, ℕ, ◌<◌, Bool, true, false, Some, None, List, [], ◌∷◌, length, map, refl, sym, ap, subst, ◌∙◌, arith, ⊎_elim, length-append}
 use Rattle.std.proofs.lemmas.Bool.{and_parts, cases_Bool, eq-eqb, false≢true, or_cases, or_left, or_right}
 use Rattle.room_list.specs.Roomed.{Roomed}
 use Rattle.history_book.specs.Desk.{IsRecord, PeekSays, SamePlaces}
@@ -13,7 +13,6 @@ use Rattle.history_book.specs.declared.desk.Hold.{Hold}
 use Rattle.history_book.specs.declared.event.Note.{Note}
 use Rattle.history_book.specs.declared.outcome.PeekOutcome.{PeekOutcome}
 use Rattle.history_book.specs.declared.outcome.PeekOutcome.TheVariants.{Seen, Gone}
-use Rattle.history_book.specs.declared.record.Record.{Record}
 use Rattle.track_rule.specs.KeptWords.{is_for, is_kept_for}
 use Rattle.track_rule.specs.References.{held_times, is_at, is_for_new, is_taken}
 use Rattle.track_rule.specs.Sights.{PassSight}
@@ -28,8 +27,8 @@ use Rattle.shared_desk.proofs.Places.{held_below}
 use Rattle.shared_desk.proofs.Resting.{clerk_at}
 use Rattle.shared_desk.proofs.Taking.{rest_looked, saw_looked}
 use Rattle.history_book.specs.WentOn.{Looked}
-
 use Rattle.track_rule.specs.History.{state_after}
+use Rattle.track_rule.specs.Steps.{AreAll}
 
 -- a place that is held for an entry is held
 entry_held : (place : ℕ) (hs : List Hold) → is_held_for_entry place hs ≡ true → desk.is_held place hs ≡ true
@@ -56,8 +55,8 @@ first_named place p Taken ks s here once e =
       arith,
       once refl,
       ⊎_elim (λ (t : (p == place && false) ≡ true). absurd (false≢true (sym (off (p == place)) ∙ t)))
-      (λ (t : is_held_for_entry place (map hold_of ks) ≡ true). entry_times place ks t)
-      (or_cases (p == place && false) (is_held_for_entry place (map hold_of ks)) e),
+          (λ (t : is_held_for_entry place (map hold_of ks) ≡ true). entry_times place ks t)
+          (or_cases (p == place && false) (is_held_for_entry place (map hold_of ks)) e),
     ))
   where
     off : (b : Bool) → (b && false) ≡ false
@@ -95,35 +94,41 @@ module _ (v : PassSight) (notes : Roomed Note) (spare place : ℕ) (h : IsAtRest
     free = h.idle.free;
   }
 
-  kept : is_kept_for place (held_id place (map hold_of v.view.places.held)) v.view.places.held ≡ true
+  pub kept : is_kept_for place (held_id place (map hold_of v.view.places.held)) v.view.places.held ≡ true
   kept = kept_id place v.view.places.held h.settled.purposes (λ t. (h.settled.taken place t).once) held
 
-  module _ (o : PeekOutcome) (w : PassSight) (p : Peeks place o v w) where
-    pub rest_peeked : IsAtRest w notes spare
-    rest_peeked = rest_looked v notes spare h w.view.seen.front w.view.walk w.view.readings w p.same p.all
+  -- it has seen all events, and made none
+  module _ (w : PassSight)
+      (same : w ≡ record v { view = record v.view { seen = record v.view.seen { front = w.view.seen.front }; walk = w.view.walk; readings = w.view.readings } })
+      (all : AreAll v.view w.view.seen.front) where
+    pub rest_looking : IsAtRest w notes spare
+    rest_looking = rest_looked v notes spare h w.view.seen.front w.view.walk w.view.readings w same all
 
     -- at a point after all that it has seen
     pub looks_at : (at : ℕ) (F : State → Type 0) → at ≡ length w.view.seen.front → F (state_after w.view.seen.front)
         → Looked (sight_of (clerk_at v spare)) (sight_of (clerk_at w spare)) at F × SamePlaces (sight_of (clerk_at v spare)) (sight_of (clerk_at w spare))
     looks_at at F point fact = (
       record {
-        saw = saw_looked v notes spare h w.view.seen.front w.view.walk w.view.readings w p.same p.all;
-        low = omega (arith, point, ap length p.all.front.1, length-append v.view.seen.front p.all.front.0);
+        saw = saw_looked v notes spare h w.view.seen.front w.view.walk w.view.readings w same all;
+        low = omega (arith, point, ap length all.front.1, length-append v.view.seen.front all.front.0);
         fact = record {
           within = omega (arith, point);
           fact = subst (λ (n : ℕ). F (after w.view.seen.front n)) (sym point) fact;
         };
       },
       record {
-        held = ap (λ (k : PassSight). map hold_of k.view.places.held) p.same;
-        owed = ap (λ (k : PassSight). k.view.places.owed) p.same;
+        held = ap (λ (k : PassSight). map hold_of k.view.places.held) same;
+        owed = ap (λ (k : PassSight). k.view.places.owed) same;
       },
     )
+
+  pub rest_peeked : (o : PeekOutcome) (w : PassSight) → Peeks place o v w → IsAtRest w notes spare
+  rest_peeked o w p = rest_looking w p.same p.all
 
   pub says_peeked : (o : PeekOutcome) (w : PassSight) → Peeks place o v w → PeekSays place (sight_of (clerk_at v spare)) (sight_of (clerk_at w spare)) o
   says_peeked (Seen subject at) w p =
       let is = p.is (held_id place (map hold_of v.view.places.held)) kept in
-      looks_at (Seen subject at) w p at (IsRecord (held_id place (map hold_of v.view.places.held)) subject) is.0 is.1
+      looks_at w p.same p.all at (IsRecord (held_id place (map hold_of v.view.places.held)) subject) is.0 is.1
   says_peeked (Gone at) w p =
       let is = p.is (held_id place (map hold_of v.view.places.held)) kept in
-      looks_at (Gone at) w p at (λ s. record_of (held_id place (map hold_of v.view.places.held)) s ≡ None) is.0 is.1
+      looks_at w p.same p.all at (λ s. record_of (held_id place (map hold_of v.view.places.held)) s ≡ None) is.0 is.1

@@ -9,4 +9,5 @@ pub mod Rival
 pub mod Confirm
 pub mod Noting
 pub mod Looking
+pub mod Touching
 pub mod TestCrew

@@ -1,5 +1,5 @@
--- The own events of a clerk after it confirmed a flow.
-use Rattle.std.specs.Prelude.{ℕ, ◌-◌, [], ◌∷◌, ◌++◌}
+-- The own events of a clerk after it confirmed a flow, or did something else by an event or by none.
+use Rattle.std.specs.Prelude.{ℕ, ◌-◌, Option, Some, None, [], ◌∷◌, ◌++◌}
 use Rattle.room_list.specs.Roomed.{Roomed}
 use Rattle.history_book.specs.Entry.{record_for}
 use Rattle.history_book.specs.declared.event.Event.TheVariants as event
@@ -17,3 +17,12 @@ made_by place flow (Clash id direction both at) notes = notes
 abbrev pub room_for : ConfirmOutcome → ℕ → ℕ
 room_for (Confirmed id) spare = spare - 1
 room_for (Clash id direction both at) spare = spare
+
+-- an event more, if there is one
+abbrev pub with_note : Option Note → Roomed Note → Roomed Note
+with_note None notes = notes
+with_note (Some note) notes = record notes { items = notes.items ++ note ∷ [] }
+
+abbrev pub room_after : Option Note → ℕ → ℕ
+room_after None spare = spare
+room_after (Some note) spare = spare - 1

@@ -2,9 +2,9 @@
 
 ghost use Rattle.std.specs.Prelude.{◌≡◌, ◌+◌, ◌<◌, ◌≤◌, ◌^◌, true, length, OnOk, OnErr};
 ghost use Rattle.entry_pool.specs.GoesOn.{ReadingsStand};
-ghost use Rattle.history_book.specs.Desk.{ConfirmSays, CountSays, IsReady, PeekSays, RecycleSays, ReleaseSays};
-ghost use Rattle.history_book.specs.Entry.{is_flow_of_one_protocol};
-ghost use Rattle.history_book.specs.Held.{is_held, is_held_for_entry, is_owed, is_taken};
+ghost use Rattle.history_book.specs.Desk.{ConfirmSays, CountSays, IsReady, PeekSays, RecycleSays, ReleaseSays, TouchSays};
+ghost use Rattle.history_book.specs.Entry.{is_flow_of_one_protocol, is_of_entry};
+ghost use Rattle.history_book.specs.Held.{held_id, is_held, is_held_for_entry, is_owed, is_taken};
 ghost use Rattle.history_book.specs.Join.{CanJoin, Joins};
 ghost use Rattle.history_book.specs.Leave.{IsLeftOf};
 ghost use Rattle.history_book.specs.Places.{HoldsNothing};
@@ -17,20 +17,24 @@ ghost use Rattle.track_rule.specs.History.{events_in, live_in};
 ghost use Rattle.track_rule.specs.Sights.{sizes_of};
 
 use crate::confirm::confirm;
-use crate::entry::peek;
-use crate::noting::note_confirm;
+use crate::entry::{peek, touch};
+use crate::noting::{note_confirm, note_event};
+use crate::touching::Packet;
 use crate::tracker::Spot;
 use ct_io::Gate;
 use entry_pool::hold::release;
 use entry_pool::take::{recycle, take};
-use history_book::outcome::{ConfirmOutcome, LiveCount, PeekOutcome, ReleaseOutcome, TakeOutcome};
+use history_book::laws::states_stay;
+use history_book::outcome::{
+    ConfirmOutcome, LiveCount, PeekOutcome, ReleaseOutcome, TakeOutcome, TouchOutcome,
+};
 use history_book::record::Flow;
 use history_book::report::Notes;
 use std::alloc::Global;
 use std::marker::Model;
 use std::sync::Wait;
 use track_rule::pass::Pass;
-use tuple_core::NoMemory;
+use tuple_core::{Direction, NoMemory, Segment};
 
 /// One thread's handle on the tracker: its pass, with the list of its own events. Contracts see it as the pass, and for how many
 /// further events it has room.
@@ -184,6 +188,34 @@ impl<'t, G: Gate> Clerk<'t, G> {
     {
         let outcome = confirm(rt, &mut self.pass, self.gate, self.worker, place, flow);
         note_confirm(&mut self.notes, &mut self.spare, place, flow, &outcome);
+        outcome
+    }
+
+    /// Touches the entry for which a place is held, with a packet of its protocol at a moment in microseconds. It may wait for the
+    /// turn of the place's record.
+    pub fn touch<R: Wait>(
+        &mut self,
+        rt: &R,
+        place: u32,
+        direction: Direction,
+        segment: Segment,
+        moment: u64,
+    ) -> TouchOutcome
+        requires held { is_held_for_entry place (sight_of self.old).held ≡ true }
+        requires protocol { is_of_entry segment (held_id place (sight_of self.old).held) (sight_of self.old).front ≡ true }
+        requires timely { moment ≤ 10 ^ 16 }
+        requires spare { 1 ≤ (sight_of self.old).spare }
+        ensures says { TouchSays place direction segment moment (sight_of self.old) (sight_of self.new) result }
+        ensures knows { IsKnown (sight_of self.new) }
+    {
+        states_stay();
+        let packet = Packet {
+            direction,
+            segment,
+            moment,
+        };
+        let (outcome, note) = touch(rt, &mut self.pass, place, &packet);
+        note_event(&mut self.notes, &mut self.spare, note);
         outcome
     }
 

@@ -1,12 +1,16 @@
-//! The entry for which a place is held: it is read under the turn of the place's record.
+//! The entry for which a place is held: it is read, or touched, under the turn of the place's record.
 
 ghost use Rattle.std.specs.Prelude.{◌≡◌};
 ghost use Rattle.shared_desk.specs.Looking.{HasRecord, IsFreeFor, Peeks};
+ghost use Rattle.shared_desk.specs.Touching.{Notes, SuitsEntry, Touches, TouchesUnder};
 ghost use Rattle.track_rule.specs.TurnSteps.{subject_in};
 
 use crate::clerk::events_in;
 use crate::commit::take_turn;
-use history_book::outcome::PeekOutcome;
+use crate::touching::{Packet, step_record};
+use history_book::event::Note;
+use history_book::laws::entries_keep_their_protocol;
+use history_book::outcome::{PeekOutcome, TouchOutcome};
 use history_book::record::Record;
 use std::sync::Wait;
 use track_rule::pass::Pass;
@@ -48,6 +52,43 @@ pub fn peek<R: Wait>(rt: &R, pass: &mut Pass, place: u32) -> PeekOutcome
 {
     take_turn(rt, pass, place);
     let outcome = read_record(pass, place);
+    pass.turn_give(place);
+    outcome
+}
+
+/// Touches the entry for which a place is held, under the turn of the place's record.
+fn touch_record(pass: &mut Pass, place: u32, packet: &Packet) -> (TouchOutcome, Option<Note>)
+    requires has { HasRecord place pass.old }
+    requires suits { SuitsEntry place packet.now pass.old }
+    ensures touches { TouchesUnder place packet.now result.0 pass.old pass.new }
+    ensures noted { Notes result.1 pass.old.view.seen.own pass.new.view.seen.own }
+{
+    entries_keep_their_protocol();
+    let phase = pass.phase_load(place);
+    let at = events_in(pass.history_load());
+    if phase < LIVE {
+        return (TouchOutcome::Gone { at }, None);
+    }
+    match record_out(pass, place) {
+        Some(before) => step_record(pass, place, phase - LIVE, &before, packet, at),
+        None => (TouchOutcome::Gone { at }, None),
+    }
+}
+
+/// Waits for the turn of a place's record, and touches the entry for which the place is held.
+pub fn touch<R: Wait>(
+    rt: &R,
+    pass: &mut Pass,
+    place: u32,
+    packet: &Packet,
+) -> (TouchOutcome, Option<Note>)
+    requires free { IsFreeFor place pass.old }
+    requires suits { SuitsEntry place packet.now pass.old }
+    ensures touches { Touches place packet.now result.0 pass.old pass.new }
+    ensures noted { Notes result.1 pass.old.view.seen.own pass.new.view.seen.own }
+{
+    take_turn(rt, pass, place);
+    let outcome = touch_record(pass, place, packet);
     pass.turn_give(place);
     outcome
 }

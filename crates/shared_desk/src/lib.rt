@@ -10,5 +10,6 @@ mod noting;
 mod rival;
 #[cfg(test)]
 mod tests;
+mod touching;
 pub mod tracker;
 mod tuples;

@@ -1,7 +1,7 @@
 //! A clerk's own events, with their numbers.
 
 ghost use Rattle.std.specs.Prelude.{◌≡◌, ◌+◌, ◌<◌, ◌≤◌, length};
-ghost use Rattle.shared_desk.specs.Noting.{made_by, room_for};
+ghost use Rattle.shared_desk.specs.Noting.{made_by, room_after, room_for, with_note};
 
 use crate::commit::record_for;
 use history_book::event::{Event, Note};
@@ -33,5 +33,18 @@ pub fn note_confirm(
             *spare -= 1;
         }
         ConfirmOutcome::Clash { .. } => {}
+    }
+}
+
+/// Notes an own event, if there is one. There is room for it.
+pub fn note_event(notes: &mut Notes, spare: &mut u64, made: Option<Note>)
+    requires room { length notes.old.items + spare.old ≤ notes.old.room }
+    requires spare { 1 ≤ spare.old }
+    ensures notes { notes.new ≡ with_note made notes.old }
+    ensures spare { spare.new ≡ room_after made spare.old }
+{
+    if let Some(note) = made {
+        notes.push(note);
+        *spare -= 1;
     }
 }

@@ -1,0 +1,98 @@
+//! Touching the entry for which a place is held, under the turn of the place's record.
+
+ghost use Rattle.std.specs.Prelude.{◌≡◌, ◌<◌, ◌≤◌, ◌^◌, true, length, Some};
+ghost use Rattle.proto_rules.specs.Protocol.{is_of_protocol};
+ghost use Rattle.proto_rules.specs.Step.{step_of};
+ghost use Rattle.proto_rules.specs.declared.Outcome.TheVariants as outcome;
+ghost use Rattle.shared_desk.specs.Touching.{GoesOn, KnowsEntry, Notes, StepsRecord};
+
+use history_book::event::{Event, Note};
+use history_book::outcome::TouchOutcome;
+use history_book::record::Record;
+use proto_rules::laws::same_part_is_equality;
+use proto_rules::{Outcome, Part, step};
+use track_rule::pass::Pass;
+use tuple_core::{Direction, Segment};
+
+/// A packet of an entry: its direction, what a tracker reads of it, and its moment in microseconds.
+#[derive(Clone, Copy)]
+pub struct Packet {
+    pub direction: Direction,
+    pub segment: Segment,
+    pub moment: u64,
+}
+
+/// The entry accepts a packet and goes on with this part. Gives the Touch, with its number.
+fn go_on(
+    pass: &mut Pass,
+    place: u32,
+    id: u64,
+    before: &Record,
+    packet: &Packet,
+    after: Part,
+) -> Note
+    requires knows { KnowsEntry place id before.now pass.old }
+    requires protocol { is_of_protocol packet.now.segment before.now.part.kind ≡ true }
+    requires step { step_of before.now.part packet.now.direction packet.now.segment packet.now.moment ≡ outcome.Accept after }
+    requires few { length pass.old.view.seen.own < 2 ^ 30 }
+    ensures goes { GoesOn place id before.now packet.now after result.number pass.old pass.new }
+    ensures noted { Notes (Some result) pass.old.view.seen.own pass.new.view.seen.own }
+{
+    same_part_is_equality();
+    let Packet {
+        direction,
+        segment,
+        moment,
+    } = *packet;
+    let event = Event::Touch {
+        id,
+        direction,
+        segment,
+        moment,
+        after,
+    };
+    let number = pass.touch_add(event);
+    let mut subject = *before;
+    subject.part = after;
+    let _ = pass.record_swap(place, Some(subject));
+    Note { number, event }
+}
+
+/// Does what the step says that a packet does to an entry, which was so at this point.
+pub fn step_record(
+    pass: &mut Pass,
+    place: u32,
+    id: u64,
+    before: &Record,
+    packet: &Packet,
+    at: u64,
+) -> (TouchOutcome, Option<Note>)
+    requires knows { KnowsEntry place id before.now pass.old }
+    requires protocol { is_of_protocol packet.now.segment before.now.part.kind ≡ true }
+    requires timely { packet.now.moment ≤ 10 ^ 16 }
+    requires few { length pass.old.view.seen.own < 2 ^ 30 }
+    ensures steps { StepsRecord place id before.now packet.now at result.0 pass.old pass.new }
+    ensures noted { Notes result.1 pass.old.view.seen.own pass.new.view.seen.own }
+{
+    let outcome = match step(
+        &before.part,
+        packet.direction,
+        packet.segment,
+        packet.moment,
+    ) {
+        Outcome::Accept(after) => {
+            let note = go_on(pass, place, id, before, packet, after);
+            let touched = TouchOutcome::Touched {
+                number: note.number,
+                before: *before,
+            };
+            return (touched, Some(note));
+        }
+        Outcome::Ignore => TouchOutcome::Ignored { at },
+        Outcome::Invalid => TouchOutcome::Invalid { at },
+        Outcome::Reopen => TouchOutcome::Reopen { at },
+        Outcome::Reset => TouchOutcome::Reset { at },
+        Outcome::Expired => TouchOutcome::Expired { at },
+    };
+    (outcome, None)
+}
