@@ -34,7 +34,8 @@ pub fn udp(src: u32, a: u16, dst: u32, b: u16) -> Tuple
 pub fn flow(original: Tuple, reply: Tuple) -> Flow
     requires original { original.proto ≡ Udp }
     requires reply { reply.proto ≡ Udp }
-    ensures { is_flow_of_one_protocol result ≡ true }
+    ensures protocol { is_flow_of_one_protocol result ≡ true }
+    ensures kind { result.part.kind ≡ kind.Udp }
 {
     Flow {
         original,
