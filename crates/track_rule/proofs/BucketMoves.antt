@@ -322,8 +322,8 @@ shutting slots id b even v c below has_some half low s (l, h) long at range =
       unchanged,
       tt,
       (l, shuts l s id b v h at has_some below even hit half low),
-      λ a same. subst (λ (k : ℕ). ShutsOrMisses (n == even) k even v n w × (c ≡ c)) (one_gen z b a same)
-          (subst (λ (t : Bool). ShutsOrMisses t b even v n w) (sym (eq-eqb n even hit)) (shuts_told l s id b v h at has_some below even hit half), refl),
+      λ a same. subst (λ (k : ℕ). ShutsOrMisses (n == even) k even v n w × (c ≡ c) × (even + 1 ≡ even + 1)) (one_gen z b a same)
+          (subst (λ (t : Bool). ShutsOrMisses t b even v n w) (sym (eq-eqb n even hit)) (shuts_told l s id b v h at has_some below even hit half), refl, refl),
     ))
     (λ (miss : n ≢ even).
     let w : View = noted (found (gen_word z b) n) v in (
@@ -331,7 +331,7 @@ shutting slots id b even v c below has_some half low s (l, h) long at range =
       unchanged,
       tt,
       (l, note_read z l s id (gen_word z b) v v.walk h at has_some (h.walks.each id v at)),
-      λ a same. subst (λ (k : ℕ). ShutsOrMisses (n == even) k even v n w × (c ≡ c)) (one_gen z b a same) (
+      λ a same. subst (λ (k : ℕ). ShutsOrMisses (n == even) k even v n w × (c ≡ c) × (even + 1 ≡ even + 1)) (one_gen z b a same) (
         subst (λ (t : Bool). ShutsOrMisses t b even v n w) (sym (ne_eqb n even miss))
             (record {
               view = refl;
@@ -342,6 +342,7 @@ shutting slots id b even v c below has_some half low s (l, h) long at range =
                   (omega (arith, odd, mine, h.chains.gens b below));
               sole = λ one. h.readings one id v at has_some (gen_word z b);
             }),
+        refl,
         refl,
       ),
     ))

@@ -275,7 +275,8 @@ abbrev pub LoadGenStep : Step Slot → Me Slot View → ℕ → Me Slot View →
 LoadGenStep step me n me' = (b : ℕ) → IsGenWord step me.0 b → LoadsGen b me.0 n me'.0 × (me'.1 ≡ me.1)
 
 abbrev pub ShutGenStep : Step Slot → Me Slot View → ℕ → Me Slot View → Type 0
-ShutGenStep step me n me' = (b : ℕ) → IsGenWord step me.0 b → ShutsOrMisses (n == step.first) b step.first me.0 n me'.0 × (me'.1 ≡ me.1)
+ShutGenStep step me n me' =
+    (b : ℕ) → IsGenWord step me.0 b → ShutsOrMisses (n == step.first) b step.first me.0 n me'.0 × (me'.1 ≡ me.1) × (step.second ≡ step.first + 1)
 
 abbrev pub OpenGenStep : Step Slot → Me Slot View → ℕ → Me Slot View → Type 0
 OpenGenStep step me n me' = (b : ℕ) → IsGenWord step me.0 b → OpensGen b me.0 me'.0 × (me'.1 ≡ me.1)

@@ -38,7 +38,7 @@ invariant_of-self c =
     let h = c.self.invariant in
     let word : c.gen_word-word.result ≡ gen_word p.seat.me.0.passes.sizes c.args.bucket =
     c.gen_word-word.ensures ∙ ap (λ (y : Sizes). gen_word y c.args.bucket) h.sizes_are in
-    let told : ShutsOrMisses (c.compare_exchange-found.result == c.args.even) c.args.bucket c.args.even p.seat.me.0 c.compare_exchange-found.result c.compare_exchange-found.new.seat.me.0 × (c.compare_exchange-found.new.seat.me.1 ≡ p.seat.me.1) = c.compare_exchange-found.ensures.2 c.args.bucket word in
+    let told : ShutsOrMisses (c.compare_exchange-found.result == c.args.even) c.args.bucket c.args.even p.seat.me.0 c.compare_exchange-found.result c.compare_exchange-found.new.seat.me.0 × (c.compare_exchange-found.new.seat.me.1 ≡ p.seat.me.1) × (c.args.even + 1 ≡ c.args.even + 1) = c.compare_exchange-found.ensures.2 c.args.bucket word in
     let same : StaysAt p.seat.me.0 c.compare_exchange-found.new.seat.me.0 = shut_same (c.compare_exchange-found.result == c.args.even) c.args.bucket c.args.even c.compare_exchange-found.result p.seat.me.0 c.compare_exchange-found.new.seat.me.0 told.0 in
     stays_at p.seat.table_id p.shared.now.table_id p.shared.now.key p.sizes c.compare_exchange-found.new.seat.table_id p.seat.me c.compare_exchange-found.new.seat.me h
     c.compare_exchange-found.ensures.0 same told.1
@@ -49,5 +49,5 @@ returns-clause-kept c =
     let h = c.self.invariant in
     let word : c.gen_word-word.result ≡ gen_word p.seat.me.0.passes.sizes c.args.bucket =
     c.gen_word-word.ensures ∙ ap (λ (y : Sizes). gen_word y c.args.bucket) h.sizes_are in
-    let told : ShutsOrMisses (c.compare_exchange-found.result == c.args.even) c.args.bucket c.args.even p.seat.me.0 c.compare_exchange-found.result c.compare_exchange-found.new.seat.me.0 × (c.compare_exchange-found.new.seat.me.1 ≡ p.seat.me.1) = c.compare_exchange-found.ensures.2 c.args.bucket word in
+    let told : ShutsOrMisses (c.compare_exchange-found.result == c.args.even) c.args.bucket c.args.even p.seat.me.0 c.compare_exchange-found.result c.compare_exchange-found.new.seat.me.0 × (c.compare_exchange-found.new.seat.me.1 ≡ p.seat.me.1) × (c.args.even + 1 ≡ c.args.even + 1) = c.compare_exchange-found.ensures.2 c.args.bucket word in
     kept_at c.args.self.now p.seat.table_id c.compare_exchange-found.new.seat.table_id p.seat.me c.compare_exchange-found.new.seat.me c.self.view_is c.compare_exchange-found.ensures.0 told.1
