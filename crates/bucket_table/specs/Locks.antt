@@ -70,6 +70,10 @@ shut_both locked after before =
 abbrev pub gens_of : Sizes → Buckets → List ℕ
 gens_of z locked = gen_word z locked.lower ∷ (if locked.lower == locked.upper then [] else gen_word z locked.upper ∷ [])
 
+-- both again, the upper one first
+abbrev pub gens_back : Sizes → Buckets → List ℕ
+gens_back z locked = gen_word z locked.upper ∷ (if locked.lower == locked.upper then [] else gen_word z locked.lower ∷ [])
+
 -- Both are shut, and the pass knows their chains. It had shut neither before. All else is as it was, but the note of a walk and
 -- the readings, which come after those before the call. It changed the two generations, the lower one first, and no other word.
 pub record LocksTwo (locked : Buckets) (v w : PassSight) : Type 0 where
@@ -93,8 +97,8 @@ abbrev pub open_both : Buckets → List Shut → List Shut
 open_both locked shut =
     (if locked.lower == locked.upper then opened_of locked.lower shut else opened_of locked.lower (opened_of locked.upper shut))
 
--- Both buckets are given back. All else is as it was, but the readings, which come after those before the call. It changed no
--- word but the two generations.
+-- Both buckets are given back. All else is as it was, but the readings, which come after those before the call. It changed the
+-- two generations, the upper one first, and no other word.
 pub record UnlocksTwo (locked : Buckets) (v w : PassSight) : Type 0 where
   pub same : w ≡ record v {
     view = record v.view {
@@ -106,3 +110,4 @@ pub record UnlocksTwo (locked : Buckets) (v w : PassSight) : Type 0 where
   pub upper : shuts_of locked.upper w.view ≡ 0
   pub stand : ReadingsStand v w
   pub own : changes (is_else (sizes_of v) locked) (added v.view w.view) ≡ false
+  pub order : changed (added v.view w.view) ≡ gens_back (sizes_of v) locked
