@@ -82,6 +82,8 @@ locked_flow z flow a b locked v w none_shut sizes a_is a_below b_is b_below lock
         reply_chain = either_chain (sizes_of w) locked (bucket_in (sizes_of w) flow.reply) w.view.buckets.shut lower upper
             (ap (λ (l : Buckets). has_bucket l (bucket_in (sizes_of w) flow.reply)) are ∙ has_second (bucket_in (sizes_of w) flow.original) (bucket_in (sizes_of w) flow.reply));
       };
+      stand = locks.stand;
+      order = locks.order;
     }
 
 -- GIVING BACK

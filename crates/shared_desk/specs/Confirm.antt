@@ -14,6 +14,7 @@ use Rattle.track_rule.specs.CommitSteps.{dropped}
 use Rattle.track_rule.specs.Free.{is_among}
 use Rattle.track_rule.specs.History.{state_after}
 use Rattle.track_rule.specs.Links.{hooks_of}
+use Rattle.track_rule.specs.Readings.{added}
 use Rattle.track_rule.specs.Records.{has_hand}
 use Rattle.track_rule.specs.References.{is_taken}
 use Rattle.track_rule.specs.Sights.{PassSight, sizes_of}
@@ -22,7 +23,8 @@ use Rattle.track_rule.specs.TurnSteps.{with_subject}
 use Rattle.track_rule.specs.declared.view.Middle.TheVariants.{Calm}
 use Rattle.bucket_table.specs.Following.{bucket_in}
 use Rattle.bucket_table.specs.LockedChain.{original_link, reply_link}
-use Rattle.bucket_table.specs.Locks.{AreShut, Buckets, buckets_of}
+use Rattle.bucket_table.specs.GoesOn.{ReadingsStand}
+use Rattle.bucket_table.specs.Locks.{AreShut, Buckets, buckets_of, changed, gens_of}
 use Rattle.shared_desk.specs.Commit.{confirm_of, entered, is_any_up, seen_with, shut_buckets}
 use Rattle.shared_desk.specs.Rival.{chain_of}
 use Rattle.shared_desk.specs.Tuples.{IsFresh, pair_at, standing}
@@ -41,10 +43,13 @@ pub record IsLocked (flow : Flow) (locked : Buckets) (v : PassSight) : Type 0 wh
   pub original_chain : IsChainOf (sizes_of v) (bucket_in (sizes_of v) flow.original) (chain_of (sizes_of v) flow.original v.view.buckets.shut)
   pub reply_chain : IsChainOf (sizes_of v) (bucket_in (sizes_of v) flow.reply) (chain_of (sizes_of v) flow.reply v.view.buckets.shut)
 
--- All else is as it was, but the note of a walk and the readings.
+-- The pass changed the generations of the two buckets alone, the lower one first. All else is as it was, but the note of a walk and
+-- the readings.
 pub record LocksFlow (flow : Flow) (locked : Buckets) (v w : PassSight) : Type 0 where
   pub same : w ≡ record v { view = record v.view { buckets = record v.view.buckets { shut = w.view.buckets.shut }; walk = w.view.walk; readings = w.view.readings } }
   pub is : IsLocked flow locked w
+  pub stand : ReadingsStand v w
+  pub order : changed (added v.view w.view) ≡ gens_of (sizes_of v) locked
 
 -- The pass has seen all events up to this point, where the entry of the id stood in the flow's way, and has shut no bucket. All else
 -- is as it was, but the note of a walk and the readings.
