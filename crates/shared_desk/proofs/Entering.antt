@@ -15,7 +15,7 @@ use Rattle.tuple_core.specs.Words.{address_word, flow_word}
 use Rattle.tuple_core.specs.declared.Tuple.{Tuple}
 use Rattle.track_rule.specs.BucketSteps.{put_in, raise}
 use Rattle.track_rule.specs.Chains.{bucket_of, chain_in, entry_of, pair_of, shuts_of, side}
-use Rattle.track_rule.specs.CommitSteps.{CanConfirm, HasConfirmed, HasLink, confirmed, has_pair, held_for, named_in, shown_live}
+use Rattle.track_rule.specs.CommitSteps.{CanConfirm, HasConfirmed, HasLink, confirmed, has_pair, held_for, shown_live, told_in}
 use Rattle.track_rule.specs.Free.{taken_out, unlisted}
 use Rattle.track_rule.specs.Layout.{side_of}
 use Rattle.track_rule.specs.Links.{hook_of, hooks_of, is_down, is_raised}
@@ -295,11 +295,11 @@ held_still place id (k ∷ ks) e =
     either false y e = e
 
 -- naming links leaves which buckets are shut
-pub named_shut : (place id : ℕ) (shut : List Shut) → shut_buckets (named_in place id shut) ≡ shut_buckets shut
-named_shut place id [] = refl
-named_shut place id (s ∷ rest) = ap (λ bs. s.bucket ∷ bs) (named_shut place id rest)
+pub told_shut : (place : ℕ) (id : Option ℕ) (shut : List Shut) → shut_buckets (told_in place id shut) ≡ shut_buckets shut
+told_shut place id [] = refl
+told_shut place id (s ∷ rest) = ap (λ bs. s.bucket ∷ bs) (told_shut place id rest)
 
-taken_front : (place : ℕ) (places : List ℕ) → taken_out place (place ∷ places) ≡ places
+pub taken_front : (place : ℕ) (places : List ℕ) → taken_out place (place ∷ places) ≡ places
 taken_front place places = ap (λ (b : Bool). if b then places else place ∷ taken_out place places) (eq-eqb place place refl)
 
 -- the Confirm and LIVE, after the links and the table's reference
@@ -356,7 +356,7 @@ committed place flow locked n r v u w x y is can changes adds confirms kept show
           }));
       hooks = ap (λ (k : View). k.buckets.hooks) view
           ∙ both_gone (original_link place) (reply_link place) v.view.buckets.hooks (apart' place) can.original can.reply;
-      buckets = ap (λ (k : View). shut_buckets k.buckets.shut) view ∙ named_shut place (length has.log) (linked_buckets (sizes_of v) place v.view.buckets).shut
+      buckets = ap (λ (k : View). shut_buckets k.buckets.shut) view ∙ told_shut place (Some (length has.log)) (linked_buckets (sizes_of v) place v.view.buckets).shut
           ∙ linked_shut (sizes_of v) place v.view.buckets;
     }
 

@@ -24,3 +24,6 @@ pub mod Peeking
 pub mod Stepping
 pub mod Touched
 pub mod Accepting
+pub mod Lowering
+pub mod Ending
+pub mod Ended

@@ -61,6 +61,30 @@ two_in (x ∷ xs) h q r i j =
 pub same_or_apart : (rs : List Record) → AllPairs AreApart rs → (q r : Record) → IsIn q rs → IsIn r rs → IsSameOrApart q r
 same_or_apart rs apart q r i j = two_in rs (pairs_of rs apart) q r i j
 
+-- what is found is there
+pub find_in : (p : Record → Bool) (r : Record) (rs : List Record) → find p rs ≡ Some r → IsIn r rs
+find_in p r [] e = cc
+find_in p r (x ∷ xs) e =
+    ⊎_elim
+    (λ (t : p x ≡ true). inl (one x r (sym (ap (λ (b : Bool). if b then Some x else find p xs) t) ∙ e)))
+    (λ (t : p x ≡ false). inr (find_in p r xs (sym (ap (λ (b : Bool). if b then Some x else find p xs) t) ∙ e)))
+    (cases_Bool (p x))
+  where
+    one : (a b : Record) → Some a ≡ Some b → a ≡ b
+    one a b k = cc
+
+-- and passes the test
+pub find_passes : (p : Record → Bool) (r : Record) (rs : List Record) → find p rs ≡ Some r → p r ≡ true
+find_passes p r [] e = cc
+find_passes p r (x ∷ xs) e =
+    ⊎_elim
+    (λ (t : p x ≡ true). ap p (sym (one x r (sym (ap (λ (b : Bool). if b then Some x else find p xs) t) ∙ e))) ∙ t)
+    (λ (t : p x ≡ false). find_passes p r xs (sym (ap (λ (b : Bool). if b then Some x else find p xs) t) ∙ e))
+    (cases_Bool (p x))
+  where
+    one : (a b : Record) → Some a ≡ Some b → a ≡ b
+    one a b k = cc
+
 -- the only one that passes a test is found
 pub found_only : (p : Record → Bool) (r : Record) (rs : List Record) → IsIn r rs → p r ≡ true → ((q : Record) → IsIn q rs → p q ≡ true → q ≡ r) → find p rs ≡ Some r
 found_only p r [] i here only = absurd i

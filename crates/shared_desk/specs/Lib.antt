@@ -10,4 +10,5 @@ pub mod Confirm
 pub mod Noting
 pub mod Looking
 pub mod Touching
+pub mod Killing
 pub mod TestCrew

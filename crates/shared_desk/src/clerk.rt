@@ -1,12 +1,13 @@
 //! One thread's handle on a tracker.
 
-ghost use Rattle.std.specs.Prelude.{◌≡◌, ◌+◌, ◌<◌, ◌≤◌, ◌^◌, true, length, OnOk, OnErr};
+ghost use Rattle.std.specs.Prelude.{◌≡◌, ◌+◌, ◌<◌, ◌≤◌, ◌^◌, true, false, length, OnOk, OnErr};
 ghost use Rattle.entry_pool.specs.GoesOn.{ReadingsStand};
-ghost use Rattle.history_book.specs.Desk.{ConfirmSays, CountSays, IsReady, PeekSays, RecycleSays, ReleaseSays, TouchSays};
-ghost use Rattle.history_book.specs.Entry.{is_flow_of_one_protocol, is_of_entry};
+ghost use Rattle.history_book.specs.Desk.{ConfirmSays, CountSays, IsReady, KillSays, PeekSays, RecycleSays, ReleaseSays, TouchSays};
+ghost use Rattle.history_book.specs.Entry.{is_flow_of_one_protocol, is_helped_entry, is_of_entry, suits_entry};
 ghost use Rattle.history_book.specs.Held.{held_id, is_held, is_held_for_entry, is_owed, is_taken};
 ghost use Rattle.history_book.specs.Join.{CanJoin, Joins};
 ghost use Rattle.history_book.specs.Leave.{IsLeftOf};
+ghost use Rattle.history_book.specs.Legality.{reason_moment_of};
 ghost use Rattle.history_book.specs.Places.{HoldsNothing};
 ghost use Rattle.history_book.specs.Sight.{IsKnown};
 ghost use Rattle.history_book.specs.Split.{CanSplit, Splits};
@@ -17,16 +18,18 @@ ghost use Rattle.track_rule.specs.History.{events_in, live_in};
 ghost use Rattle.track_rule.specs.Sights.{sizes_of};
 
 use crate::confirm::confirm;
-use crate::entry::{peek, touch};
+use crate::entry::{kill, peek, touch};
 use crate::noting::{note_confirm, note_event};
 use crate::touching::Packet;
 use crate::tracker::Spot;
 use ct_io::Gate;
 use entry_pool::hold::release;
 use entry_pool::take::{recycle, take};
+use history_book::event::Why;
 use history_book::laws::states_stay;
 use history_book::outcome::{
-    ConfirmOutcome, LiveCount, PeekOutcome, ReleaseOutcome, TakeOutcome, TouchOutcome,
+    ConfirmOutcome, KillOutcome, LiveCount, PeekOutcome, ReleaseOutcome, TakeOutcome,
+    TouchOutcome,
 };
 use history_book::record::Flow;
 use history_book::report::Notes;
@@ -226,6 +229,23 @@ impl<'t, G: Gate> Clerk<'t, G> {
         ensures knows { IsKnown (sight_of self.new) }
     {
         peek(rt, &mut self.pass, place)
+    }
+
+    /// Destroys the entry for which a place is held, which has not the helper, where the reason holds of it. It may wait for the turn
+    /// of the place's record, and for the locks of two buckets.
+    pub fn kill<R: Wait>(&mut self, rt: &R, place: u32, why: Why) -> KillOutcome
+        requires held { is_held_for_entry place (sight_of self.old).held ≡ true }
+        requires protocol { suits_entry why (held_id place (sight_of self.old).held) (sight_of self.old).front ≡ true }
+        requires timely { reason_moment_of why ≤ 10 ^ 16 }
+        requires spare { 1 ≤ (sight_of self.old).spare }
+        requires unhelped { is_helped_entry (held_id place (sight_of self.old).held) (sight_of self.old).front ≡ false }
+        ensures says { KillSays place why (sight_of self.old) (sight_of self.new) result }
+        ensures knows { IsKnown (sight_of self.new) }
+    {
+        states_stay();
+        let (outcome, note) = kill(rt, &mut self.pass, place, why);
+        note_event(&mut self.notes, &mut self.spare, note);
+        outcome
     }
 
     /// Makes a place free again, of which this clerk gave up the last reference. It may wait for the turn of the free list.

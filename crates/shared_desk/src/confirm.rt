@@ -18,7 +18,7 @@ use track_rule::pass::Pass;
 use tuple_core::bucket_of;
 
 /// Waits for the buckets of both tuples of a flow, and locks them.
-fn lock_flow<R: Wait>(rt: &R, pass: &mut Pass, flow: &Flow) -> Locked
+pub fn lock_flow<R: Wait>(rt: &R, pass: &mut Pass, flow: &Flow) -> Locked
     requires { pass.old.view.buckets.shut ≡ [] }
     ensures { LocksFlow flow.now result pass.old pass.new }
 {

@@ -1,16 +1,18 @@
-//! The entry for which a place is held: it is read, or touched, under the turn of the place's record.
+//! The entry for which a place is held: it is read, touched, or destroyed, under the turn of the place's record.
 
 ghost use Rattle.std.specs.Prelude.{◌≡◌};
+ghost use Rattle.shared_desk.specs.Killing.{Kills, KillsUnder, SuitsKill};
 ghost use Rattle.shared_desk.specs.Looking.{HasRecord, IsFreeFor, Peeks};
 ghost use Rattle.shared_desk.specs.Touching.{Notes, SuitsEntry, Touches, TouchesUnder};
 ghost use Rattle.track_rule.specs.TurnSteps.{subject_in};
 
 use crate::clerk::events_in;
 use crate::commit::take_turn;
+use crate::killing::judge;
 use crate::touching::{Packet, step_record};
-use history_book::event::Note;
-use history_book::laws::entries_keep_their_protocol;
-use history_book::outcome::{PeekOutcome, TouchOutcome};
+use history_book::event::{Note, Why};
+use history_book::laws::{entries_keep_their_helper, entries_keep_their_protocol};
+use history_book::outcome::{KillOutcome, PeekOutcome, TouchOutcome};
 use history_book::record::Record;
 use std::sync::Wait;
 use track_rule::pass::Pass;
@@ -89,6 +91,48 @@ pub fn touch<R: Wait>(
 {
     take_turn(rt, pass, place);
     let outcome = touch_record(pass, place, packet);
+    pass.turn_give(place);
+    outcome
+}
+
+/// Destroys the entry for which a place is held, if the reason holds of it, under the turn of the place's record.
+fn kill_record<R: Wait>(
+    rt: &R,
+    pass: &mut Pass,
+    place: u32,
+    why: Why,
+) -> (KillOutcome, Option<Note>)
+    requires has { HasRecord place pass.old }
+    requires suits { SuitsKill place why pass.old }
+    ensures kills { KillsUnder place why result.0 pass.old pass.new }
+    ensures noted { Notes result.1 pass.old.view.seen.own pass.new.view.seen.own }
+{
+    entries_keep_their_helper();
+    let phase = pass.phase_load(place);
+    let at = events_in(pass.history_load());
+    if phase < LIVE {
+        return (KillOutcome::Gone { at }, None);
+    }
+    match record_out(pass, place) {
+        Some(subject) => judge(rt, pass, place, &subject, why, at),
+        None => (KillOutcome::Gone { at }, None),
+    }
+}
+
+/// Waits for the turn of a place's record, and destroys the entry for which the place is held, if the reason holds of it.
+pub fn kill<R: Wait>(
+    rt: &R,
+    pass: &mut Pass,
+    place: u32,
+    why: Why,
+) -> (KillOutcome, Option<Note>)
+    requires free { IsFreeFor place pass.old }
+    requires suits { SuitsKill place why pass.old }
+    ensures kills { Kills place why result.0 pass.old pass.new }
+    ensures noted { Notes result.1 pass.old.view.seen.own pass.new.view.seen.own }
+{
+    take_turn(rt, pass, place);
+    let outcome = kill_record(rt, pass, place, why);
     pass.turn_give(place);
     outcome
 }
