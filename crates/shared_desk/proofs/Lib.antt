@@ -21,9 +21,12 @@ pub mod Entered
 pub mod Making
 pub mod Looking
 pub mod Peeking
+pub mod Loaded
 pub mod Stepping
 pub mod Touched
 pub mod Accepting
 pub mod Lowering
 pub mod Ending
 pub mod Ended
+pub mod Judged
+pub mod Killed

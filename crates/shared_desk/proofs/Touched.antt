@@ -21,7 +21,7 @@ use Rattle.shared_desk.specs.Touching.{Gives, GoesOn, IsLeft, IsNotLive, IsTouch
 use Rattle.shared_desk.specs.declared.touching.Packet.{Packet}
 
 -- nothing was touched
-left_known : (place at : ℕ) (F : ℕ → List Event → Type 0) (v w : PassSight) → HasRecord place v → IsLeft place at F v w → HasRecord place w
+pub left_known : (place at : ℕ) (F : ℕ → List Event → Type 0) (v w : PassSight) → HasRecord place v → IsLeft place at F v w → HasRecord place w
 left_known place at F v w h p = record {
   hand = h.hand;
   its_place = h.its_place;
@@ -60,15 +60,15 @@ still_known place p (touch.Gone at) v w h t = left_known place at IsNotLive v w 
 
 module _ (place : ℕ) (v w x y : PassSight) (f : IsFreeFor place v) (t : HasTurn place v w)
     (gave : y ≡ record x { view = gave_turn place x.view; slots = rest x.slots }) where
-  told : (log : List Event) → AreAll w.view log → AreAll v.view log
+  pub told : (log : List Event) → AreAll w.view log → AreAll v.view log
   told log all =
       let a = subst (λ (k : PassSight). AreAll k.view log) t.same all in
       record { front = a.front; told = a.told; legal = a.legal; few = a.few; passes = a.passes; shares = a.shares; alone = a.alone }
 
-  still_held : (i : ℕ) → is_kept_for place i v.view.places.held ≡ true → is_kept_for place i w.view.places.held ≡ true
+  pub still_held : (i : ℕ) → is_kept_for place i v.view.places.held ≡ true → is_kept_for place i w.view.places.held ≡ true
   still_held i kept = subst (λ (k : PassSight). is_kept_for place i k.view.places.held ≡ true) (sym t.same) kept
 
-  left_back : (at : ℕ) (F : ℕ → List Event → Type 0) → IsLeft place at F w x → IsLeft place at F v y
+  pub left_back : (at : ℕ) (F : ℕ → List Event → Type 0) → IsLeft place at F w x → IsLeft place at F v y
   left_back at F p =
       let whole : y ≡ record v {
         view = record v.view {

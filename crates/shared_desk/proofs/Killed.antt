@@ -1,0 +1,120 @@
+-- The turn is given back after a kill.
+use Rattle.std.proofs.Common.{◌≡◌, ℕ, ◌<◌, true, Option, Some, None, List, [], ◌∷◌, ◌++◌, length, refl, sym, ap, subst, ◌∙◌, arith}
+use Rattle.atomic_table.specs.Table.{rest}
+use Rattle.std.proofs.lemmas.Bool.{eq-eqb}
+use Rattle.history_book.specs.History.{is_legal}
+use Rattle.history_book.specs.declared.event.Why.{Why}
+use Rattle.history_book.specs.declared.outcome.KillOutcome.{KillOutcome}
+use Rattle.history_book.specs.declared.outcome.KillOutcome.TheVariants as kill
+use Rattle.history_book.specs.declared.record.Record.{Record}
+use Rattle.history_book.specs.declared.sizes.Sizes.{Sizes}
+use Rattle.track_rule.specs.KillSteps.{without_its}
+use Rattle.track_rule.specs.Layout.{turn_word}
+use Rattle.track_rule.specs.PhaseSteps.{phase_dead}
+use Rattle.track_rule.specs.Readings.{stored}
+use Rattle.track_rule.specs.Records.{has_hand, is_hand_of}
+use Rattle.track_rule.specs.Sights.{PassSight, sizes_of}
+use Rattle.track_rule.specs.Steps.{AreAll}
+use Rattle.track_rule.specs.Sums.{bit}
+use Rattle.track_rule.specs.TurnSteps.{CanGiveTurn, gave_turn}
+use Rattle.track_rule.specs.declared.view.Commit.{Commit}
+use Rattle.track_rule.specs.declared.view.Hand.{Hand}
+use Rattle.track_rule.specs.declared.view.Middle.TheVariants.{Calm}
+use Rattle.shared_desk.specs.Commit.{HasTurn, seen_with}
+use Rattle.shared_desk.specs.Killing.{HasEnded, IsAsFound, IsKilled, Kills, KillsUnder, dead_commit, destroy_of}
+use Rattle.shared_desk.specs.Looking.{HasRecord, IsFreeFor}
+use Rattle.shared_desk.specs.Touching.{IsNotLive}
+use Rattle.shared_desk.proofs.Looking.{record_whole}
+use Rattle.shared_desk.proofs.Touched.{left_back, left_known, still_held, told}
+
+-- what the pass needs to give the turn back
+pub record MayGive (place : ℕ) (v : PassSight) : Type 0 where
+  pub below : place < (sizes_of v).entries
+  pub turn : has_hand place v.view ≡ 1
+  pub calm : v.view.commit.middle ≡ Calm
+  pub free : v.view.free ≡ None
+  pub whole : CanGiveTurn v.view v.slots
+
+record_given : (place : ℕ) (v : PassSight) → HasRecord place v → MayGive place v
+record_given place v h = record {
+  below = h.below;
+  turn = ap (is_hand_of place) h.known ∙ ap bit (eq-eqb h.hand.place place h.its_place);
+  calm = h.calm;
+  free = h.free;
+  whole = record_whole place v h;
+}
+
+-- no record is there any more
+killed_given : (place : ℕ) (why : Why) (number : ℕ) (q : Record) (v w : PassSight) → HasRecord place v → IsKilled place why number q (dead_commit place q) v w → MayGive place w
+killed_given place why number q v w h k =
+    let commit : w.view.commit ≡ dead_commit place q = ap (λ (x : PassSight). x.view.commit) k.same in
+    record {
+      below = subst (λ (z : Sizes). place < z.entries) (sym (ap sizes_of k.same)) h.below;
+      turn = ap (λ (c : Commit). is_hand_of place c.hand) commit ∙ ap bit (eq-eqb place place refl);
+      calm = ap (λ (c : Commit). c.middle) commit;
+      free = ap (λ (x : PassSight). x.view.free) k.same ∙ h.free;
+      whole = λ hand is live. absurd (omega (arith, live, ap (λ (x : Hand). x.phase) (one_hand _ hand (sym (ap (λ (c : Commit). c.hand) commit) ∙ is))));
+    }
+  where
+    one_hand : (a b : Hand) → Some a ≡ Some b → a ≡ b
+    one_hand a b e = cc
+
+pub may_give : (place : ℕ) (why : Why) (o : KillOutcome) (v w : PassSight) → HasRecord place v → KillsUnder place why o v w → MayGive place w
+may_give place why (kill.Killed number q) v w h k = killed_given place why number q v w h k
+may_give place why (kill.Gone at) v w h k = record_given place w (left_known place at IsNotLive v w h k)
+may_give place why (kill.Not q at) v w h k = record_given place w (left_known place at (IsAsFound q) v w h k.left)
+
+module _ (place : ℕ) (v w x y : PassSight) (f : IsFreeFor place v) (t : HasTurn place v w)
+    (gave : y ≡ record x { view = gave_turn place x.view; slots = rest x.slots }) where
+  killed_back : (why : Why) (number : ℕ) (q : Record) → IsKilled place why number q (dead_commit place q) w x → IsKilled place why number q v.view.commit v y
+  killed_back why number q u =
+      let e : HasEnded q why number w = u.ended in
+      let whole : y ≡ record v {
+        view = record v.view {
+          seen = seen_with e.log number (destroy_of q why) v.view.seen;
+          places = record v.view.places { ended = x.view.places.ended };
+          commit = record { hand = None; middle = Calm };
+          expected = without_its q.id v.view.expected;
+          walk = x.view.walk;
+          readings = x.view.readings ++ stored (turn_word x.view.passes.sizes place) 0 ∷ [];
+        };
+      } =
+      gave ∙ ap (λ (k : PassSight). record k {
+        view = record k.view { commit = record k.view.commit { hand = None }; readings = x.view.readings ++ stored (turn_word x.view.passes.sizes place) 0 ∷ [] };
+        slots = rest k.slots;
+      }) (u.same ∙ ap (λ (k : PassSight). record k {
+        view = record k.view {
+          seen = seen_with e.log number (destroy_of q why) k.view.seen;
+          places = record k.view.places { ended = x.view.places.ended };
+          commit = dead_commit place q;
+          expected = without_its q.id k.view.expected;
+          walk = x.view.walk;
+          readings = x.view.readings;
+        };
+      }) t.same) in
+      record {
+        its = λ i kept. u.its i (still_held place v w x y f t gave i kept);
+        reason = u.reason;
+        ended = record {
+          log = e.log;
+          all = told place v w x y f t gave e.log e.all;
+          number_is = e.number_is;
+          legal = subst (λ (k : PassSight). is_legal (sizes_of k) (e.log ++ destroy_of q why ∷ []) ≡ true) t.same e.legal;
+          found = e.found;
+        };
+        same = whole ∙ (λ i. record v {
+          view = record v.view {
+            seen = seen_with e.log number (destroy_of q why) v.view.seen;
+            places = record v.view.places { ended = sym (ap (λ (k : PassSight). k.view.places.ended) whole) i };
+            commit = record { hand = sym f.hand i; middle = sym f.calm i };
+            expected = without_its q.id v.view.expected;
+            walk = sym (ap (λ (k : PassSight). k.view.walk) whole) i;
+            readings = sym (ap (λ (k : PassSight). k.view.readings) whole) i;
+          };
+        });
+      }
+
+  pub kill_back : (why : Why) (o : KillOutcome) → KillsUnder place why o w x → Kills place why o v y
+  kill_back why (kill.Killed number q) u = killed_back why number q u
+  kill_back why (kill.Gone at) u = left_back place v w x y f t gave at IsNotLive u
+  kill_back why (kill.Not q at) u = record { reason = u.reason; left = left_back place v w x y f t gave at (IsAsFound q) u.left }

@@ -1,0 +1,16 @@
+use Rattle.shared_desk.proofs.Killed.{kill_back, may_give}
+use Rattle.shared_desk.proofs.Looking.{has_record}
+use Rattle.shared_desk.proofs.entry.kill.Goals as goal
+
+pub kill_record-outcome-requires-clause-has : goal.kill_record-outcome-requires-clause-has
+kill_record-outcome-requires-clause-has g c = has_record c.args.place c.args.pass.now c.take_turn.new.pass c.requires.free c.take_turn.ensures
+
+pub turn_give-requires-clause-whole : goal.turn_give-requires-clause-whole
+turn_give-requires-clause-whole g c =
+    (may_give c.args.place c.args.why c.kill_record-outcome.result.0 c.take_turn.new.pass c.kill_record-outcome.new.pass
+    (has_record c.args.place c.args.pass.now c.take_turn.new.pass c.requires.free c.take_turn.ensures) c.kill_record-outcome.ensures.kills).whole
+
+pub returns-clause-kills : goal.returns-clause-kills
+returns-clause-kills g c =
+    kill_back c.args.place c.args.pass.now c.take_turn.new.pass c.kill_record-outcome.new.pass c.turn_give.new.self c.requires.free c.take_turn.ensures c.turn_give.ensures
+    c.args.why c.kill_record-outcome.result.0 c.kill_record-outcome.ensures.kills

@@ -1,0 +1,23 @@
+use Rattle.std.proofs.Common.{arith}
+use Rattle.shared_desk.proofs.Judged.{judged, knows_record, none_shut}
+use Rattle.shared_desk.proofs.entry.kill_record.Goals as goal
+
+pub judge-requires-clause-knows : goal.judge-requires-clause-knows
+judge-requires-clause-knows g c =
+    knows_record c.args.place c.phase_load-phase.result c.history_load.result c.args.why c.args.pass.now c.phase_load-phase.new.self c.history_load.new.self
+    c.requires.has c.requires.suits c.phase_load-phase.ensures.loads c.phase_load-phase.ensures.kept c.history_load.ensures.looks c.history_load.ensures.kept
+    (omega (arith, c.if-phase-lt-LIVE.false)) c.in-Some.subject c.in-Some.ensures.record c.record_out.new.pass c.in-Some.ensures.same
+    c.entries_keep_their_helper.ensures
+
+pub judge-requires-clause-shut : goal.judge-requires-clause-shut
+judge-requires-clause-shut g c =
+    none_shut c.args.place c.phase_load-phase.result c.history_load.result c.args.why c.args.pass.now c.phase_load-phase.new.self c.history_load.new.self
+    c.requires.has c.requires.suits c.phase_load-phase.ensures.loads c.phase_load-phase.ensures.kept c.history_load.ensures.looks c.history_load.ensures.kept
+    (omega (arith, c.if-phase-lt-LIVE.false)) c.in-Some.subject c.in-Some.ensures.record c.record_out.new.pass c.in-Some.ensures.same
+
+pub returns-in-Some-clause-kills : goal.returns-in-Some-clause-kills
+returns-in-Some-clause-kills g c =
+    judged c.args.place c.phase_load-phase.result c.history_load.result c.args.why c.args.pass.now c.phase_load-phase.new.self c.history_load.new.self
+    c.requires.has c.requires.suits c.phase_load-phase.ensures.loads c.phase_load-phase.ensures.kept c.history_load.ensures.looks c.history_load.ensures.kept
+    (omega (arith, c.if-phase-lt-LIVE.false)) c.in-Some.subject c.in-Some.ensures.record c.record_out.new.pass c.in-Some.ensures.same
+    c.events_in-at.result c.events_in-at.ensures c.judge.new.pass c.judge.result.0 c.judge.ensures.judges
