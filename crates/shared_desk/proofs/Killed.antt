@@ -27,42 +27,19 @@ use Rattle.shared_desk.specs.Touching.{IsNotLive}
 use Rattle.shared_desk.proofs.Looking.{record_whole}
 use Rattle.shared_desk.proofs.Touched.{left_back, left_known, still_held, told}
 
--- what the pass needs to give the turn back
-pub record MayGive (place : ℕ) (v : PassSight) : Type 0 where
-  pub below : place < (sizes_of v).entries
-  pub turn : has_hand place v.view ≡ 1
-  pub calm : v.view.commit.middle ≡ Calm
-  pub free : v.view.free ≡ None
-  pub whole : CanGiveTurn v.view v.slots
-
-record_given : (place : ℕ) (v : PassSight) → HasRecord place v → MayGive place v
-record_given place v h = record {
-  below = h.below;
-  turn = ap (is_hand_of place) h.known ∙ ap bit (eq-eqb h.hand.place place h.its_place);
-  calm = h.calm;
-  free = h.free;
-  whole = record_whole place v h;
-}
-
--- no record is there any more
-killed_given : (place : ℕ) (why : Why) (number : ℕ) (q : Record) (v w : PassSight) → HasRecord place v → IsKilled place why number q (dead_commit place q) v w → MayGive place w
-killed_given place why number q v w h k =
-    let commit : w.view.commit ≡ dead_commit place q = ap (λ (x : PassSight). x.view.commit) k.same in
-    record {
-      below = subst (λ (z : Sizes). place < z.entries) (sym (ap sizes_of k.same)) h.below;
-      turn = ap (λ (c : Commit). is_hand_of place c.hand) commit ∙ ap bit (eq-eqb place place refl);
-      calm = ap (λ (c : Commit). c.middle) commit;
-      free = ap (λ (x : PassSight). x.view.free) k.same ∙ h.free;
-      whole = λ hand is live. absurd (omega (arith, live, ap (λ (x : Hand). x.phase) (one_hand _ hand (sym (ap (λ (c : Commit). c.hand) commit) ∙ is))));
-    }
+-- the turn may be given back: the record of a live entry is in its slot, and of one that was destroyed none need be there
+pub can_give : (place : ℕ) (why : Why) (o : KillOutcome) (v w : PassSight) → HasRecord place v → KillsUnder place why o v w → CanGiveTurn w.view w.slots
+can_give place why (kill.Killed number q) v w h k =
+    λ hand is live. absurd (omega (
+      arith,
+      live,
+      ap (λ (x : Hand). x.phase) (one_hand (record { place = place; phase = phase_dead; subject = Some q }) hand (sym (ap (λ (x : PassSight). x.view.commit.hand) k.same) ∙ is)),
+    ))
   where
     one_hand : (a b : Hand) → Some a ≡ Some b → a ≡ b
     one_hand a b e = cc
-
-pub may_give : (place : ℕ) (why : Why) (o : KillOutcome) (v w : PassSight) → HasRecord place v → KillsUnder place why o v w → MayGive place w
-may_give place why (kill.Killed number q) v w h k = killed_given place why number q v w h k
-may_give place why (kill.Gone at) v w h k = record_given place w (left_known place at IsNotLive v w h k)
-may_give place why (kill.Not q at) v w h k = record_given place w (left_known place at (IsAsFound q) v w h k.left)
+can_give place why (kill.Gone at) v w h k = record_whole place w (left_known place at IsNotLive v w h k)
+can_give place why (kill.Not q at) v w h k = record_whole place w (left_known place at (IsAsFound q) v w h k.left)
 
 module _ (place : ℕ) (v w x y : PassSight) (f : IsFreeFor place v) (t : HasTurn place v w)
     (gave : y ≡ record x { view = gave_turn place x.view; slots = rest x.slots }) where

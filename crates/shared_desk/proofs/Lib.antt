@@ -18,9 +18,10 @@ pub mod Clashing
 pub mod Opening
 pub mod Confirmed
 pub mod Entered
-pub mod Making
 pub mod Looking
 pub mod Peeking
+pub mod Noted
+pub mod Making
 pub mod Loaded
 pub mod Stepping
 pub mod Touched
@@ -30,3 +31,4 @@ pub mod Ending
 pub mod Ended
 pub mod Judged
 pub mod Killed
+pub mod Destroyed

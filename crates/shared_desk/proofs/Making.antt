@@ -41,6 +41,7 @@ use Rattle.shared_desk.proofs.Hooks.{same_any, same_count, same_up}
 use Rattle.shared_desk.proofs.Known.{known_later}
 use Rattle.shared_desk.proofs.Linking.{dropped_count, none_up}
 use Rattle.shared_desk.proofs.Lists.{among_gone, among_others, same_bit}
+use Rattle.shared_desk.proofs.Noted.{made_here}
 use Rattle.shared_desk.proofs.Opening.{dropped_down}
 use Rattle.shared_desk.proofs.Places.{held_below}
 use Rattle.shared_desk.proofs.Resting.{clerk_at, idle_still, saw_more}
@@ -48,7 +49,7 @@ use Rattle.shared_desk.proofs.Resting.{clerk_at, idle_still, saw_more}
 -- HOOKS
 
 -- where no place has a link in a chain, no hook is up
-none_any : (hooks : List Hook) → ((p : ℕ) → is_up p hooks ≡ false) → is_any_up hooks ≡ false
+pub none_any : (hooks : List Hook) → ((p : ℕ) → is_up p hooks ≡ false) → is_any_up hooks ≡ false
 none_any [] h = refl
 none_any (x ∷ xs) h =
     or_from x.up (is_any_up xs) (first x.up (h (place_of x.link)) (eq-eqb (place_of x.link) (place_of x.link) refl))
@@ -283,22 +284,7 @@ module _ (v : PassSight) (notes : Roomed Note) (spare place : ℕ) (flow : Flow)
     pub says_entered : ConfirmSays place flow (sight_of (clerk_at v spare)) (sight_of (clerk_at w (spare - 1))) (Confirmed id)
     says_entered =
         subst (λ p. ConfirmSays place flow (sight_of (clerk_at v spare)) (sight_of (clerk_at p (spare - 1))) (Confirmed id)) (sym c.same) (record {
-          made = record {
-            went = record {
-              front = (
-                c.all.front.0 ++ event.Confirm (record_for flow id place) ∷ [],
-                ap (λ es. es ++ event.Confirm (record_for flow id place) ∷ []) c.all.front.1
-                    ∙ append_assoc v.view.seen.front c.all.front.0 (event.Confirm (record_for flow id place) ∷ []),
-              );
-              own = refl;
-              spare = omega (arith, room);
-              pass = record { tracker = refl; sizes = refl; shares = refl; returned = refl; gathered = refl };
-            };
-            spare = omega (arith, room);
-            low = omega (arith, c.number, ap length c.all.front.1, length-append v.view.seen.front c.all.front.0);
-            high = omega (arith, c.number, length-append c.log (event.Confirm (record_for flow id place) ∷ []));
-            happened = ap (λ (n : ℕ). slice_get (c.log ++ event.Confirm (record_for flow id place) ∷ []) n) c.number ∙ get_last c.log (event.Confirm (record_for flow id place));
-          };
+          made = made_here (sight_of (clerk_at v spare)) (map hold_of (held_for place id v.view.places.held)) (event.Confirm (record_for flow id place)) id c.log c.all.front c.number room;
           held = holds_for place id v.view.places.held (h.settled.taken place took).once took;
           owed = refl;
         })

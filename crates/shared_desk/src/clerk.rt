@@ -28,8 +28,7 @@ use entry_pool::take::{recycle, take};
 use history_book::event::Why;
 use history_book::laws::states_stay;
 use history_book::outcome::{
-    ConfirmOutcome, KillOutcome, LiveCount, PeekOutcome, ReleaseOutcome, TakeOutcome,
-    TouchOutcome,
+    ConfirmOutcome, KillOutcome, LiveCount, PeekOutcome, ReleaseOutcome, TakeOutcome, TouchOutcome,
 };
 use history_book::record::Flow;
 use history_book::report::Notes;

@@ -120,12 +120,7 @@ fn kill_record<R: Wait>(
 }
 
 /// Waits for the turn of a place's record, and destroys the entry for which the place is held, if the reason holds of it.
-pub fn kill<R: Wait>(
-    rt: &R,
-    pass: &mut Pass,
-    place: u32,
-    why: Why,
-) -> (KillOutcome, Option<Note>)
+pub fn kill<R: Wait>(rt: &R, pass: &mut Pass, place: u32, why: Why) -> (KillOutcome, Option<Note>)
     requires free { IsFreeFor place pass.old }
     requires suits { SuitsKill place why pass.old }
     ensures kills { Kills place why result.0 pass.old pass.new }

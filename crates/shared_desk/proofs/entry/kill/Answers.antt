@@ -1,4 +1,4 @@
-use Rattle.shared_desk.proofs.Killed.{kill_back, may_give}
+use Rattle.shared_desk.proofs.Killed.{kill_back, can_give}
 use Rattle.shared_desk.proofs.Looking.{has_record}
 use Rattle.shared_desk.proofs.entry.kill.Goals as goal
 
@@ -7,8 +7,8 @@ kill_record-outcome-requires-clause-has g c = has_record c.args.place c.args.pas
 
 pub turn_give-requires-clause-whole : goal.turn_give-requires-clause-whole
 turn_give-requires-clause-whole g c =
-    (may_give c.args.place c.args.why c.kill_record-outcome.result.0 c.take_turn.new.pass c.kill_record-outcome.new.pass
-    (has_record c.args.place c.args.pass.now c.take_turn.new.pass c.requires.free c.take_turn.ensures) c.kill_record-outcome.ensures.kills).whole
+    can_give c.args.place c.args.why c.kill_record-outcome.result.0 c.take_turn.new.pass c.kill_record-outcome.new.pass
+    (has_record c.args.place c.args.pass.now c.take_turn.new.pass c.requires.free c.take_turn.ensures) c.kill_record-outcome.ensures.kills
 
 pub returns-clause-kills : goal.returns-clause-kills
 returns-clause-kills g c =
