@@ -4,6 +4,7 @@ use Rattle.history_book.specs.declared.outcome.ReleaseOutcome.{ReleaseOutcome}
 use Rattle.history_book.specs.declared.outcome.ReleaseOutcome.TheVariants.{Kept, Last}
 use Rattle.track_rule.specs.Layout.{refs_word}
 use Rattle.track_rule.specs.Links.{RaisesNone}
+use Rattle.track_rule.specs.Notes.{note_where}
 use Rattle.track_rule.specs.Readings.{Gave, added, changes, is_found, noted, stored}
 use Rattle.track_rule.specs.References.{held_times, without}
 use Rattle.track_rule.specs.Sights.{PassSight, sizes_of}
@@ -28,20 +29,21 @@ pub record HoldsMore (place : ℕ) (v w : PassSight) : Type 0 where
   pub owed : times place v.view.places.owed ≡ 0
   pub own : changes (λ word. not (word == refs_word (sizes_of v) place)) (added v.view w.view) ≡ false
 
--- The pass has only read: it changed no word, and all that it holds and owes is as it was.
-pub record OnlyReads (v w : PassSight) : Type 0 where
-  pub same : w ≡ record v { view = record v.view { readings = w.view.readings } }
+-- The pass has only read: it changed no word, and all that it holds and owes is as it was. A walk that met a link of the place has
+-- noted where the last number of references that it read is 0.
+pub record OnlyReads (place last : ℕ) (v w : PassSight) : Type 0 where
+  pub same : w ≡ record v { view = record v.view { walk = note_where (last == 0) place v.view.walk; readings = w.view.readings } }
   pub stand : ReadingsStand v w
   pub own : changes (λ word. true) (added v.view w.view) ≡ false
 
 -- A reading of the references word in this call gave 0.
 pub record ReadsZero (place : ℕ) (v w : PassSight) : Type 0 where
-  pub only : OnlyReads v w
+  pub only : OnlyReads place 0 v w
   pub zero : is_found (refs_word (sizes_of v) place) 0 (added v.view w.view) ≡ true
 
 -- It gave two different values in this call.
 pub record ReadsTwo (place was now : ℕ) (v w : PassSight) : Type 0 where
-  pub only : OnlyReads v w
+  pub only : OnlyReads place now v w
   pub gave : Gave (refs_word (sizes_of v) place) was now (added v.view w.view)
 
 abbrev pub TryHoldSays : TryHold → ℕ → PassSight → PassSight → Type 0

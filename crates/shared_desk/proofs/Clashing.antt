@@ -17,7 +17,7 @@ use Rattle.track_rule.specs.BucketSteps.{IsChainOf, IsEntryOf, IsShutAt}
 use Rattle.track_rule.specs.Chains.{chain_in, entry_of, shuts_of, side}
 use Rattle.track_rule.specs.History.{events_in, records_after, state_after}
 use Rattle.track_rule.specs.Layout.{place_of}
-use Rattle.track_rule.specs.PhaseSteps.{LoadsPhase}
+use Rattle.track_rule.specs.PhaseSteps.{LoadsPhase, holds_open}
 use Rattle.track_rule.specs.Sights.{PassSight, sizes_of}
 use Rattle.track_rule.specs.Steps.{AreAll, Looks}
 use Rattle.track_rule.specs.Sums.{Each, total}
@@ -162,14 +162,15 @@ blocks flow place n word at rival v u w blocked r laws looks kept loads kept' at
     let id : r.subject.id ≡ n - 3 = omega (arith, rival_phase flow place n rival u.view.seen.front v u w blocked r word looks loads) in
     let view : w.view ≡ record v.view {
       seen = record v.view.seen { front = u.view.seen.front };
-      walk = u.view.walk;
+      walk = w.view.walk;
       readings = w.view.readings;
-    } = loads.view ∙ (λ i. record (looks.same i) { walk = u.view.walk; readings = sym (ap (λ (k : View). k.readings) loads.view) i }) in
+    } = loads.settled (ap (λ (k : View). holds_open k.places.held) looks.same ∙ blocked.closed)
+    ∙ (λ i. record (looks.same i) { walk = w.view.walk; readings = w.view.readings }) in
     record {
       same = kept' ∙ ap (λ (k : PassSight). record k { view = w.view }) kept
           ∙ ap (λ (k : View). record v { view = k }) (view ∙ (λ i. record v.view {
             seen = record v.view.seen { front = sym front i };
-            walk = sym (ap (λ (k : View). k.walk) loads.view) i;
+            walk = w.view.walk;
             readings = w.view.readings;
           }));
       all = subst (λ (l : List Event). AreAll v.view l) (sym front) looks.all;

@@ -1,14 +1,15 @@
 -- A flow becomes an entry.
 use Rattle.std.proofs.Common.{◌≡◌, ℕ, ◌+◌, ◌<◌, Bool, true, false, Some, List, [], ◌∷◌, ◌++◌, refl, sym, ap, ◌∙◌, arith, ⊎_elim}
 use Rattle.std.specs.Prelude.{◌==◌, ◌&&◌, ◌||◌, not}
-use Rattle.std.proofs.lemmas.Bool.{and_parts, cases_Bool, false≢true}
+use Rattle.std.proofs.lemmas.Bool.{and_parts, cases_Bool, false≢true, ne_eqb}
 use Rattle.track_rule.specs.Free.{is_among}
 use Rattle.track_rule.specs.Layout.{record_slot, refs_word, turn_word}
-use Rattle.track_rule.specs.Readings.{noted, stored}
+use Rattle.track_rule.specs.Notes.{note_where}
+use Rattle.track_rule.specs.Readings.{found, noted, stored}
 use Rattle.track_rule.specs.Records.{has_hand, slot_of_record}
 use Rattle.track_rule.specs.References.{held_times, is_for_new, is_taken, keeps}
 use Rattle.track_rule.specs.Sights.{PassSight}
-use Rattle.track_rule.specs.Steps.{LoadsRefs, MissedRefs, RaisedRefs, is_second, most_keeps, raised}
+use Rattle.track_rule.specs.Steps.{LoadsRefs, MissedRefs, RaisedRefs, is_second, most_keeps, raised, read_refs}
 use Rattle.track_rule.specs.Sums.{bit}
 use Rattle.track_rule.specs.TurnSteps.{TookTurn, subject_in}
 use Rattle.track_rule.specs.declared.view.Commit.{Commit}
@@ -73,20 +74,30 @@ readings_again : (v u w : PassSight) → u ≡ record v { view = record v.view {
     → w ≡ record v { view = record v.view { readings = w.view.readings } }
 readings_again v u w a b = b ∙ ap (λ (k : PassSight). record k { view = record k.view { readings = w.view.readings } }) a
 
+-- a load of some references notes nothing of a walk
+read_some : (place n : ℕ) (v w : View) → 0 < n → w ≡ read_refs place n v → w ≡ noted (found (refs_word v.passes.sizes place) n) v
+read_some place n v w some e =
+    e ∙ ap (λ (b : Bool). noted (found (refs_word v.passes.sizes place) n) (record v { walk = note_where b place v.walk }))
+    (ne_eqb n 0 (λ zero. omega (arith, zero, some)))
+
 pub loads_refs : (place n : ℕ) (v w : PassSight) → is_second place v.view ≡ true → w ≡ record v { view = w.view } → LoadsRefs place v.view n w.view → CanRaise v w n
-loads_refs place n v w second kept loads = record {
-  same = readings_alone v w _ kept loads.view;
-  some = omega (arith, second_kept place v.view second, loads.count.own);
-  bound = loads.count.few;
-}
+loads_refs place n v w second kept loads =
+    let some : 0 < n = omega (arith, second_kept place v.view second, loads.count.own) in
+    record {
+      same = readings_alone v w _ kept (read_some place n v.view w.view some loads.view);
+      some = some;
+      bound = loads.count.few;
+    }
 
 pub missed_refs : (place seen n : ℕ) (v u w : PassSight) → is_second place v.view ≡ true → u ≡ record v { view = record v.view { readings = u.view.readings } }
     → w ≡ record u { view = w.view } → MissedRefs place seen u.view n w.view → CanRaise v w n
-missed_refs place seen n v u w second waited kept missed = record {
-  same = readings_again v u w waited (readings_alone u w _ kept missed.view);
-  some = omega (arith, second_kept place v.view second, missed.count.own, ap (λ (k : PassSight). keeps place k.view) waited);
-  bound = missed.count.few;
-}
+missed_refs place seen n v u w second waited kept missed =
+    let some : 0 < n = omega (arith, second_kept place v.view second, missed.count.own, ap (λ (k : PassSight). keeps place k.view) waited) in
+    record {
+      same = readings_again v u w waited (readings_alone u w _ kept (read_some place n u.view w.view some missed.view));
+      some = some;
+      bound = missed.count.few;
+    }
 
 pub raised_refs : (place seen : ℕ) (v u w : PassSight) → is_second place v.view ≡ true → u ≡ record v { view = record v.view { readings = u.view.readings } }
     → w ≡ record u { view = w.view } → RaisedRefs place seen u.view w.view → AddsReference place v w

@@ -18,6 +18,7 @@ use Rattle.track_rule.specs.Free.{is_among, unlisted}
 use Rattle.track_rule.specs.History.{state_after}
 use Rattle.track_rule.specs.Layout.{record_slot, turn_word}
 use Rattle.track_rule.specs.Readings.{stored}
+use Rattle.track_rule.specs.PhaseSteps.{holds_open}
 use Rattle.track_rule.specs.Records.{has_hand, record_in, slot_of_record}
 use Rattle.track_rule.specs.References.{is_taken}
 use Rattle.track_rule.specs.Sights.{PassSight, sizes_of}
@@ -145,6 +146,7 @@ can_enter place flow v u w can stores turn =
       owned = ap (λ (k : View). is_among place k.places.owned) view ∙ ap (λ (k : PassSight). is_among place k.view.places.owned) stores.same ∙ can.fresh.owned;
       turn = ap (has_hand place) view ∙ ap bit (eq-eqb turn.hand.place place turn.its_place);
       calm = ap (λ (k : View). k.commit.middle) view ∙ ap (λ (k : PassSight). k.view.commit.middle) stores.same ∙ ap (λ (k : Commit). k.middle) can.idle;
+      closed = ap (λ (k : View). holds_open k.places.held) view ∙ ap (λ (k : PassSight). holds_open k.view.places.held) stores.same ∙ can.closed;
       free = ap (λ (k : View). k.free) view ∙ ap (λ (k : PassSight). k.view.free) stores.same ∙ can.free;
       carried = ap (λ (k : View). k.places.carried) view ∙ ap (λ (k : PassSight). k.view.places.carried) stores.same ∙ can.carried;
       few = omega (arith, can.few, ap (λ (k : View). length k.seen.own) view, ap (λ (k : PassSight). length k.view.seen.own) stores.same);

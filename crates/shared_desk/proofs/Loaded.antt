@@ -6,9 +6,8 @@ use Rattle.history_book.specs.declared.event.Event.{Event}
 use Rattle.history_book.specs.declared.record.Record.{Record}
 use Rattle.track_rule.specs.History.{events_in, state_after}
 use Rattle.track_rule.specs.KeptWords.{is_kept_for}
-use Rattle.track_rule.specs.Layout.{phase_word}
 use Rattle.track_rule.specs.PhaseSteps.{LoadsPhase}
-use Rattle.track_rule.specs.Readings.{found, noted}
+use Rattle.track_rule.specs.Readings.{noted}
 use Rattle.track_rule.specs.Records.{record_in, slot_of_record}
 use Rattle.track_rule.specs.Sights.{PassSight}
 use Rattle.track_rule.specs.Steps.{AreAll, Looks, found_history, saw}
@@ -29,8 +28,11 @@ module _ (place n word : ℕ) (v u w : PassSight) (h : HasRecord place v)
   }
   view_is = kept' ∙ (λ i. record (kept i) { view = looked i })
     where
-      both : w.view ≡ noted (found_history word (noted (found (phase_word v.view.passes.sizes place) n) v.view)) (saw w.view.seen.front (noted (found (phase_word v.view.passes.sizes place) n) v.view))
-      both = looks.same ∙ ap (λ (x : View). noted (found_history word x) (saw w.view.seen.front x)) loads.view
+      read : u.view ≡ record v.view { walk = u.view.walk; readings = u.view.readings }
+      read = loads.settled h.closed
+
+      both : w.view ≡ noted (found_history word (record v.view { walk = u.view.walk; readings = u.view.readings })) (saw w.view.seen.front (record v.view { walk = u.view.walk; readings = u.view.readings }))
+      both = looks.same ∙ ap (λ (x : View). noted (found_history word x) (saw w.view.seen.front x)) read
 
       looked : w.view ≡ record v.view { seen = record v.view.seen { front = w.view.seen.front }; walk = w.view.walk; readings = w.view.readings }
       looked = both ∙ (λ i. record v.view {
@@ -42,7 +44,7 @@ module _ (place n word : ℕ) (v u w : PassSight) (h : HasRecord place v)
   -- it has seen all events
   pub all_seen : AreAll v.view w.view.seen.front
   all_seen =
-      let a = subst (λ (x : View). AreAll x w.view.seen.front) loads.view looks.all in
+      let a = subst (λ (x : View). AreAll x w.view.seen.front) (loads.settled h.closed) looks.all in
       record { front = a.front; told = a.told; legal = a.legal; few = a.few; passes = a.passes; shares = a.shares; alone = a.alone }
 
   -- it was left so

@@ -5,6 +5,7 @@ use Rattle.history_book.specs.declared.outcome.PeekOutcome.{PeekOutcome}
 use Rattle.history_book.specs.declared.record.Record.{Record}
 use Rattle.history_book.specs.declared.sizes.Sizes.{Sizes}
 use Rattle.track_rule.specs.Layout.{turn_word}
+use Rattle.track_rule.specs.PhaseSteps.{holds_open}
 use Rattle.track_rule.specs.Readings.{stored}
 use Rattle.track_rule.specs.Records.{record_in, slot_of_record}
 use Rattle.track_rule.specs.Sights.{PassSight, sizes_of}
@@ -27,6 +28,7 @@ has_record place v w f t = record {
   below = subst (λ (z : Sizes). place < z.entries) (sym (ap sizes_of t.same)) f.below;
   calm = ap (λ (k : PassSight). k.view.commit.middle) t.same ∙ f.calm;
   free = ap (λ (k : PassSight). k.view.free) t.same ∙ f.free;
+  closed = ap (λ (k : PassSight). holds_open k.view.places.held) t.same ∙ f.closed;
 }
 
 -- and it is the one that the pass knows
@@ -51,6 +53,7 @@ still_out place o v w h p = record {
   below = subst (λ (z : Sizes). place < z.entries) (sym (ap sizes_of p.same)) h.below;
   calm = ap (λ (k : PassSight). k.view.commit.middle) p.same ∙ h.calm;
   free = ap (λ (k : PassSight). k.view.free) p.same ∙ h.free;
+  closed = ap (λ (k : PassSight). holds_open k.view.places.held) p.same ∙ h.closed;
 }
 
 -- the turn is given back

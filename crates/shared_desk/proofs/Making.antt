@@ -44,7 +44,7 @@ use Rattle.shared_desk.proofs.Lists.{among_gone, among_others, same_bit}
 use Rattle.shared_desk.proofs.Noted.{made_here}
 use Rattle.shared_desk.proofs.Opening.{dropped_down}
 use Rattle.shared_desk.proofs.Places.{held_below}
-use Rattle.shared_desk.proofs.Resting.{clerk_at, idle_still, saw_more}
+use Rattle.shared_desk.proofs.Resting.{clerk_at, idle_still, saw_more, settled_closed}
 
 -- HOOKS
 
@@ -255,6 +255,7 @@ module _ (v : PassSight) (notes : Roomed Note) (spare place : ℕ) (flow : Flow)
         taken = took;
         down = none_any v.view.buckets.hooks h.settled.down;
         idle = λ i. record { hand = h.idle.hand i; middle = h.idle.middle i };
+        closed = settled_closed v.view.places.held h.settled.purposes;
         free = h.idle.free;
         carried = h.idle.carried;
         shut = h.idle.shut;

@@ -24,7 +24,7 @@ use Rattle.shared_desk.specs.Looking.{IsFreeFor, Peeks}
 use Rattle.shared_desk.specs.Rest.{IsAtRest, IsSettled}
 use Rattle.shared_desk.specs.Sights.{hold_of, sight_of}
 use Rattle.shared_desk.proofs.Places.{held_below}
-use Rattle.shared_desk.proofs.Resting.{clerk_at}
+use Rattle.shared_desk.proofs.Resting.{clerk_at, settled_closed}
 use Rattle.shared_desk.proofs.Taking.{rest_looked, saw_looked}
 use Rattle.history_book.specs.WentOn.{Looked}
 use Rattle.track_rule.specs.History.{state_after}
@@ -92,6 +92,7 @@ module _ (v : PassSight) (notes : Roomed Note) (spare place : ℕ) (h : IsAtRest
     hand = h.idle.hand;
     calm = h.idle.middle;
     free = h.idle.free;
+    closed = settled_closed v.view.places.held h.settled.purposes;
   }
 
   pub kept : is_kept_for place (held_id place (map hold_of v.view.places.held)) v.view.places.held ≡ true

@@ -1,17 +1,32 @@
 -- A clerk at rest, and what a desk knows of it.
+use Rattle.std.specs.List.{AllByRecursion}
 use Rattle.std.specs.Prelude.{◌==◌, ◌||◌, if◌then◌else◌}
-use Rattle.std.proofs.Common.{◌≡◌, ℕ, List, [], ◌∷◌, map, refl, sym, ap, ◌∙◌, arith, append-nil}
-use Rattle.std.proofs.lemmas.Bool.{cond_both}
+use Rattle.std.proofs.Common.{◌≡◌, ℕ, false, List, [], ◌∷◌, map, refl, sym, ap, ◌∙◌, arith, append-nil}
+use Rattle.std.proofs.lemmas.Bool.{cond_both, or_from}
 use Rattle.history_book.specs.Held.{is_held as is_hold, paid, without as without_hold}
 use Rattle.history_book.specs.Point.{StartsWith}
 use Rattle.history_book.specs.Sight.{Sight}
 use Rattle.history_book.specs.WentOn.{IsSamePass, Saw}
 use Rattle.track_rule.specs.declared.view.Keep.{Keep}
+use Rattle.track_rule.specs.declared.view.Purpose.{Purpose}
+use Rattle.track_rule.specs.declared.view.Purpose.TheVariants.{Taken, Testing, Shown, For}
 use Rattle.track_rule.specs.Free.{taken_out}
+use Rattle.track_rule.specs.PhaseSteps.{holds_open, is_open}
 use Rattle.track_rule.specs.References.{is_held, without}
 use Rattle.track_rule.specs.Sights.{PassSight}
-use Rattle.shared_desk.specs.Rest.{IsIdle}
+use Rattle.shared_desk.specs.Rest.{IsIdle, IsSettled}
 use Rattle.shared_desk.specs.Sights.{ClerkSight, hold_of}
+
+-- a clerk at rest looks what stands at no place
+pub settled_closed : (held : List Keep) → AllByRecursion (λ (k : Keep). IsSettled k.purpose) held → holds_open held ≡ false
+settled_closed [] s = refl
+settled_closed (k ∷ ks) s = or_from (is_open k.purpose) (holds_open ks) (not_open k.purpose s.0) (settled_closed ks s.1)
+  where
+    not_open : (p : Purpose) → IsSettled p → is_open p ≡ false
+    not_open Taken h = refl
+    not_open Testing h = absurd h
+    not_open (Shown id) h = absurd h
+    not_open (For id) h = refl
 
 -- a clerk by its parts
 abbrev pub clerk_at : PassSight → ℕ → ClerkSight

@@ -17,7 +17,6 @@ use Rattle.history_book.specs.declared.outcome.TouchOutcome.TheVariants as touch
 use Rattle.history_book.specs.declared.record.Record.{Record}
 use Rattle.track_rule.specs.History.{events_in, state_after}
 use Rattle.track_rule.specs.KeptWords.{is_kept_for}
-use Rattle.track_rule.specs.Layout.{phase_word}
 use Rattle.track_rule.specs.PhaseSteps.{LoadsPhase}
 use Rattle.track_rule.specs.Records.{record_in, slot_of_record}
 use Rattle.track_rule.specs.Sights.{PassSight, sizes_of}
@@ -33,7 +32,7 @@ use Rattle.shared_desk.proofs.Loaded.{all_from, all_seen, its_id, left_now, live
 use Rattle.history_book.specs.History.{is_legal}
 use Rattle.shared_desk.specs.Commit.{seen_with}
 use Rattle.proto_rules.specs.declared.Part.{Part}
-use Rattle.track_rule.specs.Readings.{noted, found}
+use Rattle.track_rule.specs.Readings.{noted}
 
 -- the entry of an id is of the same protocol by a longer history
 entry_stays : (segment : Segment) (id : ℕ) (front log : List Event) → StartsWith log front → is_of_entry segment id front ≡ true → is_of_entry segment id log ≡ true

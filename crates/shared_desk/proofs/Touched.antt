@@ -12,6 +12,7 @@ use Rattle.track_rule.specs.KeptWords.{is_kept_for}
 use Rattle.track_rule.specs.Layout.{turn_word}
 use Rattle.track_rule.specs.Readings.{stored}
 use Rattle.track_rule.specs.Sights.{PassSight, sizes_of}
+use Rattle.track_rule.specs.PhaseSteps.{holds_open}
 use Rattle.track_rule.specs.Steps.{AreAll}
 use Rattle.track_rule.specs.TouchSteps.{goes_on, hand_goes_on, known_record}
 use Rattle.track_rule.specs.TurnSteps.{gave_turn, with_subject}
@@ -31,6 +32,7 @@ left_known place at F v w h p = record {
   below = subst (λ (z : Sizes). place < z.entries) (sym (ap sizes_of p.same)) h.below;
   calm = ap (λ (k : PassSight). k.view.commit.middle) p.same ∙ h.calm;
   free = ap (λ (k : PassSight). k.view.free) p.same ∙ h.free;
+  closed = ap (λ (k : PassSight). holds_open k.view.places.held) p.same ∙ h.closed;
 }
 
 touched_known : (place : ℕ) (p : Packet) (number : ℕ) (q : Record) (v w : PassSight) → HasRecord place v → IsTouchedUnder place p number q v w → HasRecord place w
@@ -47,6 +49,7 @@ touched_known place p number q v w h t =
       below = subst (λ (z : Sizes). place < z.entries) (sym (ap sizes_of t.goes.same)) h.below;
       calm = ap (λ (k : PassSight). k.view.commit.middle) t.goes.same ∙ h.calm;
       free = ap (λ (k : PassSight). k.view.free) t.goes.same ∙ h.free;
+      closed = ap (λ (k : PassSight). holds_open k.view.places.held) t.goes.same ∙ h.closed;
     }
 
 pub still_known : (place : ℕ) (p : Packet) (o : TouchOutcome) (v w : PassSight) → HasRecord place v → TouchesUnder place p o v w → HasRecord place w

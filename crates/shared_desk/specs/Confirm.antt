@@ -14,6 +14,7 @@ use Rattle.track_rule.specs.CommitSteps.{dropped}
 use Rattle.track_rule.specs.Free.{is_among}
 use Rattle.track_rule.specs.History.{state_after}
 use Rattle.track_rule.specs.Links.{hooks_of}
+use Rattle.track_rule.specs.PhaseSteps.{holds_open}
 use Rattle.track_rule.specs.Readings.{added}
 use Rattle.track_rule.specs.Records.{has_hand}
 use Rattle.track_rule.specs.References.{is_taken}
@@ -97,6 +98,7 @@ pub record CanEnter (place : ℕ) (flow : Flow) (v : PassSight) : Type 0 where
   pub owned : is_among place v.view.places.owned ≡ true
   pub turn : has_hand place v.view ≡ 1
   pub calm : v.view.commit.middle ≡ Calm
+  pub closed : holds_open v.view.places.held ≡ false
   pub free : v.view.free ≡ None
   pub carried : v.view.places.carried ≡ []
   pub few : length v.view.seen.own < 2 ^ 30
@@ -119,6 +121,7 @@ pub record CanConfirmFlow (place : ℕ) (flow : Flow) (v : PassSight) : Type 0 w
   pub taken : is_taken place v.view.places.held ≡ true
   pub down : is_any_up v.view.buckets.hooks ≡ false
   pub idle : v.view.commit ≡ record { hand = None; middle = Calm }
+  pub closed : holds_open v.view.places.held ≡ false
   pub free : v.view.free ≡ None
   pub carried : v.view.places.carried ≡ []
   pub shut : v.view.buckets.shut ≡ []

@@ -1,5 +1,5 @@
 -- The entry for which a place is held, read under the turn of the place's record.
-use Rattle.std.specs.Prelude.{◌≡◌, ℕ, ◌<◌, true, Some, None, List, ◌∷◌, length}
+use Rattle.std.specs.Prelude.{◌≡◌, ℕ, ◌<◌, true, false, Some, None, List, ◌∷◌, length}
 use Rattle.history_book.specs.State.{record_of}
 use Rattle.history_book.specs.declared.event.Event.{Event}
 use Rattle.history_book.specs.declared.outcome.PeekOutcome.{PeekOutcome}
@@ -7,6 +7,7 @@ use Rattle.history_book.specs.declared.outcome.PeekOutcome.TheVariants.{Seen, Go
 use Rattle.track_rule.specs.History.{state_after}
 use Rattle.track_rule.specs.KeptWords.{is_kept_for}
 use Rattle.track_rule.specs.Layout.{record_slot}
+use Rattle.track_rule.specs.PhaseSteps.{holds_open}
 use Rattle.track_rule.specs.Records.{slot_of_record}
 use Rattle.track_rule.specs.Sights.{PassSight, sizes_of}
 use Rattle.track_rule.specs.Steps.{AreAll}
@@ -14,14 +15,16 @@ use Rattle.track_rule.specs.declared.slot.Slot.{Slot}
 use Rattle.track_rule.specs.declared.view.Hand.{Hand}
 use Rattle.track_rule.specs.declared.view.Middle.TheVariants.{Calm}
 
--- The pass has no turn, and is in the middle of no commit.
+-- The pass has no turn, looks what stands at no place, and is in the middle of no commit.
 pub record IsFreeFor (place : ℕ) (v : PassSight) : Type 0 where
   pub below : place < (sizes_of v).entries
   pub hand : v.view.commit.hand ≡ None
   pub calm : v.view.commit.middle ≡ Calm
   pub free : v.view.free ≡ None
+  pub closed : holds_open v.view.places.held ≡ false
 
--- The pass has the turn of the place's record, with this record, or none, out of its slot, and is in the middle of no commit.
+-- The pass has the turn of the place's record, with this record, or none, out of its slot. It looks what stands at no place, and is
+-- in the middle of no commit.
 pub record HasRecord (place : ℕ) (v : PassSight) : Type 0 where
   pub hand : Hand
   pub its_place : hand.place ≡ place
@@ -31,6 +34,7 @@ pub record HasRecord (place : ℕ) (v : PassSight) : Type 0 where
   pub below : place < (sizes_of v).entries
   pub calm : v.view.commit.middle ≡ Calm
   pub free : v.view.free ≡ None
+  pub closed : holds_open v.view.places.held ≡ false
 
 -- what was so of the entry of the id after all these events
 abbrev pub IsSeen : ℕ → List Event → PeekOutcome → Type 0

@@ -13,6 +13,7 @@ use Rattle.history_book.specs.declared.sizes.Sizes.{Sizes}
 use Rattle.track_rule.specs.BucketSteps.{IsChainOf}
 use Rattle.track_rule.specs.Chains.{chain_in, shuts_of}
 use Rattle.track_rule.specs.History.{state_after}
+use Rattle.track_rule.specs.PhaseSteps.{holds_open}
 use Rattle.track_rule.specs.References.{is_taken}
 use Rattle.track_rule.specs.Sights.{PassSight, sizes_of}
 use Rattle.track_rule.specs.Steps.{AreAll}
@@ -49,10 +50,11 @@ rival_in flow z shut =
     rival_of (found_for z flow.original shut) (place_in (link_with 1 (address_word flow.reply) (flow_word flow.reply) (chain_of z flow.reply shut)))
     (found_for z flow.reply shut)
 
--- The pass has shut both buckets of the flow, is in the middle of no commit and has no link of its own in a chain. It has taken the
--- place. This is the rival in the chains.
+-- The pass has shut both buckets of the flow, is in the middle of no commit, looks what stands at no place and has no link of its own
+-- in a chain. It has taken the place. This is the rival in the chains.
 pub record IsBlocked (place : ℕ) (flow : Flow) (rival : Rival) (v : PassSight) : Type 0 where
   pub calm : v.view.commit.middle ≡ Calm
+  pub closed : holds_open v.view.places.held ≡ false
   pub down : is_any_up v.view.buckets.hooks ≡ false
   pub taken : is_taken place v.view.places.held ≡ true
   pub protocol : is_flow_of_one_protocol flow ≡ true

@@ -33,6 +33,7 @@ pub mod AllPasses
 pub mod HistoryWord
 pub mod LivePlaces
 pub mod LiveWords
+pub mod Tested
 pub mod TurnsKnown
 pub mod EventSteps
 pub mod OneRecord

@@ -1,10 +1,11 @@
 -- How often a place stands in a list, and among references.
-use Rattle.std.proofs.Common.{◌≡◌, ◌≢◌, ℕ, ◌+◌, ◌<◌, ◌≤◌, suc, Bool, true, false, cond, Some, List, [], ◌∷◌, ◌++◌, length, refl, sym, ap, ◌∙◌, arith, ⊎_elim}
+use Rattle.std.proofs.Common.{◌≡◌, ◌≢◌, ℕ, ◌+◌, ◌<◌, ◌≤◌, zero, suc, Bool, true, false, cond, Some, None, List, [], ◌∷◌, ◌++◌, length, refl, sym, ap, ◌∙◌, arith, ⊎_elim}
 use Rattle.std.specs.List.{list_any}
 use Rattle.std.specs.Prelude.{◌==◌, ◌&&◌, ◌||◌, find, if◌then◌else◌, not}
-use mathlib.Core.Option.{some}
+use mathlib.Core.Option.{some, some-injective, some-ne-none}
 use lib.ListN.{get_elem?}
 use Rattle.std.proofs.lemmas.Bool.{cases_Bool, cases_eq, cond_both, eq-eqb, eqb-true, ne_eqb}
+use Rattle.std.proofs.lemmas.Option.{none-some}
 use Rattle.history_book.specs.declared.event.Event.{Event}
 use Rattle.track_rule.specs.declared.view.Keep.{Keep}
 use Rattle.track_rule.specs.Free.{is_among, taken_out, unlisted}
@@ -234,4 +235,18 @@ module _ {X : Type 0} (q : X → Bool) where
       ⊎_elim
       (λ (t : q y ≡ true). (0, y, refl, t))
       (λ (t : q y ≡ false). let rest = counted_there ys (omega (arith, any, ap bit t)) in (suc rest.0, rest.1, rest.2, rest.3))
+      (cases_Bool (q y))
+
+-- where an item that passes is there, one is found
+module _ {X : Type 0} (q : X → Bool) where
+  pub find_none : (xs : List X) (j : ℕ) (x : X) → get_elem? xs j ≡ some x → q x ≡ true → find q xs ≡ None → ⊥
+  find_none [] j x at passes e = absurd (some-ne-none x (sym at))
+  find_none (y ∷ ys) zero x at passes e =
+      let is : Some y ≡ None =
+      sym (ap (λ (b : Bool). if b then Some y else find q ys) (ap q (some-injective y x at) ∙ passes)) ∙ e in
+      none-some y (sym is)
+  find_none (y ∷ ys) (suc j) x at passes e =
+      ⊎_elim
+      (λ (t : q y ≡ true). let is : Some y ≡ None = sym (ap (λ (b : Bool). if b then Some y else find q ys) t) ∙ e in none-some y (sym is))
+      (λ (t : q y ≡ false). find_none ys j x at passes (sym (ap (λ (b : Bool). if b then Some y else find q ys) t) ∙ e))
       (cases_Bool (q y))

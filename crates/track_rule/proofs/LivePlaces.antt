@@ -1,13 +1,17 @@
 -- A live id has one place: that of its Confirm.
-use Rattle.std.proofs.Common.{Bool, ◌≡◌, ℕ, ◌+◌, ◌<◌, suc, true, false, Some, List, [], ◌∷◌, length, refl, sym, ap, subst, ◌∙◌, ⊎_elim, arith, eq-eqb, ne_eqb, ◌≢◌}
+use Rattle.std.proofs.Common.{Bool, ◌≡◌, ℕ, ◌+◌, ◌<◌, ◌≤◌, suc, true, false, Option, Some, None, List, [], ◌∷◌, length, length-append, refl, sym, ap, subst, ◌∙◌, ⊎_elim, arith, eq-eqb, ne_eqb, ◌≢◌}
 use Rattle.std.specs.Prelude.{slice_get, ◌==◌, ◌&&◌}
 use Rattle.std.specs.List.{All}
 use Rattle.std.proofs.lemmas.Bool.{and_parts, cases_Bool, cases_eq, eqb-true}
 use Rattle.std.proofs.lemmas.Bool.Decides.{nat_tests}
+use Rattle.std.proofs.lemmas.Option.{slice_get_within}
 use mathlib.Core.Option.{some}
 use lib.ListN.{get_elem?}
 use Rattle.atomic_table.specs.Table.{State}
-use Rattle.history_book.specs.Laws.{IsConfirmed, LiveRecordsAreConfirmed}
+use Rattle.history_book.specs.Desk.{IsLiveIn}
+use Rattle.history_book.specs.History.{after, is_legal}
+use Rattle.history_book.specs.Laws.{FirstEventsStay, GoneEntriesStayGone, IsConfirmed, LiveRecordsAreConfirmed}
+use Rattle.history_book.specs.Point.{StartsWith}
 use Rattle.history_book.specs.Record.{has_id}
 use Rattle.history_book.specs.State.{record_of}
 use Rattle.history_book.specs.declared.event.Event.{Event}
@@ -24,7 +28,7 @@ use Rattle.track_rule.specs.Records.{IsHand}
 use Rattle.track_rule.specs.References.{WasConfirmed}
 use Rattle.track_rule.specs.Rule.{IsKept, Ledger}
 use Rattle.track_rule.specs.Sums.{bit, total}
-use Rattle.track_rule.proofs.Lists.{find_there, other_bit, same_bit}
+use Rattle.track_rule.proofs.Lists.{find_none, find_there, other_bit, same_bit}
 use Rattle.track_rule.proofs.Sums.{total_term}
 
 -- one that counts of a place and an id is a record with both, and was confirmed
@@ -63,6 +67,10 @@ one_place log i p q a b =
 pub live_keeps : (id : ℕ) → table_keeps (3 + id) ≡ 1
 live_keeps id = grind (arith, nat_tests)
 
+-- and while it is LIVE of none it has not
+pub idle_keeps : (n : ℕ) → n ≤ 2 → table_keeps n ≡ 0
+idle_keeps n low = grind (arith, nat_tests)
+
 -- it shows the id of a record, and no other, at the place of the record alone
 pub both_shown : (r : Record) (i : ℕ) → shows (3 + r.id) i ≡ of_both r.place i r
 both_shown r i =
@@ -88,23 +96,27 @@ none_else r q i other = ap (λ (b : Bool). bit (b && r.id == i)) (ne_eqb r.place
 pub own_both : (r : Record) → of_both r.place r.id r ≡ 1
 own_both r = ap bit (λ k. eq-eqb r.place r.place refl k && eq-eqb r.id r.id refl k)
 
+-- the record that is found by its id
+pub record_confirmed : (log : List Event) → All (IsConfirmed log) (records_after log) → (i : ℕ) (r : Record) → record_of i (state_after log) ≡ Some r
+    → (r.id ≡ i) × WasConfirmed log i r.place
+record_confirmed log all i r e =
+    let there = find_there (has_id i) (records_after log) r e in
+    let its_id : r.id ≡ i = eqb-true r.id i there.2 in (
+      its_id,
+      both_confirmed log r.place i (records_after log) all (omega (
+        arith,
+        total_term (of_both r.place i) (records_after log) there.0 r there.1,
+        own_both r,
+        ap (λ (n : ℕ). of_both r.place n r) its_id,
+      )),
+    )
+
 module _ (z : Sizes) (l : Ledger) (s : State Slot View) (h : IsKept z l s) (low : LiveRecordsAreConfirmed) where
   pub all_confirmed : All (IsConfirmed l.log) (records_after l.log)
   all_confirmed = (low z l.log (length l.log) h.history.legal).0
 
-  -- the record that is found by its id
   pub found_confirmed : (i : ℕ) (r : Record) → record_of i (state_after l.log) ≡ Some r → (r.id ≡ i) × WasConfirmed l.log i r.place
-  found_confirmed i r e =
-      let there = find_there (has_id i) (records_after l.log) r e in
-      let its_id : r.id ≡ i = eqb-true r.id i there.2 in (
-        its_id,
-        both_confirmed l.log r.place i (records_after l.log) all_confirmed (omega (
-          arith,
-          total_term (of_both r.place i) (records_after l.log) there.0 r there.1,
-          own_both r,
-          ap (λ (n : ℕ). of_both r.place n r) its_id,
-        )),
-      )
+  found_confirmed i r e = record_confirmed l.log all_confirmed i r e
 
   -- a place that is LIVE of the id
   pub shown_confirmed : (p i : ℕ) → p < z.entries → phase_at z s.words p ≡ 3 + i → WasConfirmed l.log i p
@@ -115,3 +127,27 @@ module _ (z : Sizes) (l : Ledger) (s : State Slot View) (h : IsKept z l s) (low 
   -- and one that a pass knows so
   pub hand_confirmed : (x : Hand) (i : ℕ) → IsHand z l.log s.words x → x.phase ≡ 3 + i → WasConfirmed l.log i x.place
   hand_confirmed x i k shown = shown_confirmed x.place i k.below (k.shown (omega (arith, shown)) ∙ shown)
+
+-- An id of which a place is LIVE, and whose Confirm stands among the first events, was live there after these: it does not come
+-- back once it was destroyed.
+pub live_before : LiveRecordsAreConfirmed → GoneEntriesStayGone → FirstEventsStay → (z : Sizes) (l : Ledger) (s : State Slot View) → IsKept z l s
+    → (front : List Event) → StartsWith l.log front → (p i : ℕ) → p < z.entries → phase_at z s.words p ≡ 3 + i → WasConfirmed front i p
+    → IsLiveIn p i (state_after front)
+live_before low gone first z l s h front starts p i below shown was = by_record (record_of i (state_after front)) refl
+  where
+    legal : (is_legal z front ≡ true) × (after l.log (length front) ≡ state_after front)
+    legal = first z l.log front (length front) starts h.history.legal (omega arith)
+
+    by_record : (o : Option Record) → record_of i (state_after front) ≡ o → IsLiveIn p i (state_after front)
+    by_record None e =
+        let t = both_live l.log p i (records_after l.log) (all_confirmed z l s h low)
+        (omega (arith, h.phases.shown p i below, same_bit (phase_at z s.words p) (3 + i) shown)) in
+        let dead : record_of i (state_after l.log) ≡ None =
+        gone z l.log (length front) (length l.log) i h.history.legal (slice_get_within front i (Confirm was.subject) was.event)
+        (omega (arith, ap length starts.1, length-append front starts.0)) (ap (record_of i) legal.1 ∙ e) in
+        absurd (find_none (has_id i) (records_after l.log) t.0 t.1 t.2 (eq-eqb t.1.id i t.5) dead)
+    by_record (Some r) e = record {
+      subject = r;
+      is = e;
+      placed = one_place front i r.place p (record_confirmed front (low z front (length front) legal.0).0 i r e).1 was;
+    }

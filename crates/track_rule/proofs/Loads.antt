@@ -1,11 +1,11 @@
 -- Steps that change no word: a load, and an exchange that fails. What a load tells of the history and of the references.
 use Rattle.track_rule.specs.declared.view.Commit.{Commit}
-use Rattle.std.specs.Prelude.{nat_lt, ◌&&◌}
+use Rattle.std.specs.Prelude.{nat_lt, ◌==◌, ◌&&◌}
 use Rattle.track_rule.proofs.Lists.{bit_low, total_some}
-use Rattle.track_rule.proofs.ShutChains.{open_weighs, shut_weighs}
+use Rattle.track_rule.proofs.ShutChains.{open_none, open_weighs, shut_weighs}
 use Rattle.std.proofs.Common.{◌≡◌, ℕ, ◌+◌, ◌-◌, ◌*◌, ◌/◌, ◌%◌, ◌^◌, ◌<◌, ◌≤◌, suc, Option, Some, None, List, [], ◌∷◌, length, refl, sym, ap, subst, ◌∙◌, ⊎_elim, arith, set, append-nil}
 use Rattle.std.specs.Prelude.{slice_index, slice_set}
-use Rattle.std.proofs.lemmas.Bool.{cases_lt, eqb-false}
+use Rattle.std.proofs.lemmas.Bool.{cases_lt, eqb-false, eqb-true}
 use Rattle.std.proofs.lemmas.List.{set-get_or}
 use Rattle.std.proofs.lemmas.Option.{none-some}
 use mathlib.Core.Option.{none, some}
@@ -24,17 +24,18 @@ use Rattle.track_rule.specs.Walks.{IsWalk}
 use Rattle.track_rule.specs.History.{events_in, live_in, records_after}
 use Rattle.track_rule.specs.Layout.{phase_at, refs_word}
 use Rattle.track_rule.specs.Passes.{ArePasses, HasNothing, IsPass, IsSpent, made_weight, shares_of}
-use Rattle.track_rule.specs.Phases.{middle_of, middle_weight, of_place}
+use Rattle.track_rule.specs.Phases.{middle_of, middle_weight, of_place, table_keeps}
 use Rattle.track_rule.specs.Readings.{found, noted}
 use Rattle.track_rule.specs.References.{held_times, is_at, is_for_new, keeps, takes}
 use Rattle.track_rule.specs.Rule.{Holds, IsKept, Ledger}
-use Rattle.track_rule.specs.Steps.{AreAll, HasOthers, IsCount, LoadStep, LoadsRefs, LookStep, at_point, found_history, saw}
+use Rattle.track_rule.specs.Steps.{AreAll, HasOthers, IsCount, LoadStep, LoadsRefs, LookStep, at_point, found_history, read_refs, saw}
 use Rattle.track_rule.specs.Sums.{Each, times, total}
 use Rattle.track_rule.proofs.LastRead.{ReadsAt, read_on}
 use Rattle.track_rule.proofs.Frames.{middle_left}
 use Rattle.track_rule.proofs.KeptWords.{words_same}
-use Rattle.track_rule.proofs.TurnsKnown.{gone}
-use Rattle.track_rule.proofs.Balance.{Lines, Moves, few_references, free_left, moved, pass_moved, references_left, same_lines, bucket_lines}
+use Rattle.track_rule.proofs.TurnsKnown.{empty, gone}
+use Rattle.track_rule.proofs.Balance.{Lines, Moves, few_references, free_left, moved, pass_moved, references_left, bucket_lines}
+use Rattle.track_rule.proofs.Walking.{note_where_is}
 use Rattle.track_rule.proofs.Sums.{length_total, total_gap, total_only, total_term, total_times}
 
 -- a view in which at most the readings and what was seen differ keeps the rule
@@ -188,6 +189,8 @@ looks low slots id v c has_some s (l, h) long at range =
               omega (arith, h.references.taken q, total_term (takes q) s.views id v at, total_some (λ k. is_at q k && is_for_new k.purpose) v.places.held taken);
           hand = λ x turn live. (h.records.away id v at x turn).live live;
           gone = λ x i turn calm kept other. gone z l s id v h at x turn low calm i kept (eqb-false x.phase (3 + i) other);
+          empty = λ x turn calm few. empty z l s id v h at x turn calm few;
+          shown = λ q i kept. (h.kept_words.each id v at q i kept).was;
         },
         refl,
       ),
@@ -224,6 +227,29 @@ refs_told l s id p v h at below has_some =
 pub one_place : (z : Sizes) (p q : ℕ) → refs_word z p ≡ refs_word z q → p ≡ q
 one_place z p q e = omega (arith, e)
 
+-- a load of the references of a place, or an exchange that found others
+pub refs_read : (l : Ledger) (s : State Slot View) (id p : ℕ) (v : View) → IsKept v.passes.sizes l s → get_elem? s.views id ≡ some v
+    → p < v.passes.sizes.entries → 0 < v.passes.shares → IsKept v.passes.sizes l (record {
+      words = slice_set s.words (refs_word v.passes.sizes p) (slice_index s.words (refs_word v.passes.sizes p));
+      homes = s.homes;
+      views = set s.views id (read_refs p (slice_index s.words (refs_word v.passes.sizes p)) v);
+    })
+refs_read l s id p v h at below has_some =
+    let z : Sizes = v.passes.sizes in
+    let n : ℕ = slice_index s.words (refs_word z p) in
+    let w : View = read_refs p n v in
+    let one : IsPass z l.log v = h.passes.each id v at in
+    let m : Moves v w = record { made = record { passes = refl; own = refl; gathered = refl }; commit = refl; expected = refl } in
+    reads z l s id (refs_word z p) v w h at m (pass_moved z l.log v w one m.made has_some one.front one.told) refl refl
+    (bucket_lines z l s id v w h at refl (λ q. omega arith) (λ q. omega arith)
+    (note_where_is z s.words l.chains v.seen.front (n == 0) p v.walk
+    (λ e. open_none z l s h p below (none_kept n (total (keeps p) s.views) (table_keeps (phase_at z s.words p)) (h.references.counted p below) (eqb-true n 0 e)))
+    (h.walks.each id v at))) has_some
+    (record { reading = found (refs_word z p) n; more = refl; word = refl; value = refl })
+  where
+    none_kept : (n k t : ℕ) → n ≡ k + t → n ≡ 0 → t ≡ 0
+    none_kept n k t e zero = omega (arith, e, zero)
+
 -- a load of the references of a place
 pub loads : (slots id p : ℕ) (v : View) (c : List (ℕ × Slot)) → p < v.passes.sizes.entries → 0 < v.passes.shares
     → Allows (Holds v.passes.sizes) slots id (v, c) (refs_word v.passes.sizes p) (λ n. n)
@@ -231,18 +257,11 @@ pub loads : (slots id p : ℕ) (v : View) (c : List (ℕ × Slot)) → p < v.pas
 loads slots id p v c below has_some s (l, h) long at range =
     let z : Sizes = v.passes.sizes in
     let n : ℕ = slice_index s.words (refs_word z p) in
-    let w : View = noted (found (refs_word z p) n) v in
-    let one : IsPass z l.log v = h.passes.each id v at in
-    let m : Moves v w = record { made = record { passes = refl; own = refl; gathered = refl }; commit = refl; expected = refl } in
+    let w : View = read_refs p n v in
     let told : IsCount p n v = refs_told l s id p v h at below has_some in (
       w,
       unchanged,
       tt,
-      (
-        l,
-        reads z l s id (refs_word z p) v w h at m (pass_moved z l.log v w one m.made has_some one.front one.told) refl refl
-            (same_lines z l s id v w h at refl (λ q. omega arith) (λ q. omega arith) refl refl) has_some
-            (record { reading = found (refs_word z p) n; more = refl; word = refl; value = refl }),
-      ),
+      (l, refs_read l s id p v h at below has_some),
       λ q same. subst (λ (k : ℕ). LoadsRefs k v n w × (c ≡ c)) (one_place z p q same) (record { view = refl; count = told }, refl),
     )

@@ -1,13 +1,14 @@
 -- The phase of a place: it is loaded, and FREE and OWNED are stored.
 use Rattle.std.proofs.Common.{◌⊎◌, ◌≡◌, ◌≢◌, ℕ, zero, suc, ◌+◌, ◌-◌, ◌<◌, ◌≤◌, Bool, true, false, min, Option, Some, None, List, [], ◌∷◌, length, refl, sym, ap, subst, ◌∙◌, ⊎_elim, inl, inr, arith, set}
-use Rattle.std.specs.Prelude.{slice_index, slice_set, ◌==◌, ◌&&◌, ◌||◌, if◌then◌else◌}
-use Rattle.std.proofs.lemmas.Bool.{and_parts, cases_Bool, cases_eq, cases_lt, eqb-true}
+use Rattle.std.specs.Prelude.{nat_lt, slice_index, slice_set, ◌==◌, ◌&&◌, ◌||◌, if◌then◌else◌}
+use Rattle.std.proofs.lemmas.Bool.{and_parts, cases_Bool, cases_eq, cases_lt, eqb-true, ltb-true}
 use Rattle.std.proofs.lemmas.Bool.Decides.{nat_tests}
-use Rattle.std.proofs.lemmas.List.{get_or-set_other, get_or-set_same, length-set}
+use Rattle.std.proofs.lemmas.List.{get_or-set_other, get_or-set_same, length-set, set-get_or}
 use mathlib.Core.Option.{none, some}
 use lib.ListN.{get_elem?}
 use Rattle.atomic_table.specs.Table.{Allows, State, keeps as unchanged, step}
 use Rattle.history_book.specs.declared.sizes.Sizes.{Sizes}
+use Rattle.history_book.specs.Laws.{FirstEventsStay, GoneEntriesStayGone, LiveRecordsAreConfirmed}
 use Rattle.history_book.specs.State.{record_of}
 use Rattle.track_rule.specs.declared.slot.Slot.{Slot}
 use Rattle.track_rule.specs.declared.view.Keep.{Keep}
@@ -23,48 +24,140 @@ use Rattle.track_rule.specs.History.{state_after}
 use Rattle.track_rule.specs.Layout.{first_word, gen_word, head_word, next_word, phase_at, phase_word, refs_at, refs_word, second_word, turn_at, turn_word, place_of}
 use Rattle.track_rule.specs.Links.{HasHooks}
 use Rattle.track_rule.specs.Passes.{IsPass}
-use Rattle.track_rule.specs.PhaseSteps.{LoadPhaseStep, LoadsPhase, StorePhaseStep, may_store, phase_stored}
+use Rattle.track_rule.specs.PhaseSteps.{LoadPhaseStep, LoadsPhase, StorePhaseStep, holds_open, may_store, phase_stored, read_phase, tested}
 use Rattle.track_rule.specs.Phases.{ArePhases, IsMiddlePhase, middle_of, of_both, of_place, shows, table_keeps}
-use Rattle.track_rule.specs.Readings.{found, noted, stored}
+use Rattle.track_rule.specs.Readings.{found, stored}
 use Rattle.track_rule.specs.Records.{AreRecords, IsHand, has_hand, record_in}
-use Rattle.track_rule.specs.References.{AreKept, AreReferences, ends, held_times, is_at, is_for_new, is_taken, keeps, takes}
+use Rattle.track_rule.specs.References.{AreKept, AreReferences, ends, held_times, is_at, is_for_new, is_taken, keeps, taken_times, takes}
 use Rattle.track_rule.specs.Rule.{Holds, IsKept, Ledger}
 use Rattle.track_rule.specs.Sights.{AreOfPool}
 use Rattle.track_rule.specs.Sums.{times, total}
 use Rattle.track_rule.specs.Walks.{IsWalk}
-use Rattle.track_rule.proofs.LiveWords.{kept_phase}
-use Rattle.track_rule.proofs.Balance.{Moves, pass_moved, passes_moved, same_lines}
+use Rattle.track_rule.proofs.LivePlaces.{idle_keeps, live_before}
+use Rattle.track_rule.proofs.LiveWords.{kept_phase, live_tuples}
+use Rattle.track_rule.proofs.Tested.{tested_kept, tested_left, tested_length, tested_taken, tested_times, words_tested}
+use Rattle.track_rule.proofs.Walking.{note_where_is}
+use Rattle.track_rule.specs.KeptWords.{HasTuples}
+use Rattle.track_rule.proofs.Balance.{Moves, bucket_lines, free_moved, moved, pass_moved, passes_moved, references_moved}
 use Rattle.track_rule.proofs.Carried.{carries_set}
-use Rattle.track_rule.proofs.Frames.{SameChains, chains_stay, hooks_stay, links_stay, walk_stays, middle_on}
+use Rattle.track_rule.proofs.Frames.{SameChains, chains_stay, hooks_stay, links_stay, middle_left, walk_stays, middle_on}
 use Rattle.track_rule.proofs.KeptWords.{words_left}
 use Rattle.track_rule.proofs.Lists.{other_bit, same_bit, some_of, takes_held, total_some}
 use Rattle.track_rule.proofs.Seats.{held_below, owed_below}
-use Rattle.track_rule.proofs.Loads.{reads}
-use Rattle.track_rule.proofs.LastRead.{stored_on}
-use Rattle.track_rule.proofs.ShutChains.{shown_live}
+use Rattle.track_rule.proofs.LastRead.{read_on, stored_on}
+use Rattle.track_rule.proofs.ShutChains.{open_none, shown_live}
 use Rattle.track_rule.proofs.Sums.{each_put, total_same, total_term}
+
+-- the laws of histories that tell what is live
+pub record AreLaws : Type 0 where
+  pub confirmed : LiveRecordsAreConfirmed
+  pub gone : GoneEntriesStayGone
+  pub first : FirstEventsStay
 
 -- two places have two phases
 pub one_phase : (z : Sizes) (p q : ℕ) → phase_word z p ≡ phase_word z q → p ≡ q
 one_phase z p q e = omega (arith, e)
 
+-- a load of a phase keeps the rule
+module _ (laws : AreLaws) (l : Ledger) (s : State Slot View) (id p : ℕ) (v : View) (h : IsKept v.passes.sizes l s) (at : get_elem? s.views id ≡ some v)
+    (has_some : 0 < v.passes.shares) (below : p < v.passes.sizes.entries) where
+  abbrev phase : ℕ
+  phase = phase_at v.passes.sizes s.words p
+
+  abbrev left : View
+  left = read_phase p (phase_at v.passes.sizes s.words p) v
+
+  abbrev held : List Keep
+  held = tested v.seen.front p (phase_at v.passes.sizes s.words p) v.places.held
+
+  -- the tuples of an entry of which the place is LIVE, where nobody has taken it
+  live_there : 2 < phase → HasTuples v.passes.sizes l.log s.words (phase - 3) p
+  live_there live = live_tuples v.passes.sizes l s h laws.confirmed p (phase - 3) below (omega (arith, live))
+
+  none_taken : 2 < phase → total (takes p) s.views ≡ 0
+  none_taken live = omega (arith, h.references.taken p, h.phases.used p below, live_one phase live)
+    where
+      live_one : (n : ℕ) → 2 < n → table_keeps n ≡ 1
+      live_one n some_live = grind (arith, nat_tests)
+
+  same_times : (q : ℕ) → held_times q held ≡ held_times q v.places.held
+  same_times q = tested_times v.seen.front p phase q v.places.held
+
+  same_taken : (q : ℕ) → taken_times q held ≡ taken_times q v.places.held
+  same_taken q = tested_taken v.seen.front p phase q v.places.held
+
+  read_references : AreReferences v.passes.sizes l.log s.words (set s.views id left)
+  read_references =
+      references_moved v.passes.sizes l.log s.words s.words s.views id v left at (record {
+        count = λ q under. omega (arith, same_times q);
+        beyond = λ q above. omega (arith, same_times q);
+        phases = λ q. refl;
+        carried = λ q. omega (arith, same_times q, h.references.carried id v at q);
+        carried_for = λ q. omega (arith, same_taken q, h.references.carried_for id v at q);
+        taken = λ q. omega (arith, same_taken q, h.references.taken q);
+        purposes = tested_kept v.seen.front p phase l.log v.places.held (λ live. (live_there live).was) (h.references.purposes id v at);
+      }) h.references
+
+  read_free : IsFreeList v.passes.sizes s.words s.homes (set s.views id left) l.free
+  read_free =
+      free_moved v.passes.sizes s.words s.words s.homes s.homes s.views id v left l.free l.free at (record {
+        once = λ q under. refl;
+        beyond = λ q above. refl;
+        idle = h.free_list.idle;
+        phases = λ q. refl;
+        turn = refl;
+        single = h.free_list.single;
+        home = h.free_list.home;
+        others = inl refl;
+        away = h.free_list.away id v at;
+        few = omega (arith, h.free_list.few id v at, tested_length v.seen.front p phase v.places.held);
+        clear = h.free_list.clear id v at;
+        owned = λ q on. let c = h.free_list.owned id v at q on in (omega (arith, c.0, same_taken q), c.1);
+        ended = h.free_list.ended id v at;
+      }) h.free_list
+
+  phase_read : IsKept v.passes.sizes l (record {
+    words = slice_set s.words (phase_word v.passes.sizes p) (slice_index s.words (phase_word v.passes.sizes p));
+    homes = s.homes;
+    views = set s.views id left;
+  })
+  phase_read =
+      let z : Sizes = v.passes.sizes in
+      let one : IsPass z l.log v = h.passes.each id v at in
+      let m : Moves v left = record { made = record { passes = refl; own = refl; gathered = refl }; commit = refl; expected = refl } in
+      subst (λ (ws : List ℕ). IsKept z l (record { words = ws; homes = s.homes; views = set s.views id left })) (sym (set-get_or s.words (phase_word z p) 0))
+      (moved z l s id v left s.words s.homes l.free h at m (pass_moved z l.log v left one m.made has_some one.front one.told)
+      (λ k a b. refl) refl (λ k a. refl) read_references read_free
+      (bucket_lines z l s id v left h at refl (λ q. omega (arith, same_times q)) (λ q. omega arith)
+      (note_where_is z s.words l.chains v.seen.front (nat_lt phase 3) p v.walk
+      (λ e. open_none z l s h p below (idle_keeps phase (omega (arith, ltb-true phase 3 e)))) (h.walks.each id v at)))
+      (read_on z l.log s.words s.words s.views id (phase_word z p) phase v left h.passes at has_some refl (λ k other. refl)
+      (record { reading = found (phase_word z p) phase; more = refl; word = refl; value = refl }) h.readings)
+      (middle_left z l.log v left refl refl refl refl (h.commits id v at))
+      (words_tested z l.log s.words s.views id v left p phase at refl live_there none_taken h.kept_words))
+
+  -- a pass that looks what stands at no place
+  same_held : holds_open v.places.held ≡ false → left ≡ record v { walk = left.walk; readings = left.readings }
+  same_held closed = λ i. record left { places = record v.places { held = tested_left v.seen.front p phase v.places.held closed i } }
+
 -- a load of a phase
-pub loads_phase : (slots id p : ℕ) (v : View) (c : List (ℕ × Slot)) → p < v.passes.sizes.entries → 0 < v.passes.shares
+pub loads_phase : AreLaws → (slots id p : ℕ) (v : View) (c : List (ℕ × Slot)) → p < v.passes.sizes.entries → 0 < v.passes.shares
     → Allows (Holds v.passes.sizes) slots id (v, c) (phase_word v.passes.sizes p) (λ n. n)
     (LoadPhaseStep (step slots (phase_word v.passes.sizes p) 0 0 none) (v, c))
-loads_phase slots id p v c below has_some s (l, h) long at range =
+loads_phase laws slots id p v c below has_some s (l, h) long at range =
     let z : Sizes = v.passes.sizes in
     let n : ℕ = slice_index s.words (phase_word z p) in
-    let w : View = noted (found (phase_word z p) n) v in
-    let one : IsPass z l.log v = h.passes.each id v at in
-    let m : Moves v w = record { made = record { passes = refl; own = refl; gathered = refl }; commit = refl; expected = refl } in
+    let w : View = read_phase p n v in
     let told : LoadsPhase p v n w = record {
       view = refl;
+      settled = λ closed. same_held laws l s id p v h at has_some below closed;
       idle = idle z l s id v h at;
       owned = λ some_owned. (h.free_list.owned id v at p some_owned).1;
       ended = λ some_ended. (h.free_list.ended id v at p some_ended).1;
       sole = λ one. h.readings one id v at has_some (phase_word z p);
       kept = λ i kept live. kept_phase z l s id v h at p i below kept live;
+      live = λ i shown was.
+          live_before laws.confirmed laws.gone laws.first z l s h v.seen.front (h.passes.each id v at).front p i below shown was;
       hand = λ x has here.
           let k = h.records.away id v at x has in
           let same : phase_at z s.words x.place ≡ n = ap (phase_at z s.words) here in (
@@ -76,12 +169,7 @@ loads_phase slots id p v c below has_some s (l, h) long at range =
       w,
       unchanged,
       tt,
-      (
-        l,
-        reads z l s id (phase_word z p) v w h at m (pass_moved z l.log v w one m.made has_some one.front one.told) refl refl
-            (same_lines z l s id v w h at refl (λ q. omega arith) (λ q. omega arith) refl refl) has_some
-            (record { reading = found (phase_word z p) n; more = refl; word = refl; value = refl }),
-      ),
+      (l, phase_read laws l s id p v h at has_some below),
       λ q same. subst (λ (k : ℕ). LoadsPhase k v n w × (c ≡ c)) (one_phase z p q same) (told, refl),
     )
   where
@@ -123,10 +211,7 @@ module _ (z : Sizes) (ws : List ℕ) (p n : ℕ) where
   pub phase_first : (k : ℕ) → k < 3 → slice_index (slice_set ws (phase_word z p) n) k ≡ slice_index ws k
   phase_first k low = get_or-set_other ws (phase_word z p) k n 0 (λ e. omega (arith, e, low))
 
--- a low phase is of no live entry
-low_keeps : (n : ℕ) → n < 2 → table_keeps n ≡ 0
-low_keeps n low = grind (arith, nat_tests)
-
+-- a phase of which the table has no reference is LIVE of none
 pub few_keeps : (n : ℕ) → table_keeps n ≡ 0 → n ≤ 2
 few_keeps n idle = grind (arith, nat_tests, idle)
 
@@ -231,7 +316,7 @@ module _ (l : Ledger) (s : State Slot View) (id p to : ℕ) (v : View) (h : IsKe
       ⊎_elim
       (λ (e : q ≡ p).
       subst (λ (k : ℕ). table_keeps (phase_at v.passes.sizes (slice_set s.words (phase_word v.passes.sizes p) to) k) ≡ table_keeps (phase_at v.passes.sizes s.words k)) (sym e)
-      (ap table_keeps here ∙ low_keeps to low ∙ sym idle_place))
+      (ap table_keeps here ∙ idle_keeps to (omega (arith, low)) ∙ sym idle_place))
       (λ (e : q ≢ p). ap table_keeps (phase_else v.passes.sizes s.words p to q e)) (cases_eq q p)
 
   same_shows : (q i : ℕ) → shows (phase_at v.passes.sizes (slice_set s.words (phase_word v.passes.sizes p) to) q) i ≡ shows (phase_at v.passes.sizes s.words q) i

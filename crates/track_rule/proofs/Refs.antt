@@ -19,13 +19,13 @@ use Rattle.track_rule.specs.declared.view.View.{View}
 use Rattle.track_rule.specs.Free.{IsHome, has_turn, is_among, known_free, owes, taken_out, turn_of, unlisted}
 use Rattle.track_rule.specs.Layout.{phase_at, phase_word, refs_at, refs_word}
 use Rattle.track_rule.specs.Passes.{AreFronts, IsPass}
-use Rattle.track_rule.specs.Readings.{found, noted, stored}
+use Rattle.track_rule.specs.Readings.{stored}
 use Rattle.track_rule.specs.History.{records_after}
 use Rattle.track_rule.specs.Phases.{middle_of, middle_weight, of_place}
 use Rattle.track_rule.specs.Records.{has_hand}
 use Rattle.track_rule.specs.References.{AreKept, ends, held_times, is_at, is_for_new, is_held, is_taken, keeps, taken_times, takes, without}
 use Rattle.track_rule.specs.Rule.{Holds, IsKept, Ledger}
-use Rattle.track_rule.specs.Steps.{IsCount, LowerStep, LowersRefs, OpenStep, Opens, RaiseStep, RaisedRefs, RaisesRefs, is_second, keep, let_go, let_go_of, opened, owed_then, raised}
+use Rattle.track_rule.specs.Steps.{IsCount, LowerStep, LowersRefs, OpenStep, Opens, RaiseStep, RaisedRefs, RaisesRefs, is_second, keep, let_go, let_go_of, opened, owed_then, raised, read_refs}
 use Rattle.track_rule.specs.Sums.{bit, times, total}
 use Rattle.track_rule.proofs.Frames.{Quiet, middle_more}
 use Rattle.track_rule.proofs.KeptWords.{words_opened, words_same, words_testing, words_without}
@@ -35,7 +35,7 @@ use Rattle.track_rule.specs.declared.view.Middle.{Middle}
 use Rattle.track_rule.specs.declared.view.Middle.TheVariants.{Calm}
 use Rattle.track_rule.specs.Commits.{IsMiddle, IsMiddleOf}
 use Rattle.track_rule.proofs.Lists.{bit_low, kept_without, length_without, other_bit, other_taken, other_without, same_bit, same_taken, same_without, taken_else, takes_held, takes_other, takes_testing, takes_without, total_none, total_some, unlisted_else, unlisted_less, unlisted_low}
-use Rattle.track_rule.proofs.Loads.{one_place, reads, refs_told}
+use Rattle.track_rule.proofs.Loads.{one_place, refs_read, refs_told}
 use Rattle.track_rule.proofs.Balance.{Lines, Moves, free_moved, moved, pass_moved, references_moved, same_lines}
 use Rattle.track_rule.proofs.Hooks.{ended_lines, hooks_new, lowered_lines, new_hooks, no_record_there, none_ended, opened_lines, still_owned}
 use Rattle.track_rule.specs.Links.{is_up}
@@ -314,20 +314,6 @@ module _ (slots id p seen : ℕ) (v : View) (c : List (ℕ × Slot)) (below : p 
         (total_term (owes p) s.views id v at) (omega (arith, hit, some_seen));
   }
 
-  read_missed : (n : ℕ) → slice_index s.words (refs_word v.passes.sizes p) ≡ n
-      → IsKept v.passes.sizes l (record {
-        words = slice_set s.words (refs_word v.passes.sizes p) (slice_index s.words (refs_word v.passes.sizes p));
-        homes = s.homes;
-        views = set s.views id (noted (found (refs_word v.passes.sizes p) n) v);
-      })
-  read_missed n e =
-      let w : View = noted (found (refs_word v.passes.sizes p) n) v in
-      let one : IsPass v.passes.sizes l.log v = h.passes.each id v at in
-      let m : Moves v w = record { made = record { passes = refl; own = refl; gathered = refl }; commit = refl; expected = refl } in
-      reads v.passes.sizes l s id (refs_word v.passes.sizes p) v w h at m (pass_moved v.passes.sizes l.log v w one m.made has_some one.front one.told) refl refl
-      (same_lines v.passes.sizes l s id v w h at refl (λ q. omega arith) (λ q. omega arith) refl refl) has_some
-      (record { reading = found (refs_word v.passes.sizes p) n; more = refl; word = refl; value = sym e })
-
 pub raising : (slots id p seen : ℕ) (v : View) (c : List (ℕ × Slot)) → p < v.passes.sizes.entries → 0 < v.passes.shares → 0 < seen
     → (is_second p v ≡ false → length v.places.held + length v.places.owed ≤ 3)
     → Allows (Holds v.passes.sizes) slots id (v, c) (refs_word v.passes.sizes p) (λ n. either (eqb n seen) (seen + 1) n)
@@ -350,12 +336,12 @@ raising slots id p seen v c below has_some some_seen room s (l, h) sized at rang
           (subst (λ (b : Bool). RaisesRefs b p seen v n w × (c ≡ c)) (sym (eq-eqb n seen hit)) (told, refl)),
     ))
     (λ (miss : slice_index s.words (refs_word v.passes.sizes p) ≢ seen).
-    let w : View = noted (found word n) v in
+    let w : View = read_refs p n v in
     let told : IsCount p n v = refs_told l s id p v h at below has_some in (
       w,
       unchanged,
       tt,
-      (l, read_missed slots id p seen v c below has_some some_seen s l h at n refl),
+      (l, refs_read l s id p v h at below has_some),
       λ q same. subst (λ (k : ℕ). RaisesRefs (n == seen) k seen v n w × (c ≡ c)) (one_place z p q same)
           (subst (λ (b : Bool). RaisesRefs b p seen v n w × (c ≡ c)) (sym (ne_eqb n seen miss))
           (record { view = refl; other = ne_eqb n seen miss; count = told }, refl)),

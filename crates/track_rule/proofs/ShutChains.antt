@@ -23,7 +23,7 @@ use Rattle.track_rule.specs.Chains.{bucket_of, chain_in, each_link, entry_of, li
 use Rattle.track_rule.specs.Commits.{IsCommitting, IsMiddle, shuts_in}
 use Rattle.track_rule.specs.History.{records_after}
 use Rattle.track_rule.specs.Layout.{gen_at, phase_at, place_of}
-use Rattle.track_rule.specs.Phases.{middle_of, middle_weight, of_both, of_place}
+use Rattle.track_rule.specs.Phases.{middle_of, middle_weight, of_both, of_place, table_keeps}
 use Rattle.track_rule.specs.Rule.{IsKept, Ledger}
 use Rattle.track_rule.specs.Sums.{bit, total}
 use Rattle.track_rule.proofs.ChainLists.{loose_zero, side_low, total_rev}
@@ -77,6 +77,20 @@ module _ (z : Sizes) (l : Ledger) (s : State Slot View) (id : ℕ) (v : View) (h
   pub shut_weighs : (f : Entry → ℕ) → total f (chain_in b v.buckets.shut) ≡ total (links_in z b f) (records_after l.log) + loose_of z b f v
   shut_weighs f = omega (arith, ap (total f) (h.chains.mine b below id v at mine), h.chains.chained b below f, loose_only f)
 
+-- where a record weighs something in a bucket, one of its tuples belongs there
+module _ (z : Sizes) (b : ℕ) (f : Entry → ℕ) where
+  side_else : (e : Entry) → bucket_of z e.pair ≢ b → side z b f e ≡ 0
+  side_else e other = ap (λ (k : Bool). if k then f e else 0) (ne_eqb (bucket_of z e.pair) b other)
+
+  weighs_shut : (r : Record) (shut : List Shut) → 0 < shuts_in (bucket_of z (pair_of r.original)) shut → 0 < shuts_in (bucket_of z (pair_of r.reply)) shut
+      → 0 < links_in z b f r → 0 < shuts_in b shut
+  weighs_shut r shut original reply some_there =
+      ⊎_elim (λ (e : bucket_of z (pair_of r.original) ≡ b). subst (λ (c : ℕ). 0 < shuts_in c shut) e original)
+      (λ (e : bucket_of z (pair_of r.original) ≢ b).
+      ⊎_elim (λ (f : bucket_of z (pair_of r.reply) ≡ b). subst (λ (c : ℕ). 0 < shuts_in c shut) f reply)
+      (λ (f : bucket_of z (pair_of r.reply) ≢ b). absurd (omega (arith, some_there, side_else (original_of r) e, side_else (reply_of r) f)))
+      (cases_eq (bucket_of z (pair_of r.reply)) b)) (cases_eq (bucket_of z (pair_of r.original)) b)
+
 -- it is this id
 abbrev is_id : ℕ → Option ℕ → Bool
 is_id i None = false
@@ -96,19 +110,6 @@ module _ (z : Sizes) (b p i : ℕ) where
 
   named_place : (r : Record) → of_place p r ≡ 0 → links_in z b (names p i) r ≡ 0
   named_place r other = omega (arith, named_low r, other, bit_both (r.place == p) (r.id == i))
-
-  -- where it weighs something in the bucket, one of its tuples belongs there
-  side_else : (e : Entry) → bucket_of z e.pair ≢ b → side z b (names p i) e ≡ 0
-  side_else e other = ap (λ (k : Bool). if k then names p i e else 0) (ne_eqb (bucket_of z e.pair) b other)
-
-  named_shut : (r : Record) (shut : List Shut) → 0 < shuts_in (bucket_of z (pair_of r.original)) shut → 0 < shuts_in (bucket_of z (pair_of r.reply)) shut
-      → 0 < links_in z b (names p i) r → 0 < shuts_in b shut
-  named_shut r shut original reply some_there =
-      ⊎_elim (λ (e : bucket_of z (pair_of r.original) ≡ b). subst (λ (c : ℕ). 0 < shuts_in c shut) e original)
-      (λ (e : bucket_of z (pair_of r.original) ≢ b).
-      ⊎_elim (λ (f : bucket_of z (pair_of r.reply) ≡ b). subst (λ (c : ℕ). 0 < shuts_in c shut) f reply)
-      (λ (f : bucket_of z (pair_of r.reply) ≢ b). absurd (omega (arith, some_there, side_else (original_of r) e, side_else (reply_of r) f)))
-      (cases_eq (bucket_of z (pair_of r.reply)) b)) (cases_eq (bucket_of z (pair_of r.original)) b)
 
 module _ (z : Sizes) (l : Ledger) (s : State Slot View) (id : ℕ) (v : View) (h : IsKept z l s) (at : get_elem? s.views id ≡ some v)
     (b : ℕ) (below : b < z.buckets) (p i : ℕ) (low : p < z.entries) (calm : v.commit.middle ≡ Calm)
@@ -147,7 +148,7 @@ module _ (z : Sizes) (l : Ledger) (s : State Slot View) (id : ℕ) (v : View) (h
       total_only (links_in z b (names p i)) (of_place p) (records_after l.log) there.0 r there.1
       (omega (arith, its_place, h.references.taken p, total_term (of_place p) (records_after l.log) there.0 r there.1))
       (λ j x at' other. named_place z b p i x other) in
-      absurd (omega (arith, none_shut, named_shut z b p i r others k.original k.reply (omega (arith, some_named, only)))))
+      absurd (omega (arith, none_shut, weighs_shut z b (names p i) r others k.original k.reply (omega (arith, some_named, only)))))
       (λ (t : (r.place == p && r.id == i) ≡ false). ap bit t)
       (cases_Bool (r.place == p && r.id == i))
 
@@ -173,3 +174,72 @@ module _ (z : Sizes) (l : Ledger) (s : State Slot View) (id : ℕ) (v : View) (h
         ap (middle_weight (of_both p i)) calm,
       )))
       (cases_eq (phase_at z s.words p) (3 + i))
+
+-- 1 where the entry of a chain is of this place
+abbrev pub at_place : ℕ → Entry → ℕ
+at_place p e = bit (place_of e.link == p)
+
+-- a record's links are of its place
+its_place : (p : ℕ) (r : Record) → (at_place p (original_of r) ≡ of_place p r) × (at_place p (reply_of r) ≡ of_place p r)
+its_place p r = (ap (λ (n : ℕ). bit (n == p)) (omega arith), ap (λ (n : ℕ). bit (n == p)) (omega arith))
+
+placed_low : (z : Sizes) (b p : ℕ) (r : Record) → links_in z b (at_place p) r ≤ 2 * of_place p r
+placed_low z b p r =
+    let same = its_place p r in omega (arith, same.0, same.1, side_low z b (at_place p) (original_of r), side_low z b (at_place p) (reply_of r))
+
+-- an entry in the chain of a bucket that nobody has shut
+module _ (z : Sizes) (l : Ledger) (s : State Slot View) (h : IsKept z l s) (b : ℕ) (below : b < z.buckets) (even : gen_at z s.words b % 2 ≡ 0)
+    (p : ℕ) (any : 0 < total (at_place p) (l.chains b)) where
+  some_placed : 0 < total (links_in z b (at_place p)) (records_after l.log)
+  some_placed = omega (arith, any, open_weighs z l s h b below even (at_place p))
+
+  some_there : 0 < total (of_place p) (records_after l.log)
+  some_there = omega (
+    arith,
+    some_placed,
+    total_le (links_in z b (at_place p)) (λ r. 2 * of_place p r) (records_after l.log) (λ j r there. placed_low z b p r),
+    total_times 2 (of_place p) (records_after l.log),
+  )
+
+  committing_none : (r : Record) (hand : Option Hand) (carried : List ℕ) (others : List Shut) → IsCommitting z l.log hand carried others r → shuts_in b others ≡ 0
+      → of_place p r ≡ 0
+  committing_none r hand carried others k none_shut =
+      ⊎_elim
+      (λ (t : r.place ≡ p).
+      let there = find_there (has_id r.id) (records_after l.log) r k.live in
+      let only : total (links_in z b (at_place p)) (records_after l.log) ≡ links_in z b (at_place p) r =
+      total_only (links_in z b (at_place p)) (of_place p) (records_after l.log) there.0 r there.1
+      (omega (arith, same_bit r.place p t, h.references.taken p, total_term (of_place p) (records_after l.log) there.0 r there.1))
+      (λ j x at' other. omega (arith, other, placed_low z b p x)) in
+      absurd (omega (arith, none_shut, weighs_shut z b (at_place p) r others k.original k.reply (omega (arith, some_placed, only)))))
+      (λ (t : r.place ≢ p). other_bit r.place p t)
+      (cases_eq r.place p)
+
+  middle_none : (m : Middle) (hand : Option Hand) (carried : List ℕ) (others : List Shut) (expected : Option (List Expectation))
+      → IsMiddle z l.log m hand carried others expected → shuts_in b others ≡ 0 → middle_weight (of_place p) m ≡ 0
+  middle_none Calm hand carried others expected k none_shut = refl
+  middle_none (Born r) hand carried others expected k none_shut = committing_none r hand carried others k none_shut
+  middle_none (Dying r) hand carried others expected k none_shut = committing_none r hand carried others k.0 none_shut
+
+  -- so its place is LIVE, and the table has its reference
+  open_keeps : p < z.entries → table_keeps (phase_at z s.words p) ≡ 1
+  open_keeps low = omega (
+    arith,
+    some_there,
+    h.references.taken p,
+    h.phases.used p low,
+    total_alike (middle_of (of_place p)) (shuts_of b) s.views (λ j u there.
+        let off : shuts_of b u ≡ 0 = omega (arith, even, h.chains.gens b below, total_term (shuts_of b) s.views j u there) in
+        omega (arith, off, middle_none u.commit.middle u.commit.hand u.places.carried u.buckets.shut u.expected (h.commits j u there) off)),
+    even,
+    h.chains.gens b below,
+  )
+
+-- no such chain has an entry of a place of which the table has no reference
+pub open_none : (z : Sizes) (l : Ledger) (s : State Slot View) → IsKept z l s → (p : ℕ) → p < z.entries → table_keeps (phase_at z s.words p) ≡ 0
+    → (b : ℕ) → b < z.buckets → gen_at z s.words b % 2 ≡ 0 → total (at_place p) (l.chains b) ≡ 0
+open_none z l s h p low idle b below even =
+    ⊎_elim
+    (λ (e : 0 < total (at_place p) (l.chains b)). absurd (omega (arith, idle, open_keeps z l s h b below even p e low)))
+    (λ (e : total (at_place p) (l.chains b) ≤ 0). omega (arith, e))
+    (cases_lt 0 (total (at_place p) (l.chains b)))

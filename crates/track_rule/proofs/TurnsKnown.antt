@@ -1,8 +1,7 @@
--- What a pass that has the turn of a place's record knows of an entry that it holds the place for: where the phase does not show
--- its id, the entry is live no more.
-use Rattle.std.proofs.Common.{◌≡◌, ◌≢◌, ℕ, ◌+◌, ◌<◌, ◌≤◌, true, false, Option, Some, None, List, refl, sym, ap, subst, ◌∙◌, ⊎_elim, arith}
-use Rattle.std.specs.Prelude.{◌==◌, ◌&&◌}
-use Rattle.std.proofs.lemmas.Bool.{and_parts, cases_Bool, cases_lt, eqb-true}
+-- What a pass that has the turn of a place's record knows: where the phase shows no id, no live record has the place; and where it does
+-- not show the id of an entry for which the pass holds the place, that is live no more.
+use Rattle.std.proofs.Common.{◌≡◌, ◌≢◌, ℕ, ◌+◌, ◌<◌, ◌≤◌, true, Option, Some, None, List, refl, sym, ap, subst, ◌∙◌, ⊎_elim, arith}
+use Rattle.std.proofs.lemmas.Bool.{cases_lt}
 use mathlib.Core.Option.{some}
 use lib.ListN.{get_elem?}
 use Rattle.atomic_table.specs.Table.{State}
@@ -22,12 +21,12 @@ use Rattle.track_rule.specs.Commits.{IsCommitting, IsMiddle}
 use Rattle.track_rule.specs.History.{records_after, state_after}
 use Rattle.track_rule.specs.KeptWords.{is_kept_for}
 use Rattle.track_rule.specs.Layout.{phase_at}
-use Rattle.track_rule.specs.Phases.{middle_of, middle_weight, of_both}
+use Rattle.track_rule.specs.Phases.{middle_of, middle_weight, of_both, of_place}
 use Rattle.track_rule.specs.Records.{IsHand, has_hand, is_hand_of}
 use Rattle.track_rule.specs.Rule.{IsKept, Ledger}
-use Rattle.track_rule.specs.Sums.{bit, total}
+use Rattle.track_rule.specs.Sums.{total}
 use Rattle.track_rule.proofs.Lists.{find_there, other_bit, same_bit}
-use Rattle.track_rule.proofs.LivePlaces.{found_confirmed, one_place, own_both}
+use Rattle.track_rule.proofs.LivePlaces.{found_confirmed, idle_keeps, none_else, one_place, own_both}
 use Rattle.track_rule.proofs.Sums.{total_only, total_term}
 
 module _ (z : Sizes) (l : Ledger) (s : State Slot View) (id : ℕ) (v : View) (h : IsKept z l s) (at : get_elem? s.views id ≡ some v)
@@ -43,22 +42,35 @@ module _ (z : Sizes) (l : Ledger) (s : State Slot View) (id : ℕ) (v : View) (h
   )
 
   -- one that has it not is in the middle of no commit there
-  committing_else : (i : ℕ) (r : Record) (hand : Option Hand) (carried : List ℕ) (shut : List Shut) → IsCommitting z l.log hand carried shut r
-      → is_hand_of x.place hand ≡ 0 → of_both x.place i r ≡ 0
-  committing_else i r hand carried shut k none =
-      ⊎_elim
-      (λ (t : (r.place == x.place && r.id == i) ≡ true).
-      let here : r.place ≡ x.place = eqb-true r.place x.place (and_parts (r.place == x.place) (r.id == i) t).0 in
-      absurd (omega (arith, none, subst (λ (p : ℕ). is_hand_of p hand ≡ 1) here k.turn)))
-      (λ (t : (r.place == x.place && r.id == i) ≡ false). ap bit t)
-      (cases_Bool (r.place == x.place && r.id == i))
+  place_else : (r : Record) (hand : Option Hand) (carried : List ℕ) (shut : List Shut) → IsCommitting z l.log hand carried shut r
+      → is_hand_of x.place hand ≡ 0 → r.place ≢ x.place
+  place_else r hand carried shut k none here = omega (arith, none, subst (λ (p : ℕ). is_hand_of p hand ≡ 1) here k.turn)
 
-  middle_else : (i : ℕ) (m : Middle) (hand : Option Hand) (carried : List ℕ) (shut : List Shut) (expected : Option (List Expectation))
-      → IsMiddle z l.log m hand carried shut expected → is_hand_of x.place hand ≡ 0
-      → middle_weight (of_both x.place i) m ≡ 0
-  middle_else i Calm hand carried shut expected k none = refl
-  middle_else i (Born r) hand carried shut expected k none = committing_else i r hand carried shut k none
-  middle_else i (Dying r) hand carried shut expected k none = committing_else i r hand carried shut k.0 none
+  -- so where the pass itself is in the middle of none, nobody is
+  module _ (g : Record → ℕ) (zero : (r : Record) → r.place ≢ x.place → g r ≡ 0) where
+    middle_else : (m : Middle) (hand : Option Hand) (carried : List ℕ) (shut : List Shut) (expected : Option (List Expectation))
+        → IsMiddle z l.log m hand carried shut expected → is_hand_of x.place hand ≡ 0
+        → middle_weight g m ≡ 0
+    middle_else Calm hand carried shut expected k none = refl
+    middle_else (Born r) hand carried shut expected k none = zero r (place_else r hand carried shut k none)
+    middle_else (Dying r) hand carried shut expected k none = zero r (place_else r hand carried shut k.0 none)
+
+    middle_none : v.commit.middle ≡ Calm → total (middle_of g) s.views ≡ 0
+    middle_none calm =
+        total_only (middle_of g) (has_hand x.place) s.views id v at its_turn
+        (λ j u there none. middle_else u.commit.middle u.commit.hand u.places.carried u.buckets.shut u.expected (h.commits j u there) none)
+        ∙ ap (middle_weight g) calm
+
+  -- where the pass knows that the place is LIVE of no id, no live record has it
+  pub empty : v.commit.middle ≡ Calm → x.phase < 3 → total (of_place x.place) (records_after l.log) ≡ 0
+  empty calm few =
+      let k : IsHand z l.log s.words x = h.records.away id v at x turn in
+      omega (
+        arith,
+        h.phases.used x.place k.below,
+        idle_keeps (phase_at z s.words x.place) (k.idle (omega (arith, few))),
+        middle_none (of_place x.place) (λ r other. other_bit r.place x.place other) calm,
+      )
 
   other_phase : (i : ℕ) → IsHand z l.log s.words x → x.phase ≢ 3 + i → phase_at z s.words x.place ≢ 3 + i
   other_phase i k other shown =
@@ -74,9 +86,7 @@ module _ (z : Sizes) (l : Ledger) (s : State Slot View) (id : ℕ) (v : View) (h
         arith,
         h.phases.shown x.place i k.below,
         other_bit (phase_at z s.words x.place) (3 + i) (other_phase i k other),
-        total_only (middle_of (of_both x.place i)) (has_hand x.place) s.views id v at its_turn
-            (λ j u there none. middle_else i u.commit.middle u.commit.hand u.places.carried u.buckets.shut u.expected (h.commits j u there) none),
-        ap (middle_weight (of_both x.place i)) calm,
+        middle_none (of_both x.place i) (λ r away. none_else r x.place i (λ e. away (sym e))) calm,
       )
 
   module _ (low : LiveRecordsAreConfirmed) (calm : v.commit.middle ≡ Calm) (i : ℕ) (kept : is_kept_for x.place i v.places.held ≡ true)

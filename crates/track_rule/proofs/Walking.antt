@@ -11,10 +11,13 @@ use Rattle.track_rule.specs.declared.view.View.{View}
 use Rattle.track_rule.specs.declared.view.Walk.{Walk}
 use Rattle.track_rule.specs.BucketSteps.{IsNoteOf, WasChain, end_word}
 use Rattle.track_rule.specs.Chains.{AreChains, IsChain}
-use Rattle.track_rule.specs.Layout.{first_word, gen_at, head_word, next_word, second_word}
-use Rattle.track_rule.specs.Notes.{fresh_walk, is_after, is_changed, is_note_of, is_other, just_met, link_note, link_noted, met_read, met_then, note_then, read_then, tuple_note, tuple_noted}
+use Rattle.track_rule.specs.Layout.{first_word, gen_at, head_word, next_word, place_of, second_word}
+use Rattle.track_rule.specs.Notes.{fresh_walk, has_met, is_after, is_changed, is_note_of, is_other, just_met, link_note, link_noted, lost_note, lost_noted, met_read, met_then, note_then, note_where, read_then, tuple_note, tuple_noted}
+use Rattle.track_rule.specs.Sums.{total}
 use Rattle.track_rule.specs.Walks.{IsRead, IsWalk, Matches, Stands, rev_onto}
-use Rattle.track_rule.proofs.ChainLists.{chain_at, chain_of}
+use Rattle.track_rule.proofs.ChainLists.{chain_at, chain_of, total_rev}
+use Rattle.track_rule.proofs.Lists.{same_bit}
+use Rattle.track_rule.proofs.ShutChains.{at_place}
 
 module _ (z : Sizes) (ws : List ℕ) (chains : ℕ → List Entry) (front : List Event) where
   -- a walk of which nothing was read
@@ -187,7 +190,60 @@ module _ (z : Sizes) (ws : List ℕ) (chains : ℕ → List Entry) (front : List
       whole : (t : Stands (chains m.bucket) m) → IsChain z ws m.bucket (slice_index ws (head_word z m.bucket)) (rev_onto t.passed t.rest)
       whole t = subst (IsChain z ws m.bucket (slice_index ws (head_word z m.bucket))) t.all (linked m.bucket w.bucket)
 
--- the note of a pass after such a load
+-- a link of a place that was met is of an entry that was passed
+met_there : (place : ℕ) (met : List Met) (passed : List Entry) → Matches met passed → has_met place met ≡ true → 0 < total (at_place place) passed
+met_there place [] passed t e = absurd (false≢true e)
+met_there place (m ∷ ms) [] t e = absurd t
+met_there place (m ∷ ms) (p ∷ ps) t e =
+    ⊎_elim
+    (λ (f : (place_of m.link == place) ≡ true). omega (arith, same_bit (place_of p.link) place (ap place_of (sym t.0) ∙ eqb-true (place_of m.link) place f)))
+    (λ (f : (place_of m.link == place) ≡ false).
+    omega (arith, met_there place ms ps t.3 (sym (ap (λ (k : Bool). k || has_met place ms) f) ∙ e)))
+    (cases_Bool (place_of m.link == place))
+
+module _ (z : Sizes) (ws : List ℕ) (chains : ℕ → List Entry) (front : List Event) (place : ℕ)
+    (none : (b : ℕ) → b < z.buckets → gen_at z ws b % 2 ≡ 0 → total (at_place place) (chains b) ≡ 0) where
+  -- the note, where no chain that stands has an entry of the place
+  lost_is : (m : Walk) → IsWalk z ws chains front m → IsWalk z ws chains front (lost_noted place m)
+  lost_is m w = record {
+    bucket = w.bucket;
+    least = w.least;
+    stands = λ here even.
+        let t = w.stands here even in record { passed = t.passed; rest = t.rest; all = t.all; matches = t.matches; ended = t.ended };
+    known = λ point at. let k = w.known point at in record { seen = k.seen; live = k.live };
+    gone = λ e even.
+        ⊎_elim
+        (λ (f : m.passed ≡ true). w.gone f even)
+        (λ (f : m.passed ≡ false).
+        let met : has_met place m.met ≡ true = sym (ap (λ (k : Bool). k || has_met place m.met) f) ∙ e in
+        ⊎_elim
+        (λ (g : gen_at z ws m.bucket ≡ m.generation).
+        let t = w.stands g even in
+        absurd (omega (
+          arith,
+          none m.bucket w.bucket (omega (arith, g, even)),
+          ap (total (at_place place)) t.all,
+          total_rev (at_place place) t.passed t.rest,
+          met_there place m.met t.passed t.matches met,
+        )))
+        (λ (g : gen_at z ws m.bucket ≢ m.generation). omega (arith, w.least, g))
+        (cases_eq (gen_at z ws m.bucket) m.generation))
+        (cases_Bool m.passed);
+  }
+
+  pub lost_note_is : (o : Option Walk) → ((m : Walk) → o ≡ Some m → IsWalk z ws chains front m)
+      → (m : Walk) → lost_note place o ≡ Some m → IsWalk z ws chains front m
+  lost_note_is None h m e = absurd (none-some m e)
+  lost_note_is (Some n) h m e = let same : lost_noted place n ≡ m = cc in subst (IsWalk z ws chains front) same (lost_is n (h n refl))
+
+-- the note of a pass after a load that may show so
+pub note_where_is : (z : Sizes) (ws : List ℕ) (chains : ℕ → List Entry) (front : List Event) (lost : Bool) (place : ℕ) (o : Option Walk)
+    → (lost ≡ true → (b : ℕ) → b < z.buckets → gen_at z ws b % 2 ≡ 0 → total (at_place place) (chains b) ≡ 0)
+    → ((m : Walk) → o ≡ Some m → IsWalk z ws chains front m) → (m : Walk) → note_where lost place o ≡ Some m → IsWalk z ws chains front m
+note_where_is z ws chains front false place o none h m e = h m e
+note_where_is z ws chains front true place o none h m e = lost_note_is z ws chains front place (none refl) o h m e
+
+-- the note of a pass after a load of a walk
 pub link_note_is : (z : Sizes) (ws : List ℕ) (chains : ℕ → List Entry) (front : List Event) (word : ℕ) (o : Option Walk)
     → ((b : ℕ) → b < z.buckets → IsChain z ws b (slice_index ws (head_word z b)) (chains b)) → ((m : Walk) → o ≡ Some m → IsWalk z ws chains front m)
     → (m : Walk) → link_note z word (slice_index ws word) o ≡ Some m → IsWalk z ws chains front m

@@ -1,11 +1,13 @@
 -- How the loads of a walk change what the pass notes of it. A load of the noted bucket's head begins the walk anew. The word
--- after the newest link goes on with it. A word of that link's tuple is noted where it was not read before; another value
--- than was read there shows that the generation has passed.
+-- after the newest link goes on with it. A word of that link's tuple is noted where it was not read before. Three things show
+-- that the generation has passed: at a link that was met, another value of its tuple than was read there, no reference to its
+-- place, or a phase of its place that is not LIVE.
 use Rattle.std.specs.Prelude.{ℕ, ◌==◌, ◌&&◌, ◌||◌, not, Bool, true, false, if◌then◌else◌, Option, Some, None, List, [], ◌∷◌}
+use Rattle.std.specs.List.{list_any}
 use Rattle.history_book.specs.declared.sizes.Sizes.{Sizes}
 use Rattle.track_rule.specs.declared.view.Met.{Met}
 use Rattle.track_rule.specs.declared.view.Walk.{Walk}
-use Rattle.track_rule.specs.Layout.{first_word, head_word, next_word, second_word}
+use Rattle.track_rule.specs.Layout.{first_word, head_word, next_word, place_of, second_word}
 
 -- a link that was met, of whose tuple nothing was read
 abbrev pub just_met : ℕ → Met
@@ -68,3 +70,19 @@ tuple_noted z word n walk = record walk { met = met_read z word n walk.met; pass
 abbrev pub tuple_note : Sizes → ℕ → ℕ → Option Walk → Option Walk
 tuple_note z word n None = None
 tuple_note z word n (Some walk) = Some (tuple_noted z word n walk)
+
+-- a link of the place was met
+abbrev pub has_met : ℕ → List Met → Bool
+has_met place met = list_any (λ (m : Met). place_of m.link == place) met
+
+-- no entry is live at the place: the generation has passed, where a link of the place was met
+abbrev pub lost_noted : ℕ → Walk → Walk
+lost_noted place walk = record walk { passed = walk.passed || has_met place walk.met }
+
+abbrev pub lost_note : ℕ → Option Walk → Option Walk
+lost_note place None = None
+lost_note place (Some walk) = Some (lost_noted place walk)
+
+-- where that was seen
+abbrev pub note_where : Bool → ℕ → Option Walk → Option Walk
+note_where lost place walk = (if lost then lost_note place walk else walk)

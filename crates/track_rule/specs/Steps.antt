@@ -26,11 +26,12 @@ use Rattle.track_rule.specs.Free.{is_among, known_free, taken_out, unlisted}
 use Rattle.track_rule.specs.History.{events_in, live_in, records_after, state_after}
 use Rattle.track_rule.specs.KeptWords.{is_kept_for}
 use Rattle.track_rule.specs.Layout.{place_of, refs_word}
+use Rattle.track_rule.specs.Notes.{note_where}
 use Rattle.track_rule.specs.Passes.{AreFronts}
 use Rattle.track_rule.specs.Readings.{IsSole, found, last_read, noted, stored}
 use Rattle.track_rule.specs.Phases.{middle_of, of_place}
 use Rattle.track_rule.specs.Records.{has_hand}
-use Rattle.track_rule.specs.References.{held_times, is_taken, keeps, without}
+use Rattle.track_rule.specs.References.{WasConfirmed, held_times, is_taken, keeps, without}
 use Rattle.track_rule.specs.Slots.{list_in}
 use Rattle.track_rule.specs.Sums.{times, total}
 
@@ -79,8 +80,9 @@ saw log v = record v { seen = record v.seen { front = log }; walk = at_point (le
 
 -- A load: the pass has seen all events, and the word is theirs. The chain of a bucket that the pass has shut weighs what the live
 -- records weigh in it, and the pass's own links there. No live record has a place that the pass has taken. Under the turn of a
--- place's record the pass has the record of the id of which the place is LIVE. An id for which it holds that place is live no
--- more where the place is not LIVE of it, unless the pass is in the middle of a commit itself.
+-- place's record the pass has the record of the id of which the place is LIVE. Unless it is in the middle of a commit itself, an
+-- id for which it holds that place is live no more where the place is not LIVE of it, and no live record has the place where it
+-- is LIVE of none. The pass has seen the Confirm of each id for which it holds a place.
 pub record Looks (v : View) (word : ℕ) (w : View) : Type 0 where
   pub same : w ≡ noted (found_history word v) (saw w.seen.front v)
   pub all : AreAll v w.seen.front
@@ -93,6 +95,8 @@ pub record Looks (v : View) (word : ℕ) (w : View) : Type 0 where
   pub hand : (h : Hand) → v.commit.hand ≡ Some h → 3 ≤ h.phase → h.subject ≡ record_of (h.phase - 3) (state_after w.seen.front)
   pub gone : (h : Hand) (id : ℕ) → v.commit.hand ≡ Some h → v.commit.middle ≡ Calm → is_kept_for h.place id v.places.held ≡ true
       → (h.phase == 3 + id) ≡ false → record_of id (state_after w.seen.front) ≡ None
+  pub empty : (h : Hand) → v.commit.hand ≡ Some h → v.commit.middle ≡ Calm → h.phase < 3 → total (of_place h.place) (records_after w.seen.front) ≡ 0
+  pub shown : (place id : ℕ) → is_kept_for place id v.places.held ≡ true → WasConfirmed w.seen.front id place
 
 -- THE FREE LIST
 
@@ -182,9 +186,14 @@ pub record IsCount (place n : ℕ) (v : View) : Type 0 where
   pub alone : IsAlone v → AreOwn place n v
   pub sole : IsSole v → n ≡ last_read (refs_word v.passes.sizes place) v
 
+-- what a load of the references leaves, or an exchange that found others: a walk that met a link of the place has noted where
+-- there were none
+abbrev pub read_refs : ℕ → ℕ → View → View
+read_refs place n v = noted (found (refs_word v.passes.sizes place) n) (record v { walk = note_where (n == 0) place v.walk })
+
 -- A load of the references.
 pub record LoadsRefs (place : ℕ) (v : View) (n : ℕ) (w : View) : Type 0 where
-  pub view : w ≡ noted (found (refs_word v.passes.sizes place) n) v
+  pub view : w ≡ read_refs place n v
   pub count : IsCount place n v
 
 -- A pass that has the turn of the record of a place that it took makes the second reference of a commit, once, which becomes
@@ -210,7 +219,7 @@ pub record RaisedRefs (place seen : ℕ) (v w : View) : Type 0 where
 
 -- There were others.
 pub record MissedRefs (place seen : ℕ) (v : View) (n : ℕ) (w : View) : Type 0 where
-  pub view : w ≡ noted (found (refs_word v.passes.sizes place) n) v
+  pub view : w ≡ read_refs place n v
   pub other : (n == seen) ≡ false
   pub count : IsCount place n v
 

@@ -11,6 +11,7 @@ use crate::pass::Pass;
 use crate::slot::Slot;
 use crate::view::View;
 use atomic_table::Play;
+use history_book::laws::{first_events_stay, gone_entries_stay_gone, live_records_are_confirmed};
 use history_book::sizes::Sizes;
 
 /// The phase of a free place.
@@ -48,12 +49,15 @@ pub fn phase_word(sizes: &Sizes, place: u32) -> usize
 }
 
 impl<'b> Pass<'b> {
-    /// Loads the phase of a place.
+    /// Loads the phase of a place. Where it is LIVE, a reference to look what stands there is for that entry.
     pub fn phase_load(&mut self, place: u32) -> u64
         requires place { place < (sizes_of self.old).entries }
         ensures loads { LoadsPhase place self.old.view result self.new.view }
         ensures kept { self.new ≡ record self.old { view = self.new.view } }
     {
+        live_records_are_confirmed();
+        gone_entries_stay_gone();
+        first_events_stay();
         let word = phase_word(&self.sizes, place);
         self.shared.load::<LoadPhase>(&mut self.seat, word)
     }
