@@ -46,9 +46,13 @@ fn an_entry_is_touched_and_read(rt: HostRuntime) -> Result<(), Fail> {
     let place = take_one(&rt, &mut clerk);
     confirm_query(&rt, &mut clerk, place);
     one_hold_has_its_id();
-    let TouchOutcome::Touched { number, before } =
-        clerk.touch(&rt, place, Direction::Reply, Segment::Udp, 2_000_000)
-    else {
+    let TouchOutcome::Touched { number, before } = clerk.touch(
+        &rt,
+        place,
+        Direction::Reply,
+        Segment::Udp,
+        2_000_000,
+    ) else {
         panic!(rt; "the entry has its answer");
     };
     assert_eq!(rt; number, 1);
