@@ -24,7 +24,7 @@ use Rattle.track_rule.specs.History.{state_after}
 use Rattle.track_rule.specs.Layout.{first_word, gen_word, head_word, next_word, phase_at, phase_word, refs_at, refs_word, second_word, turn_at, turn_word, place_of}
 use Rattle.track_rule.specs.Links.{HasHooks}
 use Rattle.track_rule.specs.Passes.{IsPass}
-use Rattle.track_rule.specs.PhaseSteps.{LoadPhaseStep, LoadsPhase, StorePhaseStep, holds_open, may_store, phase_stored, read_phase, tested}
+use Rattle.track_rule.specs.PhaseSteps.{LoadPhaseStep, LoadsPhase, StorePhaseStep, holds_open, may_store, phase_stored, read_phase, test_at, tested}
 use Rattle.track_rule.specs.Phases.{ArePhases, IsMiddlePhase, middle_of, of_both, of_place, shows, table_keeps}
 use Rattle.track_rule.specs.Readings.{found, stored}
 use Rattle.track_rule.specs.Records.{AreRecords, IsHand, has_hand, record_in}
@@ -140,6 +140,14 @@ module _ (laws : AreLaws) (l : Ledger) (s : State Slot View) (id p : ℕ) (v : V
   same_held : holds_open v.places.held ≡ false → left ≡ record v { walk = left.walk; readings = left.readings }
   same_held closed = λ i. record left { places = record v.places { held = tested_left v.seen.front p phase v.places.held closed i } }
 
+  -- or at that of its newest reference alone
+  same_others : (k : Keep) (others : List Keep) → v.places.held ≡ k ∷ others → holds_open others ≡ false
+      → left ≡ record v { places = record v.places { held = test_at v.seen.front p phase k ∷ others }; walk = left.walk; readings = left.readings }
+  same_others k others is closed =
+      let here : held ≡ test_at v.seen.front p phase k ∷ others =
+      ap (tested v.seen.front p phase) is ∙ ap (λ (ks : List Keep). test_at v.seen.front p phase k ∷ ks) (tested_left v.seen.front p phase others closed) in
+      λ i. record left { places = record v.places { held = here i } }
+
 -- a load of a phase
 pub loads_phase : AreLaws → (slots id p : ℕ) (v : View) (c : List (ℕ × Slot)) → p < v.passes.sizes.entries → 0 < v.passes.shares
     → Allows (Holds v.passes.sizes) slots id (v, c) (phase_word v.passes.sizes p) (λ n. n)
@@ -151,6 +159,7 @@ loads_phase laws slots id p v c below has_some s (l, h) long at range =
     let told : LoadsPhase p v n w = record {
       view = refl;
       settled = λ closed. same_held laws l s id p v h at has_some below closed;
+      newest = λ k others is closed. same_others laws l s id p v h at has_some below k others is closed;
       idle = idle z l s id v h at;
       owned = λ some_owned. (h.free_list.owned id v at p some_owned).1;
       ended = λ some_ended. (h.free_list.ended id v at p some_ended).1;

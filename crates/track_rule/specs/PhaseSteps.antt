@@ -87,13 +87,15 @@ read_phase place n v = noted (found (phase_word v.passes.sizes place) n) (record
 -- that it has taken and set to OWNED is that, and one whose entry it destroyed is DEAD while it carries the table's reference.
 -- One that it holds for an id is LIVE of no other. An id of which it is LIVE, and whose Confirm the pass has seen, is live there
 -- after all events that the pass has seen: it does not come back once it was destroyed. A pass that holds no place to look what
--- stands there holds the same as before.
+-- stands there holds the same as before, and so does one whose newest reference alone may be one, but for that.
 -- Under the turn of the place's record it is the one that the pass knows, where that is LIVE, and else none such. Of a link that
 -- stands in a bucket which the pass has shut, and names an id, the place is LIVE of this id, unless the pass is in the middle of a
 -- commit itself.
 pub record LoadsPhase (place : ℕ) (v : View) (n : ℕ) (w : View) : Type 0 where
   pub view : w ≡ read_phase place n v
   pub settled : holds_open v.places.held ≡ false → w ≡ record v { walk = w.walk; readings = w.readings }
+  pub newest : (k : Keep) (others : List Keep) → v.places.held ≡ k ∷ others → holds_open others ≡ false
+      → w ≡ record v { places = record v.places { held = test_at v.seen.front place n k ∷ others }; walk = w.walk; readings = w.readings }
   pub idle : 0 < times place (known_free v) + times place v.places.clear → n ≡ phase_free
   pub owned : 0 < times place v.places.owned → n ≡ phase_owned
   pub ended : 0 < times place v.places.ended → n ≡ phase_dead
