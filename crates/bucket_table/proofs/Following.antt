@@ -355,6 +355,8 @@ end_moved t g word was now word_of v u w bucket below word_of_is mine even some 
           other)));
       many = many_of (sizes_of v).passes g.generation now some other sole;
       front = λ odd. absurd (omega (arith, odd, even, s.was_is));
+      seen = inr (all_before v u.view.walk (v.view.readings ++ found (gen_word (sizes_of v) g.bucket) g.generation ∷ b.more) w.view.seen.front
+          (subst (λ (x : PassSight). AreAll x.view w.view.seen.front) b.same s.looks.all));
       last = λ a. ap (λ (k : ℕ). read_from a k (added v.view w.view)) here
           ∙ ap (read_from a (gen_word (sizes_of v) g.bucket)) (again_added g now v u w b s.looks
           ∙ sym (append_assoc (found (gen_word (sizes_of v) g.bucket) g.generation ∷ b.more) (s.looks.history ∷ []) (found (gen_word (sizes_of v) g.bucket) now ∷ [])))
@@ -436,6 +438,7 @@ long_moved t g word_of now v u w bucket below word_of_is mine even some b f gen 
           ∙ just_two (sizes_of v) (gen_word (sizes_of v) g.bucket) g.generation now b.more low b.quiet) other));
       many = many_of (sizes_of v).passes g.generation now some other sole;
       front = λ odd. front;
+      seen = inl front;
       last = λ a. ap (λ (k : ℕ). read_from a k (added v.view w.view)) word_of_is ∙ ap (read_from a (gen_word (sizes_of v) g.bucket)) all
           ∙ last_is (gen_word (sizes_of v) g.bucket) now (found (gen_word (sizes_of v) g.bucket) g.generation ∷ b.more) a;
     }
@@ -462,6 +465,7 @@ odd_moved t b word_of n v w bucket word_of_is mine odd gen kept =
       mine = mine;
       many = (gen.others odd (subst (λ (k : ℕ). shuts_of k v.view ≡ 0) (sym bucket) mine)).1;
       front = λ odd. front;
+      seen = inl front;
       last = λ a. ap (λ (k : ℕ). read_from a k (added v.view w.view)) word_of_is ∙ ap (read_from a (gen_word (sizes_of v) b)) all
           ∙ last_is (gen_word (sizes_of v) b) n [] a;
       cause = inl (record {

@@ -1,19 +1,20 @@
 -- What the loads of a walk leave in its note.
 use Rattle.std.proofs.Common.{◌≡◌, ◌≢◌, ℕ, ◌+◌, ◌<◌, ◌≤◌, Bool, true, false, Option, Some, None, List, [], ◌∷◌, ◌++◌, refl, sym, ap, subst, ◌∙◌, arith, append_assoc}
 use Rattle.std.specs.Prelude.{◌==◌, ◌&&◌, ◌||◌, not, if◌then◌else◌, nat_le}
-use Rattle.std.specs.List.{list_all}
-use Rattle.std.proofs.lemmas.Bool.{and_from, and_parts, eq-eqb, eqb-true, false≢true, ne_eqb, le-leb}
+use Rattle.std.specs.List.{list_all, slice_get}
+use Rattle.std.proofs.lemmas.Bool.{and_from, and_parts, cond_both, eq-eqb, eqb-true, false≢true, le-leb, ne_eqb, or_left, or_right}
 use Rattle.history_book.specs.declared.sizes.Sizes.{Sizes}
 use Rattle.track_rule.specs.BucketSteps.{LoadsTuple}
+use Rattle.track_rule.specs.KeptWords.{is_kept_for, link_of, pair_in}
 use Rattle.track_rule.specs.Layout.{first_word, second_word}
-use Rattle.track_rule.specs.Notes.{just_met, tuple_note, tuple_noted}
+use Rattle.track_rule.specs.Notes.{is_changed, just_met, met_read, read_then, tuple_note, tuple_noted}
 use Rattle.track_rule.specs.Readings.{found, noted}
 use Rattle.track_rule.specs.Sights.{PassSight, sizes_of}
 use Rattle.track_rule.specs.declared.view.Met.{Met}
 use Rattle.track_rule.specs.declared.view.Reading.{Reading}
 use Rattle.track_rule.specs.declared.view.View.{View}
 use Rattle.track_rule.specs.declared.view.Walk.{Walk}
-use Rattle.bucket_table.specs.Following.{Compares, WalksOn, is_of_walk, walk_on}
+use Rattle.bucket_table.specs.Following.{Compares, HasMet, HasPassed, WalksOn, is_of_walk, met_with, walk_on}
 use Rattle.bucket_table.specs.declared.lookup.Goal.{Goal}
 
 -- a link of which the first word was read
@@ -84,6 +85,47 @@ walks_on u v w a b = record {
     all_append p [] ys e f = f
     all_append p (x ∷ xs) ys e f = let t = and_parts (p x) (list_all p xs) e in and_from (p x) (list_all p (xs ++ ys)) t.0 (all_append p xs ys t.1 f)
 
+-- a link that was met with the tuple, after a load of a word of a tuple
+module _ (z : Sizes) (g : Goal) (x word n : ℕ) (v w : View) (walk : w.walk ≡ tuple_note z word n v.walk) (h : HasMet g x v) where
+  head_stays : (m : Met) → m ≡ met_with x g.first g.second → (if first_word z m.link == word then record m { first = read_then n m.first } else
+      (if second_word z m.link == word then record m { second = read_then n m.second } else m)) ≡ met_with x g.first g.second
+  head_stays m is =
+      ap (λ (k : Met). if first_word z k.link == word then record k { first = read_then n k.first } else
+      (if second_word z k.link == word then record k { second = read_then n k.second } else k)) is
+      ∙ cond_both (first_word z x == word) (met_with x g.first g.second) (if second_word z x == word then met_with x g.first g.second else met_with x g.first g.second)
+      (λ k. k ≡ met_with x g.first g.second) (λ e. refl)
+      (λ e. cond_both (second_word z x == word) (met_with x g.first g.second) (met_with x g.first g.second) (λ k. k ≡ met_with x g.first g.second) (λ f. refl) (λ f. refl))
+
+  met_stays : HasMet g x w
+  met_stays = record {
+    note = tuple_noted z word n h.note;
+    walk = walk ∙ ap (tuple_note z word n) h.walk;
+    is = record {
+      its = record { bucket_is = h.is.its.bucket_is; generation_is = h.is.its.generation_is };
+      before = h.is.before;
+      met = ap (met_read z word n) h.is.met ∙ ap (λ (m : Met). m ∷ h.is.before) (head_stays (met_with x g.first g.second) refl);
+    };
+  }
+
+  -- where it is another value
+  met_lost : is_changed z word n (met_with x g.first g.second ∷ h.is.before) ≡ true → HasPassed g w
+  met_lost changed = record {
+    note = tuple_noted z word n h.note;
+    walk = walk ∙ ap (tuple_note z word n) h.walk;
+    its = record { bucket_is = h.is.its.bucket_is; generation_is = h.is.its.generation_is };
+    passed = ap (λ (met : List Met). h.note.passed || is_changed z word n met) h.is.met ∙ or_right h.note.passed _ changed;
+  }
+
+  first_lost : word ≡ first_word z x → n ≢ g.first → HasPassed g w
+  first_lost here other =
+      met_lost (or_left (first_word z x == word && not (g.first == n)) (second_word z x == word && not (g.second == n))
+      (and_from (first_word z x == word) (not (g.first == n)) (eq-eqb (first_word z x) word (sym here)) (ap not (ne_eqb g.first n (λ e. other (sym e))))))
+
+  second_lost : word ≡ second_word z x → n ≢ g.second → HasPassed g w
+  second_lost here other =
+      met_lost (or_right (first_word z x == word && not (g.first == n)) (second_word z x == word && not (g.second == n))
+      (and_from (second_word z x == word) (not (g.second == n)) (eq-eqb (second_word z x) word (sym here)) (ap not (ne_eqb g.second n (λ e. other (sym e))))))
+
 -- the first word differs
 pub compares_first : (g : Goal) (link n : ℕ) (v w : PassSight) → 0 < link → LoadsTuple (first_word (sizes_of v) link) v.view n w.view
     → w ≡ record v { view = w.view } → n ≢ g.first → Compares g link false v w
@@ -97,6 +139,11 @@ compares_first g link n v w some loads kept other = record {
     refl,
     ap (λ (b : Bool). not b || false) (ne_eqb n g.first other),
   );
+  stays = λ x h. met_stays (sizes_of v) g x (first_word (sizes_of v) link) n v.view w.view (ap (λ (k : View). k.walk) loads.view) h;
+  lost = λ e h. first_lost (sizes_of v) g link (first_word (sizes_of v) link) n v.view w.view (ap (λ (k : View). k.walk) loads.view) h refl other;
+  kept = λ place id subject d held told here.
+      let its : n ≡ (pair_in d subject).first = (loads.kept place id subject d held told).first (ap (first_word (sizes_of v)) here) in
+      sym (ap (λ (b : Bool). b && (pair_in d subject).second == g.second) (ne_eqb (pair_in d subject).first g.first (λ e. other (its ∙ e))));
 }
 
 -- the first is the same; then the second decides
@@ -128,6 +175,21 @@ compares_second g link n m same u v w some loads kept here loads' kept' decides 
         refl,
         ap (λ (b : Bool). not (n == g.first) || not b) (sym decides ∙ e) ∙ or_true (not (n == g.first)),
       );
+      stays = λ x h.
+          met_stays (sizes_of u) g x (second_word (sizes_of u) link) m v.view w.view second
+          (met_stays (sizes_of u) g x (first_word (sizes_of u) link) n u.view v.view (ap (λ (k : View). k.walk) loads.view) h);
+      lost = λ e h.
+          second_lost (sizes_of u) g link (second_word (sizes_of u) link) m v.view w.view second
+          (met_stays (sizes_of u) g link (first_word (sizes_of u) link) n u.view v.view (ap (λ (k : View). k.walk) loads.view) h) refl
+          (λ k. false≢true (sym (sym decides ∙ e) ∙ eq-eqb m g.second k));
+      kept = λ place id subject d held told at.
+          let first : n ≡ (pair_in d subject).first = (loads.kept place id subject d held told).first (ap (first_word (sizes_of u)) at) in
+          let second : m ≡ (pair_in d subject).second =
+          (loads'.kept place id subject d (ap (λ (x : View). is_kept_for place id x.places.held) loads.view ∙ held)
+          (ap (λ (x : View). slice_get x.seen.front id) loads.view ∙ told)).second
+          (ap (second_word (sizes_of u)) at ∙ ap (λ (z : Sizes). second_word z (link_of d place)) (sym sizes)) in
+          decides ∙ ap (λ (k : ℕ). k == g.second) second
+          ∙ sym (ap (λ (b : Bool). b && (pair_in d subject).second == g.second) (eq-eqb (pair_in d subject).first g.first (sym first ∙ here)));
     }
   where
     or_true : (a : Bool) → (a || true) ≡ true

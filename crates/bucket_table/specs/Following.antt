@@ -1,15 +1,18 @@
 -- A chain is followed without a lock.
-use Rattle.std.specs.Prelude.{◌⊎◌, ◌≡◌, ℕ, ◌+◌, ◌%◌, ◌<◌, ◌≤◌, ◌==◌, ◌&&◌, ◌||◌, not, Bool, true, false, nat_le, Option, Some, None, List, [], ◌∷◌, ◌++◌, length, zero, suc, if◌then◌else◌}
+use Rattle.std.specs.Prelude.{◌⊎◌, ◌≡◌, ℕ, ◌+◌, ◌%◌, ◌<◌, ◌≤◌, ◌==◌, ◌&&◌, ◌||◌, not, Bool, true, false, nat_le, Option, Some, None, List, [], ◌∷◌, ◌++◌, length, zero, suc, if◌then◌else◌, slice_get}
 use Rattle.std.specs.List.{list_any, list_all}
 use Rattle.tuple_core.specs.Words.{address_word, flow_word}
 use Rattle.tuple_core.specs.declared.Direction.{Direction}
 use Rattle.tuple_core.specs.declared.Direction.TheVariants.{Original, Reply}
 use Rattle.tuple_core.specs.declared.Tuple.{Tuple}
 use Rattle.history_book.specs.Point.{StartsWith}
+use Rattle.history_book.specs.declared.event.Event.TheVariants.{Confirm}
+use Rattle.history_book.specs.declared.record.Record.{Record}
 use Rattle.history_book.specs.declared.sizes.Sizes.{Sizes}
 use Rattle.track_rule.specs.BucketSteps.{IsChainOf, IsNoteOf, WasChain}
 use Rattle.track_rule.specs.Chains.{bucket_of, pair_of, shuts_of}
 use Rattle.track_rule.specs.History.{events_in}
+use Rattle.track_rule.specs.KeptWords.{is_kept_for, link_of, pair_in}
 use Rattle.track_rule.specs.Layout.{gen_word, place_of, side_of}
 use Rattle.track_rule.specs.Links.{last_link}
 use Rattle.track_rule.specs.Notes.{is_other, just_met}
@@ -19,6 +22,7 @@ use Rattle.track_rule.specs.Steps.{AreAll}
 use Rattle.track_rule.specs.Walks.{HasLive, Stands}
 use Rattle.track_rule.specs.declared.view.Entry.{Entry}
 use Rattle.track_rule.specs.declared.view.Met.{Met}
+use Rattle.track_rule.specs.declared.view.Pair.{Pair}
 use Rattle.track_rule.specs.declared.view.Reading.{Reading}
 use Rattle.track_rule.specs.declared.view.View.{View}
 use Rattle.track_rule.specs.declared.view.Walk.{Walk}
@@ -123,6 +127,10 @@ pub record IsEnd (t : Tuple) (at : ℕ) (v w : PassSight) : Type 0 where
   pub none : list_any (has_words (address_word t) (flow_word t)) chain ≡ false
   pub live : HasLive (sizes_of v) (bucket_in (sizes_of v) t) w.view.seen.front chain
 
+-- the pass has seen no further event, or all events so far
+abbrev pub HasSeen : PassSight → PassSight → Type 0
+HasSeen v w = (w.view.seen.front ≡ v.view.seen.front) ⊎ AreAll v.view w.view.seen.front
+
 -- another pass had shut the bucket: the call found an odd generation
 pub record WasShut (word was now : ℕ) (readings : List Reading) : Type 0 where
   pub odd : was % 2 ≡ 1
@@ -138,6 +146,7 @@ pub record IsMoved (t : Tuple) (word was now : ℕ) (v w : PassSight) : Type 0 w
   pub many : 1 < (sizes_of v).passes
   pub cause : WasShut word was now (added v.view w.view) ⊎ Gave word was now (added v.view w.view)
   pub front : was % 2 ≡ 1 → w.view.seen.front ≡ v.view.seen.front
+  pub seen : HasSeen v w
   pub last : (value : ℕ) → read_from value word (added v.view w.view) ≡ now
 
 abbrev pub FollowSays : Followed → Tuple → PassSight → PassSight → Type 0
@@ -146,6 +155,28 @@ FollowSays (End at) t v w = IsEnd t at v w
 FollowSays (Moved word was now) t v w = IsMoved t word was now v w
 
 -- ON THE WAY
+
+-- the walk met this link last, with the tuple that is looked for
+pub record IsMet (g : Goal) (link : ℕ) (note : Walk) : Type 0 where
+  pub its : IsNoteOf g.bucket g.generation note
+  pub before : List Met
+  pub met : note.met ≡ met_with link g.first g.second ∷ before
+
+pub record HasMet (g : Goal) (link : ℕ) (view : View) : Type 0 where
+  pub note : Walk
+  pub walk : view.walk ≡ Some note
+  pub is : IsMet g link note
+
+-- it noted that this generation has passed
+pub record HasPassed (g : Goal) (view : View) : Type 0 where
+  pub note : Walk
+  pub walk : view.walk ≡ Some note
+  pub its : IsNoteOf g.bucket g.generation note
+  pub passed : note.passed ≡ true
+
+-- these are the two words that are looked for
+abbrev pub has_pair : Goal → Pair → Bool
+has_pair g p = p.first == g.first && p.second == g.second
 
 -- readings of words behind the generations, none of them changed by the pass
 abbrev pub is_of_walk : Sizes → Reading → Bool
@@ -164,13 +195,18 @@ walk_on g met = walk_to g.bucket g.generation met
 abbrev pub all_others : Goal → List Met → Bool
 all_others g met = list_all (is_another g.first g.second) met
 
--- whether the newest link has the tuple
+-- Whether a link has the tuple, which the walk notes where it is the newest one. Another one at a link that was met with the tuple
+-- shows that the generation has passed. Of a place that the pass holds for an id it is that of the id's Confirm.
 pub record Compares (g : Goal) (link : ℕ) (same : Bool) (v w : PassSight) : Type 0 where
   pub walks : WalksOn v w
   pub has : same ≡ true → (before : List Met) → v.view.walk ≡ Some (walk_on g (just_met link ∷ before))
       → w.view.walk ≡ Some (walk_on g (met_with link g.first g.second ∷ before))
   pub another : same ≡ false → (before : List Met) → v.view.walk ≡ Some (walk_on g (just_met link ∷ before))
       → (m : Met) × (w.view.walk ≡ Some (walk_on g (m ∷ before))) × (m.link ≡ link) × (is_another g.first g.second m ≡ true)
+  pub stays : (x : ℕ) → HasMet g x v.view → HasMet g x w.view
+  pub lost : same ≡ false → HasMet g link v.view → HasPassed g w.view
+  pub kept : (place id : ℕ) (subject : Record) (d : Direction) → is_kept_for place id v.view.places.held ≡ true
+      → slice_get v.view.seen.front id ≡ Some (Confirm subject) → link ≡ link_of d place → same ≡ has_pair g (pair_in d subject)
 
 -- so far all links had other tuples, and this is the next one, or the end
 abbrev pub note_at : Goal → ℕ → List Met → Walk
