@@ -79,10 +79,10 @@ begun_from g z word n v u h w sizes there gen kept link kept' walks =
 
 -- READINGS
 
-added_is : (v w : View) (xs : List Reading) → w.readings ≡ v.readings ++ xs → added v w ≡ xs
+pub added_is : (v w : View) (xs : List Reading) → w.readings ≡ v.readings ++ xs → added v w ≡ xs
 added_is v w xs e = ap (drop (length v.readings)) e ∙ drop-append_seam v.readings xs
 
-stands_now : (v w : View) (xs : List Reading) → w.readings ≡ v.readings ++ xs → w.readings ≡ v.readings ++ added v w
+pub stands_now : (v w : View) (xs : List Reading) → w.readings ≡ v.readings ++ xs → w.readings ≡ v.readings ++ added v w
 stands_now v w xs e = e ∙ ap (λ (rs : List Reading). v.readings ++ rs) (sym (added_is v w xs e))
 
 not_own : (z : Sizes) (r : Reading) → is_of_walk z r ≡ true → r.own ≡ false
@@ -131,7 +131,7 @@ just_one z word n xs low quiet =
     ∙ ap (λ (rs : List Reading). found word n ∷ rs) (ap (of_word word) (sym (append-nil xs)) ∙ none_of z word xs [] low quiet)
 
 -- the last value of a word, over more readings
-read_on : (a word : ℕ) (xs ys : List Reading) → read_from a word (xs ++ ys) ≡ read_from (read_from a word xs) word ys
+pub read_on : (a word : ℕ) (xs ys : List Reading) → read_from a word (xs ++ ys) ≡ read_from (read_from a word xs) word ys
 read_on a word [] ys = refl
 read_on a word (r ∷ rs) ys = read_on (if r.word == word then r.value else a) word rs ys
 
@@ -158,11 +158,11 @@ read_found z word was old xs ys low quiet =
     ∙ read_past z was word xs ys low quiet
 
 -- in a table of one pass two loads with no own change between them find the same
-many_of : (n was now : ℕ) → 1 ≤ n → was ≢ now → (n ≡ 1 → now ≡ was) → 1 < n
+pub many_of : (n was now : ℕ) → 1 ≤ n → was ≢ now → (n ≡ 1 → now ≡ was) → 1 < n
 many_of n was now some other sole =
     ⊎_elim (λ (e : n ≡ 1). absurd (other (sym (sole e)))) (λ (e : n ≢ 1). omega (arith, e, some)) (cases_eq n 1)
 
-gave_two : (word was now : ℕ) (readings : List Reading) → of_word word readings ≡ found word was ∷ found word now ∷ [] → was ≢ now → Gave word was now readings
+pub gave_two : (word was now : ℕ) (readings : List Reading) → of_word word readings ≡ found word was ∷ found word now ∷ [] → was ≢ now → Gave word was now readings
 gave_two word was now readings e other = record {
   differ = ne_eqb was now other;
   turns = ap (turns_over was now) e
@@ -175,7 +175,7 @@ first_found word n xs = (λ i. (eq-eqb word word refl i && eq-eqb n n refl i && 
 
 -- WHAT CAME OF IT
 
-word_low : (z : Sizes) (b : ℕ) → b < z.buckets → gen_word z b < 3 + z.buckets
+pub word_low : (z : Sizes) (b : ℕ) → b < z.buckets → gen_word z b < 3 + z.buckets
 word_low z b below = omega (arith, below)
 
 begun_readings : (g : Goal) (v w : PassSight) → (b : IsBegun g v w) → w.view.readings ≡ v.view.readings ++ found (gen_word (sizes_of v) g.bucket) g.generation ∷ b.more

@@ -8,3 +8,8 @@ pub mod Pairs
 pub mod Seeking
 pub mod Locking
 pub mod Placing
+pub mod Testing
+pub mod Showing
+pub mod Directing
+pub mod Meeting
+pub mod Answering

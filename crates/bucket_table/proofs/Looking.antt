@@ -66,6 +66,10 @@ one_walk v w word n noted_is kept view high = record {
         → w ≡ record v { walk = w.walk; readings = v.readings ++ found word n ∷ [] }
     view_is v w word n noted_is e = e ∙ ap (λ (o : Option Walk). record v { walk = o; readings = v.readings ++ found word n ∷ [] }) (sym (ap (λ (x : View). x.walk) e))
 
+pub all_append : {X : Type 0} (p : X → Bool) (xs ys : List X) → list_all p xs ≡ true → list_all p ys ≡ true → list_all p (xs ++ ys) ≡ true
+all_append p [] ys e f = f
+all_append p (x ∷ xs) ys e f = let t = and_parts (p x) (list_all p xs) e in and_from (p x) (list_all p (xs ++ ys)) t.0 (all_append p xs ys t.1 f)
+
 -- two walks one after the other
 pub walks_on : (u v w : PassSight) → WalksOn u v → WalksOn v w → WalksOn u w
 walks_on u v w a b = record {
@@ -80,10 +84,6 @@ walks_on u v w a b = record {
     joined u v w xs ys e =
         ap (λ (x : PassSight). record x { view = record x.view { walk = w.view.walk; readings = x.view.readings ++ ys } }) e
         ∙ ap (λ (rs : List Reading). record u { view = record u.view { walk = w.view.walk; readings = rs } }) (append_assoc u.view.readings xs ys)
-
-    all_append : {X : Type 0} (p : X → Bool) (xs ys : List X) → list_all p xs ≡ true → list_all p ys ≡ true → list_all p (xs ++ ys) ≡ true
-    all_append p [] ys e f = f
-    all_append p (x ∷ xs) ys e f = let t = and_parts (p x) (list_all p xs) e in and_from (p x) (list_all p (xs ++ ys)) t.0 (all_append p xs ys t.1 f)
 
 -- a link that was met with the tuple, after a load of a word of a tuple
 module _ (z : Sizes) (g : Goal) (x word n : ℕ) (v w : View) (walk : w.walk ≡ tuple_note z word n v.walk) (h : HasMet g x v) where

@@ -36,12 +36,12 @@ abbrev pub bucket_in : Sizes → Tuple → ℕ
 bucket_in z t = bucket_of z (pair_of t)
 
 -- the direction of a link
+abbrev pub direction_at_side : ℕ → Direction
+direction_at_side zero = Original
+direction_at_side (suc n) = Reply
+
 abbrev pub direction_of : ℕ → Direction
-direction_of link = by_side (side_of link)
-  where
-    by_side : ℕ → Direction
-    by_side zero = Original
-    by_side (suc n) = Reply
+direction_of link = direction_at_side (side_of link)
 
 -- a link was met that has another tuple than these two words
 abbrev pub is_another : ℕ → ℕ → Met → Bool

@@ -4,3 +4,4 @@ pub mod Following
 pub mod LockedChain
 pub mod Trying
 pub mod TestPlace
+pub mod Finding

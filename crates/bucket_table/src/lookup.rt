@@ -37,15 +37,15 @@ pub enum Followed {
 
 /// What is looked for: the two words of a tuple, in the chain of its bucket at this generation.
 #[derive(Clone, Copy)]
-struct Goal {
-    bucket: u32,
-    generation: u64,
-    first: u64,
-    second: u64,
+pub(crate) struct Goal {
+    pub(crate) bucket: u32,
+    pub(crate) generation: u64,
+    pub(crate) first: u64,
+    pub(crate) second: u64,
 }
 
-/// Whether the link that was met last has the tuple.
-fn is_here(pass: &mut Pass, sizes: &Sizes, goal: &Goal, link: u64) -> bool
+/// Whether a link has the tuple.
+pub(crate) fn is_here(pass: &mut Pass, sizes: &Sizes, goal: &Goal, link: u64) -> bool
     requires limits { AreWithinLimits sizes.now }
     requires sizes { sizes.now ≡ sizes_of pass.old }
     requires some { 0 < link }

@@ -3,3 +3,4 @@ pub mod Waiting
 pub mod Taking
 pub mod Hooks
 pub mod Releasing
+pub mod Holding
