@@ -10,9 +10,10 @@ use Rattle.history_book.specs.Point.{StartsWith}
 use Rattle.history_book.specs.declared.event.Event.{Event}
 use Rattle.history_book.specs.declared.sizes.Sizes.{Sizes}
 use Rattle.track_rule.specs.Chains.{shuts_of}
-use Rattle.track_rule.specs.KeptWords.{link_of}
+use Rattle.track_rule.specs.KeptWords.{is_kept_for, link_of}
 use Rattle.track_rule.specs.Layout.{gen_word, place_of, refs_word, side_of}
 use Rattle.track_rule.specs.Readings.{Gave, IsSole, added, changes, found, of_word, read_from, turns_over}
+use Rattle.track_rule.specs.References.{is_taken}
 use Rattle.track_rule.specs.Sights.{PassSight, sizes_of}
 use Rattle.track_rule.specs.Steps.{AreAll, keep}
 use Rattle.track_rule.specs.Sums.{times}
@@ -209,6 +210,8 @@ module _ (t : Tuple) (g : Goal) (place : ℕ) (met : Direction) (v u : PassSight
         own = ap (changes (λ word. not (word == refs_word (sizes_of v) place))) (after_added place v u w link.reads h.tests) ∙ after_own place v u w link.reads h.tests;
         below = low_place;
         owed = sym (ap (λ (x : PassSight). times place x.view.places.owed) link.reads.same) ∙ owed;
+        untaken = sym (ap (λ (x : PassSight). is_taken place x.view.places.held) link.reads.same) ∙ h.untaken;
+        agreed = λ j kept. h.agreed j (ap (λ (x : PassSight). is_kept_for place j x.view.places.held) link.reads.same ∙ kept);
         all = all_after place v u w link.reads h.tests link.front w.view.seen.front h.all;
         point = h.point;
         was = h.was;

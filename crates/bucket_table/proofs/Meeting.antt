@@ -53,6 +53,8 @@ entry_is g place id at direction v u w s d =
       point = s.point ∙ ap (λ (l : List Event). length l) (sym front);
       was = record { subject = s.was.subject; event = ap (λ (l : List Event). slice_get l id) front ∙ s.was.event; its_place = s.was.its_place };
       live = subst (λ (l : List Event). IsLiveIn place id (state_after l)) (sym front) s.live;
+      untaken = s.untaken;
+      agreed = s.agreed;
       directed = d.directed id kept s.was;
     }
 
@@ -313,6 +315,8 @@ module _ (place : ℕ) (v u : PassSight) (can : CanTest v) (below : place < (siz
       point = t.1.point;
       was = t.1.was;
       live = t.1.live;
+      untaken = sym (ap (λ (ks : List Keep). is_taken place (others_of ks)) its_held) ∙ t.1.untaken;
+      agreed = λ j kept. t.1.agreed j (ap (λ (ks : List Keep). is_kept_for place j (others_of ks)) its_held ∙ kept);
       directed = t.1.directed;
     },
   )

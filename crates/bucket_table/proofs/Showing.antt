@@ -1,15 +1,19 @@
 -- What is live at a place that a pass tests.
-use Rattle.std.proofs.Common.{◌≡◌, ◌≢◌, ℕ, ◌-◌, ◌<◌, ◌≤◌, true, false, List, ◌∷◌, length, refl, sym, ap, subst, ◌∙◌, arith, ⊎_elim}
-use Rattle.std.specs.Prelude.{◌==◌, ◌&&◌, nat_lt}
-use Rattle.std.proofs.lemmas.Bool.{and_from, cases_lt, cond_both, eq-eqb, or_left}
+use Rattle.std.proofs.Common.{◌≡◌, ◌≢◌, ℕ, ◌-◌, ◌<◌, ◌≤◌, Bool, true, false, Some, List, [], ◌∷◌, length, refl, sym, ap, subst, ◌∙◌, arith, ⊎_elim}
+use Rattle.std.specs.Prelude.{◌==◌, ◌&&◌, find, if◌then◌else◌, nat_lt}
+use Rattle.std.proofs.lemmas.Bool.{and_from, cases_Bool, cases_lt, cond_both, eq-eqb, or_left, or_right}
 use Rattle.history_book.specs.Desk.{IsLiveIn}
+use Rattle.history_book.specs.Record.{has_id}
 use Rattle.history_book.specs.declared.event.Event.{Event}
-use Rattle.track_rule.specs.History.{events_in, state_after}
+use Rattle.history_book.specs.declared.record.Record.{Record}
+use Rattle.track_rule.specs.History.{events_in, records_after, state_after}
 use Rattle.track_rule.specs.KeptWords.{is_for, is_kept_for}
 use Rattle.track_rule.specs.PhaseSteps.{LoadsPhase, holds_open, kept_for, saw_confirm}
-use Rattle.track_rule.specs.References.{WasConfirmed, is_for_new}
+use Rattle.track_rule.specs.Phases.{of_place}
+use Rattle.track_rule.specs.References.{WasConfirmed, is_for_new, is_taken}
 use Rattle.track_rule.specs.Sights.{PassSight}
 use Rattle.track_rule.specs.Steps.{AreAll, Looks, keep}
+use Rattle.track_rule.specs.Sums.{bit, total}
 use Rattle.track_rule.specs.declared.view.Keep.{Keep}
 use Rattle.track_rule.specs.declared.view.Purpose.{Purpose}
 use Rattle.track_rule.specs.declared.view.Purpose.TheVariants.{Testing, Shown, For}
@@ -25,6 +29,29 @@ kept_id front place id =
 
 kept_new : (front : List Event) (place id : ℕ) → is_for_new (kept_for front place id) ≡ false
 kept_new front place id = cond_both (saw_confirm front id place) (For id) (Shown id) (λ p. is_for_new p ≡ false) (λ e. refl) (λ e. refl)
+
+-- what is found weighs among all
+found_weighs : (q : Record → Bool) (w : Record → ℕ) (rs : List Record) (x : Record) → find q rs ≡ Some x → w x ≤ total w rs
+found_weighs q w [] x e = cc
+found_weighs q w (r ∷ rs) x e =
+    ⊎_elim
+    (λ (t : q r ≡ true).
+    let same : r ≡ x = one r x (sym (ap (λ (b : Bool). if b then Some r else find q rs) t) ∙ e) in
+    omega (arith, ap w same))
+    (λ (t : q r ≡ false). omega (arith, found_weighs q w rs x (sym (ap (λ (b : Bool). if b then Some r else find q rs) t) ∙ e)))
+    (cases_Bool (q r))
+  where
+    one : (a b : Record) → Some a ≡ Some b → a ≡ b
+    one a b k = cc
+
+-- so a place where an entry is live weighs
+live_weighs : (place id : ℕ) (log : List Event) → IsLiveIn place id (state_after log) → 0 < total (of_place place) (records_after log)
+live_weighs place id log l =
+    omega (
+      arith,
+      found_weighs (has_id id) (of_place place) (records_after log) l.subject l.is,
+      ap (λ (b : Bool). bit b) (eq-eqb l.subject.place place l.placed),
+    )
 
 module _ (place n : ℕ) (v a : PassSight) (t : IsTesting place Testing v) (loads : LoadsPhase place v.view n a.view) (kept : a ≡ record v { view = a.view }) where
   -- the phase is LIVE of none
@@ -66,6 +93,20 @@ module _ (place n : ℕ) (v a : PassSight) (t : IsTesting place Testing v) (load
     was : WasConfirmed b.view.seen.front (n - 3) place
     was = looks.shown place (n - 3) (ap (is_kept_for place (n - 3)) (sym (look_held place word a b looks kept')) ∙ for_it)
 
+    live_there : m ≡ n → IsLiveIn place (n - 3) (state_after b.view.seen.front)
+    live_there same = again.live (n - 3) (omega (arith, same, live)) was
+
+    not_taken : m ≡ n → is_taken place (others_of v.view.places.held) ≡ false
+    not_taken same =
+        ⊎_elim
+        (λ (e : is_taken place (others_of v.view.places.held) ≡ true).
+        let taken : is_taken place a.view.places.held ≡ true =
+        ap (is_taken place) (sym (look_held place word a b looks kept') ∙ its_held)
+        ∙ or_right (place == place && is_for_new (kept_for v.view.seen.front place (n - 3))) (is_taken place (others_of v.view.places.held)) e in
+        absurd (omega (arith, looks.taken place taken, live_weighs place (n - 3) b.view.seen.front (live_there same))))
+        (λ (e : is_taken place (others_of v.view.places.held) ≡ false). e)
+        (cases_Bool (is_taken place (others_of v.view.places.held)))
+
     met_on : (g : Goal) (link : ℕ) → HasMet g link v.view → HasMet g link b.view
     met_on g link h = look_stays place word a b looks kept' g link (note_stays g link place (nat_lt n 3) v.view a.view (phase_walk place n Testing v a t loads kept) h (below_not n 3 live))
 
@@ -83,7 +124,9 @@ module _ (place n : ℕ) (v a : PassSight) (t : IsTesting place Testing v) (load
           all = subst (AreAll v.view) (sym front) (all_back place v a (phase_test place n Testing v a t loads kept) b.view.seen.front looks.all);
           point = point ∙ looks.events ∙ ap (λ (l : List Event). length l) (sym front);
           was = subst (λ (l : List Event). WasConfirmed l (n - 3) place) (sym front) was;
-          live = subst (λ (l : List Event). IsLiveIn place (n - 3) (state_after l)) (sym front) (again.live (n - 3) (omega (arith, same, live)) was);
+          live = subst (λ (l : List Event). IsLiveIn place (n - 3) (state_after l)) (sym front) (live_there same);
+          untaken = not_taken same;
+          agreed = λ j kept. omega (arith, loads.kept j (ap (is_kept_for place j) t.held ∙ kept) live);
           stays = λ g link h.
               note_stays g link place (nat_lt m 3) b.view w.view (phase_walk place m (kept_for v.view.seen.front place (n - 3)) b w tested again kept'')
               (met_on g link h) (below_not m 3 (omega (arith, same, live)));

@@ -61,8 +61,8 @@ pub record CanTest (v : PassSight) : Type 0 where
   pub owned : (place : ℕ) → is_among place v.view.places.owned ≡ true → is_taken place v.view.places.held ≡ true
 
 -- The pass holds the place for the entry of this id. It has seen all events up to this point, and after them the entry was live
--- there, with the tuple in this direction, the original one where it has both. Before the call it did not owe the place. It
--- changed no word itself but the references of the place. All else is as it was, but the note of a walk and the readings.
+-- there, with the tuple in this direction, the original one where it has both. Before the call it did not owe the place, had not taken
+-- it, and held it for no other id. It changed no word itself but the references of the place. All else is as it was, but the note of a walk and the readings.
 pub record FindsEntry (t : Tuple) (place id : ℕ) (direction : Direction) (at : ℕ) (v w : PassSight) : Type 0 where
   pub same : w ≡ record v {
     view = record v.view {
@@ -76,6 +76,8 @@ pub record FindsEntry (t : Tuple) (place id : ℕ) (direction : Direction) (at :
   pub own : changes (λ word. not (word == refs_word (sizes_of v) place)) (added v.view w.view) ≡ false
   pub below : place < (sizes_of v).entries
   pub owed : times place v.view.places.owed ≡ 0
+  pub untaken : is_taken place v.view.places.held ≡ false
+  pub agreed : (other : ℕ) → is_kept_for place other v.view.places.held ≡ true → other ≡ id
   pub all : AreAll v.view w.view.seen.front
   pub point : at ≡ length w.view.seen.front
   pub was : WasConfirmed w.view.seen.front id place
@@ -167,7 +169,8 @@ pub record IsStillHeld (place : ℕ) (v w : PassSight) : Type 0 where
   pub held : w.view.places.held ≡ keep place why ∷ others_of v.view.places.held
   pub owed : w.view.places.owed ≡ v.view.places.owed
 
--- The entry of this id is live at the place after all events up to this point, and the place is held for it.
+-- The entry of this id is live at the place after all events up to this point, and the place is held for it. What the pass holds
+-- besides has not taken the place, nor is for another id there.
 pub record ShowsLive (place id at : ℕ) (v w : PassSight) : Type 0 where
   pub tests : Tests place v w
   pub held : w.view.places.held ≡ keep place (For id) ∷ others_of v.view.places.held
@@ -176,6 +179,8 @@ pub record ShowsLive (place id at : ℕ) (v w : PassSight) : Type 0 where
   pub point : at ≡ length w.view.seen.front
   pub was : WasConfirmed w.view.seen.front id place
   pub live : IsLiveIn place id (state_after w.view.seen.front)
+  pub untaken : is_taken place (others_of v.view.places.held) ≡ false
+  pub agreed : (other : ℕ) → is_kept_for place other (others_of v.view.places.held) ≡ true → other ≡ id
   pub stays : (g : Goal) (link : ℕ) → HasMet g link v.view → HasMet g link w.view
 
 -- No entry was live there all the time: the generation has passed, where a link of the place was met.
@@ -213,6 +218,8 @@ pub record HasEntry (g : Goal) (place id : ℕ) (direction : Direction) (at : �
   pub point : at ≡ length w.view.seen.front
   pub was : WasConfirmed w.view.seen.front id place
   pub live : IsLiveIn place id (state_after w.view.seen.front)
+  pub untaken : is_taken place others ≡ false
+  pub agreed : (other : ℕ) → is_kept_for place other others ≡ true → other ≡ id
   pub directed : direction_by g.first g.second was.subject ≡ Some direction
 
 -- No such entry was: the generation has passed, where this link was met with the tuple.
