@@ -11,7 +11,7 @@ use Rattle.history_book.specs.declared.event.Note.{Note}
 use Rattle.history_book.specs.Held.{is_at, is_held, is_owed, paid, without}
 use Rattle.history_book.specs.History.{is_legal}
 use Rattle.history_book.specs.Point.{StartsWith}
-use Rattle.history_book.specs.Sight.{AreEventsOf, IsForEntryOf, IsForOne, IsHoldOf, IsKnown, Sight, notes_from}
+use Rattle.history_book.specs.Sight.{AreEventsOf, IsForEntryOf, IsForOne, IsHoldOf, IsKnown, Sight, WasConfirmedIn, notes_from}
 use Rattle.shared_desk.proofs.Lists.{all_less, each_map, get_append, length_less, none_each, none_less, pairs_less}
 
 -- an event of a history is one of each that begins with it
@@ -83,6 +83,19 @@ known_taken s place k below unheld unowed few =
       same = λ i. absurd (false≢true (sym e ∙ eq-eqb h.place place (sym i)));
       entry = λ i. absurd (false≢true (sym e ∙ eq-eqb h.place place (sym i)));
     }) s.held (none_each (is_at place) s.held unheld))) k.agreed)
+    k.owed (All-cons (λ (h : Hold). is_owed h.place s.owed ≡ false) new s.held unowed k.unowed) k.once (omega (arith, few))
+
+-- a place once more, for an entry that was confirmed in it; what is held of it already is for that
+pub known_held : (s : Sight) (place id : ℕ) → IsKnown s → place < s.sizes.entries → WasConfirmedIn s.front place id
+    → AllByRecursion (λ (h : Hold). h.place ≡ place → h.id ≡ Some id) s.held → is_owed place s.owed ≡ false → length s.held + length s.owed ≤ 3
+    → IsKnown (record s { held = record { place = place; id = Some id } ∷ s.held })
+known_held s place id k below was agreed unowed few =
+    let new : Hold = record { place = place; id = Some id } in
+    known_places s (new ∷ s.held) s.owed k (All-cons (IsHoldOf s) new s.held (below, was) k.held)
+    (AllPairs-cons IsForOne new s.held
+    (All-from_recursion (IsForOne new) s.held
+    (each_map (λ (h : Hold). h.place ≡ place → h.id ≡ Some id) (IsForOne new)
+    (λ h its. record { same = λ i. sym (its (sym i)); entry = λ i. refl }) s.held agreed)) k.agreed)
     k.owed (All-cons (λ (h : Hold). is_owed h.place s.owed ≡ false) new s.held unowed k.unowed) k.once (omega (arith, few))
 
 -- one reference less

@@ -32,3 +32,8 @@ pub mod Ended
 pub mod Judged
 pub mod Killed
 pub mod Destroyed
+pub mod HoldingFrames
+pub mod HoldingEmpty
+pub mod HoldingNames
+pub mod HoldingBack
+pub mod HoldingRest

@@ -43,18 +43,25 @@ record_whole place v h x known live =
     one_hand : (a b : Hand) → Some a ≡ Some b → a ≡ b
     one_hand a b e = cc
 
-pub still_out : (place : ℕ) (o : PeekOutcome) (v w : PassSight) → HasRecord place v → Peeks place o v w → HasRecord place w
-still_out place o v w h p = record {
+-- the turn is still had after some looking
+pub still_has : (place : ℕ) (v w : PassSight) → HasRecord place v
+    → w ≡ record v {
+      view = record v.view { seen = record v.view.seen { front = w.view.seen.front }; walk = w.view.walk; readings = w.view.readings };
+    } → HasRecord place w
+still_has place v w h same = record {
   hand = h.hand;
   its_place = h.its_place;
-  known = ap (λ (k : PassSight). k.view.commit.hand) p.same ∙ h.known;
+  known = ap (λ (k : PassSight). k.view.commit.hand) same ∙ h.known;
   others = h.others;
-  out = ap (λ (k : PassSight). k.slots) p.same ∙ h.out;
-  below = subst (λ (z : Sizes). place < z.entries) (sym (ap sizes_of p.same)) h.below;
-  calm = ap (λ (k : PassSight). k.view.commit.middle) p.same ∙ h.calm;
-  free = ap (λ (k : PassSight). k.view.free) p.same ∙ h.free;
-  closed = ap (λ (k : PassSight). holds_open k.view.places.held) p.same ∙ h.closed;
+  out = ap (λ (k : PassSight). k.slots) same ∙ h.out;
+  below = subst (λ (z : Sizes). place < z.entries) (sym (ap sizes_of same)) h.below;
+  calm = ap (λ (k : PassSight). k.view.commit.middle) same ∙ h.calm;
+  free = ap (λ (k : PassSight). k.view.free) same ∙ h.free;
+  closed = ap (λ (k : PassSight). holds_open k.view.places.held) same ∙ h.closed;
 }
+
+pub still_out : (place : ℕ) (o : PeekOutcome) (v w : PassSight) → HasRecord place v → Peeks place o v w → HasRecord place w
+still_out place o v w h p = still_has place v w h p.same
 
 -- the turn is given back
 pub peeked : (place : ℕ) (o : PeekOutcome) (v w x y : PassSight) → IsFreeFor place v → HasTurn place v w → Peeks place o w x

@@ -20,20 +20,11 @@ use Rattle.shared_desk.specs.Commit.{HasTurn, seen_with}
 use Rattle.shared_desk.specs.Looking.{HasRecord, IsFreeFor}
 use Rattle.shared_desk.specs.Touching.{Gives, GoesOn, IsLeft, IsNotLive, IsTouched, IsTouchedUnder, Touches, TouchesUnder, touch_of}
 use Rattle.shared_desk.specs.declared.touching.Packet.{Packet}
+use Rattle.shared_desk.proofs.Looking.{still_has}
 
 -- nothing was touched
 pub left_known : (place at : ℕ) (F : ℕ → List Event → Type 0) (v w : PassSight) → HasRecord place v → IsLeft place at F v w → HasRecord place w
-left_known place at F v w h p = record {
-  hand = h.hand;
-  its_place = h.its_place;
-  known = ap (λ (k : PassSight). k.view.commit.hand) p.same ∙ h.known;
-  others = h.others;
-  out = ap (λ (k : PassSight). k.slots) p.same ∙ h.out;
-  below = subst (λ (z : Sizes). place < z.entries) (sym (ap sizes_of p.same)) h.below;
-  calm = ap (λ (k : PassSight). k.view.commit.middle) p.same ∙ h.calm;
-  free = ap (λ (k : PassSight). k.view.free) p.same ∙ h.free;
-  closed = ap (λ (k : PassSight). holds_open k.view.places.held) p.same ∙ h.closed;
-}
+left_known place at F v w h p = still_has place v w h p.same
 
 touched_known : (place : ℕ) (p : Packet) (number : ℕ) (q : Record) (v w : PassSight) → HasRecord place v → IsTouchedUnder place p number q v w → HasRecord place w
 touched_known place p number q v w h t =

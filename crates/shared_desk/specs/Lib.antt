@@ -11,4 +11,5 @@ pub mod Noting
 pub mod Looking
 pub mod Touching
 pub mod Killing
+pub mod Holding
 pub mod TestCrew

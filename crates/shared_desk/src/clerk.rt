@@ -2,7 +2,7 @@
 
 ghost use Rattle.std.specs.Prelude.{◌≡◌, ◌+◌, ◌<◌, ◌≤◌, ◌^◌, true, false, length, OnOk, OnErr};
 ghost use Rattle.entry_pool.specs.GoesOn.{ReadingsStand};
-ghost use Rattle.history_book.specs.Desk.{ConfirmSays, CountSays, IsReady, KillSays, PeekSays, RecycleSays, ReleaseSays, TouchSays};
+ghost use Rattle.history_book.specs.Desk.{ConfirmSays, CountSays, HoldSays, IsReady, KillSays, PeekSays, RecycleSays, ReleaseSays, TouchSays};
 ghost use Rattle.history_book.specs.Entry.{is_flow_of_one_protocol, is_helped_entry, is_of_entry, suits_entry};
 ghost use Rattle.history_book.specs.Held.{held_id, is_held, is_held_for_entry, is_owed, is_taken};
 ghost use Rattle.history_book.specs.Join.{CanJoin, Joins};
@@ -19,6 +19,7 @@ ghost use Rattle.track_rule.specs.Sights.{sizes_of};
 
 use crate::confirm::confirm;
 use crate::entry::{kill, peek, touch};
+use crate::holding::hold;
 use crate::noting::{note_confirm, note_event};
 use crate::touching::Packet;
 use crate::tracker::Spot;
@@ -28,7 +29,8 @@ use entry_pool::take::{recycle, take};
 use history_book::event::Why;
 use history_book::laws::states_stay;
 use history_book::outcome::{
-    ConfirmOutcome, KillOutcome, LiveCount, PeekOutcome, ReleaseOutcome, TakeOutcome, TouchOutcome,
+    ConfirmOutcome, HoldOutcome, KillOutcome, LiveCount, PeekOutcome, ReleaseOutcome, TakeOutcome,
+    TouchOutcome,
 };
 use history_book::record::Flow;
 use history_book::report::Notes;
@@ -245,6 +247,17 @@ impl<'t, G: Gate> Clerk<'t, G> {
         let (outcome, note) = kill(rt, &mut self.pass, place, why);
         note_event(&mut self.notes, &mut self.spare, note);
         outcome
+    }
+
+    /// Holds a place for the entry that is live in it, if one is. It may wait for the turn of the place's record, and for that of the
+    /// free list.
+    pub fn hold<R: Wait>(&mut self, rt: &R, place: u32) -> HoldOutcome
+        requires below { place < (sight_of self.old).sizes.entries }
+        requires room { length (sight_of self.old).held + length (sight_of self.old).owed ≤ 3 }
+        ensures says { HoldSays place (sight_of self.old) (sight_of self.new) result }
+        ensures knows { IsKnown (sight_of self.new) }
+    {
+        hold(rt, &mut self.pass, place)
     }
 
     /// Makes a place free again, of which this clerk gave up the last reference. It may wait for the turn of the free list.

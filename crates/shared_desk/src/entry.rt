@@ -18,7 +18,7 @@ use std::sync::Wait;
 use track_rule::pass::Pass;
 
 /// The least phase of a place that is LIVE.
-const LIVE: u64 = 3;
+pub const LIVE: u64 = 3;
 
 /// The record that is out of its slot, or none. It stays there.
 fn record_out(pass: &mut Pass, place: u32) -> Option<Record>

@@ -5,6 +5,7 @@ pub mod clerk;
 mod commit;
 mod confirm;
 mod entry;
+mod holding;
 mod killing;
 pub mod laws;
 mod noting;

@@ -1,0 +1,5 @@
+use Rattle.shared_desk.proofs.HoldingFrames.{can_still, holds_after, looks_again, looks_none}
+use Rattle.shared_desk.proofs.holding.hold.Goals as goal
+
+pub tries-init : goal.tries-init
+tries-init g c = record { next = tt; finite = tt; looks = looks_none c.args.pass.now }
