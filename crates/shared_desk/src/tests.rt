@@ -19,6 +19,7 @@ mod confirms;
 mod crowd;
 mod flows;
 mod halt;
+mod kills;
 mod touches;
 
 /// A pool of two places, for two passes.

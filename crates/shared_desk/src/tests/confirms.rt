@@ -1,6 +1,6 @@
 //! Two clerks of one thread confirm flows, one after the other.
 
-ghost use Rattle.std.specs.Prelude.{◌≡◌, ◌+◌, ◌≤◌, true, None};
+ghost use Rattle.std.specs.Prelude.{◌≡◌, ◌+◌, ◌≤◌, true, false, None};
 ghost use Rattle.history_book.specs.Entry.{is_flow_of_one_protocol};
 ghost use Rattle.history_book.specs.Held.{is_held};
 ghost use Rattle.history_book.specs.Places.{HoldsNothing, HoldsOne};
@@ -45,8 +45,9 @@ impl Gate for Passages {
 }
 
 /// The query 10.0.0.1:5000 to 10.0.0.2:53 and its answer.
-fn query() -> Flow
-    ensures { is_flow_of_one_protocol result ≡ true }
+pub fn query() -> Flow
+    ensures protocol { is_flow_of_one_protocol result ≡ true }
+    ensures helper { result.helper ≡ false }
 {
     flow(
         udp(0x0a00_0001, 5000, 0x0a00_0002, 53),
@@ -55,7 +56,7 @@ fn query() -> Flow
 }
 
 /// A clerk that keeps nothing confirms a flow that nobody has.
-fn make<G: Gate, R: Wait + Abort>(rt: &R, clerk: &mut Clerk<G>, flow: &Flow, id: u64)
+pub fn make<G: Gate, R: Wait + Abort>(rt: &R, clerk: &mut Clerk<G>, flow: &Flow, id: u64)
     requires nothing { HoldsNothing (sight_of clerk.old) }
     requires protocol { is_flow_of_one_protocol flow.now ≡ true }
     requires spare { 1 ≤ (sight_of clerk.old).spare }

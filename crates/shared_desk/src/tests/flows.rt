@@ -1,6 +1,6 @@
 //! Flows of UDP, and a clerk's way with one of them.
 
-ghost use Rattle.std.specs.Prelude.{◌≡◌, ◌+◌, ◌≤◌, true, None, []};
+ghost use Rattle.std.specs.Prelude.{◌≡◌, ◌+◌, ◌≤◌, true, false, None, []};
 ghost use Rattle.history_book.specs.Entry.{is_flow_of_one_protocol};
 ghost use Rattle.history_book.specs.Held.{is_held, without};
 ghost use Rattle.history_book.specs.Places.{HoldsNothing, HoldsOne};
@@ -30,12 +30,13 @@ pub fn udp(src: u32, a: u16, dst: u32, b: u16) -> Tuple
     }
 }
 
-/// A flow of UDP with these tuples.
+/// A flow of UDP with these tuples, without the helper.
 pub fn flow(original: Tuple, reply: Tuple) -> Flow
     requires original { original.proto ≡ Udp }
     requires reply { reply.proto ≡ Udp }
     ensures protocol { is_flow_of_one_protocol result ≡ true }
     ensures kind { result.part.kind ≡ kind.Udp }
+    ensures helper { result.helper ≡ false }
 {
     Flow {
         original,
