@@ -1,8 +1,8 @@
 -- The reference that told nothing is given back.
-use Rattle.std.specs.Prelude.{◌==◌, ◌&&◌, ◌||◌, if◌then◌else◌, not, filter}
+use Rattle.std.specs.Prelude.{◌==◌, ◌||◌, if◌then◌else◌, not, filter}
 use Rattle.std.specs.List.{list_any}
-use Rattle.std.proofs.Common.{◌≡◌, ℕ, ◌+◌, ◌<◌, Bool, true, false, List, [], ◌∷◌, ◌++◌, refl, sym, ap, subst, ◌∙◌, arith, ⊎_elim}
-use Rattle.std.proofs.lemmas.Bool.{cases_Bool, cond_both, eq-eqb, eqb-true, false≢true, not_from_false, or_left, or_parts}
+use Rattle.std.proofs.Common.{◌≡◌, ℕ, Bool, true, false, List, [], ◌∷◌, ◌++◌, refl, sym, ap, ◌∙◌, arith, ⊎_elim}
+use Rattle.std.proofs.lemmas.Bool.{cases_Bool, cond_both, eq-eqb, eqb-true, false≢true, or_left, or_parts}
 use Rattle.track_rule.specs.Free.{is_among, taken_out, unlisted}
 use Rattle.track_rule.specs.Layout.{place_of, refs_word}
 use Rattle.track_rule.specs.Links.{is_up}
@@ -10,11 +10,9 @@ use Rattle.track_rule.specs.Readings.{stored}
 use Rattle.track_rule.specs.References.{held_times, is_held, is_taken, without}
 use Rattle.track_rule.specs.Sights.{PassSight, sizes_of}
 use Rattle.track_rule.specs.Steps.{hooks_else, hooks_then, keep, owned_then}
-use Rattle.track_rule.specs.Sums.{times}
 use Rattle.track_rule.specs.declared.view.Hook.{Hook}
 use Rattle.track_rule.specs.declared.view.Keep.{Keep}
 use Rattle.track_rule.specs.declared.view.Purpose.{Purpose}
-use Rattle.track_rule.specs.declared.view.Reading.{Reading}
 use Rattle.entry_pool.specs.Hold.{KeepsNone, KeepsSome}
 use Rattle.entry_pool.specs.Take.{Recycles}
 use Rattle.shared_desk.specs.Holding.{HasNewest, OnlyLooks, but_newest, older}

@@ -1,5 +1,5 @@
 -- Whether no live entry has a place, seen under the turn of the place's record.
-use Rattle.std.proofs.Common.{◌≡◌, ℕ, ◌<◌, ◌≤◌, Option, Some, None, List, [], ◌∷◌, ◌++◌, refl, sym, ap, subst, ◌∙◌, arith, ⊎_elim, length}
+use Rattle.std.proofs.Common.{◌≡◌, ℕ, ◌<◌, ◌≤◌, Option, Some, None, List, [], ◌∷◌, ◌++◌, sym, ap, subst, ◌∙◌, arith, ⊎_elim, length}
 use Rattle.std.proofs.lemmas.Bool.{cases_lt}
 use Rattle.atomic_table.specs.Table.{rest}
 use Rattle.history_book.specs.Point.{StartsWith}

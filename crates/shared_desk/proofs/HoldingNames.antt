@@ -1,7 +1,7 @@
 -- Which entry is live in a place to which the pass has just got a reference.
 use Rattle.std.specs.List.{AllByRecursion, list_any}
-use Rattle.std.specs.Prelude.{◌==◌, ◌&&◌, ◌||◌, nat_lt, if◌then◌else◌, find}
-use Rattle.std.proofs.Common.{◌≡◌, ℕ, ◌+◌, ◌-◌, ◌<◌, ◌≤◌, Bool, true, false, Option, Some, None, List, [], ◌∷◌, ◌++◌, length, refl, sym, ap, subst, ◌∙◌, arith, ⊎_elim}
+use Rattle.std.specs.Prelude.{◌==◌, ◌&&◌, nat_lt, if◌then◌else◌, find}
+use Rattle.std.proofs.Common.{◌≡◌, ℕ, ◌-◌, ◌<◌, ◌≤◌, Bool, true, false, Some, List, [], ◌∷◌, ◌++◌, length, refl, sym, ap, subst, ◌∙◌, arith, ⊎_elim}
 use Rattle.std.proofs.lemmas.Bool.{and_from, cases_Bool, cond_both, eq-eqb, lt-ltb, or_left, or_right}
 use Rattle.history_book.specs.Desk.{IsLiveIn}
 use Rattle.history_book.specs.Entry.{confirmed_by}
@@ -12,7 +12,7 @@ use Rattle.track_rule.specs.History.{events_in, records_after, state_after}
 use Rattle.track_rule.specs.KeptWords.{is_for, is_kept_for}
 use Rattle.track_rule.specs.Layout.{phase_word}
 use Rattle.track_rule.specs.Notes.{note_where}
-use Rattle.track_rule.specs.PhaseSteps.{LoadsPhase, has_place_of, kept_for, purpose_at, read_phase, saw_confirm, test_at, tested}
+use Rattle.track_rule.specs.PhaseSteps.{LoadsPhase, has_place_of, kept_for, purpose_at, saw_confirm, test_at, tested}
 use Rattle.track_rule.specs.Phases.{of_place}
 use Rattle.track_rule.specs.Readings.{found}
 use Rattle.track_rule.specs.References.{WasConfirmed, is_at, is_for_new, is_taken}

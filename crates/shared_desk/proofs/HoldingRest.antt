@@ -1,34 +1,31 @@
 -- A clerk that holds a place once more, or saw that no live entry has it.
 use Rattle.std.specs.List.{AllByRecursion}
 use Rattle.std.specs.Prelude.{◌==◌, ◌&&◌, ◌||◌}
-use Rattle.std.proofs.Common.{◌≡◌, ◌≢◌, ℕ, ◌+◌, ◌<◌, ◌≤◌, Bool, true, false, Option, Some, None, List, [], ◌∷◌, ◌++◌, length, map, refl, sym, ap, subst, ◌∙◌, arith, ⊎_elim, length-append}
-use Rattle.std.proofs.lemmas.Bool.{and_from, and_left, and_right, cases_Bool, eq-eqb, eqb-true, false≢true, ne_eqb, or_left, or_right}
+use Rattle.std.proofs.Common.{◌≡◌, ℕ, ◌+◌, ◌<◌, ◌≤◌, Bool, true, false, Some, List, [], ◌∷◌, length, map, refl, sym, ap, subst, ◌∙◌, arith, ⊎_elim, length-append}
+use Rattle.std.proofs.lemmas.Bool.{and_from, and_right, cases_Bool, eq-eqb, false≢true, or_left, or_right}
 use Rattle.std.proofs.lemmas.List.{length-map}
 use Rattle.room_list.specs.Roomed.{Roomed}
-use Rattle.history_book.specs.Desk.{HoldSays, HoldsOneMore, IsLiveIn}
-use Rattle.history_book.specs.Held as desk
-use Rattle.history_book.specs.Held.{is_owed}
+use Rattle.history_book.specs.Desk.{HoldSays, IsLiveIn}
 use Rattle.history_book.specs.History.{after}
-use Rattle.history_book.specs.Sight.{IsKnown, Sight}
-use Rattle.history_book.specs.State.{State, is_unused}
-use Rattle.history_book.specs.WentOn.{Looked, Saw}
+use Rattle.history_book.specs.Sight.{IsKnown}
+use Rattle.history_book.specs.State.{is_unused}
+use Rattle.history_book.specs.WentOn.{Saw}
 use Rattle.history_book.specs.declared.desk.Hold.{Hold}
-use Rattle.history_book.specs.declared.event.Event.{Event}
 use Rattle.history_book.specs.declared.event.Note.{Note}
 use Rattle.history_book.specs.declared.outcome.HoldOutcome.{HoldOutcome}
 use Rattle.history_book.specs.declared.outcome.HoldOutcome.TheVariants.{Held, Empty}
 use Rattle.track_rule.specs.KeptWords.{is_for, is_kept_for}
-use Rattle.track_rule.specs.References.{held_times, is_at, is_taken}
+use Rattle.track_rule.specs.References.{is_at, is_taken}
 use Rattle.track_rule.specs.Sights.{PassSight, sizes_of}
-use Rattle.track_rule.specs.Steps.{AreAll, keep}
+use Rattle.track_rule.specs.Steps.{keep}
 use Rattle.track_rule.specs.declared.view.Hook.{Hook}
 use Rattle.track_rule.specs.declared.view.Keep.{Keep}
 use Rattle.track_rule.specs.declared.view.Places.{Places}
 use Rattle.track_rule.specs.declared.view.Purpose.{Purpose}
 use Rattle.track_rule.specs.declared.view.Purpose.TheVariants.{Taken, Testing, Shown, For}
-use Rattle.shared_desk.specs.Holding.{CanHold, Holds, IsEmpty, IsHeldFor, OnlyLooks, but_newest, older}
+use Rattle.shared_desk.specs.Holding.{CanHold, Holds, IsHeldFor}
 use Rattle.shared_desk.specs.Rest.{AreSettled, IsAtRest, IsPrepared, IsSettled}
-use Rattle.shared_desk.specs.Sights.{ClerkSight, hold_of, sight_of}
+use Rattle.shared_desk.specs.Sights.{hold_of, sight_of}
 use Rattle.shared_desk.proofs.Known.{known_held, known_later}
 use Rattle.shared_desk.proofs.Lists.{none_of, other_bit}
 use Rattle.shared_desk.proofs.Taking.{rest_looked, saw_looked}

@@ -1,6 +1,6 @@
 //! Clerks of one tracker, one after the other and on threads.
 
-ghost use Rattle.std.specs.Prelude.{◌≡◌, None};
+ghost use Rattle.std.specs.Prelude.{◌≡◌, ◌<◌, None};
 ghost use Rattle.history_book.specs.Places.{HoldsNothing, HoldsOne};
 ghost use Rattle.history_book.specs.Sizes.{AreWithinLimits};
 ghost use Rattle.history_book.specs.WentOn.{IsSamePass};
@@ -19,6 +19,7 @@ mod confirms;
 mod crowd;
 mod flows;
 mod halt;
+mod holds;
 mod kills;
 mod touches;
 
@@ -54,6 +55,7 @@ fn sixteen_buckets() -> Sizes
 fn take_one<G: Gate, R: Wait + Abort>(rt: &R, clerk: &mut Clerk<G>) -> u32
     requires { HoldsNothing (sight_of clerk.old) }
     ensures one { HoldsOne (record { place = result; id = None }) (sight_of clerk.new) }
+    ensures below { result < (sight_of clerk.new).sizes.entries }
     ensures same { IsSamePass (sight_of clerk.old) (sight_of clerk.new) }
     ensures spare { (sight_of clerk.new).spare ≡ (sight_of clerk.old).spare }
 {

@@ -1,4 +1,4 @@
-use Rattle.shared_desk.proofs.HoldingFrames.{can_still, holds_after, looks_again, looks_none}
+use Rattle.shared_desk.proofs.HoldingFrames.{looks_none}
 use Rattle.shared_desk.proofs.holding.hold.Goals as goal
 
 pub tries-init : goal.tries-init
