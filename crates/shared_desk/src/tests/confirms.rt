@@ -7,7 +7,7 @@ ghost use Rattle.history_book.specs.Places.{HoldsNothing, HoldsOne};
 ghost use Rattle.history_book.specs.Sizes.{AreWithinLimits};
 ghost use Rattle.shared_desk.specs.Sights.{sight_of};
 
-use super::flows::{answer, confirm_in, flow, udp};
+use super::flows::{answer, confirm_in, flow, query, udp};
 use super::{sixteen_buckets, sizes, take_one};
 use crate::clerk::Clerk;
 use crate::tracker::Tracker;
@@ -42,17 +42,6 @@ impl Gate for Passages {
             let _ = self.in_confirm.fetch_add(1, SeqCst);
         }
     }
-}
-
-/// The query 10.0.0.1:5000 to 10.0.0.2:53 and its answer.
-pub fn query() -> Flow
-    ensures protocol { is_flow_of_one_protocol result ≡ true }
-    ensures helper { result.helper ≡ false }
-{
-    flow(
-        udp(0x0a00_0001, 5000, 0x0a00_0002, 53),
-        udp(0x0a00_0002, 53, 0x0a00_0001, 5000),
-    )
 }
 
 /// A clerk that keeps nothing confirms a flow that nobody has.

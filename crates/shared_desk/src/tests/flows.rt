@@ -1,19 +1,21 @@
 //! Flows of UDP, and a clerk's way with one of them.
 
-ghost use Rattle.std.specs.Prelude.{◌≡◌, ◌+◌, ◌≤◌, true, false, None, []};
-ghost use Rattle.history_book.specs.Entry.{is_flow_of_one_protocol};
+ghost use Rattle.std.specs.Prelude.{◌≡◌, ◌+◌, ◌≤◌, true, false, Some, None, []};
+ghost use Rattle.history_book.specs.Entry.{is_flow_of_one_protocol, is_helped_entry, is_of_entry};
 ghost use Rattle.history_book.specs.Held.{is_held, without};
 ghost use Rattle.history_book.specs.Places.{HoldsNothing, HoldsOne};
 ghost use Rattle.history_book.specs.WentOn.{IsSamePass};
 ghost use Rattle.proto_rules.specs.declared.PartKind.TheVariants as kind;
 ghost use Rattle.shared_desk.specs.Sights.{sight_of};
 ghost use Rattle.tuple_core.specs.declared.Proto.TheVariants.{Udp};
+ghost use Rattle.tuple_core.specs.declared.Segment.TheVariants as segment;
 
 use crate::clerk::Clerk;
 use ct_io::Gate;
 use history_book::outcome::{ConfirmOutcome, ReleaseOutcome, TakeOutcome};
 use history_book::record::Flow;
 use proto_rules::{Part, PartKind};
+use std::process::Abort;
 use std::sync::Wait;
 use tuple_core::{Proto, Tuple};
 
@@ -50,6 +52,33 @@ pub fn flow(original: Tuple, reply: Tuple) -> Flow
         helper: false,
         master: None,
     }
+}
+
+/// The query 10.0.0.1:5000 to 10.0.0.2:53 and its answer.
+pub fn query() -> Flow
+    ensures protocol { is_flow_of_one_protocol result ≡ true }
+    ensures kind { result.part.kind ≡ kind.Udp }
+    ensures helper { result.helper ≡ false }
+{
+    flow(
+        udp(0x0a00_0001, 5000, 0x0a00_0002, 53),
+        udp(0x0a00_0002, 53, 0x0a00_0001, 5000),
+    )
+}
+
+/// Confirms the query in the one place that the clerk has taken, as the first entry of all, and keeps the place for it.
+pub fn confirm_query<G: Gate, R: Wait + Abort>(rt: &R, clerk: &mut Clerk<G>, place: u32)
+    requires one { HoldsOne (record { place = place; id = None }) (sight_of clerk.old) }
+    requires spare { 1 ≤ (sight_of clerk.old).spare }
+    ensures one { HoldsOne (record { place = place; id = Some 0 }) (sight_of clerk.new) }
+    ensures protocol { is_of_entry segment.Udp 0 (sight_of clerk.new).front ≡ true }
+    ensures unhelped { is_helped_entry 0 (sight_of clerk.new).front ≡ false }
+    ensures spare { (sight_of clerk.old).spare ≤ (sight_of clerk.new).spare + 1 }
+{
+    let ConfirmOutcome::Confirmed { id } = clerk.confirm(rt, place, &query()) else {
+        panic!(rt; "nobody has the flow");
+    };
+    assert_eq!(rt; id, 0);
 }
 
 /// Gives up the one place that the clerk holds, and makes it free where nobody else has it.

@@ -1,41 +1,21 @@
 //! A clerk holds the place of an entry that another clerk confirmed.
 
-ghost use Rattle.std.specs.Prelude.{◌≡◌, ◌+◌, ◌<◌, ◌≤◌, true, false, Some, None};
-ghost use Rattle.history_book.specs.Entry.{is_helped_entry};
-ghost use Rattle.history_book.specs.Places.{HoldsNothing, HoldsOne};
+ghost use Rattle.std.specs.Prelude.{◌≡◌, ◌<◌};
+ghost use Rattle.history_book.specs.Places.{HoldsNothing};
 ghost use Rattle.history_book.specs.WentOn.{IsSamePass};
 ghost use Rattle.shared_desk.specs.Sights.{sight_of};
 
-use super::flows::{flow, udp};
+use super::flows::confirm_query;
 use super::{give_back, sizes, take_one};
 use crate::clerk::Clerk;
 use crate::tracker::Tracker;
 use ct_io::{Gate, NoGate};
 use history_book::event::Why;
-use history_book::outcome::{ConfirmOutcome, HoldOutcome, KillOutcome, PeekOutcome, ReleaseOutcome};
+use history_book::outcome::{HoldOutcome, KillOutcome, PeekOutcome, ReleaseOutcome};
 use history_book::places::one_hold_has_its_id;
 use std::process::Abort;
 use std::sync::Wait;
 use std::test::Fail;
-
-/// Confirms a query of UDP in the one place that the clerk has taken, and keeps the place for the entry, which has not the helper.
-fn confirm_query<G: Gate, R: Wait + Abort>(rt: &R, clerk: &mut Clerk<G>, place: u32)
-    requires one { HoldsOne (record { place = place; id = None }) (sight_of clerk.old) }
-    requires spare { 2 ≤ (sight_of clerk.old).spare }
-    ensures one { HoldsOne (record { place = place; id = Some 0 }) (sight_of clerk.new) }
-    ensures unhelped { is_helped_entry 0 (sight_of clerk.new).front ≡ false }
-    ensures spare { (sight_of clerk.old).spare ≤ (sight_of clerk.new).spare + 1 }
-{
-    let mut query = flow(
-        udp(0x0a00_0001, 5000, 0x0a00_0002, 53),
-        udp(0x0a00_0002, 53, 0x0a00_0001, 5000),
-    );
-    query.helper = false;
-    let ConfirmOutcome::Confirmed { id } = clerk.confirm(rt, place, &query) else {
-        panic!(rt; "nobody has the flow");
-    };
-    assert_eq!(rt; id, 0);
-}
 
 /// A clerk that keeps no place holds that of the first entry, reads the entry, and gives the place up again.
 fn hold_and_read<G: Gate, R: Wait + Abort>(rt: &R, clerk: &mut Clerk<G>, place: u32)

@@ -8,8 +8,8 @@ ghost use Rattle.history_book.specs.Sizes.{AreWithinLimits};
 ghost use Rattle.history_book.specs.WentOn.{IsSamePass};
 ghost use Rattle.shared_desk.specs.Sights.{sight_of};
 
-use super::confirms::{make, query};
-use super::flows::{answer, flow, udp};
+use super::confirms::make;
+use super::flows::{answer, flow, query, udp};
 use super::{sixteen_buckets, sizes};
 use crate::clerk::Clerk;
 use crate::tracker::Tracker;
