@@ -62,7 +62,7 @@ module _ (place id : ℕ) (places : Places) (hooks : List Hook) (h : AreSettled 
   }
 
 -- what is held of the place already is for this entry
-all_agreed : (place id : ℕ) (held : List Keep) → AllByRecursion (λ (k : Keep). IsSettled k.purpose) held → is_taken place held ≡ false
+pub all_agreed : (place id : ℕ) (held : List Keep) → AllByRecursion (λ (k : Keep). IsSettled k.purpose) held → is_taken place held ≡ false
     → ((i : ℕ) → is_kept_for place i held ≡ true → i ≡ id) → AllByRecursion (λ (h : Hold). h.place ≡ place → h.id ≡ Some id) (map hold_of held)
 all_agreed place id [] s untaken agreed = tt
 all_agreed place id (k ∷ ks) s untaken agreed = (

@@ -107,6 +107,28 @@ known_kept s place k there =
     (all_less (is_at place) (without place) refl (λ h hs. refl) (λ (h : Hold). is_owed h.place s.owed ≡ false) s.held k.unowed) k.once
     (omega (arith, k.places, length_less (is_at place) (without place) refl (λ h hs. refl) s.held there))
 
+-- a place that is not held is owed
+owed_apart : (place : ℕ) (owed : List ℕ) (hs : List Hold) → AllByRecursion (λ h. is_at place h ≡ false) hs → AllByRecursion (λ (h : Hold). is_owed h.place owed ≡ false) hs
+    → AllByRecursion (λ (h : Hold). is_owed h.place (place ∷ owed) ≡ false) hs
+owed_apart place owed [] a b = tt
+owed_apart place owed (h ∷ hs) a b = (
+  or_from (place == h.place) (is_owed h.place owed)
+      (ne_eqb place h.place (λ i. false≢true (sym a.0 ∙ eq-eqb h.place place (sym i)))) b.0,
+  owed_apart place owed hs a.1 b.1,
+)
+
+pub known_owing : (s : Sight) (place : ℕ) → IsKnown s → place < s.sizes.entries → is_held place s.held ≡ false → is_owed place s.owed ≡ false
+    → length s.held + length s.owed ≤ 3 → IsKnown (record s { owed = place ∷ s.owed })
+known_owing s place k below unheld unowed few =
+    known_places s s.held (place ∷ s.owed) k k.held k.agreed (All-cons (λ p. p < s.sizes.entries) place s.owed below k.owed)
+    (All-from_recursion (λ (h : Hold). is_owed h.place (place ∷ s.owed) ≡ false) s.held
+    (owed_apart place s.owed s.held (none_each (is_at place) s.held unheld) (recursion_from_All (λ (h : Hold). is_owed h.place s.owed ≡ false) s.held k.unowed)))
+    (AllPairs-cons (λ p q. p ≢ q) place s.owed
+    (All-from_recursion (λ q. place ≢ q) s.owed
+    (each_map (λ q. (q == place) ≡ false) (λ q. place ≢ q) (λ q e i. false≢true (sym e ∙ eq-eqb q place (sym i))) s.owed
+    (none_each (λ q. q == place) s.owed unowed))) k.once)
+    (omega (arith, few))
+
 -- and that was the last one, so the place is owed
 pub known_owes : (s : Sight) (place : ℕ) → IsKnown s → is_held place s.held ≡ true → is_held place (without place s.held) ≡ false
     → place < s.sizes.entries → is_owed place s.owed ≡ false → IsKnown (record s { held = without place s.held; owed = place ∷ s.owed })
@@ -114,22 +136,13 @@ known_owes s place k there gone below unowed =
     let less : IsKnown (record s { held = without place s.held }) = known_kept s place k there in
     known_places s (without place s.held) (place ∷ s.owed) k less.held less.agreed (All-cons (λ p. p < s.sizes.entries) place s.owed below k.owed)
     (All-from_recursion (λ (h : Hold). is_owed h.place (place ∷ s.owed) ≡ false) (without place s.held)
-    (both (without place s.held) (none_each (is_at place) (without place s.held) gone)
+    (owed_apart place s.owed (without place s.held) (none_each (is_at place) (without place s.held) gone)
     (recursion_from_All (λ (h : Hold). is_owed h.place s.owed ≡ false) (without place s.held) less.unowed)))
     (AllPairs-cons (λ p q. p ≢ q) place s.owed
     (All-from_recursion (λ q. place ≢ q) s.owed
     (each_map (λ q. (q == place) ≡ false) (λ q. place ≢ q) (λ q e i. false≢true (sym e ∙ eq-eqb q place (sym i))) s.owed
     (none_each (λ q. q == place) s.owed unowed))) k.once)
     (omega (arith, k.places, length_less (is_at place) (without place) refl (λ h hs. refl) s.held there))
-  where
-    both : (hs : List Hold) → AllByRecursion (λ h. is_at place h ≡ false) hs → AllByRecursion (λ (h : Hold). is_owed h.place s.owed ≡ false) hs
-        → AllByRecursion (λ (h : Hold). is_owed h.place (place ∷ s.owed) ≡ false) hs
-    both [] a b = tt
-    both (h ∷ hs) a b = (
-      or_from (place == h.place) (is_owed h.place s.owed)
-          (ne_eqb place h.place (λ i. false≢true (sym a.0 ∙ eq-eqb h.place place (sym i)))) b.0,
-      both hs a.1 b.1,
-    )
 
 -- a place is owed no longer
 pub known_paid : (s : Sight) (place : ℕ) → IsKnown s → is_owed place s.owed ≡ true → IsKnown (record s { owed = paid place s.owed })

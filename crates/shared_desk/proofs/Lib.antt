@@ -37,3 +37,7 @@ pub mod HoldingEmpty
 pub mod HoldingNames
 pub mod HoldingBack
 pub mod HoldingRest
+pub mod Living
+pub mod Lookups
+pub mod FoundOnce
+pub mod LookedAgain

@@ -90,3 +90,26 @@ turn_is_no_refs z readings none =
     fewer : (own : Bool) (word : ℕ) → (own && not (word == 1)) ≡ false → (own && is_refs z word) ≡ false
     fewer true word e = by_test (word == 1) word (λ k. eqb-true word 1 k) e
     fewer false word e = refl
+
+-- nor are the references of a place among turns and generations
+pub refs_is_no_turn : (z : Sizes) (place : ℕ) (readings : List Reading) → changes (λ word. not (word == refs_word z place)) readings ≡ false
+    → changes (is_gen_or_turn z) readings ≡ false
+refs_is_no_turn z place readings none =
+    any_less (λ (r : Reading). r.own && not (r.word == refs_word z place)) (λ (r : Reading). r.own && is_gen_or_turn z r.word) (λ r e. fewer r.own r.word e) readings none
+  where
+    by_test : (t : Bool) (word : ℕ) → (t ≡ true → word ≡ refs_word z place) → not t ≡ false → is_gen_or_turn z word ≡ false
+    by_test true word is e = ap (is_gen_or_turn z) (is refl) ∙ refs_are_no_turn z place
+    by_test false word is e = cc
+
+    fewer : (own : Bool) (word : ℕ) → (own && not (word == refs_word z place)) ≡ false → (own && is_gen_or_turn z word) ≡ false
+    fewer true word e = by_test (word == refs_word z place) word (λ k. eqb-true word (refs_word z place) k) e
+    fewer false word e = refl
+
+-- a pass that changed no word changed none of these
+pub none_is_no_turn : (test : ℕ → Bool) (readings : List Reading) → changes (λ word. true) readings ≡ false → changes test readings ≡ false
+none_is_no_turn test readings none =
+    any_less (λ (r : Reading). r.own && true) (λ (r : Reading). r.own && test r.word) (λ r e. fewer r.own r.word e) readings none
+  where
+    fewer : (own : Bool) (word : ℕ) → (own && true) ≡ false → (own && test word) ≡ false
+    fewer true word e = cc
+    fewer false word e = refl

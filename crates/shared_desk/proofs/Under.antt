@@ -41,10 +41,10 @@ pub record AreLaws : Type 0 where
   pub one : RecordsAreOfOneProtocol
 
 module _ (z : Sizes) (log : List Event) (legal : is_legal z log ≡ true) (laws : AreLaws) where
-  valid_in : (r : Record) → IsIn r (records_after log) → is_of_one_protocol r ≡ true
+  pub valid_in : (r : Record) → IsIn r (records_after log) → is_of_one_protocol r ≡ true
   valid_in r i = holds_in (λ r. is_of_one_protocol r ≡ true) r (records_after log) (recursion_from_All (λ r. is_of_one_protocol r ≡ true) (records_after log) (laws.one z log (length log) legal)) i
 
-  one_original : (t : Tuple) (q r : Record) → IsIn q (records_after log) → IsIn r (records_after log) → q.original ≡ t → r.original ≡ t → q ≡ r
+  pub one_original : (t : Tuple) (q r : Record) → IsIn q (records_after log) → IsIn r (records_after log) → q.original ≡ t → r.original ≡ t → q ≡ r
   one_original t q r i j e f =
       ⊎_elim (λ (k : q ≡ r). k)
       (λ (k : AreApart q r ⊎ AreApart r q). ⊎_elim (λ (a : AreApart q r). absurd (a.originals (e ∙ sym f))) (λ (a : AreApart r q). absurd (a.originals (f ∙ sym e))) k)

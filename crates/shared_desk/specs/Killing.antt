@@ -1,5 +1,5 @@
 -- The entry for which a place is held is destroyed, under the turn of the place's record.
-use Rattle.std.specs.Prelude.{◌≡◌, ℕ, ◌<◌, ◌≤◌, ◌^◌, true, false, Option, Some, None, List, [], ◌∷◌, ◌++◌, length, slice_get}
+use Rattle.std.specs.Prelude.{◌≡◌, ℕ, ◌<◌, ◌≤◌, ◌^◌, true, false, Some, List, [], ◌∷◌, ◌++◌, length, slice_get}
 use Rattle.history_book.specs.History.{is_legal}
 use Rattle.history_book.specs.Legality.{is_reason, reason_moment_of}
 use Rattle.history_book.specs.State.{record_of}

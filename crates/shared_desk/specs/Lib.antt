@@ -13,3 +13,5 @@ pub mod Touching
 pub mod Killing
 pub mod Holding
 pub mod TestCrew
+pub mod Lookups
+pub mod FindsOnce

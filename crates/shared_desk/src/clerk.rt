@@ -2,7 +2,7 @@
 
 ghost use Rattle.std.specs.Prelude.{◌≡◌, ◌+◌, ◌<◌, ◌≤◌, ◌^◌, true, false, length, OnOk, OnErr};
 ghost use Rattle.entry_pool.specs.GoesOn.{ReadingsStand};
-ghost use Rattle.history_book.specs.Desk.{ConfirmSays, CountSays, HoldSays, IsReady, KillSays, PeekSays, RecycleSays, ReleaseSays, TouchSays};
+ghost use Rattle.history_book.specs.Desk.{ConfirmSays, CountSays, FindSays, HoldSays, IsReady, KillSays, PeekSays, RecycleSays, ReleaseSays, TouchSays};
 ghost use Rattle.history_book.specs.Entry.{is_flow_of_one_protocol, is_helped_entry, is_of_entry, suits_entry};
 ghost use Rattle.history_book.specs.Held.{held_id, is_held, is_held_for_entry, is_owed, is_taken};
 ghost use Rattle.history_book.specs.Join.{CanJoin, Joins};
@@ -12,7 +12,8 @@ ghost use Rattle.history_book.specs.Places.{HoldsNothing};
 ghost use Rattle.history_book.specs.Sight.{IsKnown};
 ghost use Rattle.history_book.specs.Split.{CanSplit, Splits};
 ghost use Rattle.shared_desk.specs.Calls.{TakeSays};
-ghost use Rattle.shared_desk.specs.Changed.{ChangesNone, is_gen_or_turn};
+ghost use Rattle.shared_desk.specs.Changed.{ChangesNone, is_gen_or_other_turn, is_gen_or_turn};
+ghost use Rattle.shared_desk.specs.FindsOnce.{FindOnceSays, LookSays};
 ghost use Rattle.shared_desk.specs.Sights.{sight_of};
 ghost use Rattle.track_rule.specs.History.{events_in, live_in};
 ghost use Rattle.track_rule.specs.Sights.{sizes_of};
@@ -20,25 +21,29 @@ ghost use Rattle.track_rule.specs.Sights.{sizes_of};
 use crate::confirm::confirm;
 use crate::entry::{kill, peek, touch};
 use crate::holding::hold;
+use crate::lookup::find_once;
 use crate::noting::{note_confirm, note_event};
 use crate::touching::Packet;
 use crate::tracker::Spot;
+use bucket_table::finding::FindOnce;
 use ct_io::Gate;
 use entry_pool::hold::release;
 use entry_pool::take::{recycle, take};
 use history_book::event::Why;
 use history_book::laws::states_stay;
 use history_book::outcome::{
-    ConfirmOutcome, HoldOutcome, KillOutcome, LiveCount, PeekOutcome, ReleaseOutcome, TakeOutcome,
-    TouchOutcome,
+    ConfirmOutcome, FindOutcome, HoldOutcome, KillOutcome, LiveCount, PeekOutcome, ReleaseOutcome,
+    TakeOutcome, TouchOutcome,
 };
 use history_book::record::Flow;
 use history_book::report::Notes;
+use history_book::sight_laws::seeing_adds_up;
 use std::alloc::Global;
 use std::marker::Model;
 use std::sync::Wait;
+use std::thread;
 use track_rule::pass::Pass;
-use tuple_core::{Direction, NoMemory, Segment};
+use tuple_core::{Direction, NoMemory, Segment, Tuple};
 
 /// One thread's handle on the tracker: its pass, with the list of its own events. Contracts see it as the pass, and for how many
 /// further events it has room.
@@ -160,6 +165,68 @@ impl<'t, G: Gate> Clerk<'t, G> {
         }
     }
 
+    /// Looks once for what is live under a tuple, the original one first, and holds its place. It does not wait, and shuts no bucket.
+    pub fn find_once(&mut self, t: &Tuple) -> FindOnce
+        requires { length (sight_of self.old).held + length (sight_of self.old).owed ≤ 3 }
+        ensures says { FindOnceSays result t.now self.old self.new }
+        ensures own { ChangesNone (is_gen_or_turn (sizes_of self.old.pass)) self.old self.new }
+        ensures stand { ReadingsStand self.old.pass self.new.pass }
+        ensures knows { IsKnown (sight_of self.new) }
+    {
+        find_once(&mut self.pass, t)
+    }
+
+    /// Looks once for what is live under a tuple, and makes the place free again that it then owes. None is that another pass moved
+    /// what it looked at.
+    fn look<R: Wait>(&mut self, rt: &R, t: &Tuple) -> Option<FindOutcome>
+        requires { length (sight_of self.old).held + length (sight_of self.old).owed ≤ 3 }
+        ensures says { LookSays result t.now (sight_of self.old) (sight_of self.new) }
+        ensures own { ChangesNone (is_gen_or_other_turn (sizes_of self.old.pass)) self.old self.new }
+        ensures stand { ReadingsStand self.old.pass self.new.pass }
+        ensures knows { IsKnown (sight_of self.new) }
+    {
+        seeing_adds_up();
+        match self.find_once(t) {
+            FindOnce::Found {
+                place,
+                id,
+                direction,
+                at,
+            } => Some(FindOutcome::Found {
+                place,
+                id,
+                direction,
+                at,
+            }),
+            FindOnce::Absent { at } => Some(FindOutcome::Absent { at }),
+            FindOnce::Moved { owed, .. } => {
+                if let Some(place) = owed {
+                    self.recycle(rt, place);
+                }
+                None
+            }
+        }
+    }
+
+    /// Looks for what is live under a tuple, the original one first, and holds its place. It looks again where another pass moved what
+    /// it looked at, and makes each place free again that it then owes: for that it may wait for the turn of the free list.
+    pub fn find<R: Wait>(&mut self, rt: &R, t: &Tuple) -> FindOutcome
+        requires { length (sight_of self.old).held + length (sight_of self.old).owed ≤ 3 }
+        ensures says { FindSays t.now (sight_of self.old) (sight_of self.new) result }
+        ensures own { ChangesNone (is_gen_or_other_turn (sizes_of self.old.pass)) self.old self.new }
+        ensures stand { ReadingsStand self.old.pass self.new.pass }
+        ensures knows { IsKnown (sight_of self.new) }
+    {
+        seeing_adds_up();
+        'looks: for _ in rt.forever() {
+            if let Some(outcome) = self.look(rt, t) {
+                return outcome;
+            }
+            thread::yield_now();
+        }
+        unreachable!()
+    }
+
     /// Gives up one reference to a place, without waiting.
     pub fn release_now(&mut self, place: u32) -> ReleaseOutcome
         requires { is_held place (sight_of self.old).held ≡ true }
@@ -264,6 +331,7 @@ impl<'t, G: Gate> Clerk<'t, G> {
     pub fn recycle<R: Wait>(&mut self, rt: &R, place: u32)
         requires { is_owed place (sight_of self.old).owed ≡ true }
         ensures says { RecycleSays place (sight_of self.old) (sight_of self.new) }
+        ensures own { ChangesNone (is_gen_or_other_turn (sizes_of self.old.pass)) self.old self.new }
         ensures stand { ReadingsStand self.old.pass self.new.pass }
         ensures knows { IsKnown (sight_of self.new) }
     {

@@ -8,6 +8,7 @@ mod entry;
 mod holding;
 mod killing;
 pub mod laws;
+mod lookup;
 mod noting;
 mod rival;
 #[cfg(test)]

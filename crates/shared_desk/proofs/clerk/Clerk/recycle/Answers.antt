@@ -1,7 +1,10 @@
 use Rattle.std.proofs.Common.{ap, ◌∙◌}
 use Rattle.history_book.specs.Held.{is_owed}
 use Rattle.shared_desk.specs.Sights.{ClerkSight}
+use Rattle.track_rule.specs.Readings.{added}
+use Rattle.track_rule.specs.Sights.{sizes_of}
 use Rattle.shared_desk.proofs.GivingUp.{recycle_says, rest_recycled}
+use Rattle.shared_desk.proofs.LookedAgain.{recycled_less}
 use Rattle.shared_desk.proofs.clerk.Clerk.recycle.Goals as goal
 
 pub invariant_of-self : goal.invariant_of-self
@@ -16,3 +19,7 @@ returns-clause-says g c =
 
 pub returns-clause-knows : goal.returns-clause-knows
 returns-clause-knows g c = (invariant_of-self g c).knows
+
+pub returns-clause-own : goal.returns-clause-own
+returns-clause-own g c =
+    rw (← c.self.view_is) (recycled_less (sizes_of c.self.inside.pass) c.args.place (added c.self.inside.pass.view c.recycle.new.pass.view) c.recycle.ensures.own)

@@ -1,0 +1,17 @@
+use Rattle.history_book.specs.Desk.{SamePlaces}
+use Rattle.history_book.specs.WentOn.{Saw}
+use Rattle.entry_pool.specs.GoesOn.{ReadingsStand}
+use Rattle.shared_desk.specs.Changed.{ChangesNone, is_gen_or_other_turn}
+use Rattle.shared_desk.specs.Sights.{sight_of}
+use Rattle.track_rule.specs.Sights.{sizes_of}
+use Rattle.shared_desk.proofs.clerk.Clerk.find.Given as goal
+
+abbrev pub invariant-looks : goal.invariant-looks
+invariant-looks g l = record {
+  next : (goal.iterator-looks g).can_next l.iterator';
+  finite : (goal.iterator-looks g).is_finite l.iterator';
+  saw : Saw (sight_of l.initial.self) (sight_of l.self);
+  same : SamePlaces (sight_of l.initial.self) (sight_of l.self);
+  own : ChangesNone (is_gen_or_other_turn (sizes_of l.initial.self.pass)) l.initial.self l.self;
+  stand : ReadingsStand l.initial.self.pass l.self.pass;
+}

@@ -1,0 +1,34 @@
+//! Looking for what is live under a tuple, without waiting.
+
+ghost use Rattle.std.specs.Prelude.{◌≡◌, []};
+ghost use Rattle.bucket_table.specs.Finding.{CanTest};
+ghost use Rattle.shared_desk.specs.Lookups.{LooksOnce};
+
+use crate::clerk::events_in;
+use bucket_table::finding;
+use bucket_table::finding::FindOnce;
+use history_book::laws::{
+    live_records_are_confirmed, records_are_apart, records_are_of_one_protocol,
+    same_tuple_is_equality,
+};
+use track_rule::pass::Pass;
+use tuple_core::{Tuple, is_valid, words_determine_the_tuple};
+
+/// Looks once for what is live under a tuple, the original one first, and holds its place. Nothing is under one that is not valid.
+pub fn find_once(pass: &mut Pass, t: &Tuple) -> FindOnce
+    requires shut { pass.old.view.buckets.shut ≡ [] }
+    requires can { CanTest pass.old }
+    ensures { LooksOnce result t.now pass.old pass.new }
+{
+    words_determine_the_tuple();
+    same_tuple_is_equality();
+    records_are_apart();
+    records_are_of_one_protocol();
+    live_records_are_confirmed();
+    if is_valid(t) {
+        return finding::find_once(pass, t);
+    }
+    FindOnce::Absent {
+        at: events_in(pass.history_load()),
+    }
+}
