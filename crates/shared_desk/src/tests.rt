@@ -21,6 +21,8 @@ mod flows;
 mod halt;
 mod holds;
 mod kills;
+mod lookups;
+mod readers;
 mod touches;
 
 /// A pool of two places, for two passes.

@@ -182,15 +182,15 @@ fn four_confirm<R: Threads + Wait + Sync>(
 
 /// The clerks of four threads.
 #[derive(Drop)]
-struct Crew<'t> {
-    one: Clerk<'t, NoGate>,
-    two: Clerk<'t, NoGate>,
-    three: Clerk<'t, NoGate>,
-    four: Clerk<'t, NoGate>,
+pub struct Crew<'t> {
+    pub one: Clerk<'t, NoGate>,
+    pub two: Clerk<'t, NoGate>,
+    pub three: Clerk<'t, NoGate>,
+    pub four: Clerk<'t, NoGate>,
 }
 
 /// The first clerk of a tracker, and three to which it hands over a share each.
-fn crew_of<'t>(tracker: &'t Tracker, spot: Spot) -> Crew<'t>
+pub fn crew_of<'t>(tracker: &'t Tracker, spot: Spot) -> Crew<'t>
     requires take_up { CanTakeUp tracker.now (sight_of spot) }
     requires whole { IsWhole (sight_of spot) }
     ensures one { IsNew tracker.now (sight_of result.one) }
@@ -245,15 +245,15 @@ fn all_confirm<'t, R: Threads + Wait + Sync>(
 
 /// What is left of the four clerks: the first one's spot, and the events of the others.
 #[derive(Drop)]
-struct Left {
-    spot: Spot,
-    second: Notes,
-    third: Notes,
-    fourth: Notes,
+pub struct Left {
+    pub spot: Spot,
+    pub second: Notes,
+    pub third: Notes,
+    pub fourth: Notes,
 }
 
 /// The first clerk of a tracker takes in the others, and is left.
-fn joined(tracker: &Tracker, crew: Crew) -> Left
+pub fn joined(tracker: &Tracker, crew: Crew) -> Left
     requires one { IsMember tracker.now (sight_of crew.one) }
     requires two { IsMember tracker.now (sight_of crew.two) }
     requires three { IsMember tracker.now (sight_of crew.three) }

@@ -11,6 +11,7 @@ ghost use Rattle.tuple_core.specs.declared.Proto.TheVariants.{Udp};
 ghost use Rattle.tuple_core.specs.declared.Segment.TheVariants as segment;
 
 use crate::clerk::Clerk;
+use bucket_table::finding::FindOnce;
 use ct_io::Gate;
 use history_book::outcome::{ConfirmOutcome, ReleaseOutcome, TakeOutcome};
 use history_book::record::Flow;
@@ -82,7 +83,7 @@ pub fn confirm_query<G: Gate, R: Wait + Abort>(rt: &R, clerk: &mut Clerk<G>, pla
 }
 
 /// Gives up the one place that the clerk holds, and makes it free where nobody else has it.
-fn give_up<G: Gate, R: Wait>(rt: &R, clerk: &mut Clerk<G>, place: u32)
+pub fn give_up<G: Gate, R: Wait>(rt: &R, clerk: &mut Clerk<G>, place: u32)
     requires held { is_held place (sight_of clerk.old).held ≡ true }
     requires only { without place (sight_of clerk.old).held ≡ [] }
     requires owed { (sight_of clerk.old).owed ≡ [] }
@@ -128,4 +129,22 @@ pub fn answer<G: Gate, R: Wait>(rt: &R, clerk: &mut Clerk<G>, flow: &Flow) -> Op
         TakeOutcome::Taken { place } => Some(confirm_in(rt, clerk, place, flow)),
         TakeOutcome::Full { .. } => None,
     }
+}
+
+/// Looks once for a tuple, and gives up what it found.
+pub fn look<G: Gate, R: Wait>(rt: &R, clerk: &mut Clerk<G>, tuple: &Tuple) -> FindOnce
+    requires nothing { HoldsNothing (sight_of clerk.old) }
+    ensures nothing { HoldsNothing (sight_of clerk.new) }
+    ensures same { IsSamePass (sight_of clerk.old) (sight_of clerk.new) }
+{
+    let outcome = clerk.find_once(tuple);
+    match outcome {
+        FindOnce::Found { place, .. } => give_up(rt, clerk, place),
+        FindOnce::Moved {
+            owed: Some(place),
+            ..
+        } => clerk.recycle(rt, place),
+        FindOnce::Moved { owed: None, .. } | FindOnce::Absent { .. } => {}
+    }
+    outcome
 }

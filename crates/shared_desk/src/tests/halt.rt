@@ -6,10 +6,11 @@ ghost use Rattle.history_book.specs.Places.{HoldsNothing};
 ghost use Rattle.history_book.specs.Sizes.{AreWithinLimits};
 ghost use Rattle.shared_desk.specs.Sights.{sight_of};
 
-use super::flows::{answer, flow, udp};
+use super::flows::{answer, flow, look, udp};
 use super::sixteen_buckets;
 use crate::clerk::Clerk;
 use crate::tracker::Tracker;
+use bucket_table::finding::FindOnce;
 use ct_io::{Crossing, Gate};
 use history_book::outcome::{ConfirmOutcome, LiveCount};
 use history_book::record::Flow;
@@ -22,7 +23,7 @@ use std::thread::{Threads, join_mut, yield_now};
 use tuple_core::bucket_of;
 
 /// How often a worker looks for what it waits for, at most.
-const LOOKS: u32 = 5_000_000;
+const LOOKS: u32 = 1 << 24;
 
 /// Whether it came to pass, which is looked for a bounded number of times.
 fn comes(flag: &AtomicU64) -> bool {
@@ -68,11 +69,12 @@ impl Gate for Halt {
 struct Seen {
     outcome: Option<ConfirmOutcome>,
     count: LiveCount,
+    found: FindOnce,
     /// The first one came in before, and had not gone out after.
     meanwhile: bool,
 }
 
-/// Waits until the other clerk is in its confirm, confirms a flow, counts, and lets the other go.
+/// Waits until the other clerk is in its confirm, confirms a flow, counts, looks for the flow, and lets the other go.
 fn confirm_meanwhile<R: Wait>(rt: &R, clerk: &mut Clerk<Halt>, gate: &Halt, flow: &Flow) -> Seen
     requires nothing { HoldsNothing (sight_of clerk.old) }
     requires protocol { is_flow_of_one_protocol flow.now ≡ true }
@@ -81,11 +83,13 @@ fn confirm_meanwhile<R: Wait>(rt: &R, clerk: &mut Clerk<Halt>, gate: &Halt, flow
     let inside = comes(&gate.inside);
     let outcome = answer(rt, clerk, flow);
     let count = clerk.count_now();
+    let found = look(rt, clerk, &flow.original);
     let outside = gate.outside.load(SeqCst);
     gate.let_go.store(1, SeqCst);
     Seen {
         outcome,
         count,
+        found,
         meanwhile: inside && outside == 0,
     }
 }
@@ -136,8 +140,8 @@ fn query_from(port: u16) -> Flow
     )
 }
 
-/// A clerk in the middle of a confirm holds nobody up whose flow is of other buckets, and no count. Where the threads ran so
-/// that the first clerk stood in its confirm all the while, the second one's entry is the first.
+/// A clerk in the middle of a confirm holds nobody up whose flow is of other buckets, no count, and no lookup there. Where the threads
+/// ran so that the first clerk stood in its confirm all the while, the second one's entry is the first, and is found.
 #[test]
 fn a_confirm_holds_up_no_other_buckets(rt: HostRuntime) -> Result<(), Fail> {
     let first = query_from(5000);
@@ -159,6 +163,7 @@ fn a_confirm_holds_up_no_other_buckets(rt: HostRuntime) -> Result<(), Fail> {
     assert!(rt; matches!((id, other), (0, 1) | (1, 0)));
     if seen.meanwhile {
         assert_eq!(rt; (other, seen.count.live, seen.count.at), (0, 1, 1));
+        assert!(rt; matches!(seen.found, FindOnce::Found { id: 0, at: 1, .. }));
     }
     Ok(())
 }
