@@ -354,16 +354,16 @@ pub met_zero : (g : Goal) (place : ℕ) (met : Direction) (v u w : PassSight) (r
 met_zero g place met v u w (Found p id direction at) zero again = absurd again
 met_zero g place met v u w (Absent at) zero again = absurd again
 met_zero g place met v u w (Moved word was now o) zero again = inl (
-  subst (λ (k : Option ℕ). TestMoved g (link_of met place) place word was now k v.view.places.held v w) (sym again.0) (record {
-    between = u;
-    tests = only_tests place 0 v u zero.only;
-    held = ap (λ (x : PassSight). x.view.places.held) zero.only.same;
-    owed_is = ap (λ (x : PassSight). x.view.places.owed) zero.only.same;
-    owes = tt;
-    lost = λ here h.
-        note_lost g (link_of met place) place true v.view u.view (ap (λ (x : PassSight). x.view.walk) zero.only.same) h refl here;
-    reads = again.1;
-  }))
+    subst (λ (k : Option ℕ). TestMoved g (link_of met place) place word was now k v.view.places.held v w) (sym again.0) (record {
+      between = u;
+      tests = only_tests place 0 v u zero.only;
+      held = ap (λ (x : PassSight). x.view.places.held) zero.only.same;
+      owed_is = ap (λ (x : PassSight). x.view.places.owed) zero.only.same;
+      owes = tt;
+      lost = λ here h.
+          note_lost g (link_of met place) place true v.view u.view (ap (λ (x : PassSight). x.view.walk) zero.only.same) h refl here;
+      reads = again.1;
+    }))
 
 pub met_moved : (g : Goal) (place : ℕ) (met : Direction) (v w : PassSight) (word was now : ℕ) → word ≡ refs_word (sizes_of v) place → ReadsTwo place was now v w
     → MeetSays (Moved word was now None) g place met v w

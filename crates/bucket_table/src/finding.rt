@@ -30,7 +30,9 @@ pub enum FindOnce {
         at: u64,
     },
     /// Nothing was live under the tuple at this point.
-    Absent { at: u64 },
+    Absent {
+        at: u64,
+    },
     /// Another pass changed this word from one of these values to the other meanwhile; or it is the generation of the
     /// tuple's bucket, which was odd, and both are that. The pass owes this place now, if there is one.
     Moved {
@@ -172,13 +174,7 @@ fn load_again(pass: &mut Pass, sizes: &Sizes, goal: &Goal, owed: Option<u32>) ->
 }
 
 /// Tests a place that is held for it.
-fn test(
-    pass: &mut Pass,
-    sizes: &Sizes,
-    goal: &Goal,
-    place: u32,
-    met: Direction,
-) -> FindOnce
+fn test(pass: &mut Pass, sizes: &Sizes, goal: &Goal, place: u32, met: Direction) -> FindOnce
     requires limits { AreWithinLimits sizes.now }
     requires sizes { sizes.now ≡ sizes_of pass.old }
     requires bucket { goal.now.bucket < (sizes_of pass.old).buckets }

@@ -1,20 +1,15 @@
 -- A clerk that touched the entry for which it holds a place.
-use Rattle.std.specs.List.{slice_get}
 use Rattle.std.specs.Prelude.{◌^◌}
-use Rattle.std.proofs.Common.{◌≡◌, ℕ, ◌+◌, ◌-◌, ◌<◌, ◌≤◌, true, Option, Some, None, List, [], ◌∷◌, ◌++◌, length, map, refl, sym, ap, subst, ◌∙◌, arith, length-append, append_assoc}
-use Rattle.std.proofs.lemmas.List.Elements.{All-append, All-cons, All-nil}
-use Rattle.std.proofs.lemmas.Option.{slice_get_within}
+use Rattle.std.proofs.Common.{◌≡◌, ℕ, ◌-◌, ◌≤◌, true, Option, Some, None, List, [], ◌∷◌, ◌++◌, length, map, refl, sym, ap, subst, ◌∙◌, arith, length-append}
 use Rattle.room_list.specs.Roomed.{Roomed}
 use Rattle.proto_rules.specs.declared.Outcome.{Outcome}
 use Rattle.proto_rules.specs.declared.Outcome.TheVariants as outcome
 use Rattle.history_book.specs.Desk.{IsRecord, Leaves, StepGives, TouchSays}
 use Rattle.history_book.specs.Entry.{is_of_entry}
 use Rattle.history_book.specs.Held.{held_id, is_held_for_entry}
-use Rattle.history_book.specs.History.{after, is_legal}
+use Rattle.history_book.specs.History.{after}
 use Rattle.history_book.specs.Laws.{StatesStay}
-use Rattle.history_book.specs.Point.{StartsWith}
-use Rattle.history_book.specs.Sight.{IsKnown, Sight, notes_from}
-use Rattle.history_book.specs.State.{State, record_of}
+use Rattle.history_book.specs.State.{record_of}
 use Rattle.history_book.specs.declared.event.Event.{Event}
 use Rattle.history_book.specs.declared.event.Note.{Note}
 use Rattle.history_book.specs.declared.outcome.TouchOutcome.{TouchOutcome}

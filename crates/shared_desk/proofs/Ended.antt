@@ -1,31 +1,23 @@
 -- How the parts of ending an entry join: its buckets are locked and given back, and the table's reference is let go.
-use Rattle.std.proofs.Common.{◌≡◌, ℕ, ◌<◌, Bool, true, false, Option, Some, None, List, [], ◌∷◌, ◌++◌, length, refl, sym, ap, subst, ◌∙◌}
-use Rattle.std.specs.Prelude.{◌==◌, ◌||◌, if◌then◌else◌}
+use Rattle.std.proofs.Common.{◌≡◌, ℕ, ◌<◌, Bool, true, false, [], ◌∷◌, ◌++◌, refl, sym, ap, subst, ◌∙◌}
+use Rattle.std.specs.Prelude.{◌||◌, if◌then◌else◌}
 use Rattle.std.proofs.lemmas.Bool.{eq-eqb}
 use Rattle.history_book.specs.History.{is_legal}
 use Rattle.history_book.specs.declared.event.Why.{Why}
 use Rattle.history_book.specs.declared.record.Flow.{Flow}
 use Rattle.history_book.specs.declared.record.Record.{Record}
-use Rattle.history_book.specs.declared.sizes.Sizes.{Sizes}
-use Rattle.track_rule.specs.Commits.{HasItsTurn}
-use Rattle.track_rule.specs.Free.{is_among, unlisted}
+use Rattle.track_rule.specs.Free.{is_among}
 use Rattle.track_rule.specs.KillSteps.{without_its}
-use Rattle.track_rule.specs.Layout.{refs_word}
 use Rattle.track_rule.specs.Links.{is_up}
-use Rattle.track_rule.specs.Readings.{stored}
-use Rattle.track_rule.specs.Records.{has_hand}
 use Rattle.track_rule.specs.References.{is_held}
 use Rattle.track_rule.specs.Sights.{PassSight, sizes_of}
 use Rattle.track_rule.specs.Steps.{AreAll, LowersRefs, hooks_else, let_go, let_go_of}
-use Rattle.track_rule.specs.TouchSteps.{known_phase, known_record}
-use Rattle.track_rule.specs.declared.view.HeldBuckets.{HeldBuckets}
-use Rattle.track_rule.specs.declared.view.Hook.{Hook}
 use Rattle.track_rule.specs.declared.view.Middle.TheVariants.{Calm}
 use Rattle.track_rule.specs.declared.view.View.{View}
 use Rattle.bucket_table.specs.Locks.{AreShut, AreWhole, Buckets, UnlocksTwo, open_both}
-use Rattle.shared_desk.specs.Commit.{is_any_up, seen_with}
+use Rattle.shared_desk.specs.Commit.{seen_with}
 use Rattle.shared_desk.specs.Confirm.{IsLocked, LocksFlow}
-use Rattle.shared_desk.specs.Killing.{Destroys, EndsEntry, HasEnded, IsClearOf, KnowsRecord, dead_commit, destroy_of, flow_of}
+use Rattle.shared_desk.specs.Killing.{Destroys, EndsEntry, HasEnded, KnowsRecord, dead_commit, destroy_of, flow_of}
 use Rattle.shared_desk.proofs.Entering.{taken_front}
 use Rattle.shared_desk.proofs.Linking.{none_up, same_shuts}
 use Rattle.shared_desk.proofs.Opening.{all_open, whole_from}

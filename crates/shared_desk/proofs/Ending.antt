@@ -1,7 +1,7 @@
 -- An entry is destroyed while both buckets of its tuples are locked.
-use Rattle.std.proofs.Common.{◌≡◌, ◌≢◌, ℕ, ◌<◌, Bool, true, false, Option, Some, None, List, [], ◌∷◌, ◌++◌, length, map, refl, sym, ap, subst, ◌∙◌, arith}
-use Rattle.std.specs.Prelude.{◌==◌, ◌&&◌, ◌||◌, if◌then◌else◌}
-use Rattle.std.proofs.lemmas.Bool.{eq-eqb, ne_eqb, or_right}
+use Rattle.std.proofs.Common.{◌≡◌, ℕ, ◌<◌, Bool, true, false, Some, None, List, [], ◌∷◌, ◌++◌, length, map, refl, sym, ap, subst, ◌∙◌, arith}
+use Rattle.std.specs.Prelude.{◌==◌, if◌then◌else◌}
+use Rattle.std.proofs.lemmas.Bool.{eq-eqb, ne_eqb}
 use Rattle.std.proofs.lemmas.List.Elements.{recursion_from_All}
 use Rattle.history_book.specs.History.{is_legal}
 use Rattle.history_book.specs.Laws.{RecordsAreOfOneProtocol}
@@ -13,21 +13,17 @@ use Rattle.history_book.specs.declared.event.Event.TheVariants.{Destroy}
 use Rattle.history_book.specs.declared.event.Why.{Why}
 use Rattle.history_book.specs.declared.record.Record.{Record}
 use Rattle.history_book.specs.declared.sizes.Sizes.{Sizes}
-use Rattle.tuple_core.specs.Tuple.{is_valid}
-use Rattle.tuple_core.specs.declared.Tuple.{Tuple}
 use Rattle.track_rule.specs.BucketSteps.{lower, taken_from, without_link}
 use Rattle.track_rule.specs.Chains.{chain_in, pair_of}
-use Rattle.track_rule.specs.CommitSteps.{told_in}
 use Rattle.track_rule.specs.History.{records_after, state_after}
 use Rattle.track_rule.specs.KillSteps.{CanDestroy, HasDestroy, HasDestroyed, MayDestroy, MayDie, OfDying, ShowsDead, destroy_in, destroyed, loose_hook, shown_dead, without_its}
-use Rattle.track_rule.specs.Links.{hook_of, is_raised, is_up}
+use Rattle.track_rule.specs.Links.{hook_of, is_up}
 use Rattle.track_rule.specs.Sights.{PassSight, sizes_of}
 use Rattle.track_rule.specs.Steps.{AreAll, hooks_else}
 use Rattle.track_rule.specs.TouchSteps.{known_record}
 use Rattle.track_rule.specs.declared.view.HeldBuckets.{HeldBuckets}
 use Rattle.track_rule.specs.declared.view.Hook.{Hook}
 use Rattle.track_rule.specs.declared.view.Middle.TheVariants.{Dying}
-use Rattle.track_rule.specs.declared.view.Shut.{Shut}
 use Rattle.track_rule.specs.declared.view.View.{View}
 use Rattle.bucket_table.specs.Following.{bucket_in}
 use Rattle.bucket_table.specs.LockedChain.{ChangesBuckets, IsReady, has_bucket, hook_bucket, original_link, reply_link, unlinked_buckets}
@@ -39,7 +35,7 @@ use Rattle.shared_desk.specs.Tuples.{pair_at}
 use Rattle.shared_desk.proofs.Entering.{either_shut, has_first, has_second, is_ready, told_shut, valid_original, valid_reply}
 use Rattle.shared_desk.proofs.Linking.{none_up, same_buckets, same_shuts}
 use Rattle.shared_desk.proofs.Lowering.{both_down, else_all, else_gone, lowered_else}
-use Rattle.shared_desk.proofs.Members.{IsIn, find_in, holds_in}
+use Rattle.shared_desk.proofs.Members.{find_in, holds_in}
 
 -- a live record is of one protocol
 of_protocol : RecordsAreOfOneProtocol → (z : Sizes) (log : List Event) (id : ℕ) (r : Record) → is_legal z log ≡ true → record_of id (state_after log) ≡ Some r

@@ -1,49 +1,22 @@
 -- Whether no live entry has a place, seen under the turn of the place's record.
-use Rattle.std.proofs.Common.{◌≡◌, ℕ, ◌<◌, ◌≤◌, Option, Some, None, List, [], ◌∷◌, ◌++◌, sym, ap, subst, ◌∙◌, arith, ⊎_elim, length}
-use Rattle.std.proofs.lemmas.Bool.{cases_lt}
+use Rattle.std.proofs.Common.{◌≡◌, ℕ, Option, Some, None, List, [], ◌∷◌, ◌++◌, sym, ap, subst, ◌∙◌, length}
 use Rattle.atomic_table.specs.Table.{rest}
 use Rattle.history_book.specs.Point.{StartsWith}
 use Rattle.history_book.specs.declared.event.Event.{Event}
-use Rattle.track_rule.specs.History.{events_in, records_after}
+use Rattle.track_rule.specs.History.{records_after}
 use Rattle.track_rule.specs.Layout.{turn_word}
-use Rattle.track_rule.specs.PhaseSteps.{LoadsPhase}
 use Rattle.track_rule.specs.Phases.{of_place}
 use Rattle.track_rule.specs.Readings.{stored}
 use Rattle.track_rule.specs.Sights.{PassSight}
-use Rattle.track_rule.specs.Steps.{AreAll, Looks}
+use Rattle.track_rule.specs.Steps.{AreAll}
 use Rattle.track_rule.specs.Sums.{total}
 use Rattle.track_rule.specs.TurnSteps.{gave_turn}
-use Rattle.track_rule.specs.declared.view.View.{View}
 use Rattle.shared_desk.specs.Commit.{HasTurn}
 use Rattle.shared_desk.specs.Holding.{Finds, IsEmpty, OnlyLooks}
 use Rattle.shared_desk.specs.Looking.{HasRecord, IsFreeFor}
-use Rattle.shared_desk.proofs.HoldingFrames.{all_before, history_looks, looks_again, looks_from, starts_same}
+use Rattle.shared_desk.proofs.HoldingFrames.{looks_from}
 use Rattle.shared_desk.proofs.Looking.{still_has}
 use Rattle.shared_desk.proofs.Touched.{told}
-
-module _ (place n : ℕ) (v u : PassSight) (h : HasRecord place v) (loads : LoadsPhase place v.view n u.view) (kept : u ≡ record v { view = u.view }) where
-  pub phase_looks : OnlyLooks v u
-  phase_looks =
-      looks_from v u v.view.seen.front u.view.walk u.view.readings (kept ∙ ap (λ (k : View). record v { view = k }) (loads.settled h.closed))
-      (starts_same v.view.seen.front)
-
-  -- the place is LIVE of none
-  module _ (low : n < 3) (word at : ℕ) (w : PassSight) (looks : Looks u.view word w.view) (kept' : w ≡ record u { view = w.view })
-      (point : at ≡ events_in word) where
-    low_hand : h.hand.phase < 3
-    low_hand =
-        ⊎_elim (λ (e : 2 < h.hand.phase). absurd (omega (arith, low, (loads.hand h.hand h.known h.its_place).0 e, e)))
-        (λ (e : h.hand.phase ≤ 2). omega (arith, e)) (cases_lt 2 h.hand.phase)
-
-    pub empty_under : IsEmpty place at v w
-    empty_under = record {
-      looks = looks_again v u w phase_looks (history_looks word u w looks kept');
-      all = all_before v u w.view.seen.front phase_looks looks.all;
-      point = point ∙ looks.events;
-      unused = subst (λ (p : ℕ). total (of_place p) (records_after w.view.seen.front) ≡ 0) h.its_place
-          (looks.empty h.hand (ap (λ (k : PassSight). k.view.commit.hand) phase_looks.same ∙ h.known)
-          (ap (λ (k : PassSight). k.view.commit.middle) phase_looks.same ∙ h.calm) low_hand);
-    }
 
 pub has_found : (place : ℕ) (o : Option ℕ) (v w : PassSight) → HasRecord place v → Finds place o v w → HasRecord place w
 has_found place (Some at) v w h f = still_has place v w h f.looks.same

@@ -1,5 +1,5 @@
 -- A pass that only looked: what it knew before, and what it knows after.
-use Rattle.std.proofs.Common.{◌≡◌, ℕ, ◌+◌, ◌<◌, ◌≤◌, Option, Some, None, List, [], ◌∷◌, ◌++◌, length, refl, sym, ap, subst, ◌∙◌, append-nil, append_assoc}
+use Rattle.std.proofs.Common.{◌≡◌, ℕ, ◌+◌, ◌<◌, ◌≤◌, Option, List, [], ◌∷◌, ◌++◌, length, refl, sym, ap, subst, ◌∙◌, append-nil, append_assoc}
 use Rattle.history_book.specs.Point.{StartsWith}
 use Rattle.history_book.specs.declared.event.Event.{Event}
 use Rattle.history_book.specs.declared.outcome.HoldOutcome.{HoldOutcome}
@@ -14,7 +14,7 @@ use Rattle.track_rule.specs.Sums.{times}
 use Rattle.track_rule.specs.declared.view.Reading.{Reading}
 use Rattle.track_rule.specs.declared.view.View.{View}
 use Rattle.track_rule.specs.declared.view.Walk.{Walk}
-use Rattle.shared_desk.specs.Holding.{CanHold, Holds, OnlyLooks, Tries, but_newest}
+use Rattle.shared_desk.specs.Holding.{CanHold, Holds, OnlyLooks, but_newest}
 use Rattle.shared_desk.specs.Rest.{AreSettled}
 
 pub starts_same : (log : List Event) → StartsWith log log
@@ -103,10 +103,6 @@ holds_after place (Empty at) v u w l h = record {
   point = h.point;
   unused = h.unused;
 }
-
-pub tries_after : (place : ℕ) (o : Option HoldOutcome) (v u w : PassSight) → OnlyLooks v u → Tries place o u w → Tries place o v w
-tries_after place (Some o) v u w l h = holds_after place o v u w l h
-tries_after place None v u w l h = looks_again v u w l h
 
 -- a load of the history word
 module _ (word : ℕ) (u x : PassSight) (looks : Looks u.view word x.view) (kept : x ≡ record u { view = x.view }) where

@@ -1,7 +1,6 @@
 -- The entry for which a place is held is destroyed, or is left as it is.
-use Rattle.std.specs.List.{list_any, slice_get}
-use Rattle.std.specs.Prelude.{◌==◌, ◌&&◌, ◌||◌}
-use Rattle.std.proofs.Common.{◌≡◌, ℕ, ◌-◌, ◌≤◌, true, false, Option, Some, List, [], ◌∷◌, ◌++◌, length, refl, sym, ap, subst, ◌∙◌, arith, ⊎_elim}
+use Rattle.std.specs.Prelude.{◌&&◌}
+use Rattle.std.proofs.Common.{◌≡◌, ℕ, ◌-◌, ◌≤◌, true, false, Option, Some, List, [], ◌∷◌, ◌++◌, length, sym, ap, subst, ◌∙◌, arith, ⊎_elim}
 use Rattle.std.proofs.lemmas.Bool.{and_parts, eq-eqb, eqb-true, false≢true, or_cases, or_left, or_right}
 use Rattle.history_book.specs.Entry.{confirmed_by, is_helped_entry}
 use Rattle.history_book.specs.History.{is_legal}
@@ -22,13 +21,13 @@ use Rattle.track_rule.specs.PhaseSteps.{LoadsPhase}
 use Rattle.track_rule.specs.Records.{is_hand_of}
 use Rattle.track_rule.specs.References.{is_at, is_held}
 use Rattle.track_rule.specs.Sights.{PassSight, sizes_of}
-use Rattle.track_rule.specs.Steps.{AreAll, Looks}
+use Rattle.track_rule.specs.Steps.{Looks}
 use Rattle.track_rule.specs.Sums.{bit}
 use Rattle.track_rule.specs.TouchSteps.{known_phase, known_record}
 use Rattle.track_rule.specs.TurnSteps.{subject_in}
 use Rattle.track_rule.specs.declared.view.Keep.{Keep}
 use Rattle.shared_desk.specs.Commit.{seen_with}
-use Rattle.shared_desk.specs.Killing.{EndsEntry, EndsFor, HasEnded, IsAsFound, IsKilled, Judges, KillsUnder, KnowsRecord, SuitsKill, dead_commit, destroy_of}
+use Rattle.shared_desk.specs.Killing.{EndsEntry, IsAsFound, IsKilled, Judges, KillsUnder, KnowsRecord, SuitsKill, dead_commit, destroy_of}
 use Rattle.shared_desk.specs.Looking.{HasRecord}
 use Rattle.shared_desk.specs.Touching.{IsLeft}
 use Rattle.shared_desk.proofs.Lists.{get_append}

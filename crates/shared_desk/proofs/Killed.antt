@@ -1,23 +1,17 @@
 -- The turn is given back after a kill.
-use Rattle.std.proofs.Common.{◌≡◌, ℕ, ◌<◌, true, Option, Some, None, List, [], ◌∷◌, ◌++◌, length, refl, sym, ap, subst, ◌∙◌, arith}
+use Rattle.std.proofs.Common.{◌≡◌, ℕ, true, Some, None, [], ◌∷◌, ◌++◌, sym, ap, subst, ◌∙◌, arith}
 use Rattle.atomic_table.specs.Table.{rest}
-use Rattle.std.proofs.lemmas.Bool.{eq-eqb}
 use Rattle.history_book.specs.History.{is_legal}
 use Rattle.history_book.specs.declared.event.Why.{Why}
 use Rattle.history_book.specs.declared.outcome.KillOutcome.{KillOutcome}
 use Rattle.history_book.specs.declared.outcome.KillOutcome.TheVariants as kill
 use Rattle.history_book.specs.declared.record.Record.{Record}
-use Rattle.history_book.specs.declared.sizes.Sizes.{Sizes}
 use Rattle.track_rule.specs.KillSteps.{without_its}
 use Rattle.track_rule.specs.Layout.{turn_word}
 use Rattle.track_rule.specs.PhaseSteps.{phase_dead}
 use Rattle.track_rule.specs.Readings.{stored}
-use Rattle.track_rule.specs.Records.{has_hand, is_hand_of}
 use Rattle.track_rule.specs.Sights.{PassSight, sizes_of}
-use Rattle.track_rule.specs.Steps.{AreAll}
-use Rattle.track_rule.specs.Sums.{bit}
 use Rattle.track_rule.specs.TurnSteps.{CanGiveTurn, gave_turn}
-use Rattle.track_rule.specs.declared.view.Commit.{Commit}
 use Rattle.track_rule.specs.declared.view.Hand.{Hand}
 use Rattle.track_rule.specs.declared.view.Middle.TheVariants.{Calm}
 use Rattle.shared_desk.specs.Commit.{HasTurn, seen_with}

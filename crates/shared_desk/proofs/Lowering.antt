@@ -1,6 +1,6 @@
 -- Links of a pass come out of their chains: what becomes of its hooks.
 use Rattle.std.proofs.Common.{◌≡◌, ℕ, Bool, true, false, None, List, [], ◌∷◌, map, refl, sym, ap, ◌∙◌, ⊎_elim}
-use Rattle.std.specs.Prelude.{◌==◌, not, filter, if◌then◌else◌}
+use Rattle.std.specs.Prelude.{◌==◌, not, if◌then◌else◌}
 use Rattle.std.proofs.lemmas.Bool.{cases_Bool, cond_both, eq-eqb, eqb-true, false≢true, or_from, or_parts}
 use Rattle.track_rule.specs.BucketSteps.{lower}
 use Rattle.track_rule.specs.Layout.{place_of}

@@ -1,7 +1,7 @@
 -- A clerk that confirmed a flow, or found an entry in its way.
-use Rattle.std.specs.List.{AllByRecursion, slice_get}
+use Rattle.std.specs.List.{AllByRecursion}
 use Rattle.std.specs.Prelude.{◌==◌, ◌||◌, ◌&&◌, if◌then◌else◌, is_none}
-use Rattle.std.proofs.Common.{◌≡◌, ◌≢◌, ℕ, ◌+◌, ◌-◌, ◌*◌, ◌<◌, ◌≤◌, Bool, true, false, List, [], ◌∷◌, ◌++◌, length, map, refl, sym, ap, subst, ◌∙◌, arith, ⊎_elim, length-append, append_assoc}
+use Rattle.std.proofs.Common.{◌≡◌, ◌≢◌, ℕ, ◌+◌, ◌-◌, ◌*◌, ◌<◌, ◌≤◌, Bool, true, false, List, [], ◌∷◌, ◌++◌, length, map, refl, sym, ap, subst, ◌∙◌, arith, ⊎_elim, length-append}
 use Rattle.std.proofs.lemmas.Bool.{and_parts, cases_Bool, cases_eq, cond_both, eq-eqb, eqb-true, false≢true, ne_eqb, or_cases, or_from, or_left, or_parts, or_right}
 use Rattle.room_list.specs.Roomed.{Roomed}
 use Rattle.history_book.specs.Desk.{ConfirmSays, IsClash}
@@ -36,7 +36,7 @@ use Rattle.shared_desk.specs.Rest.{AreSettled, IsAtRest, IsPrepared, IsSettled, 
 use Rattle.shared_desk.specs.Sights.{hold_of, sight_of}
 use Rattle.shared_desk.specs.Tuples.{standing}
 use Rattle.shared_desk.proofs.Committing.{taken_held}
-use Rattle.shared_desk.proofs.Entered.{get_last, holds_for, known_confirmed, none_taken, taken_back}
+use Rattle.shared_desk.proofs.Entered.{holds_for, known_confirmed, none_taken, taken_back}
 use Rattle.shared_desk.proofs.Hooks.{same_any, same_count, same_up}
 use Rattle.shared_desk.proofs.Known.{known_later}
 use Rattle.shared_desk.proofs.Linking.{dropped_count, none_up}

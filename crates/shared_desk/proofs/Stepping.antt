@@ -1,7 +1,7 @@
 -- The entry for which a place is held is touched.
 use Rattle.std.specs.List.{slice_get}
-use Rattle.std.proofs.Common.{◌≡◌, ℕ, ◌-◌, ◌<◌, ◌≤◌, true, Option, Some, None, List, [], ◌∷◌, ◌++◌, length, refl, sym, ap, subst, ◌∙◌, arith, ⊎_elim, append_assoc}
-use Rattle.std.proofs.lemmas.Bool.{cases_lt, false≢true}
+use Rattle.std.proofs.Common.{◌≡◌, ℕ, ◌-◌, ◌≤◌, true, Option, Some, None, List, [], ◌∷◌, ◌++◌, length, refl, sym, ap, subst, ◌∙◌}
+use Rattle.std.proofs.lemmas.Bool.{false≢true}
 use Rattle.tuple_core.specs.declared.Segment.{Segment}
 use Rattle.proto_rules.specs.Protocol.{is_of_protocol}
 use Rattle.proto_rules.specs.Step.{step_of}
@@ -18,12 +18,10 @@ use Rattle.history_book.specs.declared.record.Record.{Record}
 use Rattle.track_rule.specs.History.{events_in, state_after}
 use Rattle.track_rule.specs.KeptWords.{is_kept_for}
 use Rattle.track_rule.specs.PhaseSteps.{LoadsPhase}
-use Rattle.track_rule.specs.Records.{record_in, slot_of_record}
 use Rattle.track_rule.specs.Sights.{PassSight, sizes_of}
-use Rattle.track_rule.specs.Steps.{AreAll, Looks, found_history, saw}
+use Rattle.track_rule.specs.Steps.{AreAll, Looks}
 use Rattle.track_rule.specs.TouchSteps.{hand_goes_on, known_record}
 use Rattle.track_rule.specs.TurnSteps.{subject_in, with_subject}
-use Rattle.track_rule.specs.declared.view.View.{View}
 use Rattle.shared_desk.specs.Looking.{HasRecord}
 use Rattle.shared_desk.specs.Touching.{Accepts, Gives, GoesOn, IsLeft, IsStill, IsTouchedUnder, StepsRecord, SuitsEntry, TouchesUnder, touch_of}
 use Rattle.shared_desk.specs.declared.touching.Packet.{Packet}
@@ -32,7 +30,6 @@ use Rattle.shared_desk.proofs.Loaded.{all_from, all_seen, its_id, left_now, live
 use Rattle.history_book.specs.History.{is_legal}
 use Rattle.shared_desk.specs.Commit.{seen_with}
 use Rattle.proto_rules.specs.declared.Part.{Part}
-use Rattle.track_rule.specs.Readings.{noted}
 
 -- the entry of an id is of the same protocol by a longer history
 entry_stays : (segment : Segment) (id : ℕ) (front log : List Event) → StartsWith log front → is_of_entry segment id front ≡ true → is_of_entry segment id log ≡ true

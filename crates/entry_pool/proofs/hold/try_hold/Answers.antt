@@ -1,4 +1,3 @@
-use Rattle.std.proofs.Common.{arith}
 use Rattle.entry_pool.proofs.Holding.{reads_two}
 use Rattle.entry_pool.proofs.hold.try_hold.Goals as goal
 
