@@ -24,7 +24,7 @@ use Rattle.track_rule.specs.declared.view.Places.{Places}
 use Rattle.bucket_table.specs.Finding.{CanTest, HasMoved, IsNewlyOwed, owed_more}
 use Rattle.bucket_table.specs.declared.finding.FindOnce.{FindOnce}
 use Rattle.bucket_table.specs.declared.finding.FindOnce.TheVariants.{Found, Absent, Moved}
-use Rattle.shared_desk.specs.Changed.{ChangesNone, is_gen_or_turn}
+use Rattle.shared_desk.specs.Changed.{ChangesNone, is_gen_or_turn, is_no_refs}
 use Rattle.shared_desk.specs.FindsOnce.{FindOnceSays, WasMoved}
 use Rattle.shared_desk.specs.Lookups.{FindsLive, FindsNobody, LooksOnce}
 use Rattle.shared_desk.specs.Rest.{AreSettled, IsAtRest, IsPrepared}
@@ -33,7 +33,7 @@ use Rattle.shared_desk.proofs.Committing.{taken_held}
 use Rattle.shared_desk.proofs.HoldingRest.{all_agreed, settled_held}
 use Rattle.shared_desk.proofs.Known.{known_held, known_later, known_owing}
 use Rattle.shared_desk.proofs.Lists.{none_of, some_of}
-use Rattle.shared_desk.proofs.Readings.{none_is_no_turn, refs_is_no_turn}
+use Rattle.shared_desk.proofs.Readings.{none_is_no_turn, refs_is_no_turn, refs_is_refs}
 use Rattle.shared_desk.proofs.Resting.{clerk_at, holds_held, idle_still, saw_more, settled_closed}
 use Rattle.shared_desk.proofs.Taking.{rest_looked, saw_looked}
 
@@ -171,6 +171,11 @@ module _ (v : PassSight) (notes : Roomed Note) (spare : ℕ) (h : IsAtRest v not
   own_once (Found place id d at) t w f = refs_is_no_turn (sizes_of v) place (added v.view w.view) f.own
   own_once (Absent at) t w f = none_is_no_turn (is_gen_or_turn (sizes_of v)) (added v.view w.view) f.own
   own_once (Moved word was now o) t w f = refs_is_no_turn (sizes_of v) f.tested (added v.view w.view) f.own
+
+  pub refs_once : (r : FindOnce) (t : Tuple) (w : PassSight) → LooksOnce r t v w → ChangesNone (is_no_refs (sizes_of v)) (clerk_at v spare) (clerk_at w spare)
+  refs_once (Found place id d at) t w f = refs_is_refs (sizes_of v) place (added v.view w.view) f.own
+  refs_once (Absent at) t w f = none_is_no_turn (is_no_refs (sizes_of v)) (added v.view w.view) f.own
+  refs_once (Moved word was now o) t w f = refs_is_refs (sizes_of v) f.tested (added v.view w.view) f.own
 
   pub stand_once : (r : FindOnce) (t : Tuple) (w : PassSight) → LooksOnce r t v w → w.view.readings ≡ v.view.readings ++ added v.view w.view
   stand_once (Found place id d at) t w f = f.stand

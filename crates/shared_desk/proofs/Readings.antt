@@ -7,7 +7,7 @@ use Rattle.track_rule.specs.declared.view.Reading.{Reading}
 use Rattle.track_rule.specs.Layout.{gen_word, phase_word, refs_word, turn_word, word_count}
 use Rattle.track_rule.specs.Links.{kind_of}
 use Rattle.track_rule.specs.Readings.{changes, stored}
-use Rattle.shared_desk.specs.Changed.{is_gen_or_turn, is_refs}
+use Rattle.shared_desk.specs.Changed.{is_gen_or_turn, is_no_refs, is_refs}
 use Rattle.shared_desk.specs.Laws.{GenerationsAreNamed, OthersAreNot, ReferencesAreNamed, TurnsAreNamed}
 use Rattle.shared_desk.proofs.Lists.{any_less}
 
@@ -112,4 +112,23 @@ none_is_no_turn test readings none =
   where
     fewer : (own : Bool) (word : ℕ) → (own && true) ≡ false → (own && test word) ≡ false
     fewer true word e = cc
+    fewer false word e = refl
+
+-- references are no other word
+refs_are_refs : (z : Sizes) (place : ℕ) → is_no_refs z (refs_word z place) ≡ false
+refs_are_refs z place =
+    ap not (and_from (nat_le (3 + 2 * z.buckets) (refs_word z place)) (kind_of z (refs_word z place) == 0) (le-leb (3 + 2 * z.buckets) (refs_word z place) (omega arith))
+    (eq-eqb (kind_of z (refs_word z place)) 0 (omega arith)))
+
+pub refs_is_refs : (z : Sizes) (place : ℕ) (readings : List Reading) → changes (λ word. not (word == refs_word z place)) readings ≡ false
+    → changes (is_no_refs z) readings ≡ false
+refs_is_refs z place readings none =
+    any_less (λ (r : Reading). r.own && not (r.word == refs_word z place)) (λ (r : Reading). r.own && is_no_refs z r.word) (λ r e. fewer r.own r.word e) readings none
+  where
+    by_test : (t : Bool) (word : ℕ) → (t ≡ true → word ≡ refs_word z place) → not t ≡ false → is_no_refs z word ≡ false
+    by_test true word is e = ap (is_no_refs z) (is refl) ∙ refs_are_refs z place
+    by_test false word is e = cc
+
+    fewer : (own : Bool) (word : ℕ) → (own && not (word == refs_word z place)) ≡ false → (own && is_no_refs z word) ≡ false
+    fewer true word e = by_test (word == refs_word z place) word (λ k. eqb-true word (refs_word z place) k) e
     fewer false word e = refl

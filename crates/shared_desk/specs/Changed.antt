@@ -16,6 +16,10 @@ is_gen_or_turn z word =
 abbrev pub is_gen_or_other_turn : Sizes → ℕ → Bool
 is_gen_or_other_turn z word = is_gen_or_turn z word && not (word == 1)
 
+-- any word but the references of a place
+abbrev pub is_no_refs : Sizes → ℕ → Bool
+is_no_refs z word = not (nat_le (3 + 2 * z.buckets) word && kind_of z word == 0)
+
 -- the references of a place
 abbrev pub is_refs : Sizes → ℕ → Bool
 is_refs z word = nat_le (3 + 2 * z.buckets) word && nat_lt word (word_count z) && kind_of z word == 0

@@ -12,7 +12,7 @@ ghost use Rattle.history_book.specs.Places.{HoldsNothing};
 ghost use Rattle.history_book.specs.Sight.{IsKnown};
 ghost use Rattle.history_book.specs.Split.{CanSplit, Splits};
 ghost use Rattle.shared_desk.specs.Calls.{TakeSays};
-ghost use Rattle.shared_desk.specs.Changed.{ChangesNone, is_gen_or_other_turn, is_gen_or_turn};
+ghost use Rattle.shared_desk.specs.Changed.{ChangesNone, is_gen_or_other_turn, is_gen_or_turn, is_no_refs};
 ghost use Rattle.shared_desk.specs.FindsOnce.{FindOnceSays, LookSays};
 ghost use Rattle.shared_desk.specs.Sights.{sight_of};
 ghost use Rattle.track_rule.specs.History.{events_in, live_in};
@@ -170,6 +170,7 @@ impl<'t, G: Gate> Clerk<'t, G> {
         requires { length (sight_of self.old).held + length (sight_of self.old).owed ≤ 3 }
         ensures says { FindOnceSays result t.now self.old self.new }
         ensures own { ChangesNone (is_gen_or_turn (sizes_of self.old.pass)) self.old self.new }
+        ensures refs { ChangesNone (is_no_refs (sizes_of self.old.pass)) self.old self.new }
         ensures stand { ReadingsStand self.old.pass self.new.pass }
         ensures knows { IsKnown (sight_of self.new) }
     {

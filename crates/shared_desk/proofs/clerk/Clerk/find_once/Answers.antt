@@ -1,6 +1,6 @@
 use Rattle.std.proofs.Common.{◌+◌, ◌≤◌, length, subst, sym}
 use Rattle.shared_desk.specs.Sights.{ClerkSight, sight_of}
-use Rattle.shared_desk.proofs.FoundOnce.{can_test, own_once, rest_once, says_once, stand_once}
+use Rattle.shared_desk.proofs.FoundOnce.{can_test, own_once, refs_once, rest_once, says_once, stand_once}
 use Rattle.shared_desk.proofs.clerk.Clerk.find_once.Goals as goal
 
 pub find_once-requires-clause-can : goal.find_once-requires-clause-can
@@ -23,6 +23,12 @@ returns-clause-says g c =
 pub returns-clause-own : goal.returns-clause-own
 returns-clause-own g c =
     rw (← c.self.view_is) (own_once c.self.inside.pass c.self.inside.notes c.self.inside.spare c.self.invariant
+    (subst (λ (s : ClerkSight). length (sight_of s).held + length (sight_of s).owed ≤ 3) (sym c.self.view_is) c.requires)
+    c.find_once.result c.args.t.now c.find_once.new.pass c.find_once.ensures)
+
+pub returns-clause-refs : goal.returns-clause-refs
+returns-clause-refs g c =
+    rw (← c.self.view_is) (refs_once c.self.inside.pass c.self.inside.notes c.self.inside.spare c.self.invariant
     (subst (λ (s : ClerkSight). length (sight_of s).held + length (sight_of s).owed ≤ 3) (sym c.self.view_is) c.requires)
     c.find_once.result c.args.t.now c.find_once.new.pass c.find_once.ensures)
 
