@@ -12,6 +12,7 @@ use entry_pool::hold::{TryHold, release, try_hold};
 use entry_pool::take::recycle;
 use history_book::outcome::{HoldOutcome, ReleaseOutcome};
 use std::sync::Wait;
+use std::thread;
 use track_rule::pass::Pass;
 
 /// Looks which entry is live in the place to which the pass has just got a reference, and holds it for that.
@@ -109,6 +110,7 @@ pub fn hold<R: Wait>(rt: &R, pass: &mut Pass, place: u32) -> HoldOutcome
         if let Some(outcome) = try_once(rt, pass, place) {
             return outcome;
         }
+        thread::yield_now();
     }
     unreachable!()
 }
