@@ -1,20 +1,25 @@
 //! A clerk looks once for what is live under a tuple, and holds its place.
 
-ghost use Rattle.std.specs.Prelude.{◌≡◌};
+ghost use Rattle.std.specs.Prelude.{◌≡◌, ◌<◌, ◌≤◌, false, Some, slice_get};
+ghost use Rattle.history_book.specs.Entry.{record_for};
 ghost use Rattle.history_book.specs.Places.{HoldsNothing};
+ghost use Rattle.history_book.specs.declared.event.Event.TheVariants.{Confirm};
 ghost use Rattle.shared_desk.specs.Sights.{sight_of};
 
-use super::flows::{answer, confirm_query, flow, give_up, query, udp};
-use super::{sizes, take_one};
+use super::flows::{answer, flow, give_up, query, udp};
+use super::kills::keep;
+use super::sizes;
 use crate::clerk::Clerk;
 use crate::tracker::Tracker;
 use bucket_table::finding::FindOnce;
 use ct_io::{Gate, NoGate};
 use history_book::event::Why;
+use history_book::laws::events_stay;
 use history_book::outcome::{
-    ConfirmOutcome, FindOutcome, KillOutcome, PeekOutcome, ReleaseOutcome,
+    ConfirmOutcome, FindOutcome, HoldOutcome, KillOutcome, PeekOutcome, ReleaseOutcome,
 };
 use history_book::places::one_hold_has_its_id;
+use history_book::record::Flow;
 use std::process::Abort;
 use std::sync::Wait;
 use std::test::Fail;
@@ -83,6 +88,32 @@ fn an_entry_is_found_by_either_tuple(rt: HostRuntime) -> Result<(), Fail> {
     Ok(())
 }
 
+/// A clerk that keeps no place holds that of the entry 0 of this flow, destroys the entry by event 1, and gives the place up, which
+/// another clerk holds too.
+fn hold_and_destroy<G: Gate, R: Wait + Abort>(rt: &R, clerk: &mut Clerk<G>, place: u32, flow: &Flow)
+    requires nothing { HoldsNothing (sight_of clerk.old) }
+    requires below { place < (sight_of clerk.old).sizes.entries }
+    requires event { slice_get (sight_of clerk.old).front 0 ≡ Some (Confirm (record_for flow.now 0 place)) }
+    requires helper { flow.now.helper ≡ false }
+    requires spare { 1 ≤ (sight_of clerk.old).spare }
+{
+    let _ = flow;
+    events_stay();
+    one_hold_has_its_id();
+    let HoldOutcome::Held { id, at } = clerk.hold(rt, place) else {
+        panic!(rt; "the entry is live");
+    };
+    assert_eq!(rt; id, 0);
+    assert_eq!(rt; at, 1);
+    let KillOutcome::Killed { number, .. } = clerk.kill(rt, place, Why::Flushed) else {
+        panic!(rt; "the reason holds of every entry");
+    };
+    assert_eq!(rt; number, 1);
+    let ReleaseOutcome::Kept = clerk.release_now(place) else {
+        panic!(rt; "the other clerk has the place");
+    };
+}
+
 /// A place that a clerk holds for an entry that it found is its own to give up, though another clerk has destroyed the entry since.
 #[test]
 fn an_entry_that_was_found_is_destroyed(rt: HostRuntime) -> Result<(), Fail> {
@@ -90,26 +121,23 @@ fn an_entry_that_was_found_is_destroyed(rt: HostRuntime) -> Result<(), Fail> {
     let mut one = tracker.clerk(spot, &NoGate, 0);
     let mut two = one.split(1, 1);
     one.ready(2)?;
-    let place = take_one(&rt, &mut one);
-    confirm_query(&rt, &mut one, place);
-    one_hold_has_its_id();
+    events_stay();
+    let query = query();
+    let place = keep(&rt, &mut one, &query, 0);
+    let ReleaseOutcome::Kept = one.release_now(place) else {
+        panic!(rt; "the table has the place");
+    };
     let FindOnce::Found {
         place: found,
         id,
         direction: Direction::Original,
         at,
-    } = two.find_once(&query().original)
+    } = two.find_once(&query.original)
     else {
         panic!(rt; "the entry is live");
     };
     assert_eq!(rt; (found, id, at), (place, 0, 1));
-    let KillOutcome::Killed { number, .. } = one.kill(&rt, place, Why::Flushed) else {
-        panic!(rt; "the reason holds of every entry");
-    };
-    assert_eq!(rt; number, 1);
-    let ReleaseOutcome::Kept = one.release_now(place) else {
-        panic!(rt; "the other clerk has the place");
-    };
+    hold_and_destroy(&rt, &mut one, place, &query);
     let PeekOutcome::Gone { at } = two.peek(&rt, found) else {
         panic!(rt; "the entry is destroyed");
     };
@@ -118,7 +146,7 @@ fn an_entry_that_was_found_is_destroyed(rt: HostRuntime) -> Result<(), Fail> {
         panic!(rt; "nobody else has the place");
     };
     two.recycle(&rt, found);
-    let FindOutcome::Absent { at } = two.find(&rt, &query().original) else {
+    let FindOutcome::Absent { at } = two.find(&rt, &query.original) else {
         panic!(rt; "nobody has the tuple");
     };
     assert_eq!(rt; at, 2);
