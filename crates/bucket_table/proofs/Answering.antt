@@ -19,7 +19,7 @@ use Rattle.track_rule.specs.Steps.{AreAll, keep}
 use Rattle.track_rule.specs.Sums.{times}
 use Rattle.track_rule.specs.declared.view.Purpose.TheVariants.{For}
 use Rattle.track_rule.specs.declared.view.Reading.{Reading}
-use Rattle.bucket_table.specs.Finding.{FindOnceSays, FindsEntry, HasEntry, HasMoved, HoldMoved, IsNewlyOwed, MeetSays, TestMoved, Tests, direction_by, is_of_test, owed_more}
+use Rattle.bucket_table.specs.Finding.{FindOnceSays, FindsEntry, HasEntry, HasMoved, HoldMoved, IsNewlyOwed, MeetSays, TestMoved, Tests, direction_by, is_of_test, owed_more, movement}
 use Rattle.bucket_table.specs.Following.{HasMet, HasSeen, IsLink, IsMoved, OnlyReads, bucket_in, direction_at_side, direction_of, met_with, walk_to}
 use Rattle.bucket_table.specs.declared.finding.FindOnce.{FindOnce}
 use Rattle.bucket_table.specs.declared.finding.FindOnce.TheVariants.{Found, Absent, Moved}
@@ -222,7 +222,7 @@ module _ (t : Tuple) (g : Goal) (place : ℕ) (met : Direction) (v u : PassSight
   owes_before : (o : Option ℕ) → IsNewlyOwed o (sizes_of u).entries u.view.places.owed u.view.places.held → IsNewlyOwed o (sizes_of v).entries v.view.places.owed v.view.places.held
   owes_before o h = subst (λ (x : PassSight). IsNewlyOwed o (sizes_of x).entries x.view.places.owed x.view.places.held) link.reads.same h
 
-  moved_says : (word was now : ℕ) (o : Option ℕ) (w : PassSight) → TestMoved g (link_of met place) place word was now o u.view.places.held u w → HasMoved t word was now o v w
+  moved_says : (word was now : ℕ) (o : Option ℕ) (w : PassSight) → TestMoved g (link_of met place) place (movement word was now o) u.view.places.held u w → HasMoved t word was now o v w
   moved_says word was now o w m =
       let sizes : sizes_of m.between ≡ sizes_of v = ap sizes_of m.tests.same ∙ same_sizes in
       let low : gen_word (sizes_of v) g.bucket < 3 + (sizes_of v).buckets = word_low (sizes_of v) g.bucket below in
@@ -327,7 +327,7 @@ module _ (t : Tuple) (g : Goal) (place : ℕ) (met : Direction) (v u : PassSight
   meets_says (Found p id d at) w (same, owed, h) = subst (λ (k : ℕ). FindsEntry t k id d at v w) (sym same) (found_says id at d w owed h)
   meets_says (Absent at) w m = absurd m
   meets_says (Moved word was now o) w m =
-      ⊎_elim (λ (k : TestMoved g (link_of met place) place word was now o u.view.places.held u w). moved_says word was now o w k)
+      ⊎_elim (λ (k : TestMoved g (link_of met place) place (movement word was now o) u.view.places.held u w). moved_says word was now o w k)
       (λ (k : HoldMoved place word was now o u w). hold_says word was now o w k) m
 
 -- the walk moved

@@ -28,7 +28,7 @@ use Rattle.track_rule.specs.declared.view.Places.{Places}
 use Rattle.track_rule.specs.declared.view.Purpose.TheVariants.{For, Testing}
 use Rattle.track_rule.specs.declared.view.Reading.{Reading}
 use Rattle.track_rule.specs.declared.view.View.{View}
-use Rattle.bucket_table.specs.Finding.{AgainSays, CanGiveUp, CanTest, GivesUp, HasEntry, IsDirected, IsElse, IsNewlyOwed, IsTesting, LosesEntry, MeetSays, ReadsAgain, ShowsLive, ShowsNone, TestMoved, TestSays, Tests, has_hook, is_of_test, others_of, owed_more}
+use Rattle.bucket_table.specs.Finding.{AgainSays, CanGiveUp, CanTest, GivesUp, HasEntry, IsDirected, IsElse, IsNewlyOwed, IsTesting, LosesEntry, MeetSays, ReadsAgain, ShowsLive, ShowsNone, TestMoved, TestSays, Tests, has_hook, is_of_test, others_of, owed_more, movement}
 use Rattle.bucket_table.specs.Following.{HasPassed}
 use Rattle.bucket_table.specs.declared.finding.FindOnce.{FindOnce}
 use Rattle.bucket_table.specs.declared.finding.FindOnce.TheVariants.{Found, Absent, Moved}
@@ -228,7 +228,7 @@ module _ (g : Goal) (place : ℕ) (met : Direction) (v u : PassSight) (can : Can
   test_moved (Found p id direction at) o b w gives again = absurd again
   test_moved (Absent at) o b w gives again = absurd again
   test_moved (Moved word was now q) o b w gives again =
-      subst (λ (k : Option ℕ). TestMoved g (link_of met place) place word was now k (others_of v.view.places.held) v w) (sym again.0) (record {
+      subst (λ (k : Option ℕ). TestMoved g (link_of met place) place (movement word was now k) (others_of v.view.places.held) v w) (sym again.0) (record {
         between = b;
         tests = tests_on place v u loses.tests b gives.tests;
         held = gives.held ∙ same_others;
@@ -354,7 +354,7 @@ pub met_zero : (g : Goal) (place : ℕ) (met : Direction) (v u w : PassSight) (r
 met_zero g place met v u w (Found p id direction at) zero again = absurd again
 met_zero g place met v u w (Absent at) zero again = absurd again
 met_zero g place met v u w (Moved word was now o) zero again = inl (
-    subst (λ (k : Option ℕ). TestMoved g (link_of met place) place word was now k v.view.places.held v w) (sym again.0) (record {
+    subst (λ (k : Option ℕ). TestMoved g (link_of met place) place (movement word was now k) v.view.places.held v w) (sym again.0) (record {
       between = u;
       tests = only_tests place 0 v u zero.only;
       held = ap (λ (x : PassSight). x.view.places.held) zero.only.same;

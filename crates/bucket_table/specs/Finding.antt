@@ -260,20 +260,30 @@ pub record ReadsAgain (g : Goal) (word was now : ℕ) (v w : PassSight) : Type 0
   pub other : g.generation % 2 ≡ 0 → HasPassed g v.view → (g.generation == now) ≡ false
   pub sole : IsSole v.view → now ≡ last_read (gen_word (sizes_of v) g.bucket) v.view
 
+-- what is answered where something moved: the word, its two values, and the place that is owed then
+pub record Movement : Type 0 where
+  pub word : ℕ
+  pub was : ℕ
+  pub now : ℕ
+  pub owed : Option ℕ
+
+abbrev pub movement : ℕ → ℕ → ℕ → Option ℕ → Movement
+movement word was now owed = record { word = word; was = was; now = now; owed = owed }
+
 -- No entry was found: the pass holds what is behind the newest reference, and the generation was loaded again.
-pub record TestMoved (g : Goal) (link place word was now : ℕ) (owed : Option ℕ) (others : List Keep) (v w : PassSight) : Type 0 where
+pub record TestMoved (g : Goal) (link place : ℕ) (m : Movement) (others : List Keep) (v w : PassSight) : Type 0 where
   pub between : PassSight
   pub tests : Tests place v between
   pub held : between.view.places.held ≡ others
-  pub owed_is : between.view.places.owed ≡ owed_more owed v.view.places.owed
-  pub owes : IsNewlyOwed owed (sizes_of v).entries v.view.places.owed others
+  pub owed_is : between.view.places.owed ≡ owed_more m.owed v.view.places.owed
+  pub owes : IsNewlyOwed m.owed (sizes_of v).entries v.view.places.owed others
   pub lost : place_of link ≡ place → HasMet g link v.view → HasPassed g between.view
-  pub reads : ReadsAgain g word was now between w
+  pub reads : ReadsAgain g m.word m.was m.now between w
 
 abbrev pub TestSays : FindOnce → Goal → ℕ → Direction → PassSight → PassSight → Type 0
 TestSays (Found p id direction at) g place met v w = (p ≡ place) × HasEntry g place id direction at (others_of v.view.places.held) v w
 TestSays (Absent at) g place met v w = ⊥
-TestSays (Moved word was now owed) g place met v w = TestMoved g (link_of met place) place word was now owed (others_of v.view.places.held) v w
+TestSays (Moved word was now owed) g place met v w = TestMoved g (link_of met place) place (movement word was now owed) (others_of v.view.places.held) v w
 
 -- The references gave two values as the place was to be held. So the table is not one of a single pass.
 pub record HoldMoved (place word was now : ℕ) (owed : Option ℕ) (v w : PassSight) : Type 0 where
@@ -290,7 +300,7 @@ MeetSays (Found p id direction at) g place met v w =
     (p ≡ place) × (times place v.view.places.owed ≡ 0) × HasEntry g place id direction at v.view.places.held v w
 MeetSays (Absent at) g place met v w = ⊥
 MeetSays (Moved word was now owed) g place met v w =
-    TestMoved g (link_of met place) place word was now owed v.view.places.held v w ⊎ HoldMoved place word was now owed v w
+    TestMoved g (link_of met place) place (movement word was now owed) v.view.places.held v w ⊎ HoldMoved place word was now owed v w
 
 abbrev pub AgainSays : FindOnce → Goal → Option ℕ → PassSight → PassSight → Type 0
 AgainSays (Found p id direction at) g owed v w = ⊥
