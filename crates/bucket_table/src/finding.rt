@@ -44,13 +44,13 @@ pub enum FindOnce {
 }
 
 /// The least phase of a place that is LIVE.
-const LIVE: u64 = 3;
+pub const LIVE: u64 = 3;
 
 /// An entry that is live at a place, and the point at which it was.
 #[derive(Clone, Copy)]
-pub(crate) struct Shown {
-    pub(crate) id: u64,
-    pub(crate) at: u64,
+pub struct Shown {
+    pub id: u64,
+    pub at: u64,
 }
 
 /// The same, and the direction in which it has the tuple.
@@ -71,8 +71,8 @@ fn link_of(direction: Direction, place: u32) -> u64
     }
 }
 
-/// The entry that is live at a place which the pass tests.
-fn live_at(pass: &mut Pass, place: u32) -> Option<Shown>
+/// The entry that is live at a place which the pass tests, held for it then.
+pub fn live_at(pass: &mut Pass, place: u32) -> Option<Shown>
     requires place { place < (sizes_of pass.old).entries }
     requires testing { IsTesting place Testing pass.old }
     ensures { ShowsSays result place pass.old pass.new }

@@ -34,7 +34,6 @@ pub mod Killed
 pub mod Destroyed
 pub mod HoldingFrames
 pub mod HoldingEmpty
-pub mod HoldingNames
 pub mod HoldingBack
 pub mod HoldingRest
 pub mod Living

@@ -10,15 +10,13 @@ use crate::clerk::events_in;
 use crate::commit::take_turn;
 use crate::killing::judge;
 use crate::touching::{Packet, step_record};
+use bucket_table::finding::LIVE;
 use history_book::event::{Note, Why};
 use history_book::laws::{entries_keep_their_helper, entries_keep_their_protocol};
 use history_book::outcome::{KillOutcome, PeekOutcome, TouchOutcome};
 use history_book::record::Record;
 use std::sync::Wait;
 use track_rule::pass::Pass;
-
-/// The least phase of a place that is LIVE.
-pub const LIVE: u64 = 3;
 
 /// The record that is out of its slot, or none. It stays there.
 fn record_out(pass: &mut Pass, place: u32) -> Option<Record>

@@ -7,7 +7,7 @@ ghost use Rattle.track_rule.specs.declared.view.Purpose.TheVariants.{Testing};
 
 use crate::clerk::events_in;
 use crate::commit::take_turn;
-use crate::entry::LIVE;
+use bucket_table::finding::{LIVE, live_at};
 use entry_pool::hold::{TryHold, release, try_hold};
 use entry_pool::take::recycle;
 use history_book::outcome::{HoldOutcome, ReleaseOutcome};
@@ -20,19 +20,13 @@ fn name_entry(pass: &mut Pass, place: u32) -> Option<HoldOutcome>
     requires { HasNewest place Testing pass.old }
     ensures { Names place result pass.old pass.new }
 {
-    let phase = pass.phase_load(place);
-    if phase < LIVE {
-        return None;
+    match live_at(pass, place) {
+        Some(shown) => Some(HoldOutcome::Held {
+            id: shown.id,
+            at: shown.at,
+        }),
+        None => None,
     }
-    let at = events_in(pass.history_load());
-    let again = pass.phase_load(place);
-    if again != phase {
-        return None;
-    }
-    Some(HoldOutcome::Held {
-        id: phase - LIVE,
-        at,
-    })
 }
 
 /// Gives the newest reference back, and makes the place free where that was the last one.
