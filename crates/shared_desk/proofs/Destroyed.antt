@@ -31,7 +31,8 @@ use Rattle.track_rule.specs.declared.view.Purpose.TheVariants.{Taken, Testing, S
 use Rattle.shared_desk.specs.Commit.{seen_with}
 use Rattle.shared_desk.specs.Killing.{IsAsFound, IsKilled, Kills, SuitsKill, destroy_of}
 use Rattle.shared_desk.specs.Noting.{room_after, with_note}
-use Rattle.shared_desk.specs.Rest.{AreSettled, IsAtRest, IsPrepared, IsSettled, has_link}
+use Rattle.bucket_table.specs.Finding.{has_hook}
+use Rattle.shared_desk.specs.Rest.{AreSettled, IsAtRest, IsPrepared, IsSettled}
 use Rattle.shared_desk.specs.Sights.{entry_for, hold_of, sight_of}
 use Rattle.shared_desk.specs.Touching.{IsNotLive, Notes}
 use Rattle.shared_desk.proofs.Entered.{none_taken}
@@ -115,14 +116,14 @@ module _ (v : PassSight) (notes : Roomed Note) (spare place : ℕ) (why : Why) (
   kept_here : is_kept_for place (held_id place (map hold_of v.view.places.held)) v.view.places.held ≡ true
   kept_here = kept v notes spare place h held
 
-  bare : has_link place v.view.buckets.hooks ≡ false
+  bare : has_hook place v.view.buckets.hooks ≡ false
   bare =
       ⊎_elim
-      (λ (e : has_link place v.view.buckets.hooks ≡ true).
+      (λ (e : has_hook place v.view.buckets.hooks ≡ true).
       let taken : is_taken place v.view.places.held ≡ true = h.settled.links place e in
       absurd (not_taken place (held_id place (map hold_of v.view.places.held)) v.view.places.held (h.settled.taken place taken).once kept_here taken))
-      (λ (e : has_link place v.view.buckets.hooks ≡ false). e)
-      (cases_Bool (has_link place v.view.buckets.hooks))
+      (λ (e : has_hook place v.view.buckets.hooks ≡ false). e)
+      (cases_Bool (has_hook place v.view.buckets.hooks))
 
   pub suits_kill : reason_moment_of why ≤ 10 ^ 16 → is_helped_entry (held_id place (map hold_of v.view.places.held)) v.view.seen.front ≡ false → SuitsKill place why v
   suits_kill timely unhelped =

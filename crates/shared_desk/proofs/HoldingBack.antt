@@ -15,8 +15,8 @@ use Rattle.track_rule.specs.declared.view.Keep.{Keep}
 use Rattle.track_rule.specs.declared.view.Purpose.{Purpose}
 use Rattle.entry_pool.specs.Hold.{KeepsNone, KeepsSome}
 use Rattle.entry_pool.specs.Take.{Recycles}
-use Rattle.shared_desk.specs.Holding.{HasNewest, OnlyLooks, but_newest, older}
-use Rattle.shared_desk.specs.Rest.{has_link}
+use Rattle.shared_desk.specs.Holding.{HasNewest, OnlyLooks, but_newest}
+use Rattle.bucket_table.specs.Finding.{has_hook, others_of}
 use Rattle.shared_desk.proofs.HoldingFrames.{looks_from, starts_same}
 use Rattle.shared_desk.proofs.Lists.{none_of, same_bit}
 
@@ -47,7 +47,7 @@ none_here a b more none = ⊎_elim (λ (e : a ≡ true). absurd (false≢true (s
 
 module _ (place : ℕ) (why : Purpose) (u : PassSight) (h : HasNewest place why u) where
   pub newest_held : is_held place u.view.places.held ≡ true
-  newest_held = ap (is_held place) h.newest ∙ or_left (place == place) (is_held place (older u.view.places.held)) (eq-eqb place place refl)
+  newest_held = ap (is_held place) h.newest ∙ or_left (place == place) (is_held place (others_of u.view.places.held)) (eq-eqb place place refl)
 
   pub none_carried : is_among place u.view.places.carried ≡ false
   none_carried = ap (is_among place) h.can.carried
@@ -55,23 +55,23 @@ module _ (place : ℕ) (why : Purpose) (u : PassSight) (h : HasNewest place why 
   pub none_up : is_up place u.view.buckets.hooks ≡ false
   none_up = h.can.settled.down place
 
-  left : without place u.view.places.held ≡ older u.view.places.held
+  left : without place u.view.places.held ≡ others_of u.view.places.held
   left =
       ap (without place) h.newest
-      ∙ ap (λ (b : Bool). if b then older u.view.places.held else keep place why ∷ without place (older u.view.places.held)) (eq-eqb place place refl)
+      ∙ ap (λ (b : Bool). if b then others_of u.view.places.held else keep place why ∷ without place (others_of u.view.places.held)) (eq-eqb place place refl)
 
   owned_left : owned_then place u.view.places.held u.view.places.owned ≡ u.view.places.owned
   owned_left =
       ap (λ (ks : List Keep). if is_taken place ks then u.view.places.owned else unlisted (place ∷ []) u.view.places.owned) left
-      ∙ cond_both (is_taken place (older u.view.places.held)) u.view.places.owned (unlisted (place ∷ []) u.view.places.owned) (λ ps. ps ≡ u.view.places.owned)
+      ∙ cond_both (is_taken place (others_of u.view.places.held)) u.view.places.owned (unlisted (place ∷ []) u.view.places.owned) (λ ps. ps ≡ u.view.places.owned)
       (λ e. refl)
       (λ e. unlisted_none place u.view.places.owned
-      (none_here (is_among place u.view.places.owned) (is_taken place (older u.view.places.held)) (h.can.settled.owned place) e))
+      (none_here (is_among place u.view.places.owned) (is_taken place (others_of u.view.places.held)) (h.can.settled.owned place) e))
 
-  held_once : (held_times place u.view.places.held == 1) ≡ true → is_taken place (older u.view.places.held) ≡ false
+  held_once : (held_times place u.view.places.held == 1) ≡ true → is_taken place (others_of u.view.places.held) ≡ false
   held_once e =
       ⊎_elim
-      (λ (t : is_taken place (older u.view.places.held) ≡ true).
+      (λ (t : is_taken place (others_of u.view.places.held) ≡ true).
       absurd (omega (
         arith,
         eqb-true (held_times place u.view.places.held) 1 e,
@@ -79,14 +79,14 @@ module _ (place : ℕ) (why : Purpose) (u : PassSight) (h : HasNewest place why 
         same_bit place place refl,
         (h.can.settled.taken place t).once,
       )))
-      (λ (t : is_taken place (older u.view.places.held) ≡ false). t)
-      (cases_Bool (is_taken place (older u.view.places.held)))
+      (λ (t : is_taken place (others_of u.view.places.held) ≡ false). t)
+      (cases_Bool (is_taken place (others_of u.view.places.held)))
 
   hooks_left : hooks_then place u.view.places.held u.view.buckets.hooks ≡ u.view.buckets.hooks
   hooks_left =
       cond_both (held_times place u.view.places.held == 1) (hooks_else place u.view.buckets.hooks) u.view.buckets.hooks (λ xs. xs ≡ u.view.buckets.hooks)
       (λ e. filter_all (λ (x : Hook). place_of x.link == place) u.view.buckets.hooks
-      (none_here (has_link place u.view.buckets.hooks) (is_taken place (older u.view.places.held)) (h.can.settled.links place) (held_once e)))
+      (none_here (has_hook place u.view.buckets.hooks) (is_taken place (others_of u.view.places.held)) (h.can.settled.links place) (held_once e)))
       (λ e. refl)
 
   -- others have the place too
@@ -106,7 +106,7 @@ module _ (place : ℕ) (why : Purpose) (u : PassSight) (h : HasNewest place why 
   module _ (x : PassSight) (k : KeepsNone place u x) where
     now_owed : x ≡ record u {
       view = record u.view {
-        places = record u.view.places { held = older u.view.places.held; owed = place ∷ u.view.places.owed };
+        places = record u.view.places { held = others_of u.view.places.held; owed = place ∷ u.view.places.owed };
         readings = u.view.readings ++ stored (refs_word (sizes_of u) place) 0 ∷ [];
       };
     }
@@ -143,7 +143,7 @@ module _ (place : ℕ) (why : Purpose) (u : PassSight) (h : HasNewest place why 
             };
           }) now_owed ∙ (λ i. record u {
             view = record u.view {
-              places = record u.view.places { held = older u.view.places.held; owed = paid i; clear = clear_left i };
+              places = record u.view.places { held = others_of u.view.places.held; owed = paid i; clear = clear_left i };
               readings = w.view.readings;
             };
           })) (starts_same u.view.seen.front)

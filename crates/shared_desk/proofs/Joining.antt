@@ -29,7 +29,8 @@ use Rattle.track_rule.specs.Shares.{IsLast, joined}
 use Rattle.track_rule.specs.Sights.{BoardSight, IsFirst, PassSight}
 use Rattle.track_rule.specs.Steps.{Looks, at_point, found_history}
 use Rattle.track_rule.specs.Sums.{bit, total}
-use Rattle.shared_desk.specs.Rest.{IsAtRest, has_link}
+use Rattle.bucket_table.specs.Finding.{has_hook}
+use Rattle.shared_desk.specs.Rest.{IsAtRest}
 use Rattle.shared_desk.specs.Sights.{hold_of, sight_of}
 use Rattle.shared_desk.proofs.Known.{known_fresh, known_joined}
 use Rattle.shared_desk.proofs.Lists.{nothing_among}
@@ -69,10 +70,10 @@ no_holds : (held : List Keep) → map hold_of held ≡ [] → held ≡ []
 no_holds [] none = refl
 no_holds (k ∷ ks) none = cc
 
-no_hooks : (hooks : List Hook) → ((p : ℕ) → has_link p hooks ≡ false) → hooks ≡ []
+no_hooks : (hooks : List Hook) → ((p : ℕ) → has_hook p hooks ≡ false) → hooks ≡ []
 no_hooks [] none = refl
 no_hooks (h ∷ hs) none =
-    absurd (true≢false (sym (or_left (place_of h.link == place_of h.link) (has_link (place_of h.link) hs) (eq-eqb (place_of h.link) (place_of h.link) refl))
+    absurd (true≢false (sym (or_left (place_of h.link == place_of h.link) (has_hook (place_of h.link) hs) (eq-eqb (place_of h.link) (place_of h.link) refl))
     ∙ none (place_of h.link)))
 
 -- a clerk at rest that keeps no place has nothing at all
@@ -87,7 +88,7 @@ rest_nothing p notes spare h empty = record {
   carried = h.idle.carried;
   free = h.idle.free;
   shut = h.idle.shut;
-  hooks = no_hooks p.view.buckets.hooks (λ q. false_from_ne_true (has_link q p.view.buckets.hooks) (λ e. not_taken q (h.settled.links q e)));
+  hooks = no_hooks p.view.buckets.hooks (λ q. false_from_ne_true (has_hook q p.view.buckets.hooks) (λ e. not_taken q (h.settled.links q e)));
   hand = h.idle.hand;
   middle = h.idle.middle;
   expected = h.idle.expected;

@@ -7,7 +7,7 @@ use Rattle.track_rule.specs.Layout.{place_of}
 use Rattle.track_rule.specs.Steps.{hooks_else}
 use Rattle.track_rule.specs.declared.view.Hook.{Hook}
 use Rattle.shared_desk.specs.Commit.{is_any_up}
-use Rattle.shared_desk.specs.Rest.{has_link}
+use Rattle.bucket_table.specs.Finding.{has_hook}
 
 lower_link : (x : ℕ) (h : Hook) → (lower x h).link ≡ h.link
 lower_link x h = cond_both (h.link == x) (record h { next = None; up = false }) h (λ (t : Hook). t.link ≡ h.link) (λ e. refl) (λ e. refl)
@@ -62,8 +62,8 @@ lowered_else place x at (h ∷ hs) =
 pub else_gone : (place : ℕ) (h : Hook) (hooks : List Hook) → place_of h.link ≡ place → hooks_else place (h ∷ hooks) ≡ hooks_else place hooks
 else_gone place h hooks at = ap (λ (b : Bool). if not b then h ∷ hooks_else place hooks else hooks_else place hooks) (eq-eqb (place_of h.link) place at)
 
-pub else_all : (place : ℕ) (hooks : List Hook) → has_link place hooks ≡ false → hooks_else place hooks ≡ hooks
+pub else_all : (place : ℕ) (hooks : List Hook) → has_hook place hooks ≡ false → hooks_else place hooks ≡ hooks
 else_all place [] e = refl
 else_all place (h ∷ hs) e =
-    let parts = or_parts (place_of h.link == place) (has_link place hs) e in
+    let parts = or_parts (place_of h.link == place) (has_hook place hs) e in
     ap (λ (b : Bool). if not b then h ∷ hooks_else place hs else hooks_else place hs) parts.0 ∙ ap (λ ks. h ∷ ks) (else_all place hs parts.1)

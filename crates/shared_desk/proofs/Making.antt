@@ -32,7 +32,8 @@ use Rattle.bucket_table.specs.LockedChain.{original_link, reply_link}
 use Rattle.shared_desk.specs.Commit.{is_any_up}
 use Rattle.shared_desk.specs.Confirm.{CanConfirmFlow, ConfirmsFlow, IsConfirmed, IsInTheWay}
 use Rattle.shared_desk.specs.Noting.{made_by, room_for}
-use Rattle.shared_desk.specs.Rest.{AreSettled, IsAtRest, IsPrepared, IsSettled, has_link}
+use Rattle.bucket_table.specs.Finding.{has_hook}
+use Rattle.shared_desk.specs.Rest.{AreSettled, IsAtRest, IsPrepared, IsSettled}
 use Rattle.shared_desk.specs.Sights.{hold_of, sight_of}
 use Rattle.shared_desk.specs.Tuples.{standing}
 use Rattle.shared_desk.proofs.Committing.{taken_held}
@@ -60,13 +61,13 @@ none_any (x ∷ xs) h =
     first false e t = refl
 
 -- a link of the place is there where one of its two hooks is, or one at no link
-link_cases : (p : ℕ) (hooks : List Hook) → has_link p hooks ≡ true → hooks_of 0 hooks ≡ 0 → 0 < hooks_of (original_link p) hooks + hooks_of (reply_link p) hooks
+link_cases : (p : ℕ) (hooks : List Hook) → has_hook p hooks ≡ true → hooks_of 0 hooks ≡ 0 → 0 < hooks_of (original_link p) hooks + hooks_of (reply_link p) hooks
 link_cases p [] e z = absurd (false≢true e)
 link_cases p (x ∷ xs) e z =
     ⊎_elim
     (λ (t : (place_of x.link == p) ≡ true). first x.link refl (eqb-true (place_of x.link) p t))
-    (λ (t : has_link p xs ≡ true). omega (arith, link_cases p xs t (omega (arith, z))))
-    (or_cases (place_of x.link == p) (has_link p xs) e)
+    (λ (t : has_hook p xs ≡ true). omega (arith, link_cases p xs t (omega (arith, z))))
+    (or_cases (place_of x.link == p) (has_hook p xs) e)
   where
     first : (n : ℕ) → x.link ≡ n → place_of n ≡ p → 0 < hooks_of (original_link p) (x ∷ xs) + hooks_of (reply_link p) (x ∷ xs)
     first n is at =
@@ -90,19 +91,19 @@ dropped_own x (h ∷ hs) e =
     omega (arith, ap bit t, ap (λ (b : Bool). hooks_of x (if b then hs else h ∷ dropped x hs)) t, dropped_own x hs (omega (arith, e, ap bit t))))
     (cases_Bool (h.link == x))
 
-fewer_links : (x p : ℕ) (hooks : List Hook) → has_link p (dropped x hooks) ≡ true → has_link p hooks ≡ true
+fewer_links : (x p : ℕ) (hooks : List Hook) → has_hook p (dropped x hooks) ≡ true → has_hook p hooks ≡ true
 fewer_links x p [] e = e
 fewer_links x p (h ∷ hs) e =
     ⊎_elim
     (λ (t : (h.link == x) ≡ true).
-    or_right (place_of h.link == p) (has_link p hs) (sym (ap (λ (b : Bool). has_link p (if b then hs else h ∷ dropped x hs)) t) ∙ e))
+    or_right (place_of h.link == p) (has_hook p hs) (sym (ap (λ (b : Bool). has_hook p (if b then hs else h ∷ dropped x hs)) t) ∙ e))
     (λ (t : (h.link == x) ≡ false).
-    ⊎_elim (λ (k : (place_of h.link == p) ≡ true). or_left (place_of h.link == p) (has_link p hs) k)
-    (λ (k : has_link p (dropped x hs) ≡ true). or_right (place_of h.link == p) (has_link p hs) (fewer_links x p hs k))
-    (or_cases (place_of h.link == p) (has_link p (dropped x hs)) (sym (ap (λ (b : Bool). has_link p (if b then hs else h ∷ dropped x hs)) t) ∙ e)))
+    ⊎_elim (λ (k : (place_of h.link == p) ≡ true). or_left (place_of h.link == p) (has_hook p hs) k)
+    (λ (k : has_hook p (dropped x hs) ≡ true). or_right (place_of h.link == p) (has_hook p hs) (fewer_links x p hs k))
+    (or_cases (place_of h.link == p) (has_hook p (dropped x hs)) (sym (ap (λ (b : Bool). has_hook p (if b then hs else h ∷ dropped x hs)) t) ∙ e)))
     (cases_Bool (h.link == x))
 
-same_links : (p : ℕ) (a b : List Hook) → standing a ≡ standing b → has_link p a ≡ has_link p b
+same_links : (p : ℕ) (a b : List Hook) → standing a ≡ standing b → has_hook p a ≡ has_hook p b
 same_links p a b e = same_any (λ q. place_of q.0 == p) a b e
 
 -- REFERENCES
@@ -179,10 +180,10 @@ settled_confirmed place id places hooks new h taken stands =
           (dropped_down (reply_link place) (dropped (original_link place) hooks) (dropped_down (original_link place) hooks (none_any hooks h.down)));
       some = no_end;
       links = λ p e.
-          let there : has_link p (dropped (reply_link place) (dropped (original_link place) hooks)) ≡ true =
+          let there : has_hook p (dropped (reply_link place) (dropped (original_link place) hooks)) ≡ true =
           sym (same_links p new (dropped (reply_link place) (dropped (original_link place) hooks)) stands) ∙ e in
-          let before : has_link p hooks ≡ true = fewer_links (original_link place) p hooks (fewer_links (reply_link place) p (dropped (original_link place) hooks) there) in
-          let other : p ≢ place = λ i. gone own.original own.reply (ap (λ (q : ℕ). has_link q (dropped (reply_link place) (dropped (original_link place) hooks))) (sym i) ∙ there) in
+          let before : has_hook p hooks ≡ true = fewer_links (original_link place) p hooks (fewer_links (reply_link place) p (dropped (original_link place) hooks) there) in
+          let other : p ≢ place = λ i. gone own.original own.reply (ap (λ (q : ℕ). has_hook q (dropped (reply_link place) (dropped (original_link place) hooks))) (sym i) ∙ there) in
           taken_else p place id places.held other ∙ h.links p before;
       owned = λ p e.
           let other : p ≢ place = λ i. false≢true (sym (among_gone place places.owned) ∙ ap (λ (q : ℕ). is_among q (unlisted (place ∷ []) places.owned)) (sym i) ∙ e) in
@@ -199,7 +200,7 @@ settled_confirmed place id places hooks new h taken stands =
     no_end = same_count 0 new (dropped (reply_link place) (dropped (original_link place) hooks)) stands ∙ none_left
 
     gone : hooks_of (original_link place) hooks ≡ 1 → hooks_of (reply_link place) hooks ≡ 1
-        → has_link place (dropped (reply_link place) (dropped (original_link place) hooks)) ≡ true → ⊥
+        → has_hook place (dropped (reply_link place) (dropped (original_link place) hooks)) ≡ true → ⊥
     gone one one' e =
         omega (
           arith,

@@ -13,14 +13,15 @@ use Rattle.track_rule.specs.Links.{RaisesNone, hooks_of}
 use Rattle.track_rule.specs.References.{held_times, is_at, is_for_new, is_held, is_taken, without}
 use Rattle.track_rule.specs.Steps.{NewHooks, hooks_then, keep, owned_then}
 use Rattle.track_rule.specs.Sums.{bit}
-use Rattle.shared_desk.specs.Rest.{AreSettled, IsPrepared, IsSettled, has_link}
+use Rattle.bucket_table.specs.Finding.{has_hook}
+use Rattle.shared_desk.specs.Rest.{AreSettled, IsPrepared, IsSettled}
 use Rattle.shared_desk.proofs.Lists.{among_gone, among_others, any_filter, any_less, each_less, none_filter, none_less, none_of, other_bit, others_less, same_bit, total_less}
 
 -- hooks of no place that has none
-no_hooks : (place link : ℕ) → place_of link ≡ place → (hooks : List Hook) → has_link place hooks ≡ false → hooks_of link hooks ≡ 0
+no_hooks : (place link : ℕ) → place_of link ≡ place → (hooks : List Hook) → has_hook place hooks ≡ false → hooks_of link hooks ≡ 0
 no_hooks place link at [] e = refl
 no_hooks place link at (x ∷ xs) e =
-    let parts = or_parts (place_of x.link == place) (has_link place xs) e in
+    let parts = or_parts (place_of x.link == place) (has_hook place xs) e in
     omega (arith, no_hooks place link at xs parts.1, other_bit x.link link (λ k. eqb-false (place_of x.link) place parts.0 (ap place_of k ∙ at)))
 
 -- hooks that a filter keeps
@@ -43,14 +44,14 @@ module _ (place : ℕ) (places : Places) (old new : List Hook) (h : AreSettled p
   abbrev after : Places
   after = record places { held = keep place Taken ∷ places.held; owned = place ∷ places.owned }
 
-  none_before : has_link place old ≡ false
+  none_before : has_hook place old ≡ false
   none_before =
       ⊎_elim
-      (λ (e : has_link place old ≡ true).
+      (λ (e : has_hook place old ≡ true).
       let t : is_taken place places.held ≡ true = h.links place e in
       absurd (omega (arith, unheld, (h.taken place t).once)))
-      (λ (e : has_link place old ≡ false). e)
-      (cases_Bool (has_link place old))
+      (λ (e : has_hook place old ≡ false). e)
+      (cases_Bool (has_hook place old))
 
   count_after : (link : ℕ) → hooks_of link new ≡ bit (n.original.link == link) + (bit (n.reply.link == link) + hooks_of link old)
   count_after link = ap (hooks_of link) n.all
@@ -102,12 +103,12 @@ module _ (place : ℕ) (places : Places) (old new : List Hook) (h : AreSettled p
       ⊎_elim (λ (k : place ≡ p). or_left (place == p && true) (is_taken p places.held) (and_from (place == p) true (eq-eqb place p k) refl))
       (λ (k : place ≢ p). or_right (place == p && true) (is_taken p places.held) (before k)) (cases_eq place p)
 
-  link_before : (p : ℕ) → place ≢ p → has_link p new ≡ true → has_link p old ≡ true
+  link_before : (p : ℕ) → place ≢ p → has_hook p new ≡ true → has_hook p old ≡ true
   link_before p other e =
       ⊎_elim (λ k. absurd (other (original_place n.original.link n.links.0 ∙ eqb-true (place_of n.original.link) p k)))
       (λ k. ⊎_elim (λ j. absurd (other (reply_place n.reply.link n.links.1 ∙ eqb-true (place_of n.reply.link) p j))) (λ j. j)
-      (or_cases (place_of n.reply.link == p) (has_link p old) k))
-      (or_cases (place_of n.original.link == p) (has_link p (n.reply ∷ old)) (subst (λ hs. has_link p hs ≡ true) n.all e))
+      (or_cases (place_of n.reply.link == p) (has_hook p old) k))
+      (or_cases (place_of n.original.link == p) (has_hook p (n.reply ∷ old)) (subst (λ hs. has_hook p hs ≡ true) n.all e))
     where
       original_place : (x : ℕ) → x ≡ 1 + 2 * place → place ≡ place_of x
       original_place x is = omega (arith, is)
@@ -183,10 +184,10 @@ module _ (place : ℕ) (places : Places) (hooks : List Hook) (h : AreSettled pla
       cond_both (held_times place places.held == 1) (filter (λ (x : Hook). not (place_of x.link == place)) hooks) hooks
       (λ hs. hooks_of 0 hs ≡ 0) (λ e. omega (arith, h.some, fewer_hooks 0 (λ (x : Hook). not (place_of x.link == place)) hooks)) (λ e. h.some)
 
-  none_linked : has_link place (hooks_then place places.held hooks) ≡ true → ⊥
+  none_linked : has_hook place (hooks_then place places.held hooks) ≡ true → ⊥
   none_linked =
       cond_both (held_times place places.held == 1) (filter (λ (x : Hook). not (place_of x.link == place)) hooks) hooks
-      (λ hs. has_link place hs ≡ true → ⊥)
+      (λ hs. has_hook place hs ≡ true → ⊥)
       (λ e k. false≢true (sym (none_filter (λ (x : Hook). place_of x.link == place) (λ (x : Hook). not (place_of x.link == place))
       (λ x j. not-true (place_of x.link == place) j) hooks) ∙ k))
       (λ e k. eqb-false (held_times place places.held) 1 e (h.taken place (h.links place k)).once)
@@ -219,7 +220,7 @@ module _ (place : ℕ) (places : Places) (hooks : List Hook) (h : AreSettled pla
     down = λ p. raises p (h.down p);
     some = none_at_end;
     links = λ p e. ⊎_elim
-        (λ (k : place ≡ p). absurd (none_linked (ap (λ (q : ℕ). has_link q (hooks_then place places.held hooks)) k ∙ e)))
+        (λ (k : place ≡ p). absurd (none_linked (ap (λ (q : ℕ). has_hook q (hooks_then place places.held hooks)) k ∙ e)))
         (λ (k : place ≢ p).
         other_taken p k ∙ h.links p (sym (other_link (λ (x : Hook). place_of x.link == p) p k (λ x j. eqb-true (place_of x.link) p j)) ∙ e))
         (cases_eq place p);

@@ -1,5 +1,5 @@
 -- A place is held for the entry that is live in it.
-use Rattle.std.specs.Prelude.{◌≡◌, ℕ, ◌+◌, ◌≤◌, true, false, Option, Some, None, List, [], ◌∷◌, length}
+use Rattle.std.specs.Prelude.{◌≡◌, ℕ, ◌+◌, ◌≤◌, true, false, Option, Some, None, [], ◌∷◌, length}
 use Rattle.history_book.specs.Desk.{IsLiveIn}
 use Rattle.history_book.specs.Point.{StartsWith}
 use Rattle.history_book.specs.declared.outcome.HoldOutcome.{HoldOutcome}
@@ -11,9 +11,9 @@ use Rattle.track_rule.specs.References.{WasConfirmed, is_taken}
 use Rattle.track_rule.specs.Sights.{PassSight}
 use Rattle.track_rule.specs.Steps.{AreAll, keep}
 use Rattle.track_rule.specs.Sums.{times, total}
-use Rattle.track_rule.specs.declared.view.Keep.{Keep}
 use Rattle.track_rule.specs.declared.view.Purpose.{Purpose}
 use Rattle.track_rule.specs.declared.view.Purpose.TheVariants.{For}
+use Rattle.bucket_table.specs.Finding.{others_of}
 use Rattle.shared_desk.specs.Looking.{IsFreeFor}
 use Rattle.shared_desk.specs.Rest.{AreSettled}
 
@@ -32,18 +32,13 @@ pub record OnlyLooks (v w : PassSight) : Type 0 where
   }
   pub front : StartsWith w.view.seen.front v.view.seen.front
 
--- the references but the newest one
-abbrev pub older : List Keep → List Keep
-older [] = []
-older (k ∷ ks) = ks
-
 -- the pass without its newest reference
 abbrev pub but_newest : PassSight → PassSight
-but_newest v = record v { view = record v.view { places = record v.view.places { held = older v.view.places.held } } }
+but_newest v = record v { view = record v.view { places = record v.view.places { held = others_of v.view.places.held } } }
 
 -- The newest reference of the pass is to this place, for this; without it the pass might hold the place, and it does not owe it.
 pub record HasNewest (place : ℕ) (why : Purpose) (v : PassSight) : Type 0 where
-  pub newest : v.view.places.held ≡ keep place why ∷ older v.view.places.held
+  pub newest : v.view.places.held ≡ keep place why ∷ others_of v.view.places.held
   pub can : CanHold place (but_newest v)
   pub unowed : times place v.view.places.owed ≡ 0
 
@@ -53,7 +48,7 @@ HasSome place v = (why : Purpose) × HasNewest place why v
 -- The pass has seen all events so far, after which the entry of the id was live in the place, and holds the place for it once more.
 -- It has not taken the place, and holds it for no other entry.
 pub record IsHeldFor (place id at : ℕ) (v w : PassSight) : Type 0 where
-  pub newest : w.view.places.held ≡ keep place (For id) ∷ older w.view.places.held
+  pub newest : w.view.places.held ≡ keep place (For id) ∷ others_of w.view.places.held
   pub looks : OnlyLooks v (but_newest w)
   pub all : AreAll v.view w.view.seen.front
   pub point : at ≡ length w.view.seen.front

@@ -23,7 +23,7 @@ use Rattle.track_rule.specs.TouchSteps.{known_phase, known_record}
 use Rattle.track_rule.specs.declared.view.Commit.{Commit}
 use Rattle.track_rule.specs.declared.view.Middle.TheVariants.{Calm}
 use Rattle.shared_desk.specs.Commit.{is_any_up, seen_with, shut_buckets}
-use Rattle.shared_desk.specs.Rest.{has_link}
+use Rattle.bucket_table.specs.Finding.{has_hook}
 use Rattle.shared_desk.specs.Touching.{IsLeft, IsNotLive}
 
 -- what a record has of the flow that became it
@@ -38,7 +38,7 @@ destroy_of r why = Destroy r.id why
 pub record IsClearOf (place : ℕ) (v : PassSight) : Type 0 where
   pub carried : v.view.places.carried ≡ []
   pub down : is_any_up v.view.buckets.hooks ≡ false
-  pub bare : has_link place v.view.buckets.hooks ≡ false
+  pub bare : has_hook place v.view.buckets.hooks ≡ false
   pub few : length v.view.seen.own < 2 ^ 30
 
 -- The pass holds the place for an entry, whose Confirm it has seen, without the helper; and it has shut no bucket.

@@ -1,6 +1,6 @@
 -- What holds of a clerk between its calls.
-use Rattle.std.specs.Prelude.{◌≡◌, ℕ, ◌+◌, ◌*◌, ◌≤◌, ◌==◌, Bool, true, false, None, List, [], length}
-use Rattle.std.specs.List.{AllByRecursion, list_any}
+use Rattle.std.specs.Prelude.{◌≡◌, ℕ, ◌+◌, ◌*◌, ◌≤◌, true, false, None, List, [], length}
+use Rattle.std.specs.List.{AllByRecursion}
 use Rattle.room_list.specs.Roomed.{Roomed}
 use Rattle.history_book.specs.declared.event.Note.{Note}
 use Rattle.history_book.specs.Sight.{IsKnown}
@@ -11,10 +11,10 @@ use Rattle.track_rule.specs.declared.view.Places.{Places}
 use Rattle.track_rule.specs.declared.view.Purpose.{Purpose}
 use Rattle.track_rule.specs.declared.view.Purpose.TheVariants.{Taken, Testing, Shown, For}
 use Rattle.track_rule.specs.Free.{is_among}
-use Rattle.track_rule.specs.Layout.{place_of}
 use Rattle.track_rule.specs.Links.{hooks_of, is_up}
 use Rattle.track_rule.specs.References.{held_times, is_taken}
 use Rattle.track_rule.specs.Sights.{PassSight}
+use Rattle.bucket_table.specs.Finding.{has_hook}
 use Rattle.shared_desk.specs.Sights.{sight_of}
 
 -- the pass has no turn and no bucket, carries no reference of the table's, and is in the middle of no commit
@@ -41,10 +41,6 @@ pub record IsPrepared (place : ℕ) (places : Places) (hooks : List Hook) : Type
   pub original : hooks_of (1 + 2 * place) hooks ≡ 1
   pub reply : hooks_of (2 + 2 * place) hooks ≡ 1
 
--- a link of the place is among these
-abbrev pub has_link : ℕ → List Hook → Bool
-has_link place hooks = list_any (λ (h : Hook). place_of h.link == place) hooks
-
 -- Of places that were taken alone the pass has hooks, and owns them; none is in a chain, and none is 0, which is no link. Of owed
 -- places alone it has made the phase FREE.
 pub record AreSettled (places : Places) (hooks : List Hook) : Type 0 where
@@ -52,7 +48,7 @@ pub record AreSettled (places : Places) (hooks : List Hook) : Type 0 where
   pub taken : (place : ℕ) → is_taken place places.held ≡ true → IsPrepared place places hooks
   pub down : (place : ℕ) → is_up place hooks ≡ false
   pub some : hooks_of 0 hooks ≡ 0
-  pub links : (place : ℕ) → has_link place hooks ≡ true → is_taken place places.held ≡ true
+  pub links : (place : ℕ) → has_hook place hooks ≡ true → is_taken place places.held ≡ true
   pub owned : (place : ℕ) → is_among place places.owned ≡ true → is_taken place places.held ≡ true
   pub clear : (place : ℕ) → is_among place places.clear ≡ true → is_among place places.owed ≡ true
 

@@ -5,9 +5,9 @@ ghost use Rattle.bucket_table.specs.Following.{bucket_in};
 ghost use Rattle.bucket_table.specs.LockedChain.{OnlyLoads, has_bucket};
 ghost use Rattle.bucket_table.specs.Locks.{AreShut};
 ghost use Rattle.shared_desk.specs.Rival.{Clashes, IsBlocked, has_both, rival_in};
-ghost use Rattle.track_rule.specs.History.{events_in};
 ghost use Rattle.track_rule.specs.Sights.{sizes_of};
 
+use crate::clerk::events_in;
 use bucket_table::lock::Locked;
 use bucket_table::locked_chain::{walk, walk_reply};
 use history_book::laws::{records_are_apart, records_are_of_one_protocol, same_tuple_is_equality};
@@ -64,13 +64,6 @@ pub fn find_rival(pass: &mut Pass, locked: &Locked, flow: &Flow) -> Option<Rival
         }),
         None => None,
     }
-}
-
-/// The number of events that the history word says.
-fn events_in(word: u64) -> u64
-    ensures { result ≡ events_in word }
-{
-    word % (1 << 40)
 }
 
 /// Answers that this entry stands in the way of the flow, for which the place was taken.
