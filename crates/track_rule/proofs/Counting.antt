@@ -2,7 +2,7 @@
 use Rattle.std.proofs.Common.{◌≡◌, ℕ, ◌+◌, ◌<◌, ◌≤◌, zero, suc, List, [], ◌∷◌, length, refl, ⊎_elim, arith}
 use Rattle.std.specs.Prelude.{◌==◌}
 use Rattle.std.proofs.lemmas.Bool.{cases_eq, cases_lt}
-use Rattle.track_rule.specs.Sums.{bit, times}
+use Rattle.track_rule.specs.Sums.{bit, times, total}
 use Rattle.track_rule.proofs.Lists.{other_bit, same_bit}
 
 -- the sum of g over the numbers below n
@@ -14,7 +14,7 @@ pub below_le : (g h : ℕ → ℕ) (n : ℕ) → ((p : ℕ) → p < n → g p �
 below_le g h zero f = omega arith
 below_le g h (suc n) f = omega (arith, f n (omega arith), below_le g h n (λ p low. f p (omega (arith, low))))
 
-below_add : (g h : ℕ → ℕ) (n : ℕ) → below (λ p. g p + h p) n ≡ below g n + below h n
+pub below_add : (g h : ℕ → ℕ) (n : ℕ) → below (λ p. g p + h p) n ≡ below g n + below h n
 below_add g h zero = omega arith
 below_add g h (suc n) = omega (arith, below_add g h n)
 
@@ -37,6 +37,26 @@ below_hit a (suc n) h =
     (λ (e : a ≡ n). omega (arith, same_bit a n e, below_miss a n (omega (arith, e))))
     (λ (e : a ≡ n → ⊥). omega (arith, other_bit a n e, below_hit a n (omega (arith, e, h))))
     (cases_eq a n)
+
+below_bit : (a n : ℕ) → below (λ p. bit (a == p)) n ≤ 1
+below_bit a n =
+    ⊎_elim (λ (e : a < n). omega (arith, below_hit a n e)) (λ (e : n ≤ a). omega (arith, below_miss a n e)) (cases_lt a n)
+
+-- items that have one number each count no more than there are
+pub below_items : {X : Type 0} (number : X → ℕ) (xs : List X) (n : ℕ) → below (λ p. total (λ x. bit (number x == p)) xs) n ≤ length xs
+below_items number [] n = omega (arith, below_zeros n)
+below_items number (x ∷ xs) n =
+    omega (
+      arith,
+      below_add (λ p. bit (number x == p)) (λ p. total (λ y. bit (number y == p)) xs) n,
+      below_bit (number x) n,
+      below_items number xs n,
+    )
+
+-- the sum over items may be taken first, or that over numbers
+pub below_total : {X : Type 0} (g : ℕ → X → ℕ) (xs : List X) (n : ℕ) → below (λ p. total (g p) xs) n ≡ total (λ x. below (λ p. g p x) n) xs
+below_total g [] n = below_zeros n
+below_total g (x ∷ xs) n = omega (arith, below_add (λ p. g p x) (λ p. total (g p) xs) n, below_total g xs n)
 
 -- the places of a list, which are below n, are counted once each
 below_times : (n : ℕ) (xs : List ℕ) → ((p : ℕ) → n ≤ p → times p xs ≡ 0) → below (λ p. times p xs) n ≡ length xs

@@ -19,6 +19,7 @@ pub mod ChainStores
 pub mod ChainCuts
 pub mod LinkStores
 pub mod ShutChains
+pub mod Fullness
 pub mod Loads
 pub mod Turns
 pub mod Refs

@@ -28,10 +28,11 @@ use Rattle.track_rule.specs.Phases.{middle_of, middle_weight, of_place, table_ke
 use Rattle.track_rule.specs.Readings.{found, noted}
 use Rattle.track_rule.specs.References.{held_times, is_at, is_for_new, keeps, takes}
 use Rattle.track_rule.specs.Rule.{Holds, IsKept, Ledger}
-use Rattle.track_rule.specs.Steps.{AreAll, HasOthers, IsCount, LoadStep, LoadsRefs, LookStep, at_point, found_history, read_refs, saw}
+use Rattle.track_rule.specs.Steps.{AreAll, HasOthers, IsCount, LoadStep, LoadsRefs, LookStep, at_point, found_history, read_refs, saw, uses}
 use Rattle.track_rule.specs.Sums.{Each, times, total}
 use Rattle.track_rule.proofs.LastRead.{ReadsAt, read_on}
 use Rattle.track_rule.proofs.Frames.{middle_left}
+use Rattle.track_rule.proofs.Fullness.{full, in_use}
 use Rattle.track_rule.proofs.KeptWords.{words_same}
 use Rattle.track_rule.proofs.TurnsKnown.{empty, gone}
 use Rattle.track_rule.proofs.Balance.{Lines, Moves, few_references, free_left, moved, pass_moved, references_left, bucket_lines}
@@ -191,6 +192,13 @@ looks low slots id v c has_some s (l, h) long at range =
           gone = λ x i turn calm kept other. gone z l s id v h at x turn low calm i kept (eqb-false x.phase (3 + i) other);
           empty = λ x turn calm few. empty z l s id v h at x turn calm few;
           shown = λ q i kept. (h.kept_words.each id v at q i kept).was;
+          full = λ list turn. omega (arith, full z l s h id v at, ap length (h.free_list.away id v at list turn));
+          used = λ list turn alone q below. omega (
+            arith,
+            in_use z l s h q below,
+            ap (times q) (h.free_list.away id v at list turn),
+            alone_total z l s id v h at (uses q) (λ u n. omega (arith, ap (held_times q) n.held, ap (times q) n.owed)) alone,
+          );
         },
         refl,
       ),

@@ -78,11 +78,21 @@ at_point point (Some n) = Some (record n { at = Some point })
 abbrev pub saw : List Event → View → View
 saw log v = record v { seen = record v.seen { front = log }; walk = at_point (length log) v.walk }
 
+-- how many places the pass holds and owes
+abbrev pub kept_places : View → ℕ
+kept_places v = length v.places.held + length v.places.owed
+
+-- how often it holds this one, and owes it
+abbrev pub uses : ℕ → View → ℕ
+uses place v = held_times place v.places.held + times place v.places.owed
+
 -- A load: the pass has seen all events, and the word is theirs. The chain of a bucket that the pass has shut weighs what the live
 -- records weigh in it, and the pass's own links there. No live record has a place that the pass has taken. Under the turn of a
 -- place's record the pass has the record of the id of which the place is LIVE. Unless it is in the middle of a commit itself, an
 -- id for which it holds that place is live no more where the place is not LIVE of it, and no live record has the place where it
--- is LIVE of none. The pass has seen the Confirm of each id for which it holds a place.
+-- is LIVE of none. The pass has seen the Confirm of each id for which it holds a place. Under the turn of the free list it knows how
+-- full the table is: beside the places on the list, those of live records and its own there are four at most for each share of others
+-- (`full`), and none where no other pass has a share (`used`).
 pub record Looks (v : View) (word : ℕ) (w : View) : Type 0 where
   pub same : w ≡ noted (found_history word v) (saw w.seen.front v)
   pub all : AreAll v w.seen.front
@@ -97,6 +107,11 @@ pub record Looks (v : View) (word : ℕ) (w : View) : Type 0 where
       → (h.phase == 3 + id) ≡ false → record_of id (state_after w.seen.front) ≡ None
   pub empty : (h : Hand) → v.commit.hand ≡ Some h → v.commit.middle ≡ Calm → h.phase < 3 → total (of_place h.place) (records_after w.seen.front) ≡ 0
   pub shown : (place id : ℕ) → is_kept_for place id v.places.held ≡ true → WasConfirmed w.seen.front id place
+  pub full : (list : List ℕ) → v.free ≡ Some list
+      → v.passes.sizes.entries ≤ length list + length (records_after w.seen.front) + kept_places v
+      + 4 * (v.passes.sizes.passes - (v.passes.shares + v.passes.returned))
+  pub used : (list : List ℕ) → v.free ≡ Some list → IsAlone v → (p : ℕ) → p < v.passes.sizes.entries
+      → 0 < times p list + uses p v + total (of_place p) (records_after w.seen.front)
 
 -- THE FREE LIST
 
