@@ -5,17 +5,18 @@ use Rattle.std.proofs.Common.{◌≡◌, ◌≢◌, ℕ, ◌+◌, ◌<◌, ◌�
 use Rattle.std.proofs.lemmas.Bool.{cases_Bool, cases_eq, cases_lt, eq-eqb}
 use Rattle.room_list.specs.Roomed.{Roomed}
 use Rattle.track_rule.specs.Free.{is_among, known_free, taken_out, unlisted}
-use Rattle.track_rule.specs.History.{events_in}
+use Rattle.track_rule.specs.History.{events_in, records_after}
 use Rattle.track_rule.specs.Layout.{phase_word, refs_word}
 use Rattle.track_rule.specs.Links.{RaisesNone}
 use Rattle.track_rule.specs.Passes.{AreFronts}
 use Rattle.track_rule.specs.PhaseSteps.{phase_stored}
+use Rattle.track_rule.specs.Phases.{of_place}
 use Rattle.track_rule.specs.Readings.{added, changes, is_stored, stored}
 use Rattle.track_rule.specs.Sights.{PassSight, sizes_of}
 use Rattle.track_rule.specs.Slots.{given_back}
-use Rattle.track_rule.specs.Steps.{AreAll, CanGive, Looks, NewHooks, Opens, at_point, found_history, gave_free, keep, opened}
+use Rattle.track_rule.specs.Steps.{AreAll, CanGive, IsAlone, Looks, NewHooks, Opens, at_point, found_history, gave_free, keep, kept_places, opened, uses}
 use Rattle.track_rule.specs.References.{held_times}
-use Rattle.track_rule.specs.Sums.{bit, times}
+use Rattle.track_rule.specs.Sums.{bit, times, total}
 use Rattle.history_book.specs.History.{is_legal}
 use Rattle.history_book.specs.Point.{StartsWith}
 use Rattle.history_book.specs.declared.event.Event.{Event}
@@ -218,6 +219,7 @@ module _ (v u : PassSight) (list : Roomed ℕ) (h : HasList v u list) where
           let ef : w.view.seen.front ≡ front = ap (λ (y : PassSight). y.view.seen.front) x in
           let same_seen : u.view.seen ≡ v.view.seen = ap (λ (y : PassSight). y.view.seen) h.same in
           let same_passes : u.view.passes ≡ v.view.passes = ap (λ (y : PassSight). y.view.passes) h.same in
+          let turn : u.view.free ≡ Some list.items = ap (λ (y : PassSight). y.view.free) h.same in
           record {
             same = made_of w _ x (record v.view.seen { front = w.view.seen.front }) (λ k. record v.view.seen { front = sym ef k })
                 v.view.places
@@ -247,6 +249,26 @@ module _ (v u : PassSight) (list : Roomed ℕ) (h : HasList v u list) where
             empty = ap (list_any (says_empty at)) (readings_are front x)
                 ∙ any_at (says_empty at) h.waits.more look_reading (stored 1 0 ∷ [])
                 (and_both (events_in word == at) (length list.items == 0) (eq-eqb (events_in word) at (sym point)) (ap (λ xs. length xs == 0) none));
+            full = omega (
+              arith,
+              o.full list.items turn,
+              ap length none,
+              ap (λ es. length (records_after es)) ef,
+              ap (λ (y : PassSight). kept_places y.view) h.same,
+              ap (λ z. z.entries) sizes_same,
+              ap (λ z. z.passes) sizes_same,
+              ap (λ (s : Shares). s.shares + s.returned) same_passes,
+            );
+            used = λ alone p below.
+                let same_alone : IsAlone u.view = subst (λ (s : Shares). s.shares + s.returned ≡ s.sizes.passes) (sym same_passes) alone in
+                let same_below : p < (sizes_of u).entries = omega (arith, below, ap (λ z. z.entries) sizes_same) in
+                omega (
+                  arith,
+                  o.used list.items turn same_alone p same_below,
+                  ap (times p) none,
+                  ap (λ es. total (of_place p) (records_after es)) ef,
+                  ap (λ (y : PassSight). uses p y.view) h.same,
+                );
             own = ap (list_any not_turn) (readings_are front x)
                 ∙ any_more not_turn (h.waits.more ++ look_reading ∷ []) (stored 1 0)
                 (any_more not_turn h.waits.more look_reading h.waits.own refl) refl;

@@ -1,18 +1,19 @@
 -- A place for a new entry, and what becomes of a place that is owed.
-use Rattle.std.specs.Prelude.{◌≡◌, ℕ, ◌<◌, ◌==◌, ◌&&◌, ◌||◌, not, Bool, true, false, Option, None, Some, List, [], ◌∷◌, length}
+use Rattle.std.specs.Prelude.{◌≡◌, ℕ, ◌+◌, ◌-◌, ◌*◌, ◌<◌, ◌≤◌, ◌==◌, ◌&&◌, ◌||◌, not, Bool, true, false, Option, None, Some, List, [], ◌∷◌, length}
 use Rattle.std.specs.List.{list_any}
 use Rattle.history_book.specs.declared.outcome.TakeOutcome.{TakeOutcome}
 use Rattle.history_book.specs.declared.outcome.TakeOutcome.TheVariants.{Taken, Full}
 use Rattle.track_rule.specs.Free.{taken_out, unlisted}
-use Rattle.track_rule.specs.History.{events_in}
+use Rattle.track_rule.specs.History.{events_in, records_after}
 use Rattle.track_rule.specs.Layout.{phase_word, refs_word}
 use Rattle.track_rule.specs.Links.{RaisesNone}
 use Rattle.track_rule.specs.PhaseSteps.{phase_free, phase_owned}
+use Rattle.track_rule.specs.Phases.{of_place}
 use Rattle.track_rule.specs.Readings.{added, changes, is_stored}
 use Rattle.track_rule.specs.References.{held_times}
 use Rattle.track_rule.specs.Sights.{PassSight, sizes_of}
-use Rattle.track_rule.specs.Steps.{AreAll, NewHooks, keep}
-use Rattle.track_rule.specs.Sums.{times}
+use Rattle.track_rule.specs.Steps.{AreAll, IsAlone, NewHooks, keep, kept_places, uses}
+use Rattle.track_rule.specs.Sums.{times, total}
 use Rattle.track_rule.specs.declared.view.Purpose.TheVariants as purpose
 use Rattle.track_rule.specs.declared.view.Reading.{Reading}
 use Rattle.entry_pool.specs.GoesOn.{ReadingsStand}
@@ -56,7 +57,8 @@ says_empty at r = r.word == 0 && not r.own && events_in r.value == at && is_zero
     is_zero (Some n) = n == 0
 
 -- The free list was empty at this point, which a reading of the call shows; the pass has seen all events up to it, and
--- changed no references word. All else is as it was.
+-- changed no references word. All else is as it was. So at the point all places were those of live records and the pass's own, but
+-- for four at most for each share of others (`full`); where no other pass has a share each place is one of these (`used`).
 pub record IsFull (at : ℕ) (v w : PassSight) : Type 0 where
   pub same : w ≡ record v {
     view = record v.view {
@@ -69,6 +71,9 @@ pub record IsFull (at : ℕ) (v w : PassSight) : Type 0 where
   pub all : AreAll v.view w.view.seen.front
   pub point : at ≡ length w.view.seen.front
   pub empty : list_any (says_empty at) (added v.view w.view) ≡ true
+  pub full : (sizes_of v).entries ≤ length (records_after w.view.seen.front) + kept_places v.view
+      + 4 * ((sizes_of v).passes - (v.view.passes.shares + v.view.passes.returned))
+  pub used : IsAlone v.view → (p : ℕ) → p < (sizes_of v).entries → 0 < uses p v.view + total (of_place p) (records_after w.view.seen.front)
   pub own : changes (λ word. not (word == 1)) (added v.view w.view) ≡ false
 
 abbrev pub OpenSays : TakeOutcome → PassSight → PassSight → Type 0
