@@ -1,7 +1,7 @@
 -- A clerk that gave up a reference, or made a place free.
 use Rattle.std.specs.Prelude.{◌==◌, ◌||◌, not}
-use Rattle.std.proofs.Common.{◌≡◌, ℕ, ◌+◌, ◌<◌, ◌≤◌, true, false, List, ◌∷◌, length, map, refl, sym, ap, subst, ◌∙◌, arith, ⊎_elim}
-use Rattle.std.proofs.lemmas.Bool.{cases_lt, or_from, or_left, or_right, not_from_true}
+use Rattle.std.proofs.Common.{◌≡◌, ℕ, ◌+◌, true, false, List, ◌∷◌, length, map, refl, sym, ap, subst, ◌∙◌, arith}
+use Rattle.std.proofs.lemmas.Bool.{or_from, or_right, not_from_true}
 use Rattle.room_list.specs.Roomed.{Roomed}
 use Rattle.history_book.specs.declared.event.Note.{Note}
 use Rattle.history_book.specs.declared.outcome.ReleaseOutcome.{ReleaseOutcome}
@@ -28,8 +28,8 @@ use Rattle.shared_desk.specs.Changed.{ChangesNone, is_gen_or_turn}
 use Rattle.shared_desk.specs.Rest.{IsAtRest}
 use Rattle.shared_desk.specs.Sights.{hold_of, sight_of}
 use Rattle.shared_desk.proofs.Known.{known_kept, known_owes, known_paid}
-use Rattle.shared_desk.proofs.Lists.{none_of, some_of, total_less}
-use Rattle.shared_desk.proofs.Places.{held_below, is_unused_after, is_used_after, owed_unheld, same_events, taken_out_once}
+use Rattle.shared_desk.proofs.Lists.{none_of, total_less}
+use Rattle.shared_desk.proofs.Places.{held_below, in_use, is_unused_after, owed_unheld, same_events, taken_out_once}
 use Rattle.shared_desk.proofs.Readings.{stored_refs}
 use Rattle.shared_desk.proofs.Resting.{clerk_at, holds_held, holds_without, idle_still, paid_taken_out, saw_none}
 use Rattle.shared_desk.proofs.Settled.{settled_recycled, settled_released}
@@ -80,24 +80,10 @@ module _ (place : ℕ) (v : PassSight) (notes : Roomed Note) (spare : ℕ) (h : 
               (record { tracker = refl; sizes = refl; shares = refl; returned = refl; gathered = refl });
           held = holds_without place v.view.places.held;
           owed = refl;
-          alone = λ one. in_use (counts (k.left + 1) k.count one);
+          alone = λ one.
+              let c = counts (k.left + 1) k.count one in
+              in_use place v.view.seen.front (without place v.view.places.held) v.view.places.owed (omega (arith, c.exact, fewer, k.some));
         })
-      where
-        in_use : Counts place (k.left + 1) v
-            → (not (is_unused place (after v.view.seen.front (length v.view.seen.front)))
-            || is_hold place (map hold_of (without place v.view.places.held)) || is_owed place v.view.places.owed) ≡ true
-        in_use c =
-            or_left (not (is_unused place (after v.view.seen.front (length v.view.seen.front))) || is_hold place (map hold_of (without place v.view.places.held)))
-            (is_owed place v.view.places.owed)
-            (⊎_elim
-            (λ (any : 0 < total (of_place place) (records_after v.view.seen.front)).
-            or_left (not (is_unused place (after v.view.seen.front (length v.view.seen.front)))) (is_hold place (map hold_of (without place v.view.places.held)))
-            (is_used_after place v.view.seen.front any))
-            (λ (none : total (of_place place) (records_after v.view.seen.front) ≤ 0).
-            or_right (not (is_unused place (after v.view.seen.front (length v.view.seen.front)))) (is_hold place (map hold_of (without place v.view.places.held)))
-            (holds_held place (without place v.view.places.held)
-            ∙ some_of (is_at place) (without place v.view.places.held) (omega (arith, c.exact, fewer, none, k.some))))
-            (cases_lt 0 (total (of_place place) (records_after v.view.seen.front))))
 
     -- it was the last one
     module _ (w : PassSight) (k : KeepsNone place v w) where

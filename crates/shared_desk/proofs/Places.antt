@@ -1,8 +1,8 @@
 -- Whether a live record has a place, and whether it is in use.
 use Rattle.std.specs.List.{All, AllPairs}
-use Rattle.std.specs.Prelude.{◌==◌, not}
-use Rattle.std.proofs.Common.{◌≡◌, ◌≢◌, ℕ, ◌+◌, ◌<◌, true, false, List, [], ◌∷◌, length, map, refl, sym, ap, subst, ◌∙◌, ⊎_elim}
-use Rattle.std.proofs.lemmas.Bool.{cond_both, eqb-true, false≢true, ne_eqb, or_cases, or_from}
+use Rattle.std.specs.Prelude.{◌==◌, ◌||◌, not}
+use Rattle.std.proofs.Common.{◌≡◌, ◌≢◌, ℕ, ◌+◌, ◌<◌, ◌≤◌, Bool, true, false, List, [], ◌∷◌, length, map, refl, sym, ap, subst, ◌∙◌, ⊎_elim, arith}
+use Rattle.std.proofs.lemmas.Bool.{cases_lt, cond_both, eqb-true, false≢true, ne_eqb, or_cases, or_from, or_left, or_right}
 use Rattle.history_book.specs.declared.desk.Hold.{Hold}
 use Rattle.history_book.specs.declared.event.Event.{Event}
 use Rattle.history_book.specs.declared.event.Note.{Note}
@@ -11,11 +11,15 @@ use Rattle.history_book.specs.History.{after}
 use Rattle.history_book.specs.Record.{has_place}
 use Rattle.history_book.specs.Sight.{IsHoldOf, IsKnown, Sight, notes_from}
 use Rattle.history_book.specs.State.{is_unused}
+use Rattle.track_rule.specs.declared.view.Keep.{Keep}
 use Rattle.track_rule.specs.Free.{taken_out}
 use Rattle.track_rule.specs.History.{records_after}
 use Rattle.track_rule.specs.Phases.{of_place}
-use Rattle.track_rule.specs.Sums.{total}
+use Rattle.track_rule.specs.References.{held_times, is_at as is_kept_at}
+use Rattle.track_rule.specs.Sums.{times, total}
+use Rattle.shared_desk.specs.Sights.{hold_of}
 use Rattle.shared_desk.proofs.Lists.{all_first, all_rest, none_of, pairs_first, pairs_rest, some_of}
+use Rattle.shared_desk.proofs.Resting.{holds_held}
 
 -- no live record has it
 pub is_unused_after : (place : ℕ) (log : List Event) → total (of_place place) (records_after log) ≡ 0 → is_unused place (after log (length log)) ≡ true
@@ -24,6 +28,27 @@ is_unused_after place log none = ap not (none_of (has_place place) (records_afte
 -- one has it
 pub is_used_after : (place : ℕ) (log : List Event) → 0 < total (of_place place) (records_after log) → not (is_unused place (after log (length log))) ≡ true
 is_used_after place log any = ap (λ b. not (not b)) (some_of (has_place place) (records_after log) any)
+
+-- one that counts is in use: a live record has it, or it is held, or owed
+pub in_use : (place : ℕ) (log : List Event) (held : List Keep) (owed : List ℕ)
+    → 0 < held_times place held + times place owed + total (of_place place) (records_after log)
+    → (not (is_unused place (after log (length log))) || is_held place (map hold_of held) || is_owed place owed) ≡ true
+in_use place log held owed some =
+    ⊎_elim
+    (λ (any : 0 < total (of_place place) (records_after log)).
+    or_left (live || is_held place (map hold_of held)) (is_owed place owed) (or_left live (is_held place (map hold_of held)) (is_used_after place log any)))
+    (λ (none : total (of_place place) (records_after log) ≤ 0).
+    ⊎_elim
+    (λ (any : 0 < held_times place held).
+    or_left (live || is_held place (map hold_of held)) (is_owed place owed)
+    (or_right live (is_held place (map hold_of held)) (holds_held place held ∙ some_of (is_kept_at place) held any)))
+    (λ (unheld : held_times place held ≤ 0).
+    or_right (live || is_held place (map hold_of held)) (is_owed place owed) (some_of (λ p. p == place) owed (omega (arith, some, none, unheld))))
+    (cases_lt 0 (held_times place held)))
+    (cases_lt 0 (total (of_place place) (records_after log)))
+  where
+    live : Bool
+    live = not (is_unused place (after log (length log)))
 
 -- notes give their events back
 pub events_from : (k : ℕ) (es : List Event) → map (λ (n : Note). n.event) (notes_from k es) ≡ es

@@ -1,13 +1,14 @@
 -- A clerk that took a place, or found none, or looked.
 use Rattle.std.specs.Prelude.{◌==◌}
 use Rattle.std.proofs.Common.{◌≡◌, ℕ, ◌+◌, ◌<◌, ◌≤◌, false, Option, List, [], ◌∷◌, ◌++◌, length, map, refl, sym, ap, subst, ◌∙◌, arith, length-append}
+use Rattle.std.proofs.lemmas.List.{length-map}
 use Rattle.room_list.specs.Roomed.{Roomed}
 use Rattle.history_book.specs.declared.event.Event.{Event}
 use Rattle.history_book.specs.declared.event.Note.{Note}
 use Rattle.history_book.specs.declared.outcome.TakeOutcome.{TakeOutcome}
 use Rattle.history_book.specs.declared.outcome.TakeOutcome.TheVariants.{Taken, Full}
 use Rattle.history_book.specs.declared.outcome.LiveCount.{LiveCount}
-use Rattle.history_book.specs.Desk.{CountSays, Takes}
+use Rattle.history_book.specs.Desk.{CountSays, FindsFull, TakeSays, Takes}
 use Rattle.history_book.specs.Held.{is_held as is_hold, is_owed}
 use Rattle.history_book.specs.History.{after}
 use Rattle.history_book.specs.WentOn.{Saw}
@@ -18,15 +19,15 @@ use Rattle.track_rule.specs.History.{events_in, live_in}
 use Rattle.track_rule.specs.Readings.{added}
 use Rattle.track_rule.specs.References.{is_at}
 use Rattle.track_rule.specs.Sights.{PassSight, sizes_of}
-use Rattle.track_rule.specs.Steps.{AreAll, Looks, at_point, found_history}
+use Rattle.track_rule.specs.Steps.{AreAll, Looks, at_point, found_history, uses}
 use Rattle.entry_pool.specs.Take as pool
 use Rattle.entry_pool.specs.Take.{HasTaken, IsBelow, IsFull}
-use Rattle.shared_desk.specs.Calls.{FindsNone, TakeSays}
+use Rattle.shared_desk.specs.Calls.{FindsNone, ShowsNone}
 use Rattle.shared_desk.specs.Rest.{IsAtRest}
 use Rattle.shared_desk.specs.Sights.{hold_of, sight_of}
 use Rattle.shared_desk.proofs.Known.{known_later, known_taken}
 use Rattle.shared_desk.proofs.Lists.{none_of}
-use Rattle.shared_desk.proofs.Places.{is_unused_after}
+use Rattle.shared_desk.proofs.Places.{in_use, is_unused_after}
 use Rattle.shared_desk.proofs.Readings.{turn_is_no_refs}
 use Rattle.shared_desk.proofs.Resting.{clerk_at, holds_held, idle_still, saw_more, saw_none}
 use Rattle.shared_desk.proofs.Settled.{settled_taken}
@@ -118,18 +119,33 @@ module _ (v : PassSight) (notes : Roomed Note) (spare : ℕ) (h : IsAtRest v not
         })
 
   -- none was free
-  finds_none : (at : ℕ) (w : PassSight) → IsFull at v w → FindsNone at (clerk_at v spare) (clerk_at w spare)
-  finds_none at w f = record {
-    saw = saw_looked w.view.seen.front w.view.walk w.view.readings w f.same f.all;
-    low = omega (arith, f.point, ap length f.all.front.1, length-append v.view.seen.front f.all.front.0);
-    high = omega (arith, f.point);
-    empty = f.empty;
+  finds_full : (at : ℕ) (w : PassSight) → IsFull at v w → FindsFull (sight_of (clerk_at v spare)) (sight_of (clerk_at w spare)) at
+  finds_full at w f = record {
+    looked = record {
+      saw = saw_looked w.view.seen.front w.view.walk w.view.readings w f.same f.all;
+      low = omega (arith, f.point, ap length f.all.front.1, length-append v.view.seen.front f.all.front.0);
+      fact = record {
+        within = omega (arith, f.point);
+        fact = omega (
+          arith,
+          f.full,
+          h.knows.shared,
+          length-map v.view.places.held hold_of,
+          ap (λ (n : ℕ). length (after w.view.seen.front n).records) f.point,
+        );
+      };
+    };
     same = record {
       held = ap (λ (p : PassSight). map hold_of p.view.places.held) f.same;
       owed = ap (λ (p : PassSight). p.view.places.owed) f.same;
     };
-    own = turn_is_no_refs (sizes_of v) (added v.view w.view) f.own;
+    alone = λ one place below.
+        in_use place w.view.seen.front w.view.places.held w.view.places.owed
+        (omega (arith, f.used (omega (arith, one, h.knows.shared, h.knows.passes)) place below, ap (λ (p : PassSight). uses place p.view) f.same));
   }
+
+  finds_none : (at : ℕ) (w : PassSight) → IsFull at v w → FindsNone at (clerk_at v spare) (clerk_at w spare)
+  finds_none at w f = record { empty = f.empty; own = turn_is_no_refs (sizes_of v) (added v.view w.view) f.own }
 
   -- whichever it was
   pub rest_taking : (outcome : TakeOutcome) (w : PassSight) → pool.TakeSays outcome v w → IsBelow (sizes_of v).entries outcome
@@ -138,6 +154,11 @@ module _ (v : PassSight) (notes : Roomed Note) (spare : ℕ) (h : IsAtRest v not
   rest_taking (Full at) w says below few = rest_looked w.view.seen.front w.view.walk w.view.readings w says.same says.all
 
   pub take_says : (outcome : TakeOutcome) (w : PassSight) → pool.TakeSays outcome v w → IsBelow (sizes_of v).entries outcome
-      → length (map hold_of v.view.places.held) + length v.view.places.owed ≤ 3 → TakeSays outcome (clerk_at v spare) (clerk_at w spare)
+      → length (map hold_of v.view.places.held) + length v.view.places.owed ≤ 3
+      → TakeSays (sight_of (clerk_at v spare)) (sight_of (clerk_at w spare)) outcome
   take_says (Taken place) w says below few = takes place w says below few
-  take_says (Full at) w says below few = finds_none at w says
+  take_says (Full at) w says below few = finds_full at w says
+
+  pub shows_none : (outcome : TakeOutcome) (w : PassSight) → pool.TakeSays outcome v w → ShowsNone outcome (clerk_at v spare) (clerk_at w spare)
+  shows_none (Taken place) w says = tt
+  shows_none (Full at) w says = finds_none at w says

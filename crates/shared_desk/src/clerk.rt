@@ -2,7 +2,7 @@
 
 ghost use Rattle.std.specs.Prelude.{◌≡◌, ◌+◌, ◌<◌, ◌≤◌, ◌^◌, true, false, length, OnOk, OnErr};
 ghost use Rattle.entry_pool.specs.GoesOn.{ReadingsStand};
-ghost use Rattle.history_book.specs.Desk.{ConfirmSays, CountSays, FindSays, HoldSays, IsReady, KillSays, PeekSays, RecycleSays, ReleaseSays, TouchSays};
+ghost use Rattle.history_book.specs.Desk.{ConfirmSays, CountSays, FindSays, HoldSays, IsReady, KillSays, PeekSays, RecycleSays, ReleaseSays, TakeSays, TouchSays};
 ghost use Rattle.history_book.specs.Entry.{is_flow_of_one_protocol, is_helped_entry, is_of_entry, suits_entry};
 ghost use Rattle.history_book.specs.Held.{held_id, is_held, is_held_for_entry, is_owed, is_taken};
 ghost use Rattle.history_book.specs.Join.{CanJoin, Joins};
@@ -11,7 +11,7 @@ ghost use Rattle.history_book.specs.Legality.{reason_moment_of};
 ghost use Rattle.history_book.specs.Places.{HoldsNothing};
 ghost use Rattle.history_book.specs.Sight.{IsKnown};
 ghost use Rattle.history_book.specs.Split.{CanSplit, Splits};
-ghost use Rattle.shared_desk.specs.Calls.{TakeSays};
+ghost use Rattle.shared_desk.specs.Calls.{ShowsNone};
 ghost use Rattle.shared_desk.specs.Changed.{ChangesNone, is_gen_or_other_turn, is_gen_or_turn, is_no_refs};
 ghost use Rattle.shared_desk.specs.FindsOnce.{FindOnceSays, LookSays};
 ghost use Rattle.shared_desk.specs.Sights.{sight_of};
@@ -242,7 +242,8 @@ impl<'t, G: Gate> Clerk<'t, G> {
     /// Takes a free place for a new entry. It may wait for the turn of the free list.
     pub fn take<R: Wait>(&mut self, rt: &R) -> TakeOutcome
         requires { length (sight_of self.old).held + length (sight_of self.old).owed ≤ 3 }
-        ensures says { TakeSays result self.old self.new }
+        ensures says { TakeSays (sight_of self.old) (sight_of self.new) result }
+        ensures shows { ShowsNone result self.old self.new }
         ensures stand { ReadingsStand self.old.pass self.new.pass }
         ensures knows { IsKnown (sight_of self.new) }
     {
