@@ -45,6 +45,7 @@ pub mod Born
 pub mod Confirmations
 pub mod Living
 pub mod Touching
+pub mod Expecting
 pub mod Dying
 pub mod Leaving
 pub mod Ending

@@ -108,6 +108,16 @@ same_numbers : (a : Part) (o : Option Hand) → hand_number (hand_goes_on a o) �
 same_numbers a None = refl
 same_numbers a (Some x) = refl
 
+-- under the turn of a place that is LIVE of an id it is the record of that id
+pub knows_live : (z : Sizes) (log : List Event) (words : List ℕ) (hand : Option Hand) → ((x : Hand) → hand ≡ Some x → IsHand z log words x)
+    → (i : ℕ) → known_phase hand ≡ 3 + i → record_of i (state_after log) ≡ known_record hand
+knows_live z log words None known i e = absurd (omega (arith, e))
+knows_live z log words (Some x) known i e =
+    ap (λ (n : ℕ). record_of n (state_after log)) (less x.phase i e) ∙ sym ((known x refl).live (omega (arith, e)))
+  where
+    less : (n i : ℕ) → n ≡ 3 + i → i ≡ n - 3
+    less n i e = omega (arith, e)
+
 module _ (l : Ledger) (s : State Slot View) (id : ℕ) (v : View) (t : Touching) (h : IsKept v.passes.sizes l s) (at : get_elem? s.views id ≡ some v)
     (has_some : 0 < v.passes.shares) (can : MayTouch t v) (follow : StatesFollow) (go_on : LegalHistoriesGoOn) (low : LiveRecordsAreConfirmed) where
   abbrev event : Event
@@ -142,11 +152,7 @@ module _ (l : Ledger) (s : State Slot View) (id : ℕ) (v : View) (t : Touching)
 
   -- the record that the pass knows is the one of the id
   pub known_before : record_of t.id (state_after l.log) ≡ known_record v.commit.hand
-  known_before =
-      ap (λ (n : ℕ). record_of n (state_after l.log)) (less own.0.phase t.id own.2) ∙ sym (own_hand.live (omega (arith, own.2))) ∙ sym (ap known_record own.1)
-    where
-      less : (n i : ℕ) → n ≡ 3 + i → i ≡ n - 3
-      less n i e = omega (arith, e)
+  known_before = knows_live v.passes.sizes l.log s.words v.commit.hand (h.records.away id v at) t.id can.shown
 
   -- it has the place of the turn
   pub its_turn : IsItsTurn v.commit.hand

@@ -22,6 +22,7 @@ pub mod Shares
 pub mod TurnSteps
 pub mod CommitSteps
 pub mod TouchSteps
+pub mod ExpectSteps
 pub mod Notes
 pub mod BucketSteps
 pub mod PhaseSteps

@@ -6,6 +6,7 @@ pub mod board;
 pub mod bucket_steps;
 pub mod chain_stores;
 pub mod commits;
+pub mod expect_events;
 pub mod free_list;
 pub mod kills;
 pub mod laws;
