@@ -24,11 +24,14 @@ pub mod Loads
 pub mod Turns
 pub mod Refs
 pub mod PhaseMoves
+pub mod TurnMoves
 pub mod RecordTurns
+pub mod ExpectTurns
 pub mod Events
 pub mod Handed
 pub mod Start
 pub mod Seats
+pub mod ExpectSeats
 pub mod Columns
 pub mod AllPasses
 pub mod HistoryWord

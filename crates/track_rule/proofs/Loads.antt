@@ -189,6 +189,7 @@ looks low slots id v c has_some s (l, h) long at range =
           taken = λ q taken.
               omega (arith, h.references.taken q, total_term (takes q) s.views id v at, total_some (λ k. is_at q k && is_for_new k.purpose) v.places.held taken);
           hand = λ x turn live. (h.records.away id v at x turn).live live;
+          expects = h.expected.away id v at;
           gone = λ x i turn calm kept other. gone z l s id v h at x turn low calm i kept (eqb-false x.phase (3 + i) other);
           empty = λ x turn calm few. empty z l s id v h at x turn calm few;
           shown = λ q i kept. (h.kept_words.each id v at q i kept).was;

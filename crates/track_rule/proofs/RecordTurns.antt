@@ -1,8 +1,8 @@
 -- The turn of a record: it is taken, and given back.
-use Rattle.std.proofs.Common.{◌≡◌, ◌≢◌, ℕ, ◌+◌, ◌-◌, ◌<◌, ◌≤◌, eqb, true, Bool, Option, Some, None, List, [], ◌∷◌, length, refl, sym, ap, subst, ◌∙◌, ⊎_elim, arith, set, eq-eqb, ne_eqb}
+use Rattle.std.proofs.Common.{◌≡◌, ◌≢◌, ℕ, ◌+◌, ◌-◌, ◌<◌, ◌≤◌, eqb, true, Bool, Option, Some, None, List, ◌∷◌, length, refl, sym, ap, subst, ◌∙◌, ⊎_elim, arith, set, eq-eqb, ne_eqb}
 use Rattle.std.specs.Prelude.{slice_index, slice_set, ◌==◌}
 use Rattle.std.proofs.lemmas.Bool.{cases_eq, cases_lt, false≢true}
-use Rattle.std.proofs.lemmas.List.{get_or-set_other, get_or-set_same, length-set}
+use Rattle.std.proofs.lemmas.List.{get_or-set_other, get_or-set_same}
 use Rattle.std.proofs.lemmas.Option.{none-some}
 use prog.Atomic.{either}
 use mathlib.Core.Option.{Option as Slotted, none, some}
@@ -19,29 +19,23 @@ use Rattle.track_rule.specs.declared.view.Middle.{Middle}
 use Rattle.track_rule.specs.declared.view.Middle.TheVariants.{Calm}
 use Rattle.track_rule.specs.declared.view.Reading.{Reading}
 use Rattle.track_rule.specs.declared.view.View.{View}
-use Rattle.track_rule.specs.declared.view.Walk.{Walk}
-use Rattle.track_rule.specs.Chains.{each_link, hooks_at, loose_of, shuts_of}
 use Rattle.track_rule.specs.Commits.{IsMiddle, IsMiddleOf}
 use Rattle.track_rule.specs.Expected.{has_expected}
 use Rattle.track_rule.specs.History.{state_after}
 use Rattle.track_rule.specs.Layout.{first_word, gen_word, head_word, next_word, phase_at, phase_word, record_slot, refs_at, refs_word, second_word, turn_at, turn_word}
-use Rattle.track_rule.specs.Links.{HasHooks}
 use Rattle.track_rule.specs.Passes.{IsPass}
-use Rattle.track_rule.specs.Phases.{IsMiddlePhase, middle_of, of_both, of_place, shows, table_keeps}
 use Rattle.track_rule.specs.Readings.{found, noted, stored}
 use Rattle.track_rule.specs.Records.{AreRecords, IsHand, IsRecordHome, has_hand, is_hand_of, is_records, record_in, slot_of_record}
 use Rattle.track_rule.specs.Rule.{Holds, IsKept, Ledger}
 use Rattle.track_rule.specs.Sums.{bit, total}
 use Rattle.track_rule.specs.TurnSteps.{CanGiveTurn, GiveTurnStep, TakeTurnStep, TakesTurn, gave_turn, with_hand}
-use Rattle.track_rule.specs.Walks.{IsWalk}
-use Rattle.track_rule.proofs.Balance.{MakesNone, Moves, free_left, pass_moved, passes_moved, references_left, same_lines}
-use Rattle.track_rule.proofs.Carried.{carries_set}
-use Rattle.track_rule.proofs.Frames.{SameChains, chains_stay, hooks_stay, links_stay, walk_stays, middle_calm, middle_same}
-use Rattle.track_rule.proofs.KeptWords.{words_left}
+use Rattle.track_rule.proofs.Balance.{Moves, pass_moved, same_lines}
+use Rattle.track_rule.proofs.Frames.{SameChains, middle_calm}
 use Rattle.track_rule.proofs.Lists.{other_bit, same_bit}
 use Rattle.track_rule.proofs.Loads.{others_there, reads}
-use Rattle.track_rule.proofs.LastRead.{ReadsAt, stored_on}
+use Rattle.track_rule.proofs.LastRead.{ReadsAt}
 use Rattle.track_rule.proofs.Sums.{each_put, total_same, total_set, total_term}
+use Rattle.track_rule.proofs.TurnMoves.{TurnsAlone, turn_moved}
 
 -- two places have two turns
 one_turn : (z : Sizes) (p q : ℕ) → turn_word z p ≡ turn_word z q → p ≡ q
@@ -61,8 +55,8 @@ module _ (z : Sizes) (ws : List ℕ) (p n : ℕ) where
   turn_first : (k : ℕ) → k < 3 → slice_index (slice_set ws (turn_word z p) n) k ≡ slice_index ws k
   turn_first k low = get_or-set_other ws (turn_word z p) k n 0 (λ e. omega (arith, e, low))
 
-  turn_same : SameChains z ws (slice_set ws (turn_word z p) n)
-  turn_same = record {
+  turn_chains : SameChains z ws (slice_set ws (turn_word z p) n)
+  turn_chains = record {
     gens = λ b below. get_or-set_other ws (turn_word z p) (gen_word z b) n 0 (λ e. omega (arith, e, below));
     links = record {
       heads = λ b below. get_or-set_other ws (turn_word z p) (head_word z b) n 0 (λ e. omega (arith, e, below));
@@ -70,6 +64,15 @@ module _ (z : Sizes) (ws : List ℕ) (p n : ℕ) where
       seconds = λ x. get_or-set_other ws (turn_word z p) (second_word z x) n 0 (λ e. omega (arith, e));
       nexts = λ x. get_or-set_other ws (turn_word z p) (next_word z x) n 0 (λ e. omega (arith, e));
     };
+  }
+
+  turn_alone : TurnsAlone z ws (slice_set ws (turn_word z p) n)
+  turn_alone = record {
+    history = turn_first 0 (omega arith);
+    free = turn_first 1 (omega arith);
+    refs = turn_refs;
+    phases = turn_phase;
+    chains = turn_chains;
   }
 
 module _ (l : Ledger) (s : State Slot View) (id p : ℕ) (v : View) (h : IsKept v.passes.sizes l s) (at : get_elem? s.views id ≡ some v)
@@ -86,61 +89,15 @@ module _ (l : Ledger) (s : State Slot View) (id p : ℕ) (v : View) (h : IsKept 
   turn_kept n hand r hs' first second records read middle =
       let z : Sizes = v.passes.sizes in
       let w : View = with_hand hand r v in
-      let new : List ℕ = slice_set s.words (turn_word v.passes.sizes p) n in
-      let one : IsPass z l.log v = h.passes.each id v at in
-      let m : MakesNone v w = record { passes = refl; own = refl; gathered = refl } in
-      let same : SameChains z s.words new = turn_same z s.words p n in
-      let expected : slice_index new 2 ≡ slice_index s.words 2 = turn_first z s.words p n 2 (omega arith) in
-      record {
-        limits = h.limits;
-        count = length-set s.words (turn_word z p) n ∙ h.count;
-        passes = passes_moved z l.log s.views id v w at m (pass_moved z l.log v w one m has_some one.front one.told) h.passes;
-        history = record { legal = h.history.legal; word = turn_first z s.words p n 0 (omega arith) ∙ h.history.word };
-        references = references_left z l.log s.words new s.views id v w at refl refl refl refl (turn_refs z s.words p n) (turn_phase z s.words p n) h.references;
-        free_list = free_left z s.words new s.homes hs' s.views id v w l.free at refl refl (turn_refs z s.words p n) (turn_phase z s.words p n)
-            (turn_first z s.words p n 1 (omega arith)) first h.free_list;
-        records = records;
-        phases = record {
-          shown = λ q i under. omega (
-            arith,
-            h.phases.shown q i under,
-            ap (λ (ph : ℕ). shows ph i) (turn_phase z s.words p n q),
-            total_same (middle_of (of_both q i)) s.views id v w at refl,
-          );
-          used = λ q under. omega (
-            arith,
-            h.phases.used q under,
-            ap table_keeps (turn_phase z s.words p n q),
-            total_same (middle_of (of_place q)) s.views id v w at refl,
-          );
-          middle = each_put (λ u. IsMiddlePhase z new u.commit.middle) s.views id w
-              (λ i u at'. middle_same z s.words new (turn_phase z s.words p n) u.commit.middle (h.phases.middle i u at'))
-              (middle_same z s.words new (turn_phase z s.words p n) v.commit.middle (h.phases.middle id v at));
-        };
-        commits = each_put (IsMiddleOf z l.log) s.views id w h.commits middle;
-        chains = chains_stay z s.words new same l.log s.views (set s.views id w) l.chains (carries_set (λ (u : View). u.buckets.shut) [] s.views id v w at refl)
-            (λ b weight. total_same (loose_of z b weight) s.views id v w at refl)
-            (each_put (λ (u : View). (c : ℕ) → c < z.buckets → 0 < loose_of z c each_link u → 0 < shuts_of c u) s.views id w h.chains.home (h.chains.home id v at))
-            (λ link any. omega (arith, h.chains.lone link any, total_same (hooks_at link) s.views id v w at refl)) h.chains;
-        links = links_stay z s.words new same s.views (set s.views id w)
-            (each_put (λ u. HasHooks z new u.places u.buckets.hooks) s.views id w
-            (λ i u at'. hooks_stay z s.words new same.links u.places u.buckets.hooks (h.links.hooks i u at'))
-            (hooks_stay z s.words new same.links v.places v.buckets.hooks (h.links.hooks id v at))) h.links;
-        walks = record {
-          each = each_put (λ (u : View). (x : Walk) → u.walk ≡ Some x → IsWalk z new l.chains u.seen.front x) s.views id w
-              (λ i u at' x e. walk_stays z s.words new same l.chains u.seen.front x (h.walks.each i u at' x e))
-              (λ x e. walk_stays z s.words new same l.chains v.seen.front x (h.walks.each id v at x e));
-        };
-        readings = stored_on z l.log s.words s.views id (turn_word z p) n v w h.passes at has_some low_word read h.readings;
-        kept_words = words_left z l.log s.words s.views id v w at l.log new (λ i e at'. at') (λ p i o. o) same.links refl h.kept_words;
-        expected = record {
-          turn = expected ∙ h.expected.turn ∙ sym (total_same has_expected s.views id v w at refl);
-          single = omega (arith, expected, h.expected.single);
-          home = λ calm. let k = h.expected.home (sym expected ∙ calm) in record { table = k.table; there = second ∙ k.there; same = k.same; room = k.room };
-          away = each_put (λ (u : View). (list : List Expectation) → u.expected ≡ Some list → list ≡ (state_after l.log).expects) s.views id w h.expected.away
-              (h.expected.away id v at);
-        };
-      }
+      let expected : slice_index (slice_set s.words (turn_word z p) n) 2 ≡ slice_index s.words 2 = turn_first z s.words p n 2 (omega arith) in
+      turn_moved l s id (turn_word z p) n v h at has_some low_word (turn_alone z s.words p n) hand v.expected r hs' first records
+      (record {
+        turn = expected ∙ h.expected.turn ∙ sym (total_same has_expected s.views id v w at refl);
+        single = omega (arith, expected, h.expected.single);
+        home = λ calm. let k = h.expected.home (sym expected ∙ calm) in record { table = k.table; there = second ∙ k.there; same = k.same; room = k.room };
+        away = each_put (λ (u : View). (list : List Expectation) → u.expected ≡ Some list → list ≡ (state_after l.log).expects) s.views id w h.expected.away
+            (h.expected.away id v at);
+      }) read middle
 
   -- what passes know of phases stays
   hand_left : (n : ℕ) (x : Hand) → IsHand v.passes.sizes l.log s.words x → IsHand v.passes.sizes l.log (slice_set s.words (turn_word v.passes.sizes p) n) x

@@ -54,6 +54,26 @@ stays_at table key-table key sizes table' me me' h there stays slots =
       };
     }
 
+-- a seat with the same shares and places, and other slots out
+pub moves_at : (table key-table : TableId) (key sizes : Sizes) (table' : TableId) (me me' : Me Slot View) → IsAt key-table key sizes (sight_at table me)
+    → table' ≡ table → me'.0.passes ≡ me.0.passes → me'.0.places ≡ me.0.places → numbers me'.1 ≡ numbers_of me'.0 → AllSuit me'.1
+    → IsAt key-table key sizes (sight_at table' me')
+moves_at table key-table key sizes table' me me' h there passes places carries suit =
+    let z : me'.0.passes.sizes ≡ me.0.passes.sizes = ap (λ (s : Shares). s.sizes) passes in
+    record {
+      same = there ∙ h.same;
+      key_is = z ∙ h.key_is;
+      sizes_are = h.sizes_are ∙ sym z;
+      right = record {
+        counts = subst (λ (y : Sizes). IsTable y table') (sym z) (subst (IsTable me.0.passes.sizes) (sym there) h.right.counts);
+        limits = subst AreWithinLimits (sym z) h.right.limits;
+        some = omega (arith, h.right.some, ap (λ (s : Shares). s.shares) passes);
+        carries = carries;
+        pool = subst (λ (y : Sizes). AreOfPool y.entries me'.0.places) (sym z) (subst (AreOfPool me.0.passes.sizes.entries) (sym places) h.right.pool);
+        suit = suit;
+      };
+    }
+
 -- contracts see that only the view changed
 pub kept_at : (old : PassSight) (table table' : TableId) (me me' : Me Slot View) → sight_at table me ≡ old → table' ≡ table → me'.1 ≡ me.1
     → sight_at table' me' ≡ record old { view = me'.0 }
@@ -69,7 +89,7 @@ pub allowed : (z key : Sizes) (slots id : ℕ) (me : Me Slot View) (word word' :
 allowed z key slots id me word word' f tells same there h =
     subst (λ (w : ℕ). Allows (Holds key) slots id me w f (tells w)) (sym there) (subst (λ (y : Sizes). Allows (Holds y) slots id me word f (tells word)) same h)
 
-abbrev first_number : List ℕ → ℕ
+abbrev pub first_number : List ℕ → ℕ
 first_number [] = 0
 first_number (n ∷ ns) = n
 
@@ -217,7 +237,7 @@ hand_out place me none mine carries suit = first_out me.0.free me.0.commit.hand 
           record_kind s.0 s.1 number suit.0,
         )
 
-abbrev tail_of : List ℕ → List ℕ
+abbrev pub tail_of : List ℕ → List ℕ
 tail_of [] = []
 tail_of (n ∷ ns) = ns
 
@@ -228,25 +248,13 @@ pub turned_at : (took : Bool) (place : ℕ) (table key-table : TableId) (key siz
 turned_at false place table key-table key sizes table' me me' h there free calm t =
     stays_at table key-table key sizes table' me me' h there (same_at me.0 me'.0 _ t.view (record { passes = refl; same = refl; pool = λ k. k })) t.out
 turned_at true place table key-table key sizes table' me me' h there free calm t =
-    let passes : me'.0.passes ≡ me.0.passes = ap (λ (v : View). v.passes) t.view in
-    let z : me'.0.passes.sizes ≡ me.0.passes.sizes = ap (λ (s : Shares). s.sizes) passes in
     let before : numbers_of me.0 ≡ expected_number me.0.expected =
     λ k. free_number (free k) ++ hand_number (calm k) ++ expected_number me.0.expected in
     let after : numbers_of me'.0 ≡ (2 + place) ∷ expected_number me.0.expected =
     ap numbers_of t.view ∙ (λ k. free_number (free k) ++ (2 + place) ∷ [] ++ expected_number me.0.expected) in
-    record {
-      same = there ∙ h.same;
-      key_is = z ∙ h.key_is;
-      sizes_are = h.sizes_are ∙ sym z;
-      right = record {
-        counts = subst (λ (y : Sizes). IsTable y table') (sym z) (subst (IsTable me.0.passes.sizes) (sym there) h.right.counts);
-        limits = subst AreWithinLimits (sym z) h.right.limits;
-        some = omega (arith, h.right.some, ap (λ (s : Shares). s.shares) passes);
-        carries = ap numbers t.out ∙ (λ k. (2 + place) ∷ (h.right.carries ∙ before) k) ∙ sym after;
-        pool = subst (λ (v : View). AreOfPool v.passes.sizes.entries v.places) (sym t.view) h.right.pool;
-        suit = subst AllSuit (sym t.out) (record_suits (subject_in me'.1), h.right.suit);
-      };
-    }
+    moves_at table key-table key sizes table' me me' h there (ap (λ (v : View). v.passes) t.view) (ap (λ (v : View). v.places) t.view)
+    (ap numbers t.out ∙ (λ k. (2 + place) ∷ (h.right.carries ∙ before) k) ∙ sym after)
+    (subst AllSuit (sym t.out) (record_suits (subject_in me'.1), h.right.suit))
   where
     record_suits : (o : Option Record) → suits (record_slot place) (slot_of_record o) ≡ true
     record_suits None = refl
@@ -259,26 +267,13 @@ pub turned_back : (place : ℕ) (table key-table : TableId) (key sizes : Sizes) 
     → IsAt key-table key sizes (sight_at table me) → table' ≡ table → me.0.free ≡ None → has_hand place me.0 ≡ 1
     → me'.0 ≡ gave_turn place me.0 → me'.1 ≡ rest me.1 → IsAt key-table key sizes (sight_at table' me')
 turned_back place table key-table key sizes table' me me' h there free mine view slots =
-    let passes : me'.0.passes ≡ me.0.passes = ap (λ (v : View). v.passes) view in
-    let z : me'.0.passes.sizes ≡ me.0.passes.sizes = ap (λ (s : Shares). s.sizes) passes in
     let out = hand_out place me free mine h.right.carries h.right.suit in
     let left : numbers (rest me.1) ≡ expected_number me.0.expected =
     sym (ap (λ (d : List (ℕ × Slot)). tail_of (numbers d)) out.1) ∙ ap tail_of h.right.carries ∙ hand_first me.0.free me.0.commit.hand free mine in
     let after : numbers_of me'.0 ≡ expected_number me.0.expected =
     ap numbers_of view ∙ (λ k. free_number (free k) ++ [] ++ expected_number me.0.expected) in
-    record {
-      same = there ∙ h.same;
-      key_is = z ∙ h.key_is;
-      sizes_are = h.sizes_are ∙ sym z;
-      right = record {
-        counts = subst (λ (y : Sizes). IsTable y table') (sym z) (subst (IsTable me.0.passes.sizes) (sym there) h.right.counts);
-        limits = subst AreWithinLimits (sym z) h.right.limits;
-        some = omega (arith, h.right.some, ap (λ (s : Shares). s.shares) passes);
-        carries = ap numbers slots ∙ left ∙ sym after;
-        pool = subst (λ (v : View). AreOfPool v.passes.sizes.entries v.places) (sym view) h.right.pool;
-        suit = subst AllSuit (sym slots) (subst AllSuit out.1 h.right.suit).1;
-      };
-    }
+    moves_at table key-table key sizes table' me me' h there (ap (λ (v : View). v.passes) view) (ap (λ (v : View). v.places) view)
+    (ap numbers slots ∙ left ∙ sym after) (subst AllSuit (sym slots) (subst AllSuit out.1 h.right.suit).1)
   where
     hand_first : (free : Option (List ℕ)) (hand : Option Hand) → free ≡ None → is_hand_of place hand ≡ 1
         → tail_of (free_number free ++ hand_number hand ++ expected_number me.0.expected) ≡ expected_number me.0.expected

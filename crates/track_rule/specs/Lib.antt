@@ -20,6 +20,7 @@ pub mod Sights
 pub mod Steps
 pub mod Shares
 pub mod TurnSteps
+pub mod ExpectTurns
 pub mod CommitSteps
 pub mod TouchSteps
 pub mod ExpectSteps

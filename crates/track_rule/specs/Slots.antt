@@ -38,6 +38,17 @@ given_back slots = rest slots
 abbrev pub with_free : Option (Roomed ℕ) → List (ℕ × Slot) → List (ℕ × Slot)
 with_free list slots = (0, slot_of_free list) ∷ rest slots
 
+-- the table of expectations of a slot, and the slot with a table or with none
+abbrev pub expects_in : Slot → Option (Roomed Expectation)
+expects_in Vacant = None
+expects_in (Free list) = None
+expects_in (Expects table) = Some table
+expects_in (Subject r) = None
+
+abbrev pub slot_of_expects : Option (Roomed Expectation) → Slot
+slot_of_expects None = Vacant
+slot_of_expects (Some table) = Expects table
+
 -- the numbers of the slots that a pass has out: the free list's, the record's, and that of the expectations
 abbrev pub free_number : Option (List ℕ) → List ℕ
 free_number None = []

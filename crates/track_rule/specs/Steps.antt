@@ -1,6 +1,7 @@
 -- What the steps of a pass tell it: v is what it knew before, w what it knows after, n what the step found.
 use Rattle.std.specs.Prelude.{◌≡◌, ℕ, ◌+◌, ◌-◌, ◌*◌, ◌<◌, ◌≤◌, ◌==◌, ◌&&◌, ◌^◌, Bool, true, false, min, not, if◌then◌else◌, MatchBool, Option, Some, None, List, ◌∷◌, filter, length, []}
 use Rattle.atomic_table.specs.Table.{Me, Step, rest}
+use Rattle.expect_table.specs.declared.expectation.Expectation.{Expectation}
 use Rattle.room_list.specs.Roomed.{Roomed}
 use Rattle.history_book.specs.History.{is_legal}
 use Rattle.history_book.specs.Point.{StartsWith}
@@ -92,7 +93,8 @@ uses place v = held_times place v.places.held + times place v.places.owed
 -- id for which it holds that place is live no more where the place is not LIVE of it, and no live record has the place where it
 -- is LIVE of none. The pass has seen the Confirm of each id for which it holds a place. Under the turn of the free list it knows how
 -- full the table is: beside the places on the list, those of live records and its own there are four at most for each share of others
--- (`full`), and none where no other pass has a share (`used`).
+-- (`full`), and none where no other pass has a share (`used`). Under the turn of the expectations it knows what is expected after all
+-- events.
 pub record Looks (v : View) (word : ℕ) (w : View) : Type 0 where
   pub same : w ≡ noted (found_history word v) (saw w.seen.front v)
   pub all : AreAll v w.seen.front
@@ -103,6 +105,7 @@ pub record Looks (v : View) (word : ℕ) (w : View) : Type 0 where
       → total weight (chain_in b v.buckets.shut) ≡ total (links_in v.passes.sizes b weight) (records_after w.seen.front) + loose_of v.passes.sizes b weight v
   pub taken : (p : ℕ) → is_taken p v.places.held ≡ true → total (of_place p) (records_after w.seen.front) ≡ 0
   pub hand : (h : Hand) → v.commit.hand ≡ Some h → 3 ≤ h.phase → h.subject ≡ record_of (h.phase - 3) (state_after w.seen.front)
+  pub expects : (list : List Expectation) → v.expected ≡ Some list → list ≡ (state_after w.seen.front).expects
   pub gone : (h : Hand) (id : ℕ) → v.commit.hand ≡ Some h → v.commit.middle ≡ Calm → is_kept_for h.place id v.places.held ≡ true
       → (h.phase == 3 + id) ≡ false → record_of id (state_after w.seen.front) ≡ None
   pub empty : (h : Hand) → v.commit.hand ≡ Some h → v.commit.middle ≡ Calm → h.phase < 3 → total (of_place h.place) (records_after w.seen.front) ≡ 0

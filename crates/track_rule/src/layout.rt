@@ -12,8 +12,14 @@ pub const HISTORY_WORD: usize = 0;
 /// 1 while a pass has the turn of the free list, else 0.
 pub const FREE_WORD: usize = 1;
 
+/// 1 while a pass has the turn of the expectations, else 0.
+pub const EXPECTS_WORD: usize = 2;
+
 /// The slot of the free list.
 pub const FREE_SLOT: usize = 0;
+
+/// The slot of the expectations.
+pub const EXPECTS_SLOT: usize = 1;
 
 /// How many words a place has.
 const PLACE_WORDS: usize = 9;

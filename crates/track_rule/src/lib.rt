@@ -7,6 +7,7 @@ pub mod bucket_steps;
 pub mod chain_stores;
 pub mod commits;
 pub mod expect_events;
+pub mod expect_turn;
 pub mod free_list;
 pub mod kills;
 pub mod laws;

@@ -2,7 +2,7 @@
 
 ghost use Rattle.std.specs.Prelude.{◌≡◌};
 ghost use Rattle.track_rule.specs.Records.{record_in, slot_of_record};
-ghost use Rattle.track_rule.specs.Slots.{free_in, slot_of_free};
+ghost use Rattle.track_rule.specs.Slots.{expects_in, free_in, slot_of_expects, slot_of_free};
 
 use crate::free_list::FreeList;
 use expect_table::table::ExpectTable;
@@ -34,6 +34,26 @@ pub fn free_of(slot: Slot) -> Option<FreeList>
     match slot {
         Slot::Free(list) => Some(list),
         Slot::Vacant | Slot::Expects(_) | Slot::Subject(_) => None,
+    }
+}
+
+/// The slot with this table of expectations, or with none.
+pub fn with_expects(table: Option<ExpectTable>) -> Slot
+    ensures { result ≡ slot_of_expects table }
+{
+    match table {
+        Some(table) => Slot::Expects(table),
+        None => Slot::Vacant,
+    }
+}
+
+/// The table of expectations that lay in a slot.
+pub fn expects_of(slot: Slot) -> Option<ExpectTable>
+    ensures { result ≡ expects_in slot }
+{
+    match slot {
+        Slot::Expects(table) => Some(table),
+        Slot::Vacant | Slot::Free(_) | Slot::Subject(_) => None,
     }
 }
 

@@ -174,3 +174,45 @@ fn a_turn_of_a_record_is_had_by_one(rt: HostRuntime) -> Result<(), Fail> {
     assert!(rt; two.turn_take(8));
     Ok(())
 }
+
+#[test]
+fn the_expectations_are_had_by_one(rt: HostRuntime) -> Result<(), Fail> {
+    let (board, stub) = Pass::first(rt.alloc(), sizes())?;
+    let mut one = board.pass(stub);
+    let mut two = one.split(2);
+    assert!(rt; one.expects_take());
+    assert!(rt; !two.expects_take());
+    let Some(table) = one.expects_swap(None) else {
+        panic!(rt; "the table was there");
+    };
+    assert_eq!(rt; table.len(), 0);
+    let none = one.expects_swap(Some(table));
+    assert!(rt; none.is_none());
+    one.expects_give();
+    assert!(rt; two.expects_take());
+    Ok(())
+}
+
+#[test]
+fn the_expectations_are_out_beside_a_record(rt: HostRuntime) -> Result<(), Fail> {
+    let (board, stub) = Pass::first(rt.alloc(), sizes())?;
+    let mut pass = board.pass(stub);
+    assert!(rt; pass.turn_take(7));
+    let phase = pass.phase_load(7);
+    assert_eq!(rt; phase, FREE);
+    assert!(rt; pass.expects_take());
+    let Some(table) = pass.expects_swap(None) else {
+        panic!(rt; "the table was there");
+    };
+    let none = pass.record_swap(7, Some(ENTRY));
+    assert!(rt; none.is_none());
+    let none = pass.expects_swap(Some(table));
+    assert!(rt; none.is_none());
+    pass.expects_give();
+    let Some(found) = pass.record_swap(7, None) else {
+        panic!(rt; "the record was put there");
+    };
+    assert_eq!(rt; found.id, 5);
+    pass.turn_give(7);
+    Ok(())
+}

@@ -1,0 +1,86 @@
+//! The turn of the expectations. A pass takes it, has their table out of its slot, changes it, puts it back, and gives the turn
+//! back. Taking and giving back are each one atomic step; moving the table is none. A pass may have the turn of a record at the
+//! same time; then the slot of the record stands before that of the expectations.
+
+ghost use Rattle.std.specs.Prelude.{◌≡◌, None, is_some, true};
+ghost use Rattle.track_rule.specs.declared.view.Middle.TheVariants.{Calm};
+ghost use Rattle.track_rule.specs.ExpectTurns.{CanGiveExpected, TakesExpected, before_expects, expects_at, gave_expected, table_in, with_expects};
+ghost use Rattle.track_rule.specs.Expected.{has_expected};
+ghost use Rattle.track_rule.specs.TurnSteps.{subject_in};
+
+use crate::layout::{EXPECTS_SLOT, EXPECTS_WORD};
+use crate::pass::Pass;
+use crate::slot::{Slot, expects_of, with_expects};
+use crate::view::View;
+use atomic_table::Play;
+use expect_table::table::ExpectTable;
+
+/// Taking the turn of the expectations.
+pub struct TakeExpects;
+
+impl Play<Slot, View> for TakeExpects {
+    ghost use Rattle.track_rule.specs.ExpectTurns.{TakeExpectsStep};
+
+    ghost then = { TakeExpectsStep };
+}
+
+/// Giving it back.
+pub struct GiveExpects;
+
+impl Play<Slot, View> for GiveExpects {
+    ghost use Rattle.track_rule.specs.ExpectTurns.{GiveExpectsStep};
+
+    ghost then = { GiveExpectsStep };
+}
+
+impl<'b> Pass<'b> {
+    /// Takes the turn of the expectations, if no pass has it, and their table out of its slot. The pass does not have the free
+    /// list.
+    pub fn expects_take(&mut self) -> bool
+        requires free { self.old.view.free ≡ None }
+        requires expected { self.old.view.expected ≡ None }
+        ensures takes { TakesExpected result self.old.view self.old.slots self.new.view self.new.slots }
+        ensures table { self.new.table ≡ self.old.table }
+    {
+        let found = self
+            .shared
+            .compare_exchange::<TakeExpects>(&mut self.seat, EXPECTS_WORD, 0, 1);
+        if found != 0 {
+            return false;
+        }
+        self.seat.turn();
+        true
+    }
+
+    /// Puts this table, or none, in the place of the one that is out.
+    pub fn expects_swap(&mut self, table: Option<ExpectTable>) -> Option<ExpectTable>
+        requires expected { has_expected self.old.view ≡ 1 }
+        requires free { self.old.view.free ≡ None }
+        ensures table { result ≡ expects_at self.old.slots }
+        ensures there { expects_at self.new.slots ≡ table }
+        ensures others { before_expects self.new.slots ≡ before_expects self.old.slots }
+        ensures subject { subject_in self.new.slots ≡ subject_in self.old.slots }
+        ensures kept { self.new ≡ record self.old { slots = with_expects table self.old.slots } }
+    {
+        self.seat.turn();
+        let found = self
+            .shared
+            .exchange(&mut self.seat, EXPECTS_SLOT, with_expects(table));
+        self.seat.turn();
+        expects_of(found)
+    }
+
+    /// Gives the turn back, and the table with it.
+    pub fn expects_give(&mut self)
+        requires expected { has_expected self.old.view ≡ 1 }
+        requires calm { self.old.view.commit.middle ≡ Calm }
+        requires free { self.old.view.free ≡ None }
+        requires table { is_some (expects_at self.old.slots) ≡ true }
+        requires whole { CanGiveExpected self.old.view (table_in self.old.slots) }
+        ensures { self.new ≡ record self.old { view = gave_expected self.old.view; slots = before_expects self.old.slots } }
+    {
+        self.seat.turn();
+        self.shared
+            .store::<GiveExpects>(&mut self.seat, EXPECTS_WORD, 0);
+    }
+}
