@@ -207,8 +207,8 @@ numbered n (Unexpect expectation moment) = Unexpect expectation moment
 abbrev pub KnowsLive : View → State → Type 0
 KnowsLive v s = (id : ℕ) → known_phase v.commit.hand ≡ 3 + id → record_of id s ≡ known_record v.commit.hand
 
--- The pass has the turn of the expectations, and room for an event. The event leaves all records. It is lawful in each state in which
--- is expected what the pass knows, and in which that record is live which it knows.
+-- The pass has the turn of the expectations, and room for an event. The event leaves all records, and is lawful in each state that
+-- has what the pass knows: what is expected, and the record.
 pub record CanChange (e : Event) (v : View) : Type 0 where
   pub turn : is_some v.expected ≡ true
   pub few : length v.seen.own < 2 ^ 30
