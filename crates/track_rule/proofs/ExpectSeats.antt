@@ -17,7 +17,7 @@ use Rattle.track_rule.specs.declared.view.View.{View}
 use Rattle.track_rule.specs.ExpectTurns.{CanGiveExpected, GiveExpectsStep, TookExpected, before_expects, expects_at, no_table, table_in, with_expects}
 use Rattle.track_rule.specs.Expected.{expected_turn, has_expected}
 use Rattle.track_rule.specs.Rule.{Holds}
-use Rattle.track_rule.specs.Sights.{IsAt, sight_at}
+use Rattle.track_rule.specs.Sights.{IsAt, PassSight, sight_at}
 use Rattle.track_rule.specs.Slots.{AllSuit, expected_number, expects_in, free_number, hand_number, numbers, numbers_of, slot_of_expects, suits}
 use Rattle.track_rule.specs.TurnSteps.{subject_in}
 use Rattle.track_rule.proofs.ExpectTurns.{giving_expected, last_expects, last_subject}
@@ -71,6 +71,13 @@ expects_out me idle mine carries suit = last_out me.0.free me.0.commit.hand me.0
         }
     last_out None (Some h) (Some list) (s ∷ t ∷ u ∷ slots) idle mine same suit = absurd (omega (arith, ap length same))
 
+-- and of such a pass as contracts see it
+pub seen_out : (table key-table : TableId) (key sizes : Sizes) (me : Me Slot View) (was : PassSight) → IsAt key-table key sizes (sight_at table me)
+    → sight_at table me ≡ was → was.view.free ≡ None → has_expected was.view ≡ 1 → ExpectsOut me.1
+seen_out table key-table key sizes me was h seen idle mine =
+    expects_out me (subst (λ (x : PassSight). x.view.free ≡ None) (sym seen) idle) (subst (λ (x : PassSight). has_expected x.view ≡ 1) (sym seen) mine)
+    h.right.carries h.right.suit
+
 -- what lies there
 pub inside_is : (slots : List (ℕ × Slot)) (out : ExpectsOut slots) → expects_at slots ≡ expects_in out.inside
 inside_is slots out = ap expects_at out.last ∙ last_expects (before_expects slots) 1 out.inside
@@ -103,12 +110,13 @@ giving_front key slots id me me' same there some_slots has_some calm some_table 
     slot_is o None e some_there = absurd (false≢true some_there)
     slot_is o (Some table) e some_there = ap slot_of_expects (sym e)
 
--- what is left after the table was brought to the front, exchanged, and brought back behind the others
-pub swapped : (me first then last : Me Slot View) (new : Slot) → ExpectsOut me.1 → first ≡ (me.0, turned me.1) → then ≡ (first.0, (1, new) ∷ rest first.1)
-    → last ≡ (then.0, turned then.1) → last ≡ (me.0, before_expects me.1 ++ (1, new) ∷ [])
-swapped me first then last new out front changed back =
-    back ∙ ap (λ (m : Me Slot View). (m.0, turned m.1)) changed ∙ ap (λ (m : Me Slot View). (m.0, rest m.1 ++ (1, new) ∷ [])) front
-    ∙ ap (λ (c : List (ℕ × Slot)). (me.0, rest c ++ (1, new) ∷ [])) out.first
+-- what is left after the table was brought to the front, exchanged for this one, and brought back behind the others
+pub swapped : (me first then last : Me Slot View) (inside : Slot) (new : Option (Roomed Expectation)) → ExpectsOut me.1 → inside ≡ slot_of_expects new
+    → first ≡ (me.0, turned me.1) → then ≡ (first.0, (1, inside) ∷ rest first.1) → last ≡ (then.0, turned then.1) → last ≡ (me.0, with_expects new me.1)
+swapped me first then last inside new out put front changed back =
+    back ∙ ap (λ (m : Me Slot View). (m.0, turned m.1)) changed ∙ ap (λ (m : Me Slot View). (m.0, rest m.1 ++ (1, inside) ∷ [])) front
+    ∙ ap (λ (c : List (ℕ × Slot)). (me.0, rest c ++ (1, inside) ∷ [])) out.first
+    ∙ ap (λ (x : Slot). (me.0, before_expects me.1 ++ (1, x) ∷ [])) put
 
 -- one slot more, behind the others
 more_numbers : (c : List (ℕ × Slot)) (k : ℕ) (x : Slot) → numbers (c ++ (k, x) ∷ []) ≡ numbers c ++ k ∷ []

@@ -1,6 +1,7 @@
 //! The turn of the expectations. A pass takes it, has their table out of its slot, changes it, puts it back, and gives the turn
 //! back. Taking and giving back are each one atomic step; moving the table is none. A pass may have the turn of a record at the
-//! same time; then the slot of the record stands before that of the expectations.
+//! same time. Then the slot of the record stands before that of the expectations, which is brought to the front to be exchanged
+//! or given back.
 
 ghost use Rattle.std.specs.Prelude.{◌≡◌, None, is_some, true};
 ghost use Rattle.track_rule.specs.declared.view.Middle.TheVariants.{Calm};
