@@ -21,6 +21,9 @@ pub mod Entered
 pub mod Looking
 pub mod Peeking
 pub mod Noted
+pub mod ExpectTurn
+pub mod UnderExpects
+pub mod Claimed
 pub mod Making
 pub mod Loaded
 pub mod Stepping

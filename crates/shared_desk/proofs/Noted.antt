@@ -18,6 +18,8 @@ use Rattle.history_book.specs.declared.event.Event.{Event}
 use Rattle.history_book.specs.declared.event.Note.{Note}
 use Rattle.track_rule.specs.History.{state_after}
 use Rattle.track_rule.specs.Sights.{PassSight}
+use Rattle.track_rule.specs.Steps.{AreAll}
+use Rattle.shared_desk.specs.Claiming.{HasMade}
 use Rattle.shared_desk.specs.Noting.{room_after, with_note}
 use Rattle.shared_desk.specs.Rest.{IsAtRest}
 use Rattle.shared_desk.specs.Sights.{hold_of, sight_of}
@@ -25,7 +27,7 @@ use Rattle.shared_desk.specs.Touching.{IsLeft, Notes}
 use Rattle.shared_desk.proofs.Entered.{get_last, notes_push, pairs_push}
 use Rattle.shared_desk.proofs.Known.{entry_later, events_later}
 use Rattle.shared_desk.proofs.Peeking.{kept, looks_at, rest_looking}
-use Rattle.shared_desk.proofs.Resting.{clerk_at}
+use Rattle.shared_desk.proofs.Resting.{clerk_at, idle_still}
 
 -- the desk has made one event more, and holds what it held
 pub known_made : (s : Sight) (e : Event) (number spare : ℕ) (log : List Event) → IsKnown s → StartsWith log s.front → number ≡ length log
@@ -92,23 +94,64 @@ so_before stay log e number F is fact = record {
       (subst F (sym (stay (log ++ e ∷ []) log (length log) (e ∷ [], refl) (omega arith)).1) fact);
 }
 
+-- it made this event
+module _ (v : PassSight) (notes : Roomed Note) (spare : ℕ) (h : IsAtRest v notes spare) (room : 1 ≤ spare) (number : ℕ) (e : Event) (w : PassSight)
+    (m : HasMade number e v w) (made : Option Note) (is : Notes made v.view.seen.own w.view.seen.own) where
+  one : (n : Note) × (made ≡ Some n) × (w.view.seen.own ≡ v.view.seen.own ++ n ∷ [])
+  one = noted_one made v.view.seen.own w.view.seen.own (record { number = number; event = e }) is (ap (λ (k : PassSight). k.view.seen.own) m.same)
+
+  rest_one : (n : Note) → w.view.seen.own ≡ v.view.seen.own ++ n ∷ [] → IsAtRest w (record notes { items = notes.items ++ n ∷ [] }) (spare - 1)
+  rest_one n own =
+      subst (λ k. IsAtRest k (record notes { items = notes.items ++ n ∷ [] }) (spare - 1)) (sym m.same) (record {
+        idle = idle_still v _ h.idle refl refl refl refl refl refl;
+        settled = h.settled;
+        own = ap (λ ns. ns ++ n ∷ []) h.own ∙ sym own ∙ ap (λ (k : PassSight). k.view.seen.own) m.same;
+        room = omega (arith, h.room, room, length-append notes.items (n ∷ []));
+        knows = known_made (sight_of (clerk_at v spare)) e number (spare - 1) m.log h.knows m.all.front m.number_is m.legal
+            (omega (arith, m.all.few, m.all.passes)) (omega (arith, room, h.knows.spared)) m.all.alone;
+      })
+
+  pub rest_made : IsAtRest w (with_note made notes) (room_after made spare)
+  rest_made = subst (λ (o : Option Note). IsAtRest w (with_note o notes) (room_after o spare)) (sym one.1) (rest_one one.0 one.2)
+
+  pub says_made : MadeEvent (sight_of (clerk_at v spare)) (sight_of (clerk_at w (room_after made spare))) number e
+      × SamePlaces (sight_of (clerk_at v spare)) (sight_of (clerk_at w (room_after made spare)))
+  says_made =
+      subst (λ (o : Option Note). MadeEvent (sight_of (clerk_at v spare)) (sight_of (clerk_at w (room_after o spare))) number e
+      × SamePlaces (sight_of (clerk_at v spare)) (sight_of (clerk_at w (room_after o spare)))) (sym one.1)
+      (subst (λ k. MadeEvent (sight_of (clerk_at v spare)) (sight_of (clerk_at k (spare - 1))) number e
+      × SamePlaces (sight_of (clerk_at v spare)) (sight_of (clerk_at k (spare - 1)))) (sym m.same)
+      (made_here (sight_of (clerk_at v spare)) (map hold_of v.view.places.held) e number m.log m.all.front m.number_is room, record { held = refl; owed = refl }))
+
+-- it made none, and looked
+module _ (v : PassSight) (notes : Roomed Note) (spare : ℕ) (h : IsAtRest v notes spare) (w : PassSight)
+    (same : w ≡ record v { view = record v.view { seen = record v.view.seen { front = w.view.seen.front }; walk = w.view.walk; readings = w.view.readings } })
+    (all : AreAll v.view w.view.seen.front) (made : Option Note) (is : Notes made v.view.seen.own w.view.seen.own) where
+  none_made : made ≡ None
+  none_made = noted_none made v.view.seen.own w.view.seen.own is (ap (λ (k : PassSight). k.view.seen.own) same)
+
+  pub rest_unmade : IsAtRest w (with_note made notes) (room_after made spare)
+  rest_unmade =
+      subst (λ (m : Option Note). IsAtRest w (with_note m notes) (room_after m spare)) (sym none_made) (rest_looking v notes spare h w same all)
+
+  pub looks_unmade : (at : ℕ) (F : State → Type 0) → at ≡ length w.view.seen.front → F (state_after w.view.seen.front)
+      → Looked (sight_of (clerk_at v spare)) (sight_of (clerk_at w (room_after made spare))) at F
+      × SamePlaces (sight_of (clerk_at v spare)) (sight_of (clerk_at w (room_after made spare)))
+  looks_unmade at F point fact =
+      subst (λ (m : Option Note). Looked (sight_of (clerk_at v spare)) (sight_of (clerk_at w (room_after m spare))) at F
+      × SamePlaces (sight_of (clerk_at v spare)) (sight_of (clerk_at w (room_after m spare)))) (sym none_made)
+      (looks_at v notes spare h w same all at F point fact)
+
 -- the entry for which it holds a place was left as it is
 module _ (v : PassSight) (notes : Roomed Note) (spare place : ℕ) (h : IsAtRest v notes spare)
     (held : is_held_for_entry place (map hold_of v.view.places.held) ≡ true) (at : ℕ) (F : ℕ → List Event → Type 0) (w : PassSight) (l : IsLeft place at F v w)
     (made : Option Note) (is : Notes made v.view.seen.own w.view.seen.own) where
-  none_made : made ≡ None
-  none_made = noted_none made v.view.seen.own w.view.seen.own is (ap (λ (k : PassSight). k.view.seen.own) l.same)
-
   pub rest_left : IsAtRest w (with_note made notes) (room_after made spare)
-  rest_left =
-      subst (λ (m : Option Note). IsAtRest w (with_note m notes) (room_after m spare)) (sym none_made)
-      (rest_looking v notes spare place h held w l.same l.all)
+  rest_left = rest_unmade v notes spare h w l.same l.all made is
 
   pub looks_left : (G : State → Type 0) → (F (held_id place (map hold_of v.view.places.held)) w.view.seen.front → G (state_after w.view.seen.front))
       → Looked (sight_of (clerk_at v spare)) (sight_of (clerk_at w (room_after made spare))) at G
       × SamePlaces (sight_of (clerk_at v spare)) (sight_of (clerk_at w (room_after made spare)))
   looks_left G from =
-      subst (λ (m : Option Note). Looked (sight_of (clerk_at v spare)) (sight_of (clerk_at w (room_after m spare))) at G
-      × SamePlaces (sight_of (clerk_at v spare)) (sight_of (clerk_at w (room_after m spare)))) (sym none_made)
-      (looks_at v notes spare place h held w l.same l.all at G l.point
-      (from (l.is (held_id place (map hold_of v.view.places.held)) (kept v notes spare place h held))))
+      looks_unmade v notes spare h w l.same l.all made is at G l.point
+      (from (l.is (held_id place (map hold_of v.view.places.held)) (kept v notes spare place h held)))

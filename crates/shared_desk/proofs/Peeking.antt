@@ -84,6 +84,31 @@ kept_id place (k ∷ ks) s once e =
     (sym (ap (λ (b : Bool). (b && is_some (hold_of k).id) || is_held_for_entry place (map hold_of ks)) other) ∙ e)))
     (cases_Bool (k.place == place))
 
+-- it has seen all events, and made none
+module _ (v : PassSight) (notes : Roomed Note) (spare : ℕ) (h : IsAtRest v notes spare) (w : PassSight)
+    (same : w ≡ record v { view = record v.view { seen = record v.view.seen { front = w.view.seen.front }; walk = w.view.walk; readings = w.view.readings } })
+    (all : AreAll v.view w.view.seen.front) where
+  pub rest_looking : IsAtRest w notes spare
+  rest_looking = rest_looked v notes spare h w.view.seen.front w.view.walk w.view.readings w same all
+
+  -- at a point after all that it has seen
+  pub looks_at : (at : ℕ) (F : State → Type 0) → at ≡ length w.view.seen.front → F (state_after w.view.seen.front)
+      → Looked (sight_of (clerk_at v spare)) (sight_of (clerk_at w spare)) at F × SamePlaces (sight_of (clerk_at v spare)) (sight_of (clerk_at w spare))
+  looks_at at F point fact = (
+    record {
+      saw = saw_looked v notes spare h w.view.seen.front w.view.walk w.view.readings w same all;
+      low = omega (arith, point, ap length all.front.1, length-append v.view.seen.front all.front.0);
+      fact = record {
+        within = omega (arith, point);
+        fact = subst (λ (n : ℕ). F (after w.view.seen.front n)) (sym point) fact;
+      };
+    },
+    record {
+      held = ap (λ (k : PassSight). map hold_of k.view.places.held) same;
+      owed = ap (λ (k : PassSight). k.view.places.owed) same;
+    },
+  )
+
 module _ (v : PassSight) (notes : Roomed Note) (spare place : ℕ) (h : IsAtRest v notes spare)
     (held : is_held_for_entry place (map hold_of v.view.places.held) ≡ true) where
   pub free_for : IsFreeFor place v
@@ -98,38 +123,13 @@ module _ (v : PassSight) (notes : Roomed Note) (spare place : ℕ) (h : IsAtRest
   pub kept : is_kept_for place (held_id place (map hold_of v.view.places.held)) v.view.places.held ≡ true
   kept = kept_id place v.view.places.held h.settled.purposes (λ t. (h.settled.taken place t).once) held
 
-  -- it has seen all events, and made none
-  module _ (w : PassSight)
-      (same : w ≡ record v { view = record v.view { seen = record v.view.seen { front = w.view.seen.front }; walk = w.view.walk; readings = w.view.readings } })
-      (all : AreAll v.view w.view.seen.front) where
-    pub rest_looking : IsAtRest w notes spare
-    rest_looking = rest_looked v notes spare h w.view.seen.front w.view.walk w.view.readings w same all
-
-    -- at a point after all that it has seen
-    pub looks_at : (at : ℕ) (F : State → Type 0) → at ≡ length w.view.seen.front → F (state_after w.view.seen.front)
-        → Looked (sight_of (clerk_at v spare)) (sight_of (clerk_at w spare)) at F × SamePlaces (sight_of (clerk_at v spare)) (sight_of (clerk_at w spare))
-    looks_at at F point fact = (
-      record {
-        saw = saw_looked v notes spare h w.view.seen.front w.view.walk w.view.readings w same all;
-        low = omega (arith, point, ap length all.front.1, length-append v.view.seen.front all.front.0);
-        fact = record {
-          within = omega (arith, point);
-          fact = subst (λ (n : ℕ). F (after w.view.seen.front n)) (sym point) fact;
-        };
-      },
-      record {
-        held = ap (λ (k : PassSight). map hold_of k.view.places.held) same;
-        owed = ap (λ (k : PassSight). k.view.places.owed) same;
-      },
-    )
-
   pub rest_peeked : (o : PeekOutcome) (w : PassSight) → Peeks place o v w → IsAtRest w notes spare
-  rest_peeked o w p = rest_looking w p.same p.all
+  rest_peeked o w p = rest_looking v notes spare h w p.same p.all
 
   pub says_peeked : (o : PeekOutcome) (w : PassSight) → Peeks place o v w → PeekSays place (sight_of (clerk_at v spare)) (sight_of (clerk_at w spare)) o
   says_peeked (Seen subject at) w p =
       let is = p.is (held_id place (map hold_of v.view.places.held)) kept in
-      looks_at w p.same p.all at (IsRecord (held_id place (map hold_of v.view.places.held)) subject) is.0 is.1
+      looks_at v notes spare h w p.same p.all at (IsRecord (held_id place (map hold_of v.view.places.held)) subject) is.0 is.1
   says_peeked (Gone at) w p =
       let is = p.is (held_id place (map hold_of v.view.places.held)) kept in
-      looks_at w p.same p.all at (λ s. record_of (held_id place (map hold_of v.view.places.held)) s ≡ None) is.0 is.1
+      looks_at v notes spare h w p.same p.all at (λ s. record_of (held_id place (map hold_of v.view.places.held)) s ≡ None) is.0 is.1

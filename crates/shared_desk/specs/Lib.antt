@@ -11,6 +11,8 @@ pub mod Noting
 pub mod Looking
 pub mod Touching
 pub mod Killing
+pub mod ExpectTurn
+pub mod Claiming
 pub mod Holding
 pub mod TestCrew
 pub mod Lookups

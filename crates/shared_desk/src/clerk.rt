@@ -3,6 +3,7 @@
 ghost use Rattle.std.specs.Prelude.{◌≡◌, ◌+◌, ◌<◌, ◌≤◌, ◌^◌, true, false, length, OnOk, OnErr};
 ghost use Rattle.entry_pool.specs.GoesOn.{ReadingsStand};
 ghost use Rattle.history_book.specs.Desk.{ConfirmSays, CountSays, FindSays, HoldSays, IsReady, KillSays, PeekSays, RecycleSays, ReleaseSays, TakeSays, TouchSays};
+ghost use Rattle.history_book.specs.DeskExpectations.{ClaimSays, ListsExpected, UnexpectSays};
 ghost use Rattle.history_book.specs.Entry.{is_flow_of_one_protocol, is_helped_entry, is_of_entry, suits_entry};
 ghost use Rattle.history_book.specs.Held.{held_id, is_held, is_held_for_entry, is_owed, is_taken};
 ghost use Rattle.history_book.specs.Join.{CanJoin, Joins};
@@ -18,6 +19,7 @@ ghost use Rattle.shared_desk.specs.Sights.{sight_of};
 ghost use Rattle.track_rule.specs.History.{events_in, live_in};
 ghost use Rattle.track_rule.specs.Sights.{sizes_of};
 
+use crate::claiming::{claim, list_expects, unexpect};
 use crate::confirm::confirm;
 use crate::entry::{kill, peek, touch};
 use crate::holding::hold;
@@ -32,11 +34,11 @@ use entry_pool::take::{recycle, take};
 use history_book::event::Why;
 use history_book::laws::states_stay;
 use history_book::outcome::{
-    ConfirmOutcome, FindOutcome, HoldOutcome, KillOutcome, LiveCount, PeekOutcome, ReleaseOutcome,
-    TakeOutcome, TouchOutcome,
+    ClaimOutcome, ConfirmOutcome, FindOutcome, HoldOutcome, KillOutcome, LiveCount, PeekOutcome,
+    ReleaseOutcome, TakeOutcome, TouchOutcome, UnexpectOutcome,
 };
 use history_book::record::Flow;
-use history_book::report::Notes;
+use history_book::report::{Expectations, Notes};
 use history_book::sight_laws::seeing_adds_up;
 use std::alloc::Global;
 use std::marker::Model;
@@ -316,6 +318,41 @@ impl<'t, G: Gate> Clerk<'t, G> {
         let (outcome, note) = kill(rt, &mut self.pass, place, why);
         note_event(&mut self.notes, &mut self.spare, note);
         outcome
+    }
+
+    /// Ends the first expectation that a packet with this tuple matches at a moment in microseconds. It may wait for the turn of the
+    /// expectations.
+    pub fn claim<R: Wait>(&mut self, rt: &R, t: &Tuple, moment: u64) -> ClaimOutcome
+        requires { 1 ≤ (sight_of self.old).spare }
+        ensures says { ClaimSays t.now moment (sight_of self.old) (sight_of self.new) result }
+        ensures knows { IsKnown (sight_of self.new) }
+    {
+        let (outcome, note) = claim(rt, &mut self.pass, t, moment);
+        note_event(&mut self.notes, &mut self.spare, note);
+        outcome
+    }
+
+    /// Ends the expectation of this id, where it is due no longer at a moment in microseconds. It may wait for the turn of the
+    /// expectations.
+    pub fn unexpect<R: Wait>(&mut self, rt: &R, id: u64, moment: u64) -> UnexpectOutcome
+        requires { 1 ≤ (sight_of self.old).spare }
+        ensures says { UnexpectSays id moment (sight_of self.old) (sight_of self.new) result }
+        ensures knows { IsKnown (sight_of self.new) }
+    {
+        let (outcome, note) = unexpect(rt, &mut self.pass, id, moment);
+        note_event(&mut self.notes, &mut self.spare, note);
+        outcome
+    }
+
+    /// Lists the expectations in order of id, in place of what the list has, and answers their point. It may wait for the turn of the
+    /// expectations.
+    pub fn expects<R: Wait>(&mut self, rt: &R, listed: &mut Expectations) -> u64
+        requires { (sight_of self.old).sizes.expectations ≤ listed.old.room }
+        ensures says { ListsExpected listed.new.items (sight_of self.old) (sight_of self.new) result }
+        ensures room { listed.new.room ≡ listed.old.room }
+        ensures knows { IsKnown (sight_of self.new) }
+    {
+        list_expects(rt, &mut self.pass, listed)
     }
 
     /// Holds a place for the entry that is live in it, if one is. It may wait for the turn of the place's record, and for that of the

@@ -1,10 +1,12 @@
 //! The tracker whose table many threads share: a clerk for each of them.
 #![tactic(auto)]
 
+mod claiming;
 pub mod clerk;
 mod commit;
 mod confirm;
 mod entry;
+mod expect_turn;
 mod holding;
 mod killing;
 pub mod laws;

@@ -1,0 +1,9 @@
+use Rattle.std.proofs.Common.{◌≡◌}
+use Rattle.shared_desk.proofs.expect_turn.take_turn.Given as goal
+
+abbrev pub invariant-turns : goal.invariant-turns
+invariant-turns g l = record {
+  next : (goal.iterator-turns g).can_next l.iterator';
+  finite : (goal.iterator-turns g).is_finite l.iterator';
+  same : l.pass ≡ record l.initial.pass { view = record l.initial.pass.view { readings = l.pass.view.readings } };
+}

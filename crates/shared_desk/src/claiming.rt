@@ -1,0 +1,136 @@
+//! Expectations end by the packets that match them, or in time, and are listed.
+
+ghost use Rattle.std.specs.Prelude.{◌≡◌, ◌<◌, ◌≤◌, ◌^◌, length};
+ghost use Rattle.shared_desk.specs.Claiming.{Claims, HasLooked, IsFreeToClaim, Unexpects};
+ghost use Rattle.shared_desk.specs.ExpectTurn.{aside};
+ghost use Rattle.shared_desk.specs.Touching.{Notes};
+ghost use Rattle.track_rule.specs.ExpectTurns.{CanGiveExpected};
+ghost use Rattle.track_rule.specs.Sights.{sizes_of};
+
+use crate::clerk::events_in;
+use crate::expect_turn::{give_expects, take_expects};
+use expect_table::table::ExpectTable;
+use history_book::event::{Event, Note};
+use history_book::outcome::{ClaimOutcome, UnexpectOutcome};
+use history_book::report::Expectations;
+use std::sync::Wait;
+use track_rule::pass::Pass;
+use tuple_core::Tuple;
+
+/// Ends the first expectation that a packet with this tuple matches at a moment, under the turn of the expectations, which are this
+/// table's.
+fn claim_first(
+    pass: &mut Pass,
+    table: &mut ExpectTable,
+    t: &Tuple,
+    moment: u64,
+) -> (ClaimOutcome, Option<Note>)
+    requires knows { CanGiveExpected pass.old.view table.old }
+    requires few { length pass.old.view.seen.own < 2 ^ 30 }
+    ensures claims { Claims t.now moment result.0 (aside pass.old) (aside pass.new) }
+    ensures knows { CanGiveExpected pass.new.view table.new }
+    ensures noted { Notes result.1 pass.old.view.seen.own pass.new.view.seen.own }
+{
+    let Some(met) = table.matching(t, moment) else {
+        let at = events_in(pass.history_load());
+        return (ClaimOutcome::Unclaimed { at }, None);
+    };
+    let event = Event::Claim {
+        expectation: met.id,
+        master: met.master,
+        tuple: *t,
+        moment,
+    };
+    let number = pass.claim_add(event);
+    table.remove(met.id);
+    let claimed = ClaimOutcome::Claimed {
+        number,
+        expectation: met.id,
+        master: met.master,
+    };
+    (claimed, Some(Note { number, event }))
+}
+
+/// Waits for the turn of the expectations, and ends the first one that a packet with this tuple matches at a moment.
+pub fn claim<R: Wait>(
+    rt: &R,
+    pass: &mut Pass,
+    t: &Tuple,
+    moment: u64,
+) -> (ClaimOutcome, Option<Note>)
+    requires free { IsFreeToClaim pass.old }
+    requires few { length pass.old.view.seen.own < 2 ^ 30 }
+    ensures claims { Claims t.now moment result.0 pass.old pass.new }
+    ensures noted { Notes result.1 pass.old.view.seen.own pass.new.view.seen.own }
+{
+    let mut table = take_expects(rt, pass);
+    let outcome = claim_first(pass, &mut table, t, moment);
+    give_expects(pass, table);
+    outcome
+}
+
+/// Ends the expectation of this id, where it is due no longer at a moment, under the turn of the expectations, which are this table's.
+fn unexpect_one(
+    pass: &mut Pass,
+    table: &mut ExpectTable,
+    id: u64,
+    moment: u64,
+) -> (UnexpectOutcome, Option<Note>)
+    requires knows { CanGiveExpected pass.old.view table.old }
+    requires few { length pass.old.view.seen.own < 2 ^ 30 }
+    ensures unexpects { Unexpects id moment result.0 (aside pass.old) (aside pass.new) }
+    ensures knows { CanGiveExpected pass.new.view table.new }
+    ensures noted { Notes result.1 pass.old.view.seen.own pass.new.view.seen.own }
+{
+    let Some(subject) = table.find(id) else {
+        let at = events_in(pass.history_load());
+        return (UnexpectOutcome::Gone { at }, None);
+    };
+    let deadline = subject.deadline;
+    if moment < deadline {
+        let at = events_in(pass.history_load());
+        return (UnexpectOutcome::Not { deadline, at }, None);
+    }
+    let event = Event::Unexpect {
+        expectation: id,
+        moment,
+    };
+    let number = pass.unexpect_add(event);
+    table.remove(id);
+    (
+        UnexpectOutcome::Removed { number },
+        Some(Note { number, event }),
+    )
+}
+
+/// Waits for the turn of the expectations, and ends the one of this id, where it is due no longer at a moment.
+pub fn unexpect<R: Wait>(
+    rt: &R,
+    pass: &mut Pass,
+    id: u64,
+    moment: u64,
+) -> (UnexpectOutcome, Option<Note>)
+    requires free { IsFreeToClaim pass.old }
+    requires few { length pass.old.view.seen.own < 2 ^ 30 }
+    ensures unexpects { Unexpects id moment result.0 pass.old pass.new }
+    ensures noted { Notes result.1 pass.old.view.seen.own pass.new.view.seen.own }
+{
+    let mut table = take_expects(rt, pass);
+    let outcome = unexpect_one(pass, &mut table, id, moment);
+    give_expects(pass, table);
+    outcome
+}
+
+/// Waits for the turn of the expectations, and lists them in order of id, in place of what the list has. Gives their point.
+pub fn list_expects<R: Wait>(rt: &R, pass: &mut Pass, listed: &mut Expectations) -> u64
+    requires free { IsFreeToClaim pass.old }
+    requires room { (sizes_of pass.old).expectations ≤ listed.old.room }
+    ensures lists { HasLooked result (λ s. listed.new.items ≡ s.expects) pass.old pass.new }
+    ensures room { listed.new.room ≡ listed.old.room }
+{
+    let table = take_expects(rt, pass);
+    let at = events_in(pass.history_load());
+    table.list(listed);
+    give_expects(pass, table);
+    at
+}

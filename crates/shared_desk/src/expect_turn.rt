@@ -1,0 +1,50 @@
+//! The turn of the expectations, with their table in the hands of the pass.
+
+ghost use Rattle.std.specs.Prelude.{◌≡◌, None};
+ghost use Rattle.shared_desk.specs.ExpectTurn.{HasExpectTurn, HasExpects};
+ghost use Rattle.track_rule.specs.declared.view.Middle.TheVariants.{Calm};
+ghost use Rattle.track_rule.specs.ExpectTurns.{CanGiveExpected, before_expects, gave_expected};
+
+use expect_table::table::ExpectTable;
+use std::sync::Wait;
+use std::thread;
+use track_rule::pass::Pass;
+
+/// Waits for the turn of the expectations, and takes it.
+fn take_turn<R: Wait>(rt: &R, pass: &mut Pass)
+    requires free { pass.old.view.free ≡ None }
+    requires expected { pass.old.view.expected ≡ None }
+    ensures { HasExpectTurn pass.old pass.new }
+{
+    'turns: for _ in rt.forever() {
+        if pass.expects_take() {
+            return;
+        }
+        thread::yield_now();
+    }
+    unreachable!()
+}
+
+/// Waits for the turn of the expectations, and takes it and their table.
+pub fn take_expects<R: Wait>(rt: &R, pass: &mut Pass) -> ExpectTable
+    requires free { pass.old.view.free ≡ None }
+    requires expected { pass.old.view.expected ≡ None }
+    ensures { HasExpects result pass.old pass.new }
+{
+    take_turn(rt, pass);
+    match pass.expects_swap(None) {
+        Some(table) => table,
+        None => unreachable!(),
+    }
+}
+
+/// Gives the turn of the expectations back, with their table.
+pub fn give_expects(pass: &mut Pass, table: ExpectTable)
+    requires knows { CanGiveExpected pass.old.view table }
+    requires free { pass.old.view.free ≡ None }
+    requires calm { pass.old.view.commit.middle ≡ Calm }
+    ensures { pass.new ≡ record pass.old { view = gave_expected pass.old.view; slots = before_expects pass.old.slots } }
+{
+    let _ = pass.expects_swap(Some(table));
+    pass.expects_give();
+}
