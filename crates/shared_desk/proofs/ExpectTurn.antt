@@ -73,6 +73,13 @@ module _ (w x : PassSight) (table : Roomed Expectation) (knows : CanGiveExpected
       → y ≡ record w { view = gave_expected w.view; slots = before_expects w.slots }
   back y gave others = gave ∙ (λ i. record (kept i) { view = gave_expected (kept i).view; slots = others i })
 
+-- what a pass sees does not hang on the turn
+pub told_aside : (v : PassSight) (log : List Event) → AreAll v.view log → AreAll (aside v).view log
+told_aside v log a = record { front = a.front; told = a.told; legal = a.legal; few = a.few; passes = a.passes; shares = a.shares; alone = a.alone }
+
+pub told_whole : (v : PassSight) (log : List Event) → AreAll (aside v).view log → AreAll v.view log
+told_whole v log a = record { front = a.front; told = a.told; legal = a.legal; few = a.few; passes = a.passes; shares = a.shares; alone = a.alone }
+
 -- what was done under the turn was done
 module _ (table : Roomed Expectation) (v w x y : PassSight) (unturned : v.view.expected ≡ None) (h : HasExpects table v w)
     (gave : y ≡ record x { view = gave_expected x.view; slots = before_expects x.slots }) where

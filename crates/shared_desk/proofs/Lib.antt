@@ -23,6 +23,8 @@ pub mod Peeking
 pub mod Noted
 pub mod ExpectTurn
 pub mod UnderExpects
+pub mod UnderBoth
+pub mod Promised
 pub mod Claimed
 pub mod Making
 pub mod Loaded

@@ -6,11 +6,20 @@ use Rattle.expect_table.specs.Match.{has_id}
 use Rattle.expect_table.specs.declared.expectation.Expectation.{Expectation}
 use Rattle.room_list.specs.Roomed.{Roomed}
 use Rattle.tuple_core.specs.declared.Tuple.{Tuple}
-use Rattle.history_book.specs.DeskExpectations.{IsDueUntil}
+use Rattle.expect_table.specs.declared.expectation.Want.{Want}
+use Rattle.expect_table.specs.declared.table.AddOutcome.{AddOutcome}
+use Rattle.expect_table.specs.declared.table.AddOutcome.TheVariants as add
+use Rattle.history_book.specs.declared.sizes.Sizes.{Sizes}
+use Rattle.history_book.specs.declared.outcome.ExpectOutcome.{ExpectOutcome}
+use Rattle.history_book.specs.declared.outcome.ExpectOutcome.TheVariants as expect
+use Rattle.track_rule.specs.KeptWords.{is_kept_for}
+use Rattle.shared_desk.specs.Touching.{IsLeft, IsNotLive}
+use Rattle.shared_desk.specs.Expecting.{Expects, IsRefused}
+use Rattle.history_book.specs.DeskExpectations.{IsDueUntil, expectation_at}
 use Rattle.history_book.specs.History.{is_legal}
 use Rattle.history_book.specs.State.{State}
 use Rattle.history_book.specs.declared.event.Event.{Event}
-use Rattle.history_book.specs.declared.event.Event.TheVariants.{Claim, Unexpect}
+use Rattle.history_book.specs.declared.event.Event.TheVariants.{Claim, Expect, Unexpect}
 use Rattle.history_book.specs.declared.outcome.ClaimOutcome.{ClaimOutcome}
 use Rattle.history_book.specs.declared.outcome.ClaimOutcome.TheVariants as claim
 use Rattle.history_book.specs.declared.outcome.UnexpectOutcome.{UnexpectOutcome}
@@ -35,18 +44,49 @@ module _ (table : Roomed Expectation) (v w x y : PassSight) (unturned : v.view.e
     same = seen_before table v w x y unturned h gave (seen_with m.log number e) m.same;
   }
 
+  -- it looked
+  module _ (same : aside x ≡ record (aside w) {
+    view = record (aside w).view { seen = record w.view.seen { front = x.view.seen.front }; walk = x.view.walk; readings = x.view.readings };
+  }) (all : AreAll (aside w).view x.view.seen.front) where
+    own_front : y ≡ record v {
+      view = record v.view { seen = record v.view.seen { front = x.view.seen.front }; walk = y.view.walk; readings = y.view.readings };
+    }
+    own_front = seen_before table v w x y unturned h gave (λ s. record s { front = x.view.seen.front }) same
+
+    front_is : y.view.seen.front ≡ x.view.seen.front
+    front_is = ap (λ (k : PassSight). k.view.seen.front) own_front
+
+    same_then : y ≡ record v {
+      view = record v.view { seen = record v.view.seen { front = y.view.seen.front }; walk = y.view.walk; readings = y.view.readings };
+    }
+    same_then = own_front ∙ ap (λ (es : List Event). record v {
+      view = record v.view { seen = record v.view.seen { front = es }; walk = y.view.walk; readings = y.view.readings };
+    }) (sym front_is)
+
+    all_then : AreAll v.view y.view.seen.front
+    all_then = subst (λ (es : List Event). AreAll v.view es) (sym front_is) (told_before table v w x y unturned h gave x.view.seen.front all)
+
+    point_then : (at : ℕ) → at ≡ length x.view.seen.front → at ≡ length y.view.seen.front
+    point_then at point = point ∙ ap (λ (es : List Event). length es) (sym front_is)
+
   pub looked_given : (at : ℕ) (F : State → Type 0) → HasLooked at F (aside w) (aside x) → HasLooked at F v y
-  looked_given at F l =
-      let same = seen_before table v w x y unturned h gave (λ s. record s { front = x.view.seen.front }) l.same in
-      let front : y.view.seen.front ≡ x.view.seen.front = ap (λ (k : PassSight). k.view.seen.front) same in
-      record {
-        same = same ∙ ap (λ (es : List Event). record v {
-          view = record v.view { seen = record v.view.seen { front = es }; walk = y.view.walk; readings = y.view.readings };
-        }) (sym front);
-        all = subst (λ (es : List Event). AreAll v.view es) (sym front) (told_before table v w x y unturned h gave x.view.seen.front l.all);
-        point = l.point ∙ ap (λ (es : List Event). length es) (sym front);
-        is = subst (λ (es : List Event). F (state_after es)) (sym front) l.is;
-      }
+  looked_given at F l = record {
+    same = same_then l.same l.all;
+    all = all_then l.same l.all;
+    point = point_then l.same l.all at l.point;
+    is = subst (λ (es : List Event). F (state_after es)) (sym (front_is l.same l.all)) l.is;
+  }
+
+  held_then : (place id : ℕ) → is_kept_for place id v.view.places.held ≡ true → is_kept_for place id w.view.places.held ≡ true
+  held_then place id kept = subst (λ (k : PassSight). is_kept_for place id k.view.places.held ≡ true) (sym h.same) kept
+
+  pub left_given : (place at : ℕ) (F : ℕ → List Event → Type 0) → IsLeft place at F (aside w) (aside x) → IsLeft place at F v y
+  left_given place at F l = record {
+    same = same_then l.same l.all;
+    all = all_then l.same l.all;
+    point = point_then l.same l.all at l.point;
+    is = λ id kept. subst (F id) (sym (front_is l.same l.all)) (l.is id (held_then place id kept));
+  }
 
   pub claim_given : (t : Tuple) (moment : ℕ) (o : ClaimOutcome) → Claims t moment o (aside w) (aside x) → Claims t moment o v y
   claim_given t moment (claim.Claimed number expectation master) c = made_given number (Claim expectation master t moment) c
@@ -56,3 +96,20 @@ module _ (table : Roomed Expectation) (v w x y : PassSight) (unturned : v.view.e
   unexpect_given id moment (unexpect.Removed number) u = made_given number (Unexpect id moment) u
   unexpect_given id moment (unexpect.Gone at) u = looked_given at (λ s. find (has_id id) s.expects ≡ None) u
   unexpect_given id moment (unexpect.Not deadline at) u = (looked_given at (IsDueUntil id deadline) u.0, u.1)
+
+  refused_given : (place at : ℕ) (want : Want) (moment : ℕ) (o : AddOutcome)
+      → IsLeft place at (IsRefused (sizes_of w).expectations at want moment o) (aside w) (aside x)
+      → IsLeft place at (IsRefused (sizes_of v).expectations at want moment o) v y
+  refused_given place at want moment o l =
+      subst (λ (z : Sizes). IsLeft place at (IsRefused z.expectations at want moment o) v y) (ap sizes_of h.same)
+      (left_given place at (IsRefused (sizes_of w).expectations at want moment o) l)
+
+  pub expect_given : (place : ℕ) (want : Want) (moment : ℕ) (o : ExpectOutcome) → Expects place want moment o (aside w) (aside x) → Expects place want moment o v y
+  expect_given place want moment (expect.Expected id replaced) e = record {
+    master = e.master;
+    its = λ i kept. e.its i (held_then place i kept);
+    made = made_given id (Expect (expectation_at id e.master want moment) replaced moment) e.made;
+  }
+  expect_given place want moment (expect.MasterGone at) l = left_given place at IsNotLive l
+  expect_given place want moment (expect.Clash id at) l = refused_given place at want moment (add.Clash id) l
+  expect_given place want moment (expect.ExpectFull at) l = refused_given place at want moment add.Full l

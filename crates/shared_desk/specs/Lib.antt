@@ -13,6 +13,7 @@ pub mod Touching
 pub mod Killing
 pub mod ExpectTurn
 pub mod Claiming
+pub mod Expecting
 pub mod Holding
 pub mod TestCrew
 pub mod Lookups

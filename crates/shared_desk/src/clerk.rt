@@ -3,7 +3,7 @@
 ghost use Rattle.std.specs.Prelude.{◌≡◌, ◌+◌, ◌<◌, ◌≤◌, ◌^◌, true, false, length, OnOk, OnErr};
 ghost use Rattle.entry_pool.specs.GoesOn.{ReadingsStand};
 ghost use Rattle.history_book.specs.Desk.{ConfirmSays, CountSays, FindSays, HoldSays, IsReady, KillSays, PeekSays, RecycleSays, ReleaseSays, TakeSays, TouchSays};
-ghost use Rattle.history_book.specs.DeskExpectations.{ClaimSays, ListsExpected, UnexpectSays};
+ghost use Rattle.history_book.specs.DeskExpectations.{ClaimSays, ExpectSays, ListsExpected, UnexpectSays};
 ghost use Rattle.history_book.specs.Entry.{is_flow_of_one_protocol, is_helped_entry, is_of_entry, suits_entry};
 ghost use Rattle.history_book.specs.Held.{held_id, is_held, is_held_for_entry, is_owed, is_taken};
 ghost use Rattle.history_book.specs.Join.{CanJoin, Joins};
@@ -22,6 +22,7 @@ ghost use Rattle.track_rule.specs.Sights.{sizes_of};
 use crate::claiming::{claim, list_expects, unexpect};
 use crate::confirm::confirm;
 use crate::entry::{kill, peek, touch};
+use crate::expecting::expect;
 use crate::holding::hold;
 use crate::lookup::find_once;
 use crate::noting::{note_confirm, note_event};
@@ -31,11 +32,12 @@ use bucket_table::finding::FindOnce;
 use ct_io::Gate;
 use entry_pool::hold::release;
 use entry_pool::take::{recycle, take};
+use expect_table::expectation::Want;
 use history_book::event::Why;
 use history_book::laws::states_stay;
 use history_book::outcome::{
-    ClaimOutcome, ConfirmOutcome, FindOutcome, HoldOutcome, KillOutcome, LiveCount, PeekOutcome,
-    ReleaseOutcome, TakeOutcome, TouchOutcome, UnexpectOutcome,
+    ClaimOutcome, ConfirmOutcome, ExpectOutcome, FindOutcome, HoldOutcome, KillOutcome, LiveCount,
+    PeekOutcome, ReleaseOutcome, TakeOutcome, TouchOutcome, UnexpectOutcome,
 };
 use history_book::record::Flow;
 use history_book::report::{Expectations, Notes};
@@ -316,6 +318,21 @@ impl<'t, G: Gate> Clerk<'t, G> {
     {
         states_stay();
         let (outcome, note) = kill(rt, &mut self.pass, place, why);
+        note_event(&mut self.notes, &mut self.spare, note);
+        outcome
+    }
+
+    /// Makes the entry for which a place is held, which has the helper, expect a connection, from a moment in microseconds on and for
+    /// 300 s. It may wait for the turn of the place's record, and for that of the expectations.
+    pub fn expect<R: Wait>(&mut self, rt: &R, place: u32, want: Want, moment: u64) -> ExpectOutcome
+        requires held { is_held_for_entry place (sight_of self.old).held ≡ true }
+        requires helper { is_helped_entry (held_id place (sight_of self.old).held) (sight_of self.old).front ≡ true }
+        requires timely { moment ≤ 10 ^ 16 }
+        requires spare { 1 ≤ (sight_of self.old).spare }
+        ensures says { ExpectSays place want moment (sight_of self.old) (sight_of self.new) result }
+        ensures knows { IsKnown (sight_of self.new) }
+    {
+        let (outcome, note) = expect(rt, &mut self.pass, place, want, moment);
         note_event(&mut self.notes, &mut self.spare, note);
         outcome
     }

@@ -19,7 +19,7 @@ use std::sync::Wait;
 use track_rule::pass::Pass;
 
 /// The record that is out of its slot, or none. It stays there.
-fn record_out(pass: &mut Pass, place: u32) -> Option<Record>
+pub fn record_out(pass: &mut Pass, place: u32) -> Option<Record>
     requires { HasRecord place pass.old }
     ensures record { result ≡ subject_in pass.old.slots }
     ensures same { pass.new ≡ pass.old }

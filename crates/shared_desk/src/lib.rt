@@ -7,6 +7,7 @@ mod commit;
 mod confirm;
 mod entry;
 mod expect_turn;
+mod expecting;
 mod holding;
 mod killing;
 pub mod laws;
