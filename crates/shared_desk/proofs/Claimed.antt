@@ -14,7 +14,8 @@ use Rattle.history_book.specs.declared.outcome.ClaimOutcome.TheVariants as claim
 use Rattle.history_book.specs.declared.outcome.UnexpectOutcome.{UnexpectOutcome}
 use Rattle.history_book.specs.declared.outcome.UnexpectOutcome.TheVariants as unexpect
 use Rattle.track_rule.specs.Sights.{PassSight}
-use Rattle.shared_desk.specs.Claiming.{Claims, HasLooked, IsFreeToClaim, Unexpects}
+use Rattle.shared_desk.specs.Claiming.{Claims, HasLooked, Unexpects}
+use Rattle.shared_desk.specs.ExpectTurn.{CanTakeExpects}
 use Rattle.shared_desk.specs.Noting.{room_after, with_note}
 use Rattle.shared_desk.specs.Rest.{IsAtRest}
 use Rattle.shared_desk.specs.Sights.{sight_of}
@@ -24,8 +25,8 @@ use Rattle.shared_desk.proofs.Peeking.{looks_at, rest_looking}
 use Rattle.shared_desk.proofs.Resting.{clerk_at}
 
 module _ (v : PassSight) (notes : Roomed Note) (spare : ℕ) (h : IsAtRest v notes spare) where
-  pub free_to_claim : IsFreeToClaim v
-  free_to_claim = record { expected = h.idle.expected; free = h.idle.free; calm = h.idle.middle }
+  pub can_take : CanTakeExpects v
+  can_take = record { expected = h.idle.expected; free = h.idle.free; calm = h.idle.middle }
 
   pub few_own : 1 ≤ spare → length v.view.seen.own < 2 ^ 30
   few_own room = omega (arith, room, h.knows.spared)

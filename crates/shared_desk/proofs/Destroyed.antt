@@ -1,18 +1,13 @@
 -- A clerk that destroyed the entry for which it holds a place.
-use Rattle.std.specs.List.{AllByRecursion}
 use Rattle.std.specs.Prelude.{◌&&◌, ◌^◌}
 use Rattle.std.proofs.Common.{◌≡◌, ℕ, ◌-◌, ◌<◌, ◌≤◌, true, false, Option, None, List, [], ◌∷◌, ◌++◌, map, refl, sym, ap, subst, ◌∙◌, arith, ⊎_elim, length-append}
-use Rattle.std.proofs.lemmas.Bool.{and_parts, cases_Bool, eqb-true, false≢true, or_cases}
-use Rattle.std.proofs.lemmas.List.Elements.{recursion_from_All}
+use Rattle.std.proofs.lemmas.Bool.{and_parts, cases_Bool, false≢true, or_cases}
 use Rattle.room_list.specs.Roomed.{Roomed}
 use Rattle.history_book.specs.Desk.{Destroys, IsRecord, KillSays}
-use Rattle.history_book.specs.Entry.{confirmed_by, is_helped_entry}
 use Rattle.history_book.specs.Held.{held_id, is_held_for_entry}
 use Rattle.history_book.specs.Laws.{StatesStay}
-use Rattle.history_book.specs.Legality.{has_helper, reason_moment_of}
-use Rattle.history_book.specs.Sight.{IsForEntryOf, IsHoldOf, Sight, WasConfirmedIn}
+use Rattle.history_book.specs.Legality.{reason_moment_of}
 use Rattle.history_book.specs.State.{record_of}
-use Rattle.history_book.specs.declared.event.Event.{Event}
 use Rattle.history_book.specs.declared.event.Note.{Note}
 use Rattle.history_book.specs.declared.event.Why.{Why}
 use Rattle.history_book.specs.declared.outcome.KillOutcome.{KillOutcome}
@@ -32,8 +27,8 @@ use Rattle.shared_desk.specs.Commit.{seen_with}
 use Rattle.shared_desk.specs.Killing.{IsAsFound, IsKilled, Kills, SuitsKill, destroy_of}
 use Rattle.shared_desk.specs.Noting.{room_after, with_note}
 use Rattle.bucket_table.specs.Finding.{has_hook}
-use Rattle.shared_desk.specs.Rest.{AreSettled, IsAtRest, IsPrepared, IsSettled}
-use Rattle.shared_desk.specs.Sights.{entry_for, hold_of, sight_of}
+use Rattle.shared_desk.specs.Rest.{AreSettled, IsAtRest, IsPrepared}
+use Rattle.shared_desk.specs.Sights.{hold_of, sight_of}
 use Rattle.shared_desk.specs.Touching.{IsNotLive, Notes}
 use Rattle.shared_desk.proofs.Entered.{none_taken}
 use Rattle.shared_desk.proofs.Making.{none_any}
@@ -81,24 +76,6 @@ not_taken place id (k ∷ ks) once e f =
     (or_cases (is_at place k && is_for_new k.purpose) (is_taken place ks) f))
     (or_cases (is_for id k.purpose && is_at place k) (is_kept_for place id ks) e)
 
--- the Confirm of an entry for which a place is held was seen
-for_confirmed : (front : List Event) (place id : ℕ) (p : Purpose) → IsSettled p → is_for id p ≡ true → IsForEntryOf front place (entry_for p) → WasConfirmedIn front place id
-for_confirmed front place id Taken s e known = absurd (false≢true e)
-for_confirmed front place id Testing s e known = absurd s
-for_confirmed front place id (Shown i) s e known = absurd s
-for_confirmed front place id (For i) s e known = subst (WasConfirmedIn front place) (eqb-true i id e) known
-
-kept_confirmed : (s : Sight) (place id : ℕ) (ks : List Keep) → AllByRecursion (λ (k : Keep). IsSettled k.purpose) ks → AllByRecursion (IsHoldOf s) (map hold_of ks)
-    → is_kept_for place id ks ≡ true → WasConfirmedIn s.front place id
-kept_confirmed s place id [] settled holds e = absurd (false≢true e)
-kept_confirmed s place id (k ∷ ks) settled holds e =
-    ⊎_elim
-    (λ (t : (is_for id k.purpose && is_at place k) ≡ true).
-    let this = and_parts (is_for id k.purpose) (is_at place k) t in
-    subst (λ (p : ℕ). WasConfirmedIn s.front p id) (eqb-true k.place place this.1) (for_confirmed s.front k.place id k.purpose settled.0 this.0 holds.0.1))
-    (λ (t : is_kept_for place id ks ≡ true). kept_confirmed s place id ks settled.1 holds.1 t)
-    (or_cases (is_for id k.purpose && is_at place k) (is_kept_for place id ks) e)
-
 -- the clerk carries no reference before nor then
 settled_still : (places : Places) (ended : List ℕ) (hooks : List Hook) → AreSettled places hooks → AreSettled (record places { ended = ended }) hooks
 settled_still places ended hooks h = record {
@@ -125,20 +102,15 @@ module _ (v : PassSight) (notes : Roomed Note) (spare place : ℕ) (why : Why) (
       (λ (e : has_hook place v.view.buckets.hooks ≡ false). e)
       (cases_Bool (has_hook place v.view.buckets.hooks))
 
-  pub suits_kill : reason_moment_of why ≤ 10 ^ 16 → is_helped_entry (held_id place (map hold_of v.view.places.held)) v.view.seen.front ≡ false → SuitsKill place why v
-  suits_kill timely unhelped =
-      let was = kept_confirmed (sight_of (clerk_at v spare)) place (held_id place (map hold_of v.view.places.held)) v.view.places.held h.settled.purposes
-      (recursion_from_All (IsHoldOf (sight_of (clerk_at v spare))) (map hold_of v.view.places.held) h.knows.held) kept_here in
-      record {
-        id = held_id place (map hold_of v.view.places.held);
-        kept = kept_here;
-        subject = was.subject;
-        event = was.event;
-        unhelped = sym (ap (λ (o : Option Event). has_helper (confirmed_by o)) was.event) ∙ unhelped;
-        timely = timely;
-        shut = h.idle.shut;
-        clear = record { carried = h.idle.carried; down = none_any v.view.buckets.hooks h.settled.down; bare = bare; few = omega (arith, room, h.knows.spared) };
-      }
+  pub suits_kill : reason_moment_of why ≤ 10 ^ 16 → SuitsKill place why v
+  suits_kill timely = record {
+    id = held_id place (map hold_of v.view.places.held);
+    kept = kept_here;
+    timely = timely;
+    shut = h.idle.shut;
+    expected = h.idle.expected;
+    clear = record { carried = h.idle.carried; down = none_any v.view.buckets.hooks h.settled.down; bare = bare; few = omega (arith, room, h.knows.spared) };
+  }
 
   -- the entry was destroyed
   module _ (number : ℕ) (q : Record) (w : PassSight) (t : IsKilled place why number q v.view.commit v w) where

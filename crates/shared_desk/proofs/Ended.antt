@@ -36,7 +36,6 @@ module _ (place : ℕ) (r : Record) (why : Why) (flow : Flow) (locked : Buckets)
     live = k.live;
     known = k.known;
     calm = k.calm;
-    helped = k.helped;
     clear = record { carried = k.clear.carried; down = k.clear.down; bare = k.clear.bare; few = k.clear.few };
   })
 

@@ -16,6 +16,7 @@ use Rattle.history_book.specs.declared.sizes.Sizes.{Sizes}
 use Rattle.track_rule.specs.BucketSteps.{lower, taken_from, without_link}
 use Rattle.track_rule.specs.Chains.{chain_in, pair_of}
 use Rattle.track_rule.specs.History.{records_after, state_after}
+use Rattle.track_rule.specs.Commits.{HasItsTurn}
 use Rattle.track_rule.specs.KillSteps.{CanDestroy, HasDestroy, HasDestroyed, MayDestroy, MayDie, OfDying, ShowsDead, destroy_in, destroyed, loose_hook, shown_dead, without_its}
 use Rattle.track_rule.specs.Links.{hook_of, is_up}
 use Rattle.track_rule.specs.Sights.{PassSight, sizes_of}
@@ -63,11 +64,11 @@ module _ (place : ℕ) (r : Record) (why : Why) (locked : Buckets) (v : PassSigh
   has_reply =
       ap (λ (l : Buckets). has_bucket l (bucket_in (sizes_of v) r.reply)) is.locked_are ∙ has_second (bucket_in (sizes_of v) r.original) (bucket_in (sizes_of v) r.reply)
 
-  pub may_die : MayDie v.view (known_record v.view.commit.hand)
-  may_die = subst (MayDie v.view) (sym k.known) (record {
+  pub may_die : HasItsTurn r v.view.expected → MayDie v.view (known_record v.view.commit.hand)
+  may_die helped = subst (MayDie v.view) (sym k.known) (record {
     original = either_shut locked (bucket_in (sizes_of v) r.original) v.view is.shut has_original;
     reply = either_shut locked (bucket_in (sizes_of v) r.reply) v.view is.shut has_reply;
-    helped = k.helped;
+    helped = helped;
   })
 
   -- the place is DEAD

@@ -5,6 +5,8 @@ use Rattle.expect_table.specs.declared.expectation.Expectation.{Expectation}
 use Rattle.room_list.specs.Roomed.{Roomed}
 use Rattle.track_rule.specs.declared.slot.Slot.{Slot}
 use Rattle.track_rule.specs.declared.slot.Slot.TheVariants.{Expects}
+use Rattle.track_rule.specs.declared.view.Commit.{Commit}
+use Rattle.track_rule.specs.declared.view.Places.{Places}
 use Rattle.track_rule.specs.declared.view.Seen.{Seen}
 use Rattle.track_rule.specs.declared.view.View.{View}
 use Rattle.track_rule.specs.ExpectTurns.{CanGiveExpected, TookExpected, before_expects, expects_at, gave_expected, no_table, table_in, with_expects}
@@ -88,25 +90,50 @@ module _ (table : Roomed Expectation) (v w x y : PassSight) (unturned : v.view.e
       let a = subst (λ (k : PassSight). AreAll (aside k).view log) h.same all in
       record { front = a.front; told = a.told; legal = a.legal; few = a.few; passes = a.passes; shares = a.shares; alone = a.alone }
 
-  pub seen_before : (f : Seen → Seen)
-      → aside x ≡ record (aside w) { view = record (aside w).view { seen = f w.view.seen; walk = x.view.walk; readings = x.view.readings } }
-      → y ≡ record v { view = record v.view { seen = f v.view.seen; walk = y.view.walk; readings = y.view.readings } }
-  seen_before f same =
+  pub done_before : (f : Seen → Seen) (g : Places → Places) (d : Commit → Commit)
+      → aside x ≡ record (aside w) {
+        view = record (aside w).view { seen = f w.view.seen; places = g w.view.places; commit = d w.view.commit; walk = x.view.walk; readings = x.view.readings };
+      }
+      → y ≡ record v {
+        view = record v.view { seen = f v.view.seen; places = g v.view.places; commit = d v.view.commit; walk = y.view.walk; readings = y.view.readings };
+      }
+  done_before f g d same =
       let whole : y ≡ record v {
-        view = record v.view { seen = f v.view.seen; expected = None; walk = x.view.walk; readings = x.view.readings ++ stored 2 0 ∷ [] };
+        view = record v.view {
+          seen = f v.view.seen;
+          places = g v.view.places;
+          commit = d v.view.commit;
+          expected = None;
+          walk = x.view.walk;
+          readings = x.view.readings ++ stored 2 0 ∷ [];
+        };
         slots = before_expects (v.slots ++ (1, slot_of_expects None) ∷ []);
       } =
       gave ∙ ap (λ (k : PassSight). record k { view = noted (stored 2 0) k.view; slots = before_expects k.slots }) same
       ∙ ap (λ (k : PassSight). record k {
-        view = record k.view { seen = f k.view.seen; expected = None; walk = x.view.walk; readings = x.view.readings ++ stored 2 0 ∷ [] };
+        view = record k.view {
+          seen = f k.view.seen;
+          places = g k.view.places;
+          commit = d k.view.commit;
+          expected = None;
+          walk = x.view.walk;
+          readings = x.view.readings ++ stored 2 0 ∷ [];
+        };
         slots = before_expects k.slots;
       }) h.same in
       whole ∙ (λ i. record v {
         view = record v.view {
           seen = f v.view.seen;
+          places = g v.view.places;
+          commit = d v.view.commit;
           expected = sym unturned i;
           walk = sym (ap (λ (k : PassSight). k.view.walk) whole) i;
           readings = sym (ap (λ (k : PassSight). k.view.readings) whole) i;
         };
         slots = before_last v.slots (1, slot_of_expects None) i;
       })
+
+  pub seen_before : (f : Seen → Seen)
+      → aside x ≡ record (aside w) { view = record (aside w).view { seen = f w.view.seen; walk = x.view.walk; readings = x.view.readings } }
+      → y ≡ record v { view = record v.view { seen = f v.view.seen; walk = y.view.walk; readings = y.view.readings } }
+  seen_before f same = done_before f (λ p. p) (λ d. d) same

@@ -1,15 +1,11 @@
 -- The entry for which a place is held is destroyed, or is left as it is.
 use Rattle.std.specs.Prelude.{◌&&◌}
-use Rattle.std.proofs.Common.{◌≡◌, ℕ, ◌-◌, ◌≤◌, true, false, Option, Some, List, [], ◌∷◌, ◌++◌, length, sym, ap, subst, ◌∙◌, arith, ⊎_elim}
-use Rattle.std.proofs.lemmas.Bool.{and_parts, eq-eqb, eqb-true, false≢true, or_cases, or_left, or_right}
-use Rattle.history_book.specs.Entry.{confirmed_by, is_helped_entry}
+use Rattle.std.proofs.Common.{◌≡◌, ℕ, ◌-◌, ◌≤◌, true, Some, List, [], ◌∷◌, ◌++◌, sym, ap, subst, ◌∙◌, arith, ⊎_elim}
+use Rattle.std.proofs.lemmas.Bool.{and_parts, eq-eqb, eqb-true, or_cases, or_left, or_right}
 use Rattle.history_book.specs.History.{is_legal}
-use Rattle.history_book.specs.Laws.{EntriesKeepTheirHelper}
-use Rattle.history_book.specs.Legality.{has_helper, is_reason}
+use Rattle.history_book.specs.Legality.{is_reason}
 use Rattle.history_book.specs.Record.{has_id}
 use Rattle.history_book.specs.State.{record_of}
-use Rattle.history_book.specs.declared.event.Event.{Event}
-use Rattle.history_book.specs.declared.event.Event.TheVariants.{Confirm}
 use Rattle.history_book.specs.declared.event.Why.{Why}
 use Rattle.history_book.specs.declared.outcome.KillOutcome.{KillOutcome}
 use Rattle.history_book.specs.declared.outcome.KillOutcome.TheVariants as kill
@@ -27,11 +23,11 @@ use Rattle.track_rule.specs.TouchSteps.{known_phase, known_record}
 use Rattle.track_rule.specs.TurnSteps.{subject_in}
 use Rattle.track_rule.specs.declared.view.Keep.{Keep}
 use Rattle.shared_desk.specs.Commit.{seen_with}
+use Rattle.shared_desk.specs.ExpectTurn.{CanTakeExpects}
 use Rattle.shared_desk.specs.Killing.{EndsEntry, IsAsFound, IsKilled, Judges, KillsUnder, KnowsRecord, SuitsKill, dead_commit, destroy_of}
 use Rattle.shared_desk.specs.Looking.{HasRecord}
 use Rattle.shared_desk.specs.Touching.{IsLeft}
-use Rattle.shared_desk.proofs.Lists.{get_append}
-use Rattle.shared_desk.proofs.Loaded.{all_from, all_seen, its_id, left_now, live_now, phase_is, subject_is, view_is}
+use Rattle.shared_desk.proofs.Loaded.{all_from, its_id, left_now, live_now, phase_is, subject_is, view_is}
 use Rattle.shared_desk.proofs.Members.{find_passes}
 
 -- a place that is held for an id is held
@@ -62,18 +58,8 @@ module _ (place n word : ℕ) (why : Why) (v u w : PassSight) (h : HasRecord pla
   its_record : (i : ℕ) → is_kept_for place i v.view.places.held ≡ true → i ≡ before.id
   its_record i held = its i held ∙ sym (eqb-true before.id (n - 3) (find_passes (has_id (n - 3)) before (records_after w.view.seen.front) live_then))
 
-  -- the entry has not the helper
-  unhelped : EntriesKeepTheirHelper → before.helper ≡ false
-  unhelped keep =
-      let all = all_seen place n word v u w h loads kept looks kept' in
-      sym (keep (sizes_of v) w.view.seen.front (length w.view.seen.front) (n - 3) before all.legal live_then)
-      ∙ ap (λ (k : ℕ). is_helped_entry k w.view.seen.front) (sym (its s.id s.kept))
-      ∙ ap (λ (es : List Event). is_helped_entry s.id es) all.front.1
-      ∙ ap (λ (o : Option Event). has_helper (confirmed_by o)) (get_append v.view.seen.front all.front.0 s.id (Confirm s.subject) s.event)
-      ∙ s.unhelped
-
-  pub knows_record : EntriesKeepTheirHelper → KnowsRecord place before x
-  knows_record keep =
+  pub knows_record : KnowsRecord place before x
+  knows_record =
       let phase = phase_is place n word v u w h loads kept looks kept' live before out in
       subst (KnowsRecord place before) (sym whole) (record {
         below = h.below;
@@ -82,9 +68,11 @@ module _ (place n word : ℕ) (why : Why) (v u w : PassSight) (h : HasRecord pla
         live = omega (arith, live, phase, ap known_phase h.known);
         known = ap known_record h.known ∙ subject_is place n word v u w h loads kept looks kept' live before out;
         calm = h.calm;
-        helped = λ t. absurd (false≢true (sym (unhelped keep) ∙ t));
         clear = record { carried = s.clear.carried; down = s.clear.down; bare = s.clear.bare; few = s.clear.few };
       })
+
+  pub can_take : CanTakeExpects x
+  can_take = subst CanTakeExpects (sym whole) (record { expected = s.expected; free = h.free; calm = h.calm })
 
   pub none_shut : x.view.buckets.shut ≡ []
   none_shut = ap (λ (k : PassSight). k.view.buckets.shut) whole ∙ s.shut

@@ -13,6 +13,10 @@ use Rattle.history_book.specs.declared.sizes.Sizes.{Sizes}
 use Rattle.history_book.specs.declared.outcome.ExpectOutcome.{ExpectOutcome}
 use Rattle.history_book.specs.declared.outcome.ExpectOutcome.TheVariants as expect
 use Rattle.track_rule.specs.KeptWords.{is_kept_for}
+use Rattle.history_book.specs.declared.event.Why.{Why}
+use Rattle.history_book.specs.declared.record.Record.{Record}
+use Rattle.track_rule.specs.KillSteps.{without_its}
+use Rattle.shared_desk.specs.Killing.{EndsEntry, dead_commit, destroy_of}
 use Rattle.shared_desk.specs.Touching.{IsLeft, IsNotLive}
 use Rattle.shared_desk.specs.Expecting.{Expects, IsRefused}
 use Rattle.history_book.specs.DeskExpectations.{IsDueUntil, expectation_at}
@@ -31,7 +35,7 @@ use Rattle.track_rule.specs.Steps.{AreAll}
 use Rattle.shared_desk.specs.Claiming.{Claims, HasLooked, HasMade, Unexpects}
 use Rattle.shared_desk.specs.Commit.{seen_with}
 use Rattle.shared_desk.specs.ExpectTurn.{HasExpects, aside}
-use Rattle.shared_desk.proofs.ExpectTurn.{seen_before, told_before}
+use Rattle.shared_desk.proofs.ExpectTurn.{done_before, seen_before, told_aside, told_before}
 
 module _ (table : Roomed Expectation) (v w x y : PassSight) (unturned : v.view.expected ≡ None) (h : HasExpects table v w)
     (gave : y ≡ record x { view = gave_expected x.view; slots = before_expects x.slots }) where
@@ -113,3 +117,35 @@ module _ (table : Roomed Expectation) (v w x y : PassSight) (unturned : v.view.e
   expect_given place want moment (expect.MasterGone at) l = left_given place at IsNotLive l
   expect_given place want moment (expect.Clash id at) l = refused_given place at want moment (add.Clash id) l
   expect_given place want moment (expect.ExpectFull at) l = refused_given place at want moment add.Full l
+
+  pub end_given : (place : ℕ) (r : Record) (why : Why) (number : ℕ) → EndsEntry place r why number w x → EndsEntry place r why number v y
+  end_given place r why number e =
+      let same : y ≡ record v {
+        view = record v.view {
+          seen = seen_with e.ended.log number (destroy_of r why) v.view.seen;
+          places = record v.view.places { ended = x.view.places.ended };
+          commit = dead_commit place r;
+          walk = y.view.walk;
+          readings = y.view.readings;
+        };
+      } = done_before table v w x y unturned h gave (seen_with e.ended.log number (destroy_of r why)) (λ p. record p { ended = x.view.places.ended })
+      (λ d. dead_commit place r) (ap aside e.same) in
+      record {
+        ended = record {
+          log = e.ended.log;
+          all = told_before table v w x y unturned h gave e.ended.log (told_aside w e.ended.log e.ended.all);
+          number_is = e.ended.number_is;
+          legal = subst (λ (k : PassSight). is_legal (sizes_of k) (e.ended.log ++ destroy_of r why ∷ []) ≡ true) h.same e.ended.legal;
+          found = e.ended.found;
+        };
+        same = same ∙ (λ i. record v {
+          view = record v.view {
+            seen = seen_with e.ended.log number (destroy_of r why) v.view.seen;
+            places = record v.view.places { ended = sym (ap (λ (k : PassSight). k.view.places.ended) same) i };
+            commit = dead_commit place r;
+            expected = sym (ap (without_its r.id) unturned ∙ sym unturned) i;
+            walk = y.view.walk;
+            readings = y.view.readings;
+          };
+        });
+      }

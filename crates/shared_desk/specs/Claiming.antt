@@ -15,14 +15,7 @@ use Rattle.history_book.specs.declared.outcome.UnexpectOutcome.TheVariants as un
 use Rattle.track_rule.specs.History.{state_after}
 use Rattle.track_rule.specs.Sights.{PassSight, sizes_of}
 use Rattle.track_rule.specs.Steps.{AreAll}
-use Rattle.track_rule.specs.declared.view.Middle.TheVariants.{Calm}
 use Rattle.shared_desk.specs.Commit.{seen_with}
-
--- The pass has neither the turn of the expectations nor that of the free list, and is in the middle of no commit.
-pub record IsFreeToClaim (v : PassSight) : Type 0 where
-  pub expected : v.view.expected ≡ None
-  pub free : v.view.free ≡ None
-  pub calm : v.view.commit.middle ≡ Calm
 
 -- The event was made after all these events, and was lawful. All else is as it was, but the note of a walk and the readings.
 pub record HasMade (number : ℕ) (e : Event) (v w : PassSight) : Type 0 where

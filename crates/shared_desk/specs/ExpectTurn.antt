@@ -3,9 +3,16 @@ use Rattle.std.specs.Prelude.{◌≡◌, Some, None, [], ◌∷◌, ◌++◌}
 use Rattle.expect_table.specs.declared.expectation.Expectation.{Expectation}
 use Rattle.room_list.specs.Roomed.{Roomed}
 use Rattle.track_rule.specs.declared.slot.Slot.TheVariants.{Expects}
+use Rattle.track_rule.specs.declared.view.Middle.TheVariants.{Calm}
 use Rattle.track_rule.specs.ExpectTurns.{expects_at, table_in}
 use Rattle.track_rule.specs.Sights.{PassSight, sizes_of}
 use Rattle.track_rule.specs.Slots.{slot_of_expects}
+
+-- The pass has neither the turn of the expectations nor that of the free list, and is in the middle of no commit.
+pub record CanTakeExpects (v : PassSight) : Type 0 where
+  pub expected : v.view.expected ≡ None
+  pub free : v.view.free ≡ None
+  pub calm : v.view.commit.middle ≡ Calm
 
 -- The pass has the turn of the expectations, with their table out of its slot, behind the slots that were out before, and knows what
 -- is expected. All else is as it was, but the readings.

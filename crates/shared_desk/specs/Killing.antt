@@ -1,16 +1,15 @@
 -- The entry for which a place is held is destroyed, under the turn of the place's record.
-use Rattle.std.specs.Prelude.{◌≡◌, ℕ, ◌<◌, ◌≤◌, ◌^◌, true, false, Some, List, [], ◌∷◌, ◌++◌, length, slice_get}
+use Rattle.std.specs.Prelude.{◌≡◌, ℕ, ◌<◌, ◌≤◌, ◌^◌, true, false, Some, None, List, [], ◌∷◌, ◌++◌, length}
 use Rattle.history_book.specs.History.{is_legal}
 use Rattle.history_book.specs.Legality.{is_reason, reason_moment_of}
 use Rattle.history_book.specs.State.{record_of}
 use Rattle.history_book.specs.declared.event.Event.{Event}
-use Rattle.history_book.specs.declared.event.Event.TheVariants.{Confirm, Destroy}
+use Rattle.history_book.specs.declared.event.Event.TheVariants.{Destroy}
 use Rattle.history_book.specs.declared.event.Why.{Why}
 use Rattle.history_book.specs.declared.outcome.KillOutcome.{KillOutcome}
 use Rattle.history_book.specs.declared.outcome.KillOutcome.TheVariants as kill
 use Rattle.history_book.specs.declared.record.Flow.{Flow}
 use Rattle.history_book.specs.declared.record.Record.{Record}
-use Rattle.track_rule.specs.Commits.{HasItsTurn}
 use Rattle.track_rule.specs.History.{state_after}
 use Rattle.track_rule.specs.KeptWords.{is_kept_for}
 use Rattle.track_rule.specs.KillSteps.{without_its}
@@ -41,21 +40,18 @@ pub record IsClearOf (place : ℕ) (v : PassSight) : Type 0 where
   pub bare : has_hook place v.view.buckets.hooks ≡ false
   pub few : length v.view.seen.own < 2 ^ 30
 
--- The pass holds the place for an entry, whose Confirm it has seen, without the helper; and it has shut no bucket.
+-- The pass holds the place for an entry. It has shut no bucket, and has not the turn of the expectations.
 pub record SuitsKill (place : ℕ) (why : Why) (v : PassSight) : Type 0 where
   pub id : ℕ
   pub kept : is_kept_for place id v.view.places.held ≡ true
-  pub subject : Record
-  pub event : slice_get v.view.seen.front id ≡ Some (Confirm subject)
-  pub unhelped : subject.helper ≡ false
   pub timely : reason_moment_of why ≤ 10 ^ 16
   pub shut : v.view.buckets.shut ≡ []
+  pub expected : v.view.expected ≡ None
   pub clear : IsClearOf place v
 
 -- UNDER THE TURN
 
--- The pass holds the place, which is LIVE, and has the turn of its record, which it knows. It is in the middle of no commit, and
--- where the record has the helper it has the turn of the expectations.
+-- The pass holds the place, which is LIVE, and has the turn of its record, which it knows. It is in the middle of no commit.
 pub record KnowsRecord (place : ℕ) (r : Record) (v : PassSight) : Type 0 where
   pub below : place < (sizes_of v).entries
   pub held : is_held place v.view.places.held ≡ true
@@ -63,7 +59,6 @@ pub record KnowsRecord (place : ℕ) (r : Record) (v : PassSight) : Type 0 where
   pub live : 3 ≤ known_phase v.view.commit.hand
   pub known : known_record v.view.commit.hand ≡ Some r
   pub calm : v.view.commit.middle ≡ Calm
-  pub helped : HasItsTurn r v.view.expected
   pub clear : IsClearOf place v
 
 -- The Destroy of the record was made after all these events, and was lawful. The entry was this record then.

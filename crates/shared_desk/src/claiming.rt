@@ -1,8 +1,8 @@
 //! Expectations end by the packets that match them, or in time, and are listed.
 
 ghost use Rattle.std.specs.Prelude.{◌≡◌, ◌<◌, ◌≤◌, ◌^◌, length};
-ghost use Rattle.shared_desk.specs.Claiming.{Claims, HasLooked, IsFreeToClaim, Unexpects};
-ghost use Rattle.shared_desk.specs.ExpectTurn.{aside};
+ghost use Rattle.shared_desk.specs.Claiming.{Claims, HasLooked, Unexpects};
+ghost use Rattle.shared_desk.specs.ExpectTurn.{CanTakeExpects, aside};
 ghost use Rattle.shared_desk.specs.Touching.{Notes};
 ghost use Rattle.track_rule.specs.ExpectTurns.{CanGiveExpected};
 ghost use Rattle.track_rule.specs.Sights.{sizes_of};
@@ -58,7 +58,7 @@ pub fn claim<R: Wait>(
     t: &Tuple,
     moment: u64,
 ) -> (ClaimOutcome, Option<Note>)
-    requires free { IsFreeToClaim pass.old }
+    requires free { CanTakeExpects pass.old }
     requires few { length pass.old.view.seen.own < 2 ^ 30 }
     ensures claims { Claims t.now moment result.0 pass.old pass.new }
     ensures noted { Notes result.1 pass.old.view.seen.own pass.new.view.seen.own }
@@ -110,7 +110,7 @@ pub fn unexpect<R: Wait>(
     id: u64,
     moment: u64,
 ) -> (UnexpectOutcome, Option<Note>)
-    requires free { IsFreeToClaim pass.old }
+    requires free { CanTakeExpects pass.old }
     requires few { length pass.old.view.seen.own < 2 ^ 30 }
     ensures unexpects { Unexpects id moment result.0 pass.old pass.new }
     ensures noted { Notes result.1 pass.old.view.seen.own pass.new.view.seen.own }
@@ -123,7 +123,7 @@ pub fn unexpect<R: Wait>(
 
 /// Waits for the turn of the expectations, and lists them in order of id, in place of what the list has. Gives their point.
 pub fn list_expects<R: Wait>(rt: &R, pass: &mut Pass, listed: &mut Expectations) -> u64
-    requires free { IsFreeToClaim pass.old }
+    requires free { CanTakeExpects pass.old }
     requires room { (sizes_of pass.old).expectations ≤ listed.old.room }
     ensures lists { HasLooked result (λ s. listed.new.items ≡ s.expects) pass.old pass.new }
     ensures room { listed.new.room ≡ listed.old.room }

@@ -305,14 +305,13 @@ impl<'t, G: Gate> Clerk<'t, G> {
         peek(rt, &mut self.pass, place)
     }
 
-    /// Destroys the entry for which a place is held, which has not the helper, where the reason holds of it. It may wait for the turn
-    /// of the place's record, and for the locks of two buckets.
+    /// Destroys the entry for which a place is held, where the reason holds of it. It may wait for the turn of the place's record, then
+    /// for that of the expectations, where the entry has the helper, and then for the locks of two buckets.
     pub fn kill<R: Wait>(&mut self, rt: &R, place: u32, why: Why) -> KillOutcome
         requires held { is_held_for_entry place (sight_of self.old).held ≡ true }
         requires protocol { suits_entry why (held_id place (sight_of self.old).held) (sight_of self.old).front ≡ true }
         requires timely { reason_moment_of why ≤ 10 ^ 16 }
         requires spare { 1 ≤ (sight_of self.old).spare }
-        requires unhelped { is_helped_entry (held_id place (sight_of self.old).held) (sight_of self.old).front ≡ false }
         ensures says { KillSays place why (sight_of self.old) (sight_of self.new) result }
         ensures knows { IsKnown (sight_of self.new) }
     {

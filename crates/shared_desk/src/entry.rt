@@ -12,7 +12,7 @@ use crate::killing::judge;
 use crate::touching::{Packet, step_record};
 use bucket_table::finding::LIVE;
 use history_book::event::{Note, Why};
-use history_book::laws::{entries_keep_their_helper, entries_keep_their_protocol};
+use history_book::laws::entries_keep_their_protocol;
 use history_book::outcome::{KillOutcome, PeekOutcome, TouchOutcome};
 use history_book::record::Record;
 use std::sync::Wait;
@@ -105,7 +105,6 @@ fn kill_record<R: Wait>(
     ensures kills { KillsUnder place why result.0 pass.old pass.new }
     ensures noted { Notes result.1 pass.old.view.seen.own pass.new.view.seen.own }
 {
-    entries_keep_their_helper();
     let phase = pass.phase_load(place);
     let at = events_in(pass.history_load());
     if phase < LIVE {

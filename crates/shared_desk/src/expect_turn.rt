@@ -1,7 +1,7 @@
 //! The turn of the expectations, with their table in the hands of the pass.
 
 ghost use Rattle.std.specs.Prelude.{◌≡◌, None};
-ghost use Rattle.shared_desk.specs.ExpectTurn.{HasExpectTurn, HasExpects};
+ghost use Rattle.shared_desk.specs.ExpectTurn.{CanTakeExpects, HasExpectTurn, HasExpects};
 ghost use Rattle.track_rule.specs.declared.view.Middle.TheVariants.{Calm};
 ghost use Rattle.track_rule.specs.ExpectTurns.{CanGiveExpected, before_expects, gave_expected};
 
@@ -12,8 +12,7 @@ use track_rule::pass::Pass;
 
 /// Waits for the turn of the expectations, and takes it.
 fn take_turn<R: Wait>(rt: &R, pass: &mut Pass)
-    requires free { pass.old.view.free ≡ None }
-    requires expected { pass.old.view.expected ≡ None }
+    requires { CanTakeExpects pass.old }
     ensures { HasExpectTurn pass.old pass.new }
 {
     'turns: for _ in rt.forever() {
@@ -27,8 +26,7 @@ fn take_turn<R: Wait>(rt: &R, pass: &mut Pass)
 
 /// Waits for the turn of the expectations, and takes it and their table.
 pub fn take_expects<R: Wait>(rt: &R, pass: &mut Pass) -> ExpectTable
-    requires free { pass.old.view.free ≡ None }
-    requires expected { pass.old.view.expected ≡ None }
+    requires { CanTakeExpects pass.old }
     ensures { HasExpects result pass.old pass.new }
 {
     take_turn(rt, pass);

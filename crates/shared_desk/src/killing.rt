@@ -3,10 +3,13 @@
 ghost use Rattle.std.specs.Prelude.{◌≡◌, ◌≤◌, ◌^◌, true, []};
 ghost use Rattle.history_book.specs.Legality.{is_reason, reason_moment_of};
 ghost use Rattle.shared_desk.specs.Confirm.{IsLocked};
+ghost use Rattle.shared_desk.specs.ExpectTurn.{CanTakeExpects};
 ghost use Rattle.shared_desk.specs.Killing.{Destroys, EndsEntry, Judges, KnowsRecord, flow_of};
 ghost use Rattle.shared_desk.specs.Touching.{Notes};
+ghost use Rattle.track_rule.specs.Commits.{HasItsTurn};
 
 use crate::confirm::lock_flow;
+use crate::expect_turn::{give_expects, take_expects};
 use bucket_table::lock::{Locked, unlock_two};
 use bucket_table::locked_chain::unlink;
 use history_book::event::{Event, Note, Why};
@@ -44,6 +47,7 @@ fn destroy(pass: &mut Pass, locked: &Locked, place: u32, subject: &Record, why: 
     requires knows { KnowsRecord place subject.now pass.old }
     requires reason { is_reason why subject.now ≡ true }
     requires locked { IsLocked (flow_of subject.now) locked.now pass.old }
+    requires helped { HasItsTurn subject.now pass.old.view.expected }
     ensures { Destroys place subject.now why result pass.old pass.new }
 {
     records_are_of_one_protocol();
@@ -62,6 +66,7 @@ fn end_entry<R: Wait>(rt: &R, pass: &mut Pass, place: u32, subject: &Record, why
     requires knows { KnowsRecord place subject.now pass.old }
     requires reason { is_reason why subject.now ≡ true }
     requires shut { pass.old.view.buckets.shut ≡ [] }
+    requires helped { HasItsTurn subject.now pass.old.view.expected }
     ensures { EndsEntry place subject.now why result pass.old pass.new }
 {
     let flow = flow_of(subject);
@@ -69,6 +74,31 @@ fn end_entry<R: Wait>(rt: &R, pass: &mut Pass, place: u32, subject: &Record, why
     let number = destroy(pass, &locked, place, subject, why);
     unlock_two(pass, locked);
     let _ = pass.ref_down(place);
+    number
+}
+
+/// Destroys the entry of a record. Where it has the helper, the turn of the expectations is waited for before that, and what it expected
+/// is taken out of their table. Gives the number of the Destroy.
+fn end_with_expected<R: Wait>(
+    rt: &R,
+    pass: &mut Pass,
+    place: u32,
+    subject: &Record,
+    why: Why,
+) -> u64
+    requires knows { KnowsRecord place subject.now pass.old }
+    requires reason { is_reason why subject.now ≡ true }
+    requires shut { pass.old.view.buckets.shut ≡ [] }
+    requires free { CanTakeExpects pass.old }
+    ensures { EndsEntry place subject.now why result pass.old pass.new }
+{
+    if !subject.helper {
+        return end_entry(rt, pass, place, subject, why);
+    }
+    let mut table = take_expects(rt, pass);
+    let number = end_entry(rt, pass, place, subject, why);
+    table.remove_master(subject.id);
+    give_expects(pass, table);
     number
 }
 
@@ -84,6 +114,7 @@ pub fn judge<R: Wait>(
     requires knows { KnowsRecord place subject.now pass.old }
     requires timely { reason_moment_of why ≤ 10 ^ 16 }
     requires shut { pass.old.view.buckets.shut ≡ [] }
+    requires free { CanTakeExpects pass.old }
     ensures judges { Judges place subject.now why at result.0 pass.old pass.new }
     ensures noted { Notes result.1 pass.old.view.seen.own pass.new.view.seen.own }
 {
@@ -91,7 +122,7 @@ pub fn judge<R: Wait>(
     if !is_reason_for(&why, &subject) {
         return (KillOutcome::Not { subject, at }, None);
     }
-    let number = end_entry(rt, pass, place, &subject, why);
+    let number = end_with_expected(rt, pass, place, &subject, why);
     let event = Event::Destroy {
         id: subject.id,
         why,

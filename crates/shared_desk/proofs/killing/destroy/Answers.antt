@@ -2,7 +2,8 @@ use Rattle.shared_desk.proofs.Ending.{destroys, may_destroy, may_die, original_r
 use Rattle.shared_desk.proofs.killing.destroy.Goals as goal
 
 pub phase_dead-requires-clause-ready : goal.phase_dead-requires-clause-ready
-phase_dead-requires-clause-ready c = may_die c.args.place c.args.subject.now c.args.why c.args.locked.now c.args.pass.now c.requires.knows c.requires.locked
+phase_dead-requires-clause-ready c =
+    may_die c.args.place c.args.subject.now c.args.why c.args.locked.now c.args.pass.now c.requires.knows c.requires.locked c.requires.helped
 
 pub destroy_add-number-requires : goal.destroy_add-number-requires
 destroy_add-number-requires c = record {

@@ -1,6 +1,5 @@
 use Rattle.std.proofs.Common.{◌≤◌, ap, subst, sym, ◌∙◌}
-use Rattle.history_book.specs.Entry.{is_helped_entry}
-use Rattle.history_book.specs.Held.{held_id, is_held_for_entry}
+use Rattle.history_book.specs.Held.{is_held_for_entry}
 use Rattle.shared_desk.specs.Sights.{ClerkSight, sight_of}
 use Rattle.shared_desk.proofs.Destroyed.{rest_killing, says_killing, suits_kill}
 use Rattle.shared_desk.proofs.Peeking.{free_for}
@@ -17,7 +16,6 @@ kill-outcome-requires-clause-suits g c =
     (ap (λ (s : ClerkSight). is_held_for_entry c.args.place (sight_of s).held) c.self.view_is ∙ c.requires.held)
     (subst (λ (s : ClerkSight). 1 ≤ s.spare) (sym c.self.view_is) c.requires.spare)
     c.requires.timely
-    (ap (λ (s : ClerkSight). is_helped_entry (held_id c.args.place (sight_of s).held) (sight_of s).front) c.self.view_is ∙ c.requires.unhelped)
 
 pub invariant_of-self : goal.invariant_of-self
 invariant_of-self g c =
