@@ -63,7 +63,7 @@ record_beside place table v w h t = record {
 }
 
 -- an entry has the helper by a longer history
-helper_stays : (id : ℕ) (front log : List Event) → StartsWith log front → is_helped_entry id front ≡ true → is_helped_entry id log ≡ true
+pub helper_stays : (id : ℕ) (front log : List Event) → StartsWith log front → is_helped_entry id front ≡ true → is_helped_entry id log ≡ true
 helper_stays id front log (more, same) e = by_event (slice_get front id) refl e
   where
     by_event : (o : Option Event) → slice_get front id ≡ o → has_helper (confirmed_by o) ≡ true → has_helper (confirmed_by (slice_get log id)) ≡ true

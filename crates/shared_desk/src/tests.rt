@@ -15,8 +15,10 @@ use std::process::Abort;
 use std::sync::Wait;
 use std::test::Fail;
 
+mod claims;
 mod confirms;
 mod crowd;
+mod expectations;
 mod flows;
 mod halt;
 mod holds;

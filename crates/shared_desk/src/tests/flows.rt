@@ -1,7 +1,7 @@
 //! Flows of UDP, and a clerk's way with one of them.
 
-ghost use Rattle.std.specs.Prelude.{◌≡◌, ◌+◌, ◌≤◌, true, false, Some, None, []};
-ghost use Rattle.history_book.specs.Entry.{is_flow_of_one_protocol, is_helped_entry, is_of_entry};
+ghost use Rattle.std.specs.Prelude.{◌≡◌, ◌+◌, ◌≤◌, true, Some, None, []};
+ghost use Rattle.history_book.specs.Entry.{is_flow_of_one_protocol, is_of_entry};
 ghost use Rattle.history_book.specs.Held.{is_held, without};
 ghost use Rattle.history_book.specs.Places.{HoldsNothing, HoldsOne};
 ghost use Rattle.history_book.specs.WentOn.{IsSamePass};
@@ -39,7 +39,6 @@ pub fn flow(original: Tuple, reply: Tuple) -> Flow
     requires reply { reply.proto ≡ Udp }
     ensures protocol { is_flow_of_one_protocol result ≡ true }
     ensures kind { result.part.kind ≡ kind.Udp }
-    ensures helper { result.helper ≡ false }
 {
     Flow {
         original,
@@ -59,7 +58,6 @@ pub fn flow(original: Tuple, reply: Tuple) -> Flow
 pub fn query() -> Flow
     ensures protocol { is_flow_of_one_protocol result ≡ true }
     ensures kind { result.part.kind ≡ kind.Udp }
-    ensures helper { result.helper ≡ false }
 {
     flow(
         udp(0x0a00_0001, 5000, 0x0a00_0002, 53),
@@ -73,7 +71,6 @@ pub fn confirm_query<G: Gate, R: Wait + Abort>(rt: &R, clerk: &mut Clerk<G>, pla
     requires spare { 1 ≤ (sight_of clerk.old).spare }
     ensures one { HoldsOne (record { place = place; id = Some 0 }) (sight_of clerk.new) }
     ensures protocol { is_of_entry segment.Udp 0 (sight_of clerk.new).front ≡ true }
-    ensures unhelped { is_helped_entry 0 (sight_of clerk.new).front ≡ false }
     ensures spare { (sight_of clerk.old).spare ≤ (sight_of clerk.new).spare + 1 }
 {
     let ConfirmOutcome::Confirmed { id } = clerk.confirm(rt, place, &query()) else {

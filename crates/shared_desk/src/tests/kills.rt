@@ -1,7 +1,7 @@
 //! A clerk destroys the entry for which it holds a place.
 
-ghost use Rattle.std.specs.Prelude.{◌≡◌, ◌+◌, ◌<◌, ◌≤◌, ◌^◌, true, false, Some, None, slice_get};
-ghost use Rattle.history_book.specs.Entry.{is_flow_of_one_protocol, is_helped_entry, record_for, suits_entry};
+ghost use Rattle.std.specs.Prelude.{◌≡◌, ◌+◌, ◌<◌, ◌≤◌, ◌^◌, true, Some, None, slice_get};
+ghost use Rattle.history_book.specs.Entry.{is_flow_of_one_protocol, record_for, suits_entry};
 ghost use Rattle.history_book.specs.declared.event.Event.TheVariants.{Confirm};
 ghost use Rattle.history_book.specs.Legality.{reason_moment_of};
 ghost use Rattle.history_book.specs.Places.{HoldsNothing, HoldsOne};
@@ -45,12 +45,10 @@ fn one_bucket() -> Sizes
 pub fn keep<G: Gate, R: Wait + Abort>(rt: &R, clerk: &mut Clerk<G>, flow: &Flow, id: u64) -> u32
     requires nothing { HoldsNothing (sight_of clerk.old) }
     requires protocol { is_flow_of_one_protocol flow.now ≡ true }
-    requires helper { flow.now.helper ≡ false }
     requires spare { 1 ≤ (sight_of clerk.old).spare }
     ensures one { HoldsOne (record { place = result; id = Some id }) (sight_of clerk.new) }
     ensures below { result < (sight_of clerk.new).sizes.entries }
     ensures event { slice_get (sight_of clerk.new).front id ≡ Some (Confirm (record_for flow.now id result)) }
-    ensures unhelped { is_helped_entry id (sight_of clerk.new).front ≡ false }
     ensures same { IsSamePass (sight_of clerk.old) (sight_of clerk.new) }
     ensures spare { (sight_of clerk.old).spare ≤ (sight_of clerk.new).spare + 1 }
 {
@@ -89,7 +87,6 @@ fn destroy<G: Gate, R: Wait + Abort>(
     number: u32,
 )
     requires one { HoldsOne (record { place = place; id = Some id }) (sight_of clerk.old) }
-    requires unhelped { is_helped_entry id (sight_of clerk.old).front ≡ false }
     requires protocol { suits_entry why id (sight_of clerk.old).front ≡ true }
     requires timely { reason_moment_of why ≤ 10 ^ 16 }
     requires spare { 1 ≤ (sight_of clerk.old).spare }

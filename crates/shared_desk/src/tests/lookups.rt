@@ -1,6 +1,6 @@
 //! A clerk looks once for what is live under a tuple, and holds its place.
 
-ghost use Rattle.std.specs.Prelude.{◌≡◌, ◌<◌, ◌≤◌, false, Some, slice_get};
+ghost use Rattle.std.specs.Prelude.{◌≡◌, ◌<◌, ◌≤◌, Some, slice_get};
 ghost use Rattle.history_book.specs.Entry.{record_for};
 ghost use Rattle.history_book.specs.Places.{HoldsNothing};
 ghost use Rattle.history_book.specs.declared.event.Event.TheVariants.{Confirm};
@@ -94,7 +94,6 @@ fn hold_and_destroy<G: Gate, R: Wait + Abort>(rt: &R, clerk: &mut Clerk<G>, plac
     requires nothing { HoldsNothing (sight_of clerk.old) }
     requires below { place < (sight_of clerk.old).sizes.entries }
     requires event { slice_get (sight_of clerk.old).front 0 ≡ Some (Confirm (record_for flow.now 0 place)) }
-    requires helper { flow.now.helper ≡ false }
     requires spare { 1 ≤ (sight_of clerk.old).spare }
 {
     let _ = flow;

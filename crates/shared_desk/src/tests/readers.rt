@@ -1,6 +1,6 @@
 //! Two clerks look for flows, each on a thread of its own, while two others confirm and destroy them in the same buckets.
 
-ghost use Rattle.std.specs.Prelude.{◌≡◌, ◌+◌, ◌≤◌, ◌<◌, true, false, []};
+ghost use Rattle.std.specs.Prelude.{◌≡◌, ◌+◌, ◌≤◌, ◌<◌, true, []};
 ghost use Rattle.history_book.specs.Entry.{is_flow_of_one_protocol};
 ghost use Rattle.history_book.specs.Places.{HoldsNothing};
 ghost use Rattle.history_book.specs.Sizes.{AreWithinLimits};
@@ -62,7 +62,6 @@ fn sizes() -> Sizes
 /// The flow of this number.
 fn flow_of(number: u32) -> Flow
     ensures protocol { is_flow_of_one_protocol result ≡ true }
-    ensures helper { result.helper ≡ false }
 {
     let port = (number % FLOWS) as u16;
     flow(
@@ -83,7 +82,6 @@ fn tuple_of(flow: &Flow, direction: Direction) -> Tuple {
 fn write_once<R: Wait>(rt: &R, clerk: &mut Clerk<NoGate>, flow: &Flow)
     requires nothing { HoldsNothing (sight_of clerk.old) }
     requires protocol { is_flow_of_one_protocol flow.now ≡ true }
-    requires helper { flow.now.helper ≡ false }
     requires spare { 2 ≤ (sight_of clerk.old).spare }
     ensures nothing { HoldsNothing (sight_of clerk.new) }
     ensures same { IsSamePass (sight_of clerk.old) (sight_of clerk.new) }
