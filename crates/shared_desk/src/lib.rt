@@ -5,6 +5,7 @@ mod claiming;
 pub mod clerk;
 mod commit;
 mod confirm;
+mod desk;
 mod entry;
 mod expect_turn;
 mod expecting;

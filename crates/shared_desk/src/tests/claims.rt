@@ -11,6 +11,7 @@ use super::flows::give_up;
 use crate::clerk::Clerk;
 use crate::tracker::Tracker;
 use ct_io::NoGate;
+use history_book::desk::Desk;
 use history_book::event::{Event, Note};
 use history_book::outcome::{ClaimOutcome, ConfirmOutcome, TakeOutcome};
 use history_book::report::Notes;

@@ -12,6 +12,7 @@ use super::{sixteen_buckets, sizes, take_one};
 use crate::clerk::Clerk;
 use crate::tracker::Tracker;
 use ct_io::{Crossing, Gate, NoGate};
+use history_book::desk::Desk;
 use history_book::outcome::{ConfirmOutcome, ReleaseOutcome, TakeOutcome};
 use history_book::record::Flow;
 use history_book::sizes::Sizes;

@@ -15,6 +15,7 @@ use crate::clerk::Clerk;
 use crate::tracker::{Spot, Tracker};
 use checks::{are_right, enter_all, nothing_found};
 use ct_io::NoGate;
+use history_book::desk::Desk;
 use history_book::outcome::ConfirmOutcome;
 use history_book::record::Flow;
 use history_book::report::Notes;

@@ -13,6 +13,7 @@ use crate::clerk::Clerk;
 use crate::tracker::Tracker;
 use ct_io::{Gate, NoGate};
 use expect_table::expectation::{Expectation, Want};
+use history_book::desk::Desk;
 use history_book::event::Why;
 use history_book::laws::events_stay;
 use history_book::outcome::{ClaimOutcome, ExpectOutcome, KillOutcome, UnexpectOutcome};

@@ -13,6 +13,7 @@ ghost use Rattle.tuple_core.specs.declared.Segment.TheVariants as segment;
 use crate::clerk::Clerk;
 use bucket_table::finding::FindOnce;
 use ct_io::Gate;
+use history_book::desk::Desk;
 use history_book::outcome::{ConfirmOutcome, ReleaseOutcome, TakeOutcome};
 use history_book::record::Flow;
 use proto_rules::{Part, PartKind};

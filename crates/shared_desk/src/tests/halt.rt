@@ -12,6 +12,7 @@ use crate::clerk::Clerk;
 use crate::tracker::Tracker;
 use bucket_table::finding::FindOnce;
 use ct_io::{Crossing, Gate};
+use history_book::desk::Desk;
 use history_book::outcome::{ConfirmOutcome, LiveCount};
 use history_book::record::Flow;
 use history_book::sizes::Sizes;

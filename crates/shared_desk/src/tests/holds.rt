@@ -10,6 +10,7 @@ use super::{give_back, sizes, take_one};
 use crate::clerk::Clerk;
 use crate::tracker::Tracker;
 use ct_io::{Gate, NoGate};
+use history_book::desk::Desk;
 use history_book::event::Why;
 use history_book::outcome::{HoldOutcome, KillOutcome, PeekOutcome, ReleaseOutcome};
 use history_book::places::one_hold_has_its_id;

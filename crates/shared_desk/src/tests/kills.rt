@@ -15,6 +15,7 @@ use super::{sixteen_buckets, sizes};
 use crate::clerk::Clerk;
 use crate::tracker::Tracker;
 use ct_io::{Gate, NoGate};
+use history_book::desk::Desk;
 use history_book::event::Why;
 use history_book::outcome::{
     ConfirmOutcome, KillOutcome, PeekOutcome, ReleaseOutcome, TakeOutcome,

@@ -15,6 +15,7 @@ use crate::tracker::Tracker;
 use bucket_table::finding::FindOnce;
 use checks::{are_right, history_of, unknown};
 use ct_io::NoGate;
+use history_book::desk::Desk;
 use history_book::event::Why;
 use history_book::outcome::{ConfirmOutcome, TakeOutcome};
 use history_book::record::Flow;

@@ -4,6 +4,7 @@ use super::flows::confirm_query;
 use super::{sizes, take_one};
 use crate::tracker::Tracker;
 use ct_io::NoGate;
+use history_book::desk::Desk;
 use history_book::outcome::{PeekOutcome, TouchOutcome};
 use history_book::places::one_hold_has_its_id;
 use std::test::Fail;

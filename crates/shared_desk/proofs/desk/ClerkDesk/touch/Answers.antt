@@ -4,7 +4,7 @@ use Rattle.history_book.specs.Held.{held_id, is_held_for_entry}
 use Rattle.shared_desk.specs.Sights.{ClerkSight, sight_of}
 use Rattle.shared_desk.proofs.Accepting.{rest_touching, says_touching, suits_entry}
 use Rattle.shared_desk.proofs.Peeking.{free_for}
-use Rattle.shared_desk.proofs.clerk.Clerk.touch.Goals as goal
+use Rattle.shared_desk.proofs.desk.ClerkDesk.touch.Goals as goal
 
 pub touch-outcome-requires-clause-free : goal.touch-outcome-requires-clause-free
 touch-outcome-requires-clause-free g c =

@@ -5,7 +5,7 @@ use Rattle.track_rule.specs.Readings.{added}
 use Rattle.track_rule.specs.Sights.{sizes_of}
 use Rattle.shared_desk.proofs.GivingUp.{recycle_says, rest_recycled}
 use Rattle.shared_desk.proofs.LookedAgain.{recycled_less}
-use Rattle.shared_desk.proofs.clerk.Clerk.recycle.Goals as goal
+use Rattle.shared_desk.proofs.desk.ClerkDesk.recycle.Goals as goal
 
 pub invariant_of-self : goal.invariant_of-self
 invariant_of-self g c =

@@ -4,7 +4,7 @@ use Rattle.entry_pool.specs.GoesOn.{ReadingsStand}
 use Rattle.shared_desk.specs.Changed.{ChangesNone, is_gen_or_other_turn}
 use Rattle.shared_desk.specs.Sights.{sight_of}
 use Rattle.track_rule.specs.Sights.{sizes_of}
-use Rattle.shared_desk.proofs.clerk.Clerk.find.Given as goal
+use Rattle.shared_desk.proofs.desk.ClerkDesk.find.Given as goal
 
 abbrev pub invariant-looks : goal.invariant-looks
 invariant-looks g l = record {

@@ -1,7 +1,7 @@
 use Rattle.std.proofs.Common.{◌≤◌, subst, sym}
 use Rattle.shared_desk.specs.Sights.{ClerkSight}
 use Rattle.shared_desk.proofs.Claimed.{rest_claiming, says_claiming}
-use Rattle.shared_desk.proofs.clerk.Clerk.claim.Goals as goal
+use Rattle.shared_desk.proofs.desk.ClerkDesk.claim.Goals as goal
 
 pub invariant_of-self : goal.invariant_of-self
 invariant_of-self g c =

@@ -2,7 +2,7 @@ use Rattle.std.proofs.Common.{ap, ◌∙◌}
 use Rattle.history_book.specs.Held.{is_held_for_entry}
 use Rattle.shared_desk.specs.Sights.{ClerkSight, sight_of}
 use Rattle.shared_desk.proofs.Peeking.{free_for, rest_peeked, says_peeked}
-use Rattle.shared_desk.proofs.clerk.Clerk.peek.Goals as goal
+use Rattle.shared_desk.proofs.desk.ClerkDesk.peek.Goals as goal
 
 pub peek-requires : goal.peek-requires
 peek-requires g c =

@@ -4,7 +4,7 @@ use Rattle.history_book.specs.Held.{held_id, is_held_for_entry}
 use Rattle.shared_desk.specs.Sights.{ClerkSight, sight_of}
 use Rattle.shared_desk.proofs.Peeking.{free_for}
 use Rattle.shared_desk.proofs.Promised.{rest_expecting, says_expecting, suits_expect}
-use Rattle.shared_desk.proofs.clerk.Clerk.expect.Goals as goal
+use Rattle.shared_desk.proofs.desk.ClerkDesk.expect.Goals as goal
 
 pub expect-outcome-requires-clause-free : goal.expect-outcome-requires-clause-free
 expect-outcome-requires-clause-free g c =

@@ -1,5 +1,5 @@
 use Rattle.shared_desk.proofs.Claimed.{lists_says, rest_listed}
-use Rattle.shared_desk.proofs.clerk.Clerk.expects.Goals as goal
+use Rattle.shared_desk.proofs.desk.ClerkDesk.expects.Goals as goal
 
 pub invariant_of-self : goal.invariant_of-self
 invariant_of-self g c =

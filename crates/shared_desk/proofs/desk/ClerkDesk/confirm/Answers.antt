@@ -2,7 +2,7 @@ use Rattle.std.proofs.Common.{◌≤◌, ap, subst, sym, ◌∙◌}
 use Rattle.history_book.specs.Held.{is_taken as is_taken_by}
 use Rattle.shared_desk.specs.Sights.{ClerkSight, sight_of}
 use Rattle.shared_desk.proofs.Making.{can_confirm_flow, rest_confirming, says_confirming}
-use Rattle.shared_desk.proofs.clerk.Clerk.confirm.Goals as goal
+use Rattle.shared_desk.proofs.desk.ClerkDesk.confirm.Goals as goal
 
 pub confirm-outcome-requires : goal.confirm-outcome-requires
 confirm-outcome-requires g c =

@@ -3,7 +3,7 @@ use Rattle.history_book.specs.Held.{is_held_for_entry}
 use Rattle.shared_desk.specs.Sights.{ClerkSight, sight_of}
 use Rattle.shared_desk.proofs.Destroyed.{rest_killing, says_killing, suits_kill}
 use Rattle.shared_desk.proofs.Peeking.{free_for}
-use Rattle.shared_desk.proofs.clerk.Clerk.kill.Goals as goal
+use Rattle.shared_desk.proofs.desk.ClerkDesk.kill.Goals as goal
 
 pub kill-outcome-requires-clause-free : goal.kill-outcome-requires-clause-free
 kill-outcome-requires-clause-free g c =

@@ -1,7 +1,7 @@
 use Rattle.std.proofs.Common.{◌≤◌, ◌<◌, ◌+◌, length, sym, subst}
 use Rattle.shared_desk.specs.Sights.{ClerkSight, sight_of}
 use Rattle.shared_desk.proofs.HoldingRest.{can_hold, rest_holding, says_holding}
-use Rattle.shared_desk.proofs.clerk.Clerk.hold.Goals as goal
+use Rattle.shared_desk.proofs.desk.ClerkDesk.hold.Goals as goal
 
 pub hold-requires : goal.hold-requires
 hold-requires g c =

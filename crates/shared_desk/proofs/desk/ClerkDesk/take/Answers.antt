@@ -1,7 +1,7 @@
 use Rattle.std.proofs.Common.{◌≤◌, ◌+◌, length, sym, subst}
 use Rattle.shared_desk.specs.Sights.{ClerkSight, sight_of}
 use Rattle.shared_desk.proofs.Taking.{rest_taking, shows_none, take_says}
-use Rattle.shared_desk.proofs.clerk.Clerk.take.Goals as goal
+use Rattle.shared_desk.proofs.desk.ClerkDesk.take.Goals as goal
 
 pub invariant_of-self : goal.invariant_of-self
 invariant_of-self g c =

@@ -1,0 +1,233 @@
+//! A clerk as a desk.
+
+ghost use Rattle.std.specs.Prelude.{◌≡◌, ◌+◌, ◌<◌, ◌≤◌, ◌^◌, true, length, OnOk, OnErr};
+ghost use Rattle.entry_pool.specs.GoesOn.{ReadingsStand};
+ghost use Rattle.history_book.specs.Desk.{FindSays, IsReady, RecycleSays, TakeSays};
+ghost use Rattle.history_book.specs.Held.{is_owed};
+ghost use Rattle.history_book.specs.Sight.{IsKnown};
+ghost use Rattle.shared_desk.specs.Calls.{ShowsNone};
+ghost use Rattle.shared_desk.specs.Changed.{ChangesNone, is_gen_or_other_turn};
+ghost use Rattle.shared_desk.specs.FindsOnce.{LookSays};
+ghost use Rattle.shared_desk.specs.Sights.{sight_of};
+ghost use Rattle.track_rule.specs.Sights.{sizes_of};
+
+use crate::claiming::{claim, list_expects, unexpect};
+use crate::clerk::Clerk;
+use crate::confirm::confirm;
+use crate::entry::{kill, peek, touch};
+use crate::expecting::expect;
+use crate::holding::hold;
+use crate::noting::{note_confirm, note_event};
+use crate::touching::Packet;
+use bucket_table::finding::FindOnce;
+use ct_io::Gate;
+use entry_pool::take::{recycle, take};
+use expect_table::expectation::Want;
+use history_book::desk::Desk;
+use history_book::event::Why;
+use history_book::laws::states_stay;
+use history_book::outcome::{
+    ClaimOutcome, ConfirmOutcome, ExpectOutcome, FindOutcome, HoldOutcome, KillOutcome, LiveCount,
+    PeekOutcome, ReleaseOutcome, TakeOutcome, TouchOutcome, UnexpectOutcome,
+};
+use history_book::record::Flow;
+use history_book::report::Expectations;
+use history_book::sight_laws::seeing_adds_up;
+use std::sync::Wait;
+use std::thread;
+use tuple_core::{Direction, NoMemory, Segment, Tuple};
+
+impl<'t, G: Gate> Clerk<'t, G> {
+    /// Looks once for what is live under a tuple, and makes the place free again that it then owes. None is that another pass moved
+    /// what it looked at.
+    fn look<R: Wait>(&mut self, rt: &R, t: &Tuple) -> Option<FindOutcome>
+        requires { length (sight_of self.old).held + length (sight_of self.old).owed ≤ 3 }
+        ensures says { LookSays result t.now (sight_of self.old) (sight_of self.new) }
+        ensures own { ChangesNone (is_gen_or_other_turn (sizes_of self.old.pass)) self.old self.new }
+        ensures stand { ReadingsStand self.old.pass self.new.pass }
+        ensures knows { IsKnown (sight_of self.new) }
+    {
+        seeing_adds_up();
+        match self.find_once(t) {
+            FindOnce::Found {
+                place,
+                id,
+                direction,
+                at,
+            } => Some(FindOutcome::Found {
+                place,
+                id,
+                direction,
+                at,
+            }),
+            FindOnce::Absent { at } => Some(FindOutcome::Absent { at }),
+            FindOnce::Moved { owed, .. } => {
+                if let Some(place) = owed {
+                    self.recycle(rt, place);
+                }
+                None
+            }
+        }
+    }
+}
+
+impl<'t, G: Gate> Desk for Clerk<'t, G> {
+    ghost sight = { sight_of };
+
+    fn places(&self) -> u32 {
+        self.pass.sizes().entries
+    }
+
+    fn expect_room(&self) -> u32 {
+        self.pass.sizes().expectations
+    }
+
+    fn made(&self) -> u64 {
+        self.notes.len() as u64
+    }
+
+    /// Makes room for `k` further own events.
+    fn ready(&mut self, k: u64) -> Result<(), NoMemory>
+        requires { length (sight_of self.old).own + k ≤ 2 ^ 30 }
+        ensures ready { OnOk result (IsReady k (sight_of self.old) (sight_of self.new)) }
+        ensures short { OnErr result ((sight_of self.old).spare < k) }
+        ensures same { OnErr result (sight_of self.new ≡ sight_of self.old) }
+        ensures pass { self.new.pass ≡ self.old.pass }
+        ensures knows { IsKnown (sight_of self.new) }
+    {
+        if self.spare >= k {
+            return Ok(());
+        }
+        self.notes.reserve(k as usize)?;
+        self.spare = k;
+        Ok(())
+    }
+
+    /// Looks for what is live under a tuple, the original one first, and holds its place. It looks again where another pass moved what
+    /// it looked at, and makes each place free again that it then owes: for that it may wait for the turn of the free list.
+    fn find<R: Wait>(&mut self, rt: &R, t: &Tuple) -> FindOutcome
+        requires { length (sight_of self.old).held + length (sight_of self.old).owed ≤ 3 }
+        ensures says { FindSays t.now (sight_of self.old) (sight_of self.new) result }
+        ensures own { ChangesNone (is_gen_or_other_turn (sizes_of self.old.pass)) self.old self.new }
+        ensures stand { ReadingsStand self.old.pass self.new.pass }
+        ensures knows { IsKnown (sight_of self.new) }
+    {
+        seeing_adds_up();
+        'looks: for _ in rt.forever() {
+            if let Some(outcome) = self.look(rt, t) {
+                return outcome;
+            }
+            thread::yield_now();
+        }
+        unreachable!()
+    }
+
+    fn count<R: Wait>(&mut self, _rt: &R) -> LiveCount {
+        self.count_now()
+    }
+
+    /// Takes a free place for a new entry. It may wait for the turn of the free list.
+    fn take<R: Wait>(&mut self, rt: &R) -> TakeOutcome
+        requires { length (sight_of self.old).held + length (sight_of self.old).owed ≤ 3 }
+        ensures says { TakeSays (sight_of self.old) (sight_of self.new) result }
+        ensures shows { ShowsNone result self.old self.new }
+        ensures stand { ReadingsStand self.old.pass self.new.pass }
+        ensures knows { IsKnown (sight_of self.new) }
+    {
+        take(rt, &mut self.pass)
+    }
+
+    /// Confirms a new entry in a place that was taken for it. It may wait for the locks of two buckets. While both are locked and no
+    /// clash was found it passes the gate, before the entry is made.
+    fn confirm<R: Wait>(&mut self, rt: &R, place: u32, flow: &Flow) -> ConfirmOutcome {
+        let outcome = confirm(rt, &mut self.pass, self.gate, self.worker, place, flow);
+        note_confirm(&mut self.notes, &mut self.spare, place, flow, &outcome);
+        outcome
+    }
+
+    /// Touches the entry for which a place is held, with a packet of its protocol at a moment in microseconds. It may wait for the
+    /// turn of the place's record.
+    fn touch<R: Wait>(
+        &mut self,
+        rt: &R,
+        place: u32,
+        direction: Direction,
+        segment: Segment,
+        moment: u64,
+    ) -> TouchOutcome {
+        states_stay();
+        let packet = Packet {
+            direction,
+            segment,
+            moment,
+        };
+        let (outcome, note) = touch(rt, &mut self.pass, place, &packet);
+        note_event(&mut self.notes, &mut self.spare, note);
+        outcome
+    }
+
+    /// Reads the entry for which a place is held. It may wait for the turn of the place's record.
+    fn peek<R: Wait>(&mut self, rt: &R, place: u32) -> PeekOutcome {
+        peek(rt, &mut self.pass, place)
+    }
+
+    /// Destroys the entry for which a place is held, where the reason holds of it. It may wait for the turn of the place's record, then
+    /// for that of the expectations, where the entry has the helper, and then for the locks of two buckets.
+    fn kill<R: Wait>(&mut self, rt: &R, place: u32, why: Why) -> KillOutcome {
+        states_stay();
+        let (outcome, note) = kill(rt, &mut self.pass, place, why);
+        note_event(&mut self.notes, &mut self.spare, note);
+        outcome
+    }
+
+    /// Makes the entry for which a place is held, which has the helper, expect a connection, from a moment in microseconds on and for
+    /// 300 s. It may wait for the turn of the place's record, and for that of the expectations.
+    fn expect<R: Wait>(&mut self, rt: &R, place: u32, want: Want, moment: u64) -> ExpectOutcome {
+        let (outcome, note) = expect(rt, &mut self.pass, place, want, moment);
+        note_event(&mut self.notes, &mut self.spare, note);
+        outcome
+    }
+
+    /// Ends the first expectation that a packet with this tuple matches at a moment in microseconds. It may wait for the turn of the
+    /// expectations.
+    fn claim<R: Wait>(&mut self, rt: &R, t: &Tuple, moment: u64) -> ClaimOutcome {
+        let (outcome, note) = claim(rt, &mut self.pass, t, moment);
+        note_event(&mut self.notes, &mut self.spare, note);
+        outcome
+    }
+
+    /// Ends the expectation of this id, where it is due no longer at a moment in microseconds. It may wait for the turn of the
+    /// expectations.
+    fn unexpect<R: Wait>(&mut self, rt: &R, id: u64, moment: u64) -> UnexpectOutcome {
+        let (outcome, note) = unexpect(rt, &mut self.pass, id, moment);
+        note_event(&mut self.notes, &mut self.spare, note);
+        outcome
+    }
+
+    /// Lists the expectations in order of id, in place of what the list has, and answers their point. It may wait for the turn of the
+    /// expectations.
+    fn expects<R: Wait>(&mut self, rt: &R, listed: &mut Expectations) -> u64 {
+        list_expects(rt, &mut self.pass, listed)
+    }
+
+    /// Holds a place for the entry that is live in it, if one is. It may wait for the turn of the place's record, and for that of the
+    /// free list.
+    fn hold<R: Wait>(&mut self, rt: &R, place: u32) -> HoldOutcome {
+        hold(rt, &mut self.pass, place)
+    }
+
+    fn release<R: Wait>(&mut self, _rt: &R, place: u32) -> ReleaseOutcome {
+        self.release_now(place)
+    }
+
+    /// Makes a place free again, of which this clerk gave up the last reference. It may wait for the turn of the free list.
+    fn recycle<R: Wait>(&mut self, rt: &R, place: u32)
+        requires { is_owed place (sight_of self.old).owed ≡ true }
+        ensures says { RecycleSays place (sight_of self.old) (sight_of self.new) }
+        ensures own { ChangesNone (is_gen_or_other_turn (sizes_of self.old.pass)) self.old self.new }
+        ensures stand { ReadingsStand self.old.pass self.new.pass }
+        ensures knows { IsKnown (sight_of self.new) }
+    {
+        recycle(rt, &mut self.pass, place);
+    }
+}
