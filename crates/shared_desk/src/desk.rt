@@ -2,11 +2,11 @@
 
 ghost use Rattle.std.specs.Prelude.{◌≡◌, ◌+◌, ◌<◌, ◌≤◌, ◌^◌, true, length, OnOk, OnErr};
 ghost use Rattle.entry_pool.specs.GoesOn.{ReadingsStand};
-ghost use Rattle.history_book.specs.Desk.{FindSays, IsReady, RecycleSays, TakeSays};
-ghost use Rattle.history_book.specs.Held.{is_owed};
+ghost use Rattle.history_book.specs.Desk.{CountSays, FindSays, IsReady, RecycleSays, ReleaseSays, TakeSays};
+ghost use Rattle.history_book.specs.Held.{is_held, is_owed};
 ghost use Rattle.history_book.specs.Sight.{IsKnown};
 ghost use Rattle.shared_desk.specs.Calls.{ShowsNone};
-ghost use Rattle.shared_desk.specs.Changed.{ChangesNone, is_gen_or_other_turn};
+ghost use Rattle.shared_desk.specs.Changed.{ChangesNone, is_gen_or_other_turn, is_gen_or_turn};
 ghost use Rattle.shared_desk.specs.FindsOnce.{LookSays};
 ghost use Rattle.shared_desk.specs.Sights.{sight_of};
 ghost use Rattle.track_rule.specs.Sights.{sizes_of};
@@ -122,7 +122,13 @@ impl<'t, G: Gate> Desk for Clerk<'t, G> {
         unreachable!()
     }
 
-    fn count<R: Wait>(&mut self, _rt: &R) -> LiveCount {
+    /// Counts the live entries, without waiting.
+    fn count<R: Wait>(&mut self, _rt: &R) -> LiveCount
+        ensures says { CountSays (sight_of self.old) (sight_of self.new) result }
+        ensures own { ChangesNone (is_gen_or_turn (sizes_of self.old.pass)) self.old self.new }
+        ensures stand { ReadingsStand self.old.pass self.new.pass }
+        ensures knows { IsKnown (sight_of self.new) }
+    {
         self.count_now()
     }
 
@@ -216,7 +222,14 @@ impl<'t, G: Gate> Desk for Clerk<'t, G> {
         hold(rt, &mut self.pass, place)
     }
 
-    fn release<R: Wait>(&mut self, _rt: &R, place: u32) -> ReleaseOutcome {
+    /// Gives up one reference to a place, without waiting.
+    fn release<R: Wait>(&mut self, _rt: &R, place: u32) -> ReleaseOutcome
+        requires { is_held place (sight_of self.old).held ≡ true }
+        ensures says { ReleaseSays place (sight_of self.old) (sight_of self.new) result }
+        ensures own { ChangesNone (is_gen_or_turn (sizes_of self.old.pass)) self.old self.new }
+        ensures stand { ReadingsStand self.old.pass self.new.pass }
+        ensures knows { IsKnown (sight_of self.new) }
+    {
         self.release_now(place)
     }
 
