@@ -26,7 +26,7 @@ use Rattle.shared_desk.proofs.Resting.{clerk_at}
 
 module _ (v : PassSight) (notes : Roomed Note) (spare : ℕ) (h : IsAtRest v notes spare) where
   pub can_take : CanTakeExpects v
-  can_take = record { expected = h.idle.expected; free = h.idle.free; calm = h.idle.middle }
+  can_take = record { expected = h.idle.expected; shut = h.idle.shut; free = h.idle.free; calm = h.idle.middle }
 
   pub few_own : 1 ≤ spare → length v.view.seen.own < 2 ^ 30
   few_own room = omega (arith, room, h.knows.spared)

@@ -91,6 +91,8 @@ module _ (v : PassSight) (notes : Roomed Note) (spare place : ℕ) (h : IsAtRest
     free = record {
       below = below;
       hand = h.idle.hand;
+      expected = h.idle.expected;
+      shut = h.idle.shut;
       calm = h.idle.middle;
       free = h.idle.free;
       closed = settled_closed v.view.places.held h.settled.purposes;

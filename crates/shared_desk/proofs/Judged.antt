@@ -72,10 +72,7 @@ module _ (place n word : ℕ) (why : Why) (v u w : PassSight) (h : HasRecord pla
       })
 
   pub can_take : CanTakeExpects x
-  can_take = subst CanTakeExpects (sym whole) (record { expected = s.expected; free = h.free; calm = h.calm })
-
-  pub none_shut : x.view.buckets.shut ≡ []
-  none_shut = ap (λ (k : PassSight). k.view.buckets.shut) whole ∙ s.shut
+  can_take = subst CanTakeExpects (sym whole) (record { expected = s.expected; shut = s.shut; free = h.free; calm = h.calm })
 
   module _ (at : ℕ) (point : at ≡ events_in word) (y : PassSight) where
     killed : (number : ℕ) → EndsEntry place before why number x y → is_reason why before ≡ true

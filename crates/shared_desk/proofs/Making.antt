@@ -256,6 +256,7 @@ module _ (v : PassSight) (notes : Roomed Note) (spare place : ℕ) (flow : Flow)
         taken = took;
         down = none_any v.view.buckets.hooks h.settled.down;
         idle = λ i. record { hand = h.idle.hand i; middle = h.idle.middle i };
+        expected = h.idle.expected;
         closed = settled_closed v.view.places.held h.settled.purposes;
         free = h.idle.free;
         carried = h.idle.carried;

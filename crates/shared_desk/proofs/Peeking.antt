@@ -115,6 +115,8 @@ module _ (v : PassSight) (notes : Roomed Note) (spare place : ℕ) (h : IsAtRest
   free_for = record {
     below = held_below (sight_of (clerk_at v spare)) place h.knows (entry_held place (map hold_of v.view.places.held) held);
     hand = h.idle.hand;
+    expected = h.idle.expected;
+    shut = h.idle.shut;
     calm = h.idle.middle;
     free = h.idle.free;
     closed = settled_closed v.view.places.held h.settled.purposes;

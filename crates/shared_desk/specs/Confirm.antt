@@ -121,6 +121,7 @@ pub record CanConfirmFlow (place : ℕ) (flow : Flow) (v : PassSight) : Type 0 w
   pub taken : is_taken place v.view.places.held ≡ true
   pub down : is_any_up v.view.buckets.hooks ≡ false
   pub idle : v.view.commit ≡ record { hand = None; middle = Calm }
+  pub expected : v.view.expected ≡ None
   pub closed : holds_open v.view.places.held ≡ false
   pub free : v.view.free ≡ None
   pub carried : v.view.places.carried ≡ []

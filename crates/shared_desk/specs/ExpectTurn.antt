@@ -8,9 +8,10 @@ use Rattle.track_rule.specs.ExpectTurns.{expects_at, table_in}
 use Rattle.track_rule.specs.Sights.{PassSight, sizes_of}
 use Rattle.track_rule.specs.Slots.{slot_of_expects}
 
--- The pass has neither the turn of the expectations nor that of the free list, and is in the middle of no commit.
+-- The pass has neither the turn of the expectations nor that of the free list, has shut no bucket, and is in the middle of no commit.
 pub record CanTakeExpects (v : PassSight) : Type 0 where
   pub expected : v.view.expected ≡ None
+  pub shut : v.view.buckets.shut ≡ []
   pub free : v.view.free ≡ None
   pub calm : v.view.commit.middle ≡ Calm
 

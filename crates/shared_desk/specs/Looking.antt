@@ -1,5 +1,5 @@
 -- The entry for which a place is held, read under the turn of the place's record.
-use Rattle.std.specs.Prelude.{◌≡◌, ℕ, ◌<◌, true, false, Some, None, List, ◌∷◌, length}
+use Rattle.std.specs.Prelude.{◌≡◌, ℕ, ◌<◌, true, false, Some, None, List, [], ◌∷◌, length}
 use Rattle.history_book.specs.State.{record_of}
 use Rattle.history_book.specs.declared.event.Event.{Event}
 use Rattle.history_book.specs.declared.outcome.PeekOutcome.{PeekOutcome}
@@ -15,10 +15,12 @@ use Rattle.track_rule.specs.declared.slot.Slot.{Slot}
 use Rattle.track_rule.specs.declared.view.Hand.{Hand}
 use Rattle.track_rule.specs.declared.view.Middle.TheVariants.{Calm}
 
--- The pass has no turn, looks what stands at no place, and is in the middle of no commit.
+-- The pass has no turn, has shut no bucket, looks what stands at no place, and is in the middle of no commit.
 pub record IsFreeFor (place : ℕ) (v : PassSight) : Type 0 where
   pub below : place < (sizes_of v).entries
   pub hand : v.view.commit.hand ≡ None
+  pub expected : v.view.expected ≡ None
+  pub shut : v.view.buckets.shut ≡ []
   pub calm : v.view.commit.middle ≡ Calm
   pub free : v.view.free ≡ None
   pub closed : holds_open v.view.places.held ≡ false

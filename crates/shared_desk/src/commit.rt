@@ -1,6 +1,6 @@
 //! The commit of a flow whose links may come into their chains: links, the table's reference, the Confirm, and LIVE.
 
-ghost use Rattle.std.specs.Prelude.{◌≡◌, ◌<◌, true, None};
+ghost use Rattle.std.specs.Prelude.{◌≡◌, ◌<◌, true, None, []};
 ghost use Rattle.history_book.specs.Entry.{record_for};
 ghost use Rattle.shared_desk.specs.Commit.{AddsReference, CanCommit, Commits, HasTurn};
 ghost use Rattle.track_rule.specs.Sights.{sizes_of};
@@ -40,7 +40,9 @@ pub fn record_for(flow: &Flow, id: u64, place: u32) -> Record
 pub fn take_turn<R: Wait>(rt: &R, pass: &mut Pass, place: u32)
     requires place { place < (sizes_of pass.old).entries }
     requires calm { pass.old.view.commit.hand ≡ None }
+    requires expected { pass.old.view.expected ≡ None }
     requires free { pass.old.view.free ≡ None }
+    requires shut { pass.old.view.buckets.shut ≡ [] }
     ensures { HasTurn place pass.old pass.new }
 {
     'turns: for _ in rt.forever() {

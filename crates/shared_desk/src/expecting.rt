@@ -1,7 +1,7 @@
 //! The entry for which a place is held expects a connection. The turn of the place's record is taken first, and then that of the
 //! expectations.
 
-ghost use Rattle.std.specs.Prelude.{◌≡◌, ◌<◌, ◌^◌, None, length};
+ghost use Rattle.std.specs.Prelude.{◌≡◌, ◌<◌, ◌^◌, None, [], length};
 ghost use Rattle.shared_desk.specs.ExpectTurn.{aside};
 ghost use Rattle.shared_desk.specs.Expecting.{Adds, Expects, IsOfMaster, SuitsExpect};
 ghost use Rattle.shared_desk.specs.Looking.{HasRecord, IsFreeFor};
@@ -105,6 +105,7 @@ fn expect_record<R: Wait>(
     requires has { HasRecord place pass.old }
     requires suits { SuitsExpect place moment pass.old }
     requires expected { pass.old.view.expected ≡ None }
+    requires shut { pass.old.view.buckets.shut ≡ [] }
     ensures expects { Expects place want moment result.0 pass.old pass.new }
     ensures noted { Notes result.1 pass.old.view.seen.own pass.new.view.seen.own }
 {
@@ -125,7 +126,6 @@ pub fn expect<R: Wait>(
 ) -> (ExpectOutcome, Option<Note>)
     requires free { IsFreeFor place pass.old }
     requires suits { SuitsExpect place moment pass.old }
-    requires expected { pass.old.view.expected ≡ None }
     ensures expects { Expects place want moment result.0 pass.old pass.new }
     ensures noted { Notes result.1 pass.old.view.seen.own pass.new.view.seen.own }
 {

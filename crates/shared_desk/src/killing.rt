@@ -88,7 +88,6 @@ fn end_with_expected<R: Wait>(
 ) -> u64
     requires knows { KnowsRecord place subject.now pass.old }
     requires reason { is_reason why subject.now ≡ true }
-    requires shut { pass.old.view.buckets.shut ≡ [] }
     requires free { CanTakeExpects pass.old }
     ensures { EndsEntry place subject.now why result pass.old pass.new }
 {
@@ -113,7 +112,6 @@ pub fn judge<R: Wait>(
 ) -> (KillOutcome, Option<Note>)
     requires knows { KnowsRecord place subject.now pass.old }
     requires timely { reason_moment_of why ≤ 10 ^ 16 }
-    requires shut { pass.old.view.buckets.shut ≡ [] }
     requires free { CanTakeExpects pass.old }
     ensures judges { Judges place subject.now why at result.0 pass.old pass.new }
     ensures noted { Notes result.1 pass.old.view.seen.own pass.new.view.seen.own }
