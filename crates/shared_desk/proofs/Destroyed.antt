@@ -14,7 +14,6 @@ use Rattle.history_book.specs.declared.outcome.KillOutcome.{KillOutcome}
 use Rattle.history_book.specs.declared.outcome.KillOutcome.TheVariants as kill
 use Rattle.history_book.specs.declared.record.Record.{Record}
 use Rattle.track_rule.specs.KeptWords.{is_for, is_kept_for}
-use Rattle.track_rule.specs.KillSteps.{without_its}
 use Rattle.track_rule.specs.References.{held_times, is_at, is_for_new, is_taken}
 use Rattle.track_rule.specs.Sights.{PassSight}
 use Rattle.track_rule.specs.Sums.{bit}
@@ -122,7 +121,6 @@ module _ (v : PassSight) (notes : Roomed Note) (spare place : ℕ) (why : Why) (
       view = record v.view {
         seen = seen_with t.ended.log number (destroy_of q why) v.view.seen;
         places = record v.view.places { ended = w.view.places.ended };
-        expected = without_its q.id v.view.expected;
         walk = w.view.walk;
         readings = w.view.readings;
       };
@@ -131,7 +129,7 @@ module _ (v : PassSight) (notes : Roomed Note) (spare place : ℕ) (why : Why) (
     rest_killed : (m : Note) → w.view.seen.own ≡ v.view.seen.own ++ m ∷ [] → IsAtRest w (record notes { items = notes.items ++ m ∷ [] }) (spare - 1)
     rest_killed m own =
         subst (λ k. IsAtRest k (record notes { items = notes.items ++ m ∷ [] }) (spare - 1)) (sym t.same) (record {
-          idle = idle_still v _ h.idle refl refl refl (ap (without_its q.id) h.idle.expected ∙ sym h.idle.expected) refl refl;
+          idle = idle_still v _ h.idle refl refl refl refl refl refl;
           settled = settled_still v.view.places w.view.places.ended v.view.buckets.hooks h.settled;
           own = ap (λ ns. ns ++ m ∷ []) h.own ∙ sym own ∙ ap (λ (k : PassSight). k.view.seen.own) t.same;
           room = omega (arith, h.room, room, length-append notes.items (m ∷ []));

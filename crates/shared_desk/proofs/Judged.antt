@@ -96,7 +96,16 @@ module _ (place n word : ℕ) (why : Why) (v u w : PassSight) (h : HasRecord pla
           walk = y.view.walk;
           readings = y.view.readings;
         };
-      }) whole;
+      }) whole ∙ (λ i. record v {
+        view = record v.view {
+          seen = seen_with e.ended.log number (destroy_of before why) v.view.seen;
+          places = record v.view.places { ended = y.view.places.ended };
+          commit = dead_commit place before;
+          expected = (ap (without_its before.id) s.expected ∙ sym s.expected) i;
+          walk = y.view.walk;
+          readings = y.view.readings;
+        };
+      });
     }
 
     pub judged : (o : KillOutcome) → Judges place before why at o x y → KillsUnder place why o v y

@@ -6,7 +6,6 @@ use Rattle.history_book.specs.declared.event.Why.{Why}
 use Rattle.history_book.specs.declared.outcome.KillOutcome.{KillOutcome}
 use Rattle.history_book.specs.declared.outcome.KillOutcome.TheVariants as kill
 use Rattle.history_book.specs.declared.record.Record.{Record}
-use Rattle.track_rule.specs.KillSteps.{without_its}
 use Rattle.track_rule.specs.Layout.{turn_word}
 use Rattle.track_rule.specs.PhaseSteps.{phase_dead}
 use Rattle.track_rule.specs.Readings.{stored}
@@ -45,7 +44,6 @@ module _ (place : ℕ) (v w x y : PassSight) (f : IsFreeFor place v) (t : HasTur
           seen = seen_with e.log number (destroy_of q why) v.view.seen;
           places = record v.view.places { ended = x.view.places.ended };
           commit = record { hand = None; middle = Calm };
-          expected = without_its q.id v.view.expected;
           walk = x.view.walk;
           readings = x.view.readings ++ stored (turn_word x.view.passes.sizes place) 0 ∷ [];
         };
@@ -58,7 +56,6 @@ module _ (place : ℕ) (v w x y : PassSight) (f : IsFreeFor place v) (t : HasTur
           seen = seen_with e.log number (destroy_of q why) k.view.seen;
           places = record k.view.places { ended = x.view.places.ended };
           commit = dead_commit place q;
-          expected = without_its q.id k.view.expected;
           walk = x.view.walk;
           readings = x.view.readings;
         };
@@ -78,7 +75,6 @@ module _ (place : ℕ) (v w x y : PassSight) (f : IsFreeFor place v) (t : HasTur
             seen = seen_with e.log number (destroy_of q why) v.view.seen;
             places = record v.view.places { ended = sym (ap (λ (k : PassSight). k.view.places.ended) whole) i };
             commit = record { hand = sym f.hand i; middle = sym f.calm i };
-            expected = without_its q.id v.view.expected;
             walk = sym (ap (λ (k : PassSight). k.view.walk) whole) i;
             readings = sym (ap (λ (k : PassSight). k.view.readings) whole) i;
           };

@@ -142,7 +142,6 @@ pub record IsKilled (place : ℕ) (why : Why) (number : ℕ) (r : Record) (commi
       seen = seen_with ended.log number (destroy_of r why) v.view.seen;
       places = record v.view.places { ended = w.view.places.ended };
       commit = commit;
-      expected = without_its r.id v.view.expected;
       walk = w.view.walk;
       readings = w.view.readings;
     };
