@@ -57,8 +57,9 @@ says_empty at r = r.word == 0 && not r.own && events_in r.value == at && is_zero
     is_zero (Some n) = n == 0
 
 -- The free list was empty at this point, which a reading of the call shows; the pass has seen all events up to it, and
--- changed no references word. All else is as it was. So at the point all places were those of live records and the pass's own, but
--- for four at most for each share of others (`full`); where no other pass has a share each place is one of these (`used`).
+-- changed no references word. All else is as it was. So at the point there were at most as many places as live records, references
+-- that the pass keeps, places that it owes, and four for each share of others (`full`); where no other pass has a share, each place is
+-- a live record's, or the pass holds or owes it (`used`).
 pub record IsFull (at : ℕ) (v w : PassSight) : Type 0 where
   pub same : w ≡ record v {
     view = record v.view {

@@ -79,7 +79,7 @@ at_point point (Some n) = Some (record n { at = Some point })
 abbrev pub saw : List Event → View → View
 saw log v = record v { seen = record v.seen { front = log }; walk = at_point (length log) v.walk }
 
--- how many places the pass holds and owes
+-- how many references the pass keeps, and how many places it owes
 abbrev pub kept_places : View → ℕ
 kept_places v = length v.places.held + length v.places.owed
 
@@ -92,9 +92,9 @@ uses place v = held_times place v.places.held + times place v.places.owed
 -- place's record the pass has the record of the id of which the place is LIVE. Unless it is in the middle of a commit itself, an
 -- id for which it holds that place is live no more where the place is not LIVE of it, and no live record has the place where it
 -- is LIVE of none. The pass has seen the Confirm of each id for which it holds a place. Under the turn of the free list it knows how
--- full the table is: beside the places on the list, those of live records and its own there are four at most for each share of others
--- (`full`), and none where no other pass has a share (`used`). Under the turn of the expectations it knows what is expected after all
--- events.
+-- full the table is: there are at most as many places as places on the list, live records, references that it keeps, places that it
+-- owes, and four for each share of others (`full`); where no other pass has a share, each place is on the list, or a live record's,
+-- or the pass holds or owes it (`used`). Under the turn of the expectations it knows what is expected after all events.
 pub record Looks (v : View) (word : ℕ) (w : View) : Type 0 where
   pub same : w ≡ noted (found_history word v) (saw w.seen.front v)
   pub all : AreAll v w.seen.front
