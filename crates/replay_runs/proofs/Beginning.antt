@@ -51,33 +51,33 @@ stays_further tracker sizes old new further pass held owed = record {
 }
 
 -- the desks of threads that ran are further ones
-pub ran_further : (tracker : List ℕ) (sizes : Sizes) (setup : Setup) (cs : List Capture) (os ns : List (Job Sight))
-    → AreFurther tracker sizes os → AllRan (λ s. s) setup cs os ns → AreFurther tracker sizes ns
-ran_further tracker sizes setup [] [] [] further ran = tt
-ran_further tracker sizes setup [] [] (n ∷ ns) further ran = absurd ran
-ran_further tracker sizes setup [] (o ∷ os) ns further ran = absurd ran
-ran_further tracker sizes setup (c ∷ cs) [] ns further ran = absurd ran
-ran_further tracker sizes setup (c ∷ cs) (o ∷ os) [] further ran = absurd ran
-ran_further tracker sizes setup (c ∷ cs) (o ∷ os) (n ∷ ns) (f, further) (r, ran) = (
+pub ran_further : {D : Type 0} (sight : D → Sight) (tracker : List ℕ) (sizes : Sizes) (setup : Setup) (cs : List Capture) (os ns : List (Job D))
+    → AreFurther sight tracker sizes os → AllRan sight setup cs os ns → AreFurther sight tracker sizes ns
+ran_further sight tracker sizes setup [] [] [] further ran = tt
+ran_further sight tracker sizes setup [] [] (n ∷ ns) further ran = absurd ran
+ran_further sight tracker sizes setup [] (o ∷ os) ns further ran = absurd ran
+ran_further sight tracker sizes setup (c ∷ cs) [] ns further ran = absurd ran
+ran_further sight tracker sizes setup (c ∷ cs) (o ∷ os) [] further ran = absurd ran
+ran_further sight tracker sizes setup (c ∷ cs) (o ∷ os) (n ∷ ns) (f, further) (r, ran) = (
   ended_so n.ended r.replayed r.stopped
-      (λ (h : Replayed setup (given_frames c) o.desk n.desk n.verdicts.items). stays_further tracker sizes o.desk n.desk f h.went.pass h.held h.owed)
-      (λ (h : Stopped o.desk n.desk). stays_further tracker sizes o.desk n.desk f h.went.pass h.held h.owed),
-  ran_further tracker sizes setup cs os ns further ran,
+      (λ (h : Replayed setup (given_frames c) (sight o.desk) (sight n.desk) n.verdicts.items). stays_further tracker sizes (sight o.desk) (sight n.desk) f h.went.pass h.held h.owed)
+      (λ (h : Stopped (sight o.desk) (sight n.desk)). stays_further tracker sizes (sight o.desk) (sight n.desk) f h.went.pass h.held h.owed),
+  ran_further sight tracker sizes setup cs os ns further ran,
 )
 
 -- a longer history is no shorter
 pub starts_long : (longer log : List Event) → StartsWith longer log → length log ≤ length longer
 starts_long longer log (rest, is) = omega (arith, ap length is, length-append log rest)
 
-module _ (still : VerdictsStillFit) (setup : Setup) (sizes : Sizes) (front : List Event) where
+module _ {D : Type 0} (sight : D → Sight) (still : VerdictsStillFit) (setup : Setup) (sizes : Sizes) (front : List Event) where
   -- what the thread of a capture made of the history
-  thread_made : (tracker : List ℕ) (c : Capture) (o n : Job Sight) (vs : Roomed Verdict) (notes : List Note) → IsSet (λ s. s) c o
-      → IsFurther tracker sizes o.desk → Replayed setup (given_frames c) o.desk n.desk n.verdicts.items → StartsWith front n.desk.front
-      → vs ≡ n.verdicts → notes ≡ n.desk.own
+  thread_made : (tracker : List ℕ) (c : Capture) (o n : Job D) (vs : Roomed Verdict) (notes : List Note) → IsSet sight c o
+      → IsFurther tracker sizes (sight o.desk) → Replayed setup (given_frames c) (sight o.desk) (sight n.desk) n.verdicts.items → StartsWith front (sight n.desk).front
+      → vs ≡ n.verdicts → notes ≡ (sight n.desk).own
       → IsThread (record { setup = setup; sizes = sizes }) front (length front) (given_frames c) vs.items notes
   thread_made tracker c o n vs notes set further replayed starts is_verdicts is_notes =
-      let own : n.desk.own ≡ replayed.own = replayed.went.own ∙ ap (λ xs. xs ++ replayed.own) set.own in
-      let long = starts_long front n.desk.front starts in
+      let own : (sight n.desk).own ≡ replayed.own = replayed.went.own ∙ ap (λ xs. xs ++ replayed.own) set.own in
+      let long = starts_long front (sight n.desk).front starts in
       record {
         fit = subst (λ (ws : Roomed Verdict). VerdictsFit (record { setup = setup; sizes = sizes }) front notes at_start (given_frames c) ws.items)
             (sym is_verdicts)
@@ -85,19 +85,19 @@ module _ (still : VerdictsStillFit) (setup : Setup) (sizes : Sizes) (front : Lis
             (sym own ∙ sym is_notes)
             (subst (λ (z : Sizes). VerdictsFit (record { setup = setup; sizes = z }) front replayed.own at_start (given_frames c) n.verdicts.items)
             further.sized
-            (notes_still_fit still (tracker_with setup o.desk) front n.desk.front starts replayed.own at_start (given_frames c)
+            (notes_still_fit still (tracker_with setup (sight o.desk)) front (sight n.desk).front starts replayed.own at_start (given_frames c)
             n.verdicts.items replayed.fit)));
         below = subst (λ xs. NumbersBelow (length front) xs) (sym is_notes)
-            (each_weaker (λ (x : Note). x.number < length n.desk.front) (λ (x : Note). x.number < length front)
-            (λ x h. omega (arith, h, long)) n.desk.own (own_within n.desk replayed.known));
+            (each_weaker (λ (x : Note). x.number < length (sight n.desk).front) (λ (x : Note). x.number < length front)
+            (λ x h. omega (arith, h, long)) (sight n.desk).own (own_within (sight n.desk) replayed.known));
         ordered = rw is_notes replayed.known.ordered;
       }
 
   -- and those of several
-  threads_made : (tracker : List ℕ) (cs : List Capture) (os ns : List (Job Sight)) (vss : List (Roomed Verdict)) (lists : List (Roomed Note))
-      → AllZip (IsSet (λ s. s)) cs os → AreFurther tracker sizes os → AllRan (λ s. s) setup cs os ns
-      → AllByRecursion (λ (j : Job Sight). j.ended ≡ Ok tt) ns → AllByRecursion (λ (j : Job Sight). StartsWith front j.desk.front) ns
-      → vss ≡ map (λ (j : Job Sight). j.verdicts) ns → items_of lists ≡ map (λ (j : Job Sight). j.desk.own) ns
+  threads_made : (tracker : List ℕ) (cs : List Capture) (os ns : List (Job D)) (vss : List (Roomed Verdict)) (lists : List (Roomed Note))
+      → AllZip (IsSet sight) cs os → AreFurther sight tracker sizes os → AllRan sight setup cs os ns
+      → AllByRecursion (λ (j : Job D). j.ended ≡ Ok tt) ns → AllByRecursion (λ (j : Job D). StartsWith front (sight j.desk).front) ns
+      → vss ≡ map (λ (j : Job D). j.verdicts) ns → items_of lists ≡ map (λ (j : Job D). (sight j.desk).own) ns
       → AreThreads (record { setup = setup; sizes = sizes }) front (length front) (map given_frames cs) vss lists
   threads_made tracker [] [] [] [] [] set further ran ended starts verdicts notes = tt
   threads_made tracker [] [] [] [] (l ∷ lists) set further ran ended starts verdicts notes = absurd (cc notes)
@@ -109,42 +109,42 @@ module _ (still : VerdictsStillFit) (setup : Setup) (sizes : Sizes) (front : Lis
   threads_made tracker (c ∷ cs) (o ∷ os) (n ∷ ns) [] lists set further ran ended starts verdicts notes = absurd (cc verdicts)
   threads_made tracker (c ∷ cs) (o ∷ os) (n ∷ ns) (vs ∷ vss) [] set further ran ended starts verdicts notes = absurd (cc notes)
   threads_made tracker (c ∷ cs) (o ∷ os) (n ∷ ns) (vs ∷ vss) (l ∷ lists) (s, set) (f, further) (r, ran) (e, ended) (st, starts) verdicts notes =
-      let replayed : Replayed setup (given_frames c) o.desk n.desk n.verdicts.items =
-      subst (λ x. OnOk x (Replayed setup (given_frames c) o.desk n.desk n.verdicts.items)) e r.replayed in (
+      let replayed : Replayed setup (given_frames c) (sight o.desk) (sight n.desk) n.verdicts.items =
+      subst (λ x. OnOk x (Replayed setup (given_frames c) (sight o.desk) (sight n.desk) n.verdicts.items)) e r.replayed in (
         thread_made tracker c o n vs l.items s f replayed st (cc verdicts) (cc notes),
         threads_made tracker cs os ns vss lists set further ran ended starts (cc verdicts) (cc notes),
       )
 
 -- there are as many threads as captures
-pub ran_long : (setup : Setup) (cs : List Capture) (os ns : List (Job Sight)) → AllRan (λ s. s) setup cs os ns → length ns ≡ length cs
-ran_long setup [] [] [] ran = refl
-ran_long setup [] [] (n ∷ ns) ran = absurd ran
-ran_long setup [] (o ∷ os) ns ran = absurd ran
-ran_long setup (c ∷ cs) [] ns ran = absurd ran
-ran_long setup (c ∷ cs) (o ∷ os) [] ran = absurd ran
-ran_long setup (c ∷ cs) (o ∷ os) (n ∷ ns) (r, ran) = omega (arith, ran_long setup cs os ns ran)
+pub ran_long : {D : Type 0} (sight : D → Sight) (setup : Setup) (cs : List Capture) (os ns : List (Job D)) → AllRan sight setup cs os ns → length ns ≡ length cs
+ran_long sight setup [] [] [] ran = refl
+ran_long sight setup [] [] (n ∷ ns) ran = absurd ran
+ran_long sight setup [] (o ∷ os) ns ran = absurd ran
+ran_long sight setup (c ∷ cs) [] ns ran = absurd ran
+ran_long sight setup (c ∷ cs) (o ∷ os) [] ran = absurd ran
+ran_long sight setup (c ∷ cs) (o ∷ os) (n ∷ ns) (r, ran) = omega (arith, ran_long sight setup cs os ns ran)
 
 -- a whole list that was written over
 pub written : {X : Type 0} (n : ℕ) (xs ys : List X) → length xs ≡ n → take n (xs ++ drop (length xs) ys) ≡ xs
 written n xs ys long = ap (λ k. take k (xs ++ drop (length xs) ys)) (sym long) ∙ take-append_seam xs (drop (length xs) ys)
 
 -- the desks of threads that ran can join the one that they were split off from
-pub further_now : (setup : Setup) (captures : List Capture) (commands : List Command) (moment : ℕ) (old split ran : Sight)
-    (jobs done written : List (Job Sight)) (none all : List Answer) → HasSplit captures old split jobs → AllRan (λ s. s) setup captures jobs done
-    → Answered commands moment 0 split ran none all → written ≡ done → AreFurther ran.tracker ran.sizes written
-further_now setup captures commands moment old split ran jobs done over none all has_split have_run answered same =
+pub further_now : {D : Type 0} (sight : D → Sight) (setup : Setup) (captures : List Capture) (commands : List Command) (moment : ℕ) (old split ran : Sight)
+    (jobs done written : List (Job D)) (none all : List Answer) → HasSplit sight captures old split jobs → AllRan sight setup captures jobs done
+    → Answered commands moment 0 split ran none all → written ≡ done → AreFurther sight ran.tracker ran.sizes written
+further_now sight setup captures commands moment old split ran jobs done over none all has_split have_run answered same =
     rw (
       same,
       answered.went.pass.tracker ∙ ap (λ (s : Sight). s.tracker) has_split.kept,
       answered.went.pass.sizes ∙ ap (λ (s : Sight). s.sizes) has_split.kept,
     )
-    (ran_further old.tracker old.sizes setup captures jobs done has_split.further have_run)
+    (ran_further sight old.tracker old.sizes setup captures jobs done has_split.further have_run)
 
-module _ {G : Type 0} (still : VerdictsStillFit) (answers_still : AnswersStillFit) (shared : Shared G) (captures : List Capture)
-    (commands : List Command) (old split ran new : Sight) (jobs done : List (Job Sight)) (joined : Joined) (none all : List Answer)
-    (fresh : IsFresh old.tracker old.sizes old) (has_split : HasSplit captures old split jobs)
-    (have_run : AllRan (λ s. s) shared.setup.now captures jobs done) (answered : Answered commands shared.moment 0 split ran none all)
-    (has_joined : HasJoined done ran new joined.lists.items joined.threads.items) where
+module _ {D G : Type 0} (sight : D → Sight) (still : VerdictsStillFit) (answers_still : AnswersStillFit) (shared : Shared G) (captures : List Capture)
+    (commands : List Command) (old split ran new : Sight) (jobs done : List (Job D)) (joined : Joined) (none all : List Answer)
+    (fresh : IsFresh old.tracker old.sizes old) (has_split : HasSplit sight captures old split jobs)
+    (have_run : AllRan sight shared.setup.now captures jobs done) (answered : Answered commands shared.moment 0 split ran none all)
+    (has_joined : HasJoined sight done ran new joined.lists.items joined.threads.items) where
   own_is : new.own ≡ answered.own
   own_is =
       ap (λ (s : Sight). s.own) has_joined.kept ∙ answered.went.own
@@ -187,14 +187,14 @@ module _ {G : Type 0} (still : VerdictsStillFit) (answers_still : AnswersStillFi
             answered.went.pass.returned,
             ap (λ (s : Sight). s.returned) has_split.kept,
             fresh.returned,
-            ran_long shared.setup.now captures jobs done have_run,
+            ran_long sight shared.setup.now captures jobs done have_run,
           )
 
   pub run_together : none ≡ [] → HasRun shared captures commands old new joined all
   run_together empty = record {
     kept = kept_is;
     known = has_joined.known;
-    threads = threads_made still shared.setup.now old.sizes new.front old.tracker captures jobs done joined.threads.items joined.lists.items
+    threads = threads_made sight still shared.setup.now old.sizes new.front old.tracker captures jobs done joined.threads.items joined.lists.items
         has_split.set has_split.further have_run has_joined.ended has_joined.fronts has_joined.verdicts has_joined.notes;
     few = omega (arith, ap length own_is, answered.few);
     fit = λ wait end before.
@@ -211,15 +211,15 @@ module _ {G : Type 0} (still : VerdictsStillFit) (answers_still : AnswersStillFi
   }
 
 -- where the desks could be joined
-pub run_so : {G E : Type 0} (still : VerdictsStillFit) (answers_still : AnswersStillFit) (shared : Shared G) (captures : List Capture)
-    (commands : List Command) (old split ran new : Sight) (jobs done over : List (Job Sight)) (none all : List Answer) (result : Result Joined E)
-    → IsFresh old.tracker old.sizes old → HasSplit captures old split jobs → AllRan (λ s. s) shared.setup.now captures jobs done
+pub run_so : {D G E : Type 0} (sight : D → Sight) (still : VerdictsStillFit) (answers_still : AnswersStillFit) (shared : Shared G) (captures : List Capture)
+    (commands : List Command) (old split ran new : Sight) (jobs done over : List (Job D)) (none all : List Answer) (result : Result Joined E)
+    → IsFresh old.tracker old.sizes old → HasSplit sight captures old split jobs → AllRan sight shared.setup.now captures jobs done
     → Answered commands shared.moment 0 split ran none all → over ≡ done → none ≡ []
-    → IfOk result (λ joined. HasJoined over ran new joined.lists.items joined.threads.items)
+    → IfOk result (λ joined. HasJoined sight over ran new joined.lists.items joined.threads.items)
     → IfOk result (λ joined. HasRun shared captures commands old new joined all)
-run_so still answers_still shared captures commands old split ran new jobs done over none all (Ok joined) fresh has_split have_run answered same empty
+run_so {D} sight still answers_still shared captures commands old split ran new jobs done over none all (Ok joined) fresh has_split have_run answered same empty
     has_joined =
-    run_together still answers_still shared captures commands old split ran new jobs done joined none all fresh has_split have_run answered
-    (subst (λ (js : List (Job Sight)). HasJoined js ran new joined.lists.items joined.threads.items) same has_joined) empty
-run_so still answers_still shared captures commands old split ran new jobs done over none all (Err e) fresh has_split have_run answered same empty
+    run_together sight still answers_still shared captures commands old split ran new jobs done joined none all fresh has_split have_run answered
+    (subst (λ (js : List (Job D)). HasJoined sight js ran new joined.lists.items joined.threads.items) same has_joined) empty
+run_so {D} sight still answers_still shared captures commands old split ran new jobs done over none all (Err e) fresh has_split have_run answered same empty
     has_joined = tt

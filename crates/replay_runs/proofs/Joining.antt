@@ -21,9 +21,9 @@ notes_push [] l = append-nil l.items
 notes_push (k ∷ lists) l = ap (λ xs. k.items ++ xs) (notes_push lists l) ∙ sym (append_assoc k.items (all_notes lists) l.items)
 
 -- none has joined yet
-pub joining_start : (old : Sight) (lists : List (Roomed Note)) (threads : List (Roomed Verdict)) → IsKnown old → lists ≡ [] → threads ≡ []
-    → HasJoined [] old old lists threads
-joining_start old lists threads known no_lists no_threads = record {
+pub joining_start : {D : Type 0} (sight : D → Sight) (old : Sight) (lists : List (Roomed Note)) (threads : List (Roomed Verdict)) → IsKnown old
+    → lists ≡ [] → threads ≡ [] → HasJoined sight [] old old lists threads
+joining_start sight old lists threads known no_lists no_threads = record {
   ended = tt;
   fronts = tt;
   front = ([], sym (append-nil old.front));
@@ -34,10 +34,10 @@ joining_start old lists threads known no_lists no_threads = record {
   known = known;
 }
 
-module _ (jobs : List (Job Sight)) (old mid : Sight) (lists : List (Roomed Note)) (threads : List (Roomed Verdict))
-    (so_far : HasJoined jobs old mid lists threads) (job : Job Sight) (of : IsFurther old.tracker old.sizes job.desk) where
+module _ {D : Type 0} (sight : D → Sight) (jobs : List (Job D)) (old mid : Sight) (lists : List (Roomed Note)) (threads : List (Roomed Verdict))
+    (so_far : HasJoined sight jobs old mid lists threads) (job : Job D) (of : IsFurther old.tracker old.sizes (sight job.desk)) where
   -- one more can join
-  pub joining_can : HoldsNothing old → CanJoin mid job.desk
+  pub joining_can : HoldsNothing old → CanJoin mid (sight job.desk)
   joining_can empty = record {
     same = of.tracked ∙ sym (ap (λ (s : Sight). s.tracker) so_far.kept);
     empty = record {
@@ -47,13 +47,13 @@ module _ (jobs : List (Job Sight)) (old mid : Sight) (lists : List (Roomed Note)
     other_empty = of.empty;
   }
 
-  module _ (new : Sight) (notes : Roomed Note) (joins : Joins mid job.desk new notes.items) where
+  module _ (new : Sight) (notes : Roomed Note) (joins : Joins mid (sight job.desk) new notes.items) where
     gathered_push : (lists' : List (Roomed Note)) → lists' ≡ lists ++ notes ∷ []
-        → mid.gathered ++ job.desk.own ++ job.desk.gathered ≡ old.gathered ++ all_notes lists'
+        → mid.gathered ++ (sight job.desk).own ++ (sight job.desk).gathered ≡ old.gathered ++ all_notes lists'
     gathered_push lists' pushed =
-        ap (λ xs. mid.gathered ++ job.desk.own ++ xs) of.gathered ∙ append-nil (mid.gathered ++ job.desk.own)
-        ∙ ap (λ xs. xs ++ job.desk.own) (ap (λ (s : Sight). s.gathered) so_far.kept)
-        ∙ append_assoc old.gathered (all_notes lists) job.desk.own
+        ap (λ xs. mid.gathered ++ (sight job.desk).own ++ xs) of.gathered ∙ append-nil (mid.gathered ++ (sight job.desk).own)
+        ∙ ap (λ xs. xs ++ (sight job.desk).own) (ap (λ (s : Sight). s.gathered) so_far.kept)
+        ∙ append_assoc old.gathered (all_notes lists) (sight job.desk).own
         ∙ ap (λ xs. old.gathered ++ (all_notes lists ++ xs)) (sym joins.given)
         ∙ ap (λ xs. old.gathered ++ xs) (sym (notes_push lists notes) ∙ ap all_notes (sym pushed))
 
@@ -63,8 +63,8 @@ module _ (jobs : List (Job Sight)) (old mid : Sight) (lists : List (Roomed Note)
         joins.kept
         ∙ ap (λ (s : Sight). record s {
           front = new.front;
-          returned = mid.returned + (job.desk.shares + job.desk.returned);
-          gathered = mid.gathered ++ job.desk.own ++ job.desk.gathered;
+          returned = mid.returned + ((sight job.desk).shares + (sight job.desk).returned);
+          gathered = mid.gathered ++ (sight job.desk).own ++ (sight job.desk).gathered;
         }) so_far.kept
         ∙ ap₂ (λ (n : ℕ) (xs : List Note). record old { front = new.front; returned = n; gathered = xs })
         (omega (
@@ -79,26 +79,26 @@ module _ (jobs : List (Job Sight)) (old mid : Sight) (lists : List (Roomed Note)
     -- one more has joined
     pub joining_next : (lists' : List (Roomed Note)) (threads' : List (Roomed Verdict)) → IsKnown new → job.ended ≡ Ok tt
         → lists' ≡ lists ++ notes ∷ [] → threads' ≡ threads ++ job.verdicts ∷ []
-        → HasJoined (jobs ++ job ∷ []) old new lists' threads'
+        → HasJoined sight (jobs ++ job ∷ []) old new lists' threads'
     joining_next lists' threads' known ended pushed told = record {
-      ended = each_append (λ (j : Job Sight). j.ended ≡ Ok tt) jobs (job ∷ []) so_far.ended (ended, tt);
-      fronts = each_append (λ (j : Job Sight). StartsWith new.front j.desk.front) jobs (job ∷ [])
-          (each_weaker (λ (j : Job Sight). StartsWith mid.front j.desk.front) (λ (j : Job Sight). StartsWith new.front j.desk.front)
-          (λ j starts. starts_on new.front mid.front j.desk.front joins.front starts) jobs so_far.fronts)
+      ended = each_append (λ (j : Job D). j.ended ≡ Ok tt) jobs (job ∷ []) so_far.ended (ended, tt);
+      fronts = each_append (λ (j : Job D). StartsWith new.front (sight j.desk).front) jobs (job ∷ [])
+          (each_weaker (λ (j : Job D). StartsWith mid.front (sight j.desk).front) (λ (j : Job D). StartsWith new.front (sight j.desk).front)
+          (λ j starts. starts_on new.front mid.front (sight j.desk).front joins.front starts) jobs so_far.fronts)
           (joins.other_front, tt);
       front = starts_on new.front mid.front old.front joins.front so_far.front;
       notes = ap items_of pushed ∙ map-append (λ (l : Roomed Note). l.items) lists (notes ∷ [])
           ∙ ap₂ (λ (xs : List (List Note)) (l : List Note). xs ++ l ∷ []) so_far.notes joins.given
-          ∙ sym (map-append (λ (j : Job Sight). j.desk.own) jobs (job ∷ []));
+          ∙ sym (map-append (λ (j : Job D). (sight j.desk).own) jobs (job ∷ []));
       verdicts = told ∙ ap (λ vss. vss ++ job.verdicts ∷ []) so_far.verdicts
-          ∙ sym (map-append (λ (j : Job Sight). j.verdicts) jobs (job ∷ []));
+          ∙ sym (map-append (λ (j : Job D). j.verdicts) jobs (job ∷ []));
       kept = kept_push lists' pushed;
       known = known;
     }
 
 -- the next of the jobs that are left is one of all
-pub next_further : (tracker : List ℕ) (sizes : Rattle.history_book.specs.declared.sizes.Sizes.Sizes) (all done left later : List (Job Sight)) (job : Job Sight)
-    → AreFurther tracker sizes all → done ++ left ≡ all → left ≡ job ∷ later → IsFurther tracker sizes job.desk
-next_further tracker sizes all done left later job further split next =
-    (subst (λ js. AreFurther tracker sizes js) next
-    (each_end (λ (j : Job Sight). IsFurther tracker sizes j.desk) done left (subst (λ js. AreFurther tracker sizes js) (sym split) further))).0
+pub next_further : {D : Type 0} (sight : D → Sight) (tracker : List ℕ) (sizes : Rattle.history_book.specs.declared.sizes.Sizes.Sizes) (all done left later : List (Job D)) (job : Job D)
+    → AreFurther sight tracker sizes all → done ++ left ≡ all → left ≡ job ∷ later → IsFurther tracker sizes (sight job.desk)
+next_further {D} sight tracker sizes all done left later job further split next =
+    (subst (λ js. AreFurther sight tracker sizes js) next
+    (each_end (λ (j : Job D). IsFurther tracker sizes (sight j.desk)) done left (subst (λ js. AreFurther sight tracker sizes js) (sym split) further))).0

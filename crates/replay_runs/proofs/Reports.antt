@@ -18,8 +18,7 @@ use Rattle.history_book.specs.History.{after, is_legal}
 use Rattle.history_book.specs.Merge.{all_notes, AreNumbers, CoverEach, CoverFrom, IsMerged, spans_of, spans_of_answers}
 use Rattle.history_book.specs.Numbered.{events_of, IsNumberedFrom, notes_of}
 use Rattle.packet_path.specs.Laws.{VerdictsStillFit}
-use Rattle.replay_runs.specs.declared.replay.Outcome.{Outcome}
-use Rattle.replay_runs.specs.Internal.Together.{IsRun}
+use Rattle.replay_runs.specs.Internal.Together.{IsRun, Remains}
 use Rattle.replay_runs.specs.Report.{AnswersFit, AreNamedInEach, at_start, captures_end, IsWellFormed, latest_of, made_by, run_of, ThreadsFit, TrackerSetup, Work}
 use Rattle.replay_runs.proofs.Counting.{all_count, all_numbers, times, times_append}
 use Rattle.replay_runs.proofs.Each.{each_append}
@@ -57,7 +56,7 @@ unnoted : (log : List Event) (names : List Numbered) → AllByRecursion (λ (n :
 unnoted log [] h = tt
 unnoted log (x ∷ names) (h, hs) = (h, unnoted log names hs)
 
-module _ (still : VerdictsStillFit) (answers_still : AnswersStillFit) (tracker : TrackerSetup) (work : Work) (numbers : List ℕ) (outcome : Outcome)
+module _ (still : VerdictsStillFit) (answers_still : AnswersStillFit) (tracker : TrackerSetup) (work : Work) (numbers : List ℕ) (outcome : Remains)
     (closed : Closed) (lists : List (Roomed Note)) (run : IsRun tracker work numbers outcome) (closes : Closes outcome.spot closed)
     (pushed : lists ≡ outcome.joined.lists.items ++ closed.notes ∷ []) where
   threads : List (Roomed Verdict)

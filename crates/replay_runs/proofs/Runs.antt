@@ -9,17 +9,16 @@ use Rattle.history_book.specs.declared.verdict.Verdict.{Verdict}
 use Rattle.packet_path.specs.declared.setup.Setup.{Setup}
 use Rattle.capture_list.specs.declared.Capture.{Capture}
 use Rattle.capture_list.specs.Frames.{frames_in}
-use Rattle.replay_runs.specs.declared.replay.Outcome.{Outcome}
 use Rattle.replay_runs.specs.Internal.Answered.{run_seen}
 use Rattle.replay_runs.specs.Internal.Replayed.{given_frames}
-use Rattle.replay_runs.specs.Internal.Together.{IsRun}
+use Rattle.replay_runs.specs.Internal.Together.{IsRun, Remains}
 use Rattle.replay_runs.specs.Replaying.{work_of}
 use Rattle.replay_runs.specs.Report.{at_start, latest_of}
 use Rattle.replay_runs.proofs.Bounds.{one_thread_each, verdicts_few}
 use Rattle.replay_runs.proofs.Scripts.{one_answer_each}
 
 -- the run of a list's items, by a tracker that was taken up, is that of the list and the tracker
-pub run_given : (setup : Setup) (given sizes : Sizes) (items captures : List Capture) (script : Script) (tracker numbers : List ℕ) (outcome : Outcome)
+pub run_given : (setup : Setup) (given sizes : Sizes) (items captures : List Capture) (script : Script) (tracker numbers : List ℕ) (outcome : Remains)
     → given ≡ sizes → items ≡ captures → tracker ≡ numbers
     → IsRun (record { setup = setup; sizes = given }) (work_of items script) tracker outcome
     → IsRun (record { setup = setup; sizes = sizes }) (work_of captures script) numbers outcome
@@ -28,7 +27,7 @@ run_given setup given sizes items captures script tracker numbers outcome sized 
     (subst (λ (cs : List Capture). IsRun (record { setup = setup; sizes = given }) (work_of cs script) numbers outcome) same
     (subst (λ (ns : List ℕ). IsRun (record { setup = setup; sizes = given }) (work_of items script) ns outcome) tracked run))
 
-module _ (setup : Setup) (sizes : Sizes) (captures : List Capture) (script : Script) (numbers : List ℕ) (outcome : Outcome)
+module _ (setup : Setup) (sizes : Sizes) (captures : List Capture) (script : Script) (numbers : List ℕ) (outcome : Remains)
     (run : IsRun (record { setup = setup; sizes = sizes }) (work_of captures script) numbers outcome) where
   -- there are as many threads as captures
   pub threads_few : length captures ≤ 63 → length outcome.joined.threads.items < 2 ^ 32

@@ -4,12 +4,13 @@ ghost use Rattle.std.specs.Prelude.{◌≡◌, ◌+◌, ◌≤◌, [], All, leng
 ghost use Rattle.history_book.specs.Places.{HoldsNothing};
 ghost use Rattle.history_book.specs.Sight.{IsKnown};
 ghost use Rattle.replay_runs.specs.Internal.Jobs.{AreFurther, CanBeReplayed, HasJoined, HasSplit};
+ghost use Rattle.shared_desk.specs.Sights.{sight_of};
 
 use crate::jobs::Job;
-use book_desk::turn_desk::TurnDesk;
 use capture_list::Capture;
 use ct_io::Gate;
 use history_book::report::{Notes, ThreadVerdicts, Verdicts};
+use shared_desk::clerk::Clerk;
 use std::alloc::Global;
 use tuple_core::NoMemory;
 
@@ -23,14 +24,14 @@ pub struct Joined {
 /// A thread for each capture, with a share of this desk's; the desk keeps one.
 pub fn split_off<'t, G: Gate>(
     alloc: Global,
-    desk: &mut TurnDesk<'t, G>,
+    desk: &mut Clerk<'t, G>,
     captures: &[Capture],
-) -> Result<Vec<Job<TurnDesk<'t, G>>>, NoMemory>
+) -> Result<Vec<Job<Clerk<'t, G>>>, NoMemory>
     requires captures { All CanBeReplayed captures.now }
-    requires shares { desk.old.shares ≡ length captures.now + 1 }
+    requires shares { (sight_of desk.old).shares ≡ length captures.now + 1 }
     requires few { length captures.now ≤ 63 }
-    requires knows { IsKnown desk.old }
-    ensures { IfOk result (λ jobs. HasSplit captures.now desk.old desk.new jobs.items) }
+    requires knows { IsKnown (sight_of desk.old) }
+    ensures { IfOk result (λ jobs. HasSplit sight_of captures.now (sight_of desk.old) (sight_of desk.new) jobs.items) }
 {
     let mut jobs = Vec::with_capacity(alloc, captures.len())?;
     'captures: for (worker, capture) in captures.iter().enumerate() {
@@ -47,13 +48,13 @@ pub fn split_off<'t, G: Gate>(
 /// Joins the desks of threads that have ended into this one.
 pub fn join_in<'t, G: Gate>(
     alloc: Global,
-    desk: &mut TurnDesk<'t, G>,
-    jobs: Vec<Job<TurnDesk<'t, G>>>,
+    desk: &mut Clerk<'t, G>,
+    jobs: Vec<Job<Clerk<'t, G>>>,
 ) -> Result<Joined, NoMemory>
-    requires further { AreFurther desk.old.tracker desk.old.sizes jobs.items }
-    requires empty { HoldsNothing desk.old }
-    requires knows { IsKnown desk.old }
-    ensures { IfOk result (λ joined. HasJoined jobs.entry.items desk.old desk.new joined.lists.items joined.threads.items) }
+    requires further { AreFurther sight_of (sight_of desk.old).tracker (sight_of desk.old).sizes jobs.items }
+    requires empty { HoldsNothing (sight_of desk.old) }
+    requires knows { IsKnown (sight_of desk.old) }
+    ensures { IfOk result (λ joined. HasJoined sight_of jobs.entry.items (sight_of desk.old) (sight_of desk.new) joined.lists.items joined.threads.items) }
 {
     // One more than there are desks, for the events of this one.
     let mut lists = Vec::with_capacity(alloc, jobs.len() + 1)?;

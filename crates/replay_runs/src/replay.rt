@@ -12,15 +12,15 @@ ghost use Rattle.capture_list.specs.Frames.{frames_in};
 ghost use Rattle.replay_runs.specs.Internal.Answered.{CanPerform};
 ghost use Rattle.replay_runs.specs.Internal.Jobs.{CanBeReplayed};
 ghost use Rattle.replay_runs.specs.Internal.Replayed.{given_frames};
-ghost use Rattle.replay_runs.specs.Internal.Together.{HasRun, IsRun};
+ghost use Rattle.replay_runs.specs.Internal.Together.{HasRun, IsRun, remains_of};
 ghost use Rattle.replay_runs.specs.Replaying.{work_of};
 ghost use Rattle.replay_runs.specs.Report.{IsWellFormed, latest_of};
+ghost use Rattle.shared_desk.specs.Sights.{sight_of};
 
 use crate::beside::run_threads;
 use crate::desks::{Joined, join_in, split_off};
 use crate::script_run::{latest_moment, run_script};
 use crate::shared::Shared;
-use book_desk::turn_desk::{TurnBook, TurnDesk, TurnSpot};
 use capture_list::{Capture, Captures};
 use conntrack_cmd::command::Command;
 use conntrack_cmd::laws::answers_still_fit;
@@ -33,6 +33,8 @@ use history_book::report::{Closed, Report};
 use history_book::sizes::Sizes;
 use packet_path::laws::verdicts_still_fit;
 use packet_path::setup::Setup;
+use shared_desk::clerk::Clerk;
+use shared_desk::tracker::{Spot, Tracker};
 use std::alloc::Global;
 use std::sync::Wait;
 use std::thread::Threads;
@@ -41,7 +43,7 @@ use tuple_core::NoMemory;
 /// What a run leaves: what the script's desk knew, what the threads of captures left, and the answers to the script.
 #[derive(Drop)]
 struct Outcome {
-    spot: TurnSpot,
+    spot: Spot,
     joined: Joined,
     answers: Answers,
 }
@@ -51,7 +53,7 @@ struct Outcome {
 fn run_to_wait<'t, R: Threads + Wait + Sync, G: Gate + Sync>(
     rt: &R,
     shared: &Shared<'_, G>,
-    desk: &mut TurnDesk<'t, G>,
+    desk: &mut Clerk<'t, G>,
     captures: &[Capture],
     answers: &mut Answers,
     commands: &[Command],
@@ -59,12 +61,12 @@ fn run_to_wait<'t, R: Threads + Wait + Sync, G: Gate + Sync>(
     requires lawful { AllByRecursion IsLawfulRule shared.now.setup.now.rules.items }
     requires captures { All CanBeReplayed captures.now }
     requires few { length captures.now ≤ 63 }
-    requires fresh { IsFresh desk.old.tracker desk.old.sizes desk.old }
-    requires passes { desk.old.sizes.passes ≡ length captures.now + 1 }
-    requires can { CanPerform commands.now shared.now.moment 0 desk.old }
+    requires fresh { IsFresh (sight_of desk.old).tracker (sight_of desk.old).sizes (sight_of desk.old) }
+    requires passes { (sight_of desk.old).sizes.passes ≡ length captures.now + 1 }
+    requires can { CanPerform commands.now shared.now.moment 0 (sight_of desk.old) }
     requires room { length answers.old.items + length commands.now ≤ answers.old.room }
     requires none { answers.old.items ≡ [] }
-    ensures run { IfOk result (λ joined. HasRun shared.now captures.now commands.now desk.old desk.new joined answers.new.items) }
+    ensures run { IfOk result (λ joined. HasRun shared.now captures.now commands.now (sight_of desk.old) (sight_of desk.new) joined answers.new.items) }
     ensures room { answers.new.room ≡ answers.old.room }
 {
     verdicts_still_fit();
@@ -86,7 +88,7 @@ fn run_to_wait<'t, R: Threads + Wait + Sync, G: Gate + Sync>(
 fn replay_on<'t, R: Threads + Wait + Sync, G: Gate + Sync>(
     rt: &R,
     shared: &Shared<'_, G>,
-    desk: TurnDesk<'t, G>,
+    desk: Clerk<'t, G>,
     captures: &[Capture],
     script: &Script,
 ) -> Result<Outcome, NoMemory>
@@ -96,12 +98,12 @@ fn replay_on<'t, R: Threads + Wait + Sync, G: Gate + Sync>(
     requires commands { length script.now.commands.items ≤ 256 }
     requires named { All (λ c. moment_of c ≤ 10 ^ 16) script.now.commands.items }
     requires moment { shared.now.moment ≡ latest_of 0 (map given_frames captures.now) }
-    requires limits { AreWithinLimits desk.sizes }
-    requires fresh { IsFresh desk.tracker desk.sizes desk }
-    requires passes { desk.sizes.passes ≡ length captures.now + 1 }
-    requires knows { IsKnown desk }
-    ensures { IfOk result (IsRun (record { setup = shared.now.setup.now; sizes = desk.entry.sizes })
-        (work_of captures.now script.now) desk.entry.tracker) }
+    requires limits { AreWithinLimits (sight_of desk).sizes }
+    requires fresh { IsFresh (sight_of desk).tracker (sight_of desk).sizes (sight_of desk) }
+    requires passes { (sight_of desk).sizes.passes ≡ length captures.now + 1 }
+    requires knows { IsKnown (sight_of desk) }
+    ensures { IfOk result (λ outcome. IsRun (record { setup = shared.now.setup.now; sizes = (sight_of desk.entry).sizes })
+        (work_of captures.now script.now) (sight_of desk.entry).tracker (remains_of outcome)) }
 {
     answers_still_fit();
     verdicts_still_fit();
@@ -155,8 +157,8 @@ pub fn replay<R: Threads + Wait + Sync, G: Gate + Sync>(
         gate,
         moment: latest_moment(list),
     };
-    let (book, spot) = TurnBook::new(alloc, *sizes)?;
-    let desk = book.desk(spot, gate, list.len() as u32);
+    let (tracker, spot) = Tracker::new(alloc, *sizes)?;
+    let desk = tracker.clerk(spot, gate, list.len() as u32);
     let outcome = replay_on(rt, &shared, desk, list, script)?;
     drop(captures);
     let Outcome {
@@ -164,7 +166,7 @@ pub fn replay<R: Threads + Wait + Sync, G: Gate + Sync>(
         joined,
         answers,
     } = outcome;
-    let Closed { notes, live, .. } = book.close(spot);
+    let Closed { notes, live, .. } = tracker.close(spot);
     let Joined { mut lists, threads } = joined;
     match lists.push(notes) {
         Ok(()) => merge(alloc, lists, threads, answers, live),

@@ -55,15 +55,15 @@ pub record IsFurther (tracker : List ℕ) (sizes : Sizes) (s : Sight) : Type 0 w
   pub empty : HoldsNothing s
 
 -- the desks of the jobs are further ones
-abbrev pub AreFurther : List ℕ → Sizes → List (Job Sight) → Type 0
-AreFurther tracker sizes jobs = AllByRecursion (λ (j : Job Sight). IsFurther tracker sizes j.desk) jobs
+abbrev pub AreFurther : {D : Type 0} (sight : D → Sight) → List ℕ → Sizes → List (Job D) → Type 0
+AreFurther {D} sight tracker sizes jobs = AllByRecursion (λ (j : Job D). IsFurther tracker sizes (sight j.desk)) jobs
 
 -- a desk has handed a share over to the desk of each of these threads, and has one left
-pub record HasSplit (captures : List Capture) (old new : Sight) (jobs : List (Job Sight)) : Type 0 where
+pub record HasSplit {D : Type 0} (sight : D → Sight) (captures : List Capture) (old new : Sight) (jobs : List (Job D)) : Type 0 where
   pub kept : new ≡ record old { front = new.front; shares = 1 }
   pub known : IsKnown new
-  pub set : AllZip (IsSet (λ s. s)) captures jobs
-  pub further : AreFurther old.tracker old.sizes jobs
+  pub set : AllZip (IsSet sight) captures jobs
+  pub further : AreFurther sight old.tracker old.sizes jobs
 
 -- these lists without their rooms
 abbrev pub items_of : List (Roomed Note) → List (List Note)
@@ -71,12 +71,12 @@ items_of lists = map (λ (l : Roomed Note). l.items) lists
 
 -- The desk of each thread, none of which wanted memory, has joined a desk: that has seen what they had seen. There is a
 -- list of each one's own events, and its verdicts.
-pub record HasJoined (jobs : List (Job Sight)) (old new : Sight) (lists : List (Roomed Note)) (threads : List (Roomed Verdict)) : Type 0 where
-  pub ended : AllByRecursion (λ (j : Job Sight). j.ended ≡ Ok tt) jobs
-  pub fronts : AllByRecursion (λ (j : Job Sight). StartsWith new.front j.desk.front) jobs
+pub record HasJoined {D : Type 0} (sight : D → Sight) (jobs : List (Job D)) (old new : Sight) (lists : List (Roomed Note)) (threads : List (Roomed Verdict)) : Type 0 where
+  pub ended : AllByRecursion (λ (j : Job D). j.ended ≡ Ok tt) jobs
+  pub fronts : AllByRecursion (λ (j : Job D). StartsWith new.front (sight j.desk).front) jobs
   pub front : StartsWith new.front old.front
-  pub notes : items_of lists ≡ map (λ (j : Job Sight). j.desk.own) jobs
-  pub verdicts : threads ≡ map (λ (j : Job Sight). j.verdicts) jobs
+  pub notes : items_of lists ≡ map (λ (j : Job D). (sight j.desk).own) jobs
+  pub verdicts : threads ≡ map (λ (j : Job D). j.verdicts) jobs
   pub kept : new ≡ record old {
     front = new.front;
     returned = old.returned + length jobs;

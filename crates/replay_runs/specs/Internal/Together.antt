@@ -17,6 +17,7 @@ use Rattle.replay_runs.specs.declared.replay.Outcome.{Outcome}
 use Rattle.replay_runs.specs.declared.shared.Shared.{Shared}
 use Rattle.replay_runs.specs.Internal.Answered.{past_answers, run_seen}
 use Rattle.replay_runs.specs.Internal.Replayed.{given_frames, tracker_with}
+use Rattle.shared_desk.specs.Sights.{sight_of}
 use Rattle.replay_runs.specs.Report.{AnswersFit, at_start, latest_of, TrackerSetup, VerdictsFit, Work}
 
 -- the events of a capture's thread: the verdicts fit them, and their numbers rise and lie below the end
@@ -55,9 +56,18 @@ pub record HasRun {G : Type 0} (shared : Shared G) (captures : List Capture) (co
   pub mark : (wait end : ℕ) → length commands ≤ wait
       → (past_answers (run_seen new shared.moment wait end) at_start new.own answers).mark ≤ length new.front
 
+-- what a run leaves, with what its spot knows
+pub record Remains : Type 0 where
+  pub spot : Sight
+  pub joined : Joined
+  pub answers : Roomed Answer
+
+abbrev pub remains_of : Outcome → Remains
+remains_of o = record { spot = sight_of o.spot; joined = o.joined; answers = o.answers }
+
 -- All of a tracker's work was done, and all of its desks joined the one that was left: this can be closed. When it began to
 -- perform the commands behind `wait` it had seen this end, below which all events of captures are.
-pub record IsRun (tracker : TrackerSetup) (work : Work) (numbers : List ℕ) (outcome : Outcome) : Type 0 where
+pub record IsRun (tracker : TrackerSetup) (work : Work) (numbers : List ℕ) (outcome : Remains) : Type 0 where
   pub tracked : outcome.spot.tracker ≡ numbers
   pub sized : outcome.spot.sizes ≡ tracker.sizes
   pub empty : HoldsNothing outcome.spot

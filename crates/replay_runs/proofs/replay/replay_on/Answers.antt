@@ -1,5 +1,5 @@
 use Rattle.std.proofs.Common.{◌≡◌, min, length, rules, ap, arith, sym, subst}
-use Rattle.history_book.specs.Sight.{Sight}
+use Rattle.shared_desk.specs.Sights.{ClerkSight, sight_of}
 use Rattle.replay_runs.specs.Internal.Together.{IsRun}
 use Rattle.replay_runs.specs.Replaying.{work_of}
 use Rattle.replay_runs.proofs.Finishing.{first_can, run_done, then_can, then_room}
@@ -7,7 +7,7 @@ use Rattle.replay_runs.proofs.replay.replay_on.Goals as goal
 
 pub run_to_wait-requires-clause-can : goal.run_to_wait-requires-clause-can
 run_to_wait-requires-clause-can g c κs within =
-    first_can c.args.captures.now c.as_slice-commands.result.now c.split_at.result.0.now c.args.shared.now.moment c.min.result c.args.desk
+    first_can c.args.captures.now c.as_slice-commands.result.now c.split_at.result.0.now c.args.shared.now.moment c.min.result (sight_of c.args.desk)
     c.requires.limits c.requires.fresh c.requires.knows c.requires.moment c.requires.captures
     (omega (arith, ap length c.as_slice-commands.ensures, c.requires.commands)) (rw c.as_slice-commands.ensures c.requires.named)
     c.split_at.ensures.front
@@ -15,8 +15,8 @@ run_to_wait-requires-clause-can g c κs within =
 pub run_script-requires-clause-can : goal.run_script-requires-clause-can
 run_script-requires-clause-can g c =
     then_can c.args.shared.now c.args.captures.now c.as_slice-commands.result.now c.split_at.result.0.now c.split_at.result.1.now c.min.result
-    c.args.desk c.run_to_wait.new.desk c.in_ok-joined.joined c.run_to_wait.new.answers c.in_ok-joined.ensures.run
-    (first_can c.args.captures.now c.as_slice-commands.result.now c.split_at.result.0.now c.args.shared.now.moment c.min.result c.args.desk
+    (sight_of c.args.desk) (sight_of c.run_to_wait.new.desk) c.in_ok-joined.joined c.run_to_wait.new.answers c.in_ok-joined.ensures.run
+    (first_can c.args.captures.now c.as_slice-commands.result.now c.split_at.result.0.now c.args.shared.now.moment c.min.result (sight_of c.args.desk)
     c.requires.limits c.requires.fresh c.requires.knows c.requires.moment c.requires.captures
     (omega (arith, ap length c.as_slice-commands.ensures, c.requires.commands)) (rw c.as_slice-commands.ensures c.requires.named)
     c.split_at.ensures.front)
@@ -26,8 +26,8 @@ run_script-requires-clause-can g c =
 pub run_script-requires-clause-room : goal.run_script-requires-clause-room
 run_script-requires-clause-room g c =
     then_room c.args.shared.now c.args.captures.now c.as_slice-commands.result.now c.split_at.result.0.now c.split_at.result.1.now c.min.result
-    c.args.desk c.run_to_wait.new.desk c.in_ok-joined.joined c.run_to_wait.new.answers c.in_ok-joined.ensures.run
-    (first_can c.args.captures.now c.as_slice-commands.result.now c.split_at.result.0.now c.args.shared.now.moment c.min.result c.args.desk
+    (sight_of c.args.desk) (sight_of c.run_to_wait.new.desk) c.in_ok-joined.joined c.run_to_wait.new.answers c.in_ok-joined.ensures.run
+    (first_can c.args.captures.now c.as_slice-commands.result.now c.split_at.result.0.now c.args.shared.now.moment c.min.result (sight_of c.args.desk)
     c.requires.limits c.requires.fresh c.requires.knows c.requires.moment c.requires.captures
     (omega (arith, ap length c.as_slice-commands.ensures, c.requires.commands)) (rw c.as_slice-commands.ensures c.requires.named)
     c.split_at.ensures.front)
@@ -37,11 +37,11 @@ run_script-requires-clause-room g c =
 pub returns : goal.returns
 returns g c =
     let count : c.min.result ≡ min (length c.args.script.now.commands.items) c.args.script.now.wait = search rules in
-    subst (λ (s : Sight). IsRun (record { setup = c.args.shared.now.setup.now; sizes = c.args.desk.sizes })
-    (work_of c.args.captures.now c.args.script.now) c.args.desk.tracker
-    (record { spot = s; joined = c.in_ok-joined.joined; answers = c.run_script.new.answers })) (sym c.leave.ensures)
-    (run_done c.verdicts_still_fit.ensures c.answers_still_fit.ensures c.args.shared.now c.args.captures.now c.args.script.now c.args.desk
-    c.run_to_wait.new.desk c.run_script.new.desk c.in_ok-joined.joined c.split_at.result.0.now c.split_at.result.1.now
+    subst (λ (s : ClerkSight). IsRun (record { setup = c.args.shared.now.setup.now; sizes = (sight_of c.args.desk).sizes })
+    (work_of c.args.captures.now c.args.script.now) (sight_of c.args.desk).tracker
+    (record { spot = sight_of s; joined = c.in_ok-joined.joined; answers = c.run_script.new.answers })) (sym c.leave.ensures.same)
+    (run_done c.verdicts_still_fit.ensures c.answers_still_fit.ensures c.args.shared.now c.args.captures.now c.args.script.now (sight_of c.args.desk)
+    (sight_of c.run_to_wait.new.desk) (sight_of c.run_script.new.desk) c.in_ok-joined.joined c.split_at.result.0.now c.split_at.result.1.now
     c.run_to_wait.new.answers.items c.run_script.new.answers c.min.result
     c.requires.fresh c.in_ok-joined.ensures.run
     (rw (← c.made-made.ensures.exact) c.in_ok-run_script.ensures.performed) count
