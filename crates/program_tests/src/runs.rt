@@ -6,6 +6,7 @@ use crate::packet::QUERY;
 use std::test::Fail;
 
 mod captures;
+mod confirms;
 mod flows;
 mod ftp;
 mod made;

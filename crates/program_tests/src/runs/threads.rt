@@ -63,7 +63,7 @@ impl Gate for Meeting {
 }
 
 /// A query and its answer of another client.
-const ELSEWHERE: Content<'static> = Content::Capture(
+pub const ELSEWHERE: Content<'static> = Content::Capture(
     PLAIN,
     &[
         (

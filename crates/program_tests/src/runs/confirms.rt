@@ -1,0 +1,152 @@
+//! A thread that stands in the middle of a confirm, and what another one does meanwhile.
+
+use super::{CAPTURE, NAME, REPLAYED, SECOND};
+use super::threads::ELSEWHERE;
+use crate::case::{Case, Text, holds_through};
+use crate::content::{Content, PLAIN};
+use crate::packet::QUERY;
+use ct_io::{Crossing, Gate};
+use std::sync::atomic::{AtomicU64, Ordering};
+use std::test::Fail;
+
+/// How often a thread looks for the other one, at most.
+const TURNS: u32 = 1 << 28;
+
+/// How often it looks, where it waits for nothing.
+const STAY: u32 = 1 << 24;
+
+/// Whether a count is so high before the turns run out.
+fn is_reached(count: &AtomicU64, least: u64, turns: u32) -> bool {
+    for _turn in 0..turns {
+        if count.load(Ordering::SeqCst) >= least {
+            return true;
+        }
+    }
+    false
+}
+
+/// How often the first thread came into a confirm, how many packets the second one came to, and how often one waited in
+/// vain for the other.
+#[derive(Drop)]
+struct Counts {
+    confirms: AtomicU64,
+    packets: AtomicU64,
+    missed: AtomicU64,
+}
+
+impl Counts {
+    /// No thread has come yet.
+    fn new() -> Counts {
+        Counts {
+            confirms: AtomicU64::new(0),
+            packets: AtomicU64::new(0),
+            missed: AtomicU64::new(0),
+        }
+    }
+
+    /// Waits until a count is so high, at most for the turns.
+    fn wait(&self, count: &AtomicU64, least: u64) {
+        if !is_reached(count, least, TURNS) {
+            self.missed.fetch_add(1, Ordering::SeqCst);
+        }
+    }
+}
+
+/// A gate at which the first thread stays in its confirm until the second one has come to its second packet.
+#[derive(Drop)]
+struct Passed {
+    counts: Counts,
+}
+
+impl Gate for Passed {
+    fn at(&self, worker: u32, crossing: Crossing) {
+        let counts = &self.counts;
+        match (worker, crossing) {
+            (0, Crossing::InConfirm) => {
+                counts.confirms.fetch_add(1, Ordering::SeqCst);
+                counts.wait(&counts.packets, 2);
+            }
+            (1, Crossing::BeforePacket) => {
+                counts.packets.fetch_add(1, Ordering::SeqCst);
+            }
+            (_, _) => {}
+        }
+    }
+}
+
+/// A gate at which the second thread waits before its first packet until the first one is in its confirm, which then stays
+/// there for a while; the second one is counted as missed where it comes to its second packet meanwhile.
+#[derive(Drop)]
+struct Held {
+    counts: Counts,
+}
+
+impl Held {
+    /// The first thread is in its confirm.
+    fn stay(&self) {
+        self.counts.confirms.fetch_add(1, Ordering::SeqCst);
+        if is_reached(&self.counts.packets, 2, STAY) {
+            self.counts.missed.fetch_add(1, Ordering::SeqCst);
+        }
+    }
+
+    /// The second thread has come to a packet.
+    fn come(&self) {
+        if self.counts.packets.fetch_add(1, Ordering::SeqCst) == 0 {
+            self.counts.wait(&self.counts.confirms, 1);
+        }
+    }
+}
+
+impl Gate for Held {
+    fn at(&self, worker: u32, crossing: Crossing) {
+        match (worker, crossing) {
+            (0, Crossing::InConfirm) => self.stay(),
+            (1, Crossing::BeforePacket) => self.come(),
+            (_, _) => {}
+        }
+    }
+}
+
+/// A thread in the middle of a confirm holds up no other one whose flow is of other buckets: that confirms its flow meanwhile,
+/// and goes on to its next packet.
+#[test]
+fn a_confirm_holds_up_no_other_flow(rt: HostRuntime) -> Result<(), Fail> {
+    static CASE: Case<'static> = Case {
+        words: &["ctreplay", "--summary", NAME, SECOND],
+        files: &[(NAME, Content::Bytes(&CAPTURE)), (SECOND, ELSEWHERE)],
+        out: Text::Is("summary threads=2 packets=4 events=4 live=2\nNEW 2\nESTABLISHED_REPLY 2\n"),
+        ..REPLAYED
+    };
+    let gate = Passed {
+        counts: Counts::new(),
+    };
+    holds_through(&rt, &CASE, &gate, 0)?;
+    assert_eq!(rt; gate.counts.confirms.load(Ordering::SeqCst), 1, "the confirm");
+    assert_eq!(rt; gate.counts.missed.load(Ordering::SeqCst), 0, "a thread waited in vain");
+    Ok(())
+}
+
+/// A query.
+const ONCE: Content<'static> = Content::Capture(PLAIN, &[(1000, 0, QUERY)]);
+
+/// The same query, twice.
+const TWICE: Content<'static> = Content::Capture(PLAIN, &[(1001, 0, QUERY), (1002, 0, QUERY)]);
+
+/// Nor is a flow known to another thread before the confirm of it has ended: that waits, and then has the entry.
+#[test]
+fn a_flow_waits_for_its_confirm(rt: HostRuntime) -> Result<(), Fail> {
+    static CASE: Case<'static> = Case {
+        words: &["ctreplay", "--summary", NAME, SECOND],
+        files: &[(NAME, ONCE), (SECOND, TWICE)],
+        out: Text::Is("summary threads=2 packets=3 events=3 live=1\nNEW 3\n"),
+        ..REPLAYED
+    };
+    let gate = Held {
+        counts: Counts::new(),
+    };
+    holds_through(&rt, &CASE, &gate, 0)?;
+    assert_eq!(rt; gate.counts.confirms.load(Ordering::SeqCst), 1, "the confirm");
+    assert_eq!(rt; gate.counts.missed.load(Ordering::SeqCst), 0, "the flow was known too early, or a thread waited in vain");
+    Ok(())
+}
