@@ -1,7 +1,7 @@
 //! A thread that stands in the middle of a confirm, and what another one does meanwhile.
 
-use super::{CAPTURE, NAME, REPLAYED, SECOND};
 use super::threads::ELSEWHERE;
+use super::{CAPTURE, NAME, REPLAYED, SECOND};
 use crate::case::{Case, Text, holds_through};
 use crate::content::{Content, PLAIN};
 use crate::packet::QUERY;
@@ -122,8 +122,16 @@ fn a_confirm_holds_up_no_other_flow(rt: HostRuntime) -> Result<(), Fail> {
         counts: Counts::new(),
     };
     holds_through(&rt, &CASE, &gate, 0)?;
-    assert_eq!(rt; gate.counts.confirms.load(Ordering::SeqCst), 1, "the confirm");
-    assert_eq!(rt; gate.counts.missed.load(Ordering::SeqCst), 0, "a thread waited in vain");
+    assert_eq!(rt;
+        gate.counts.confirms.load(Ordering::SeqCst),
+        1,
+        "the confirm"
+    );
+    assert_eq!(rt;
+        gate.counts.missed.load(Ordering::SeqCst),
+        0,
+        "a thread waited in vain"
+    );
     Ok(())
 }
 
@@ -146,7 +154,15 @@ fn a_flow_waits_for_its_confirm(rt: HostRuntime) -> Result<(), Fail> {
         counts: Counts::new(),
     };
     holds_through(&rt, &CASE, &gate, 0)?;
-    assert_eq!(rt; gate.counts.confirms.load(Ordering::SeqCst), 1, "the confirm");
-    assert_eq!(rt; gate.counts.missed.load(Ordering::SeqCst), 0, "the flow was known too early, or a thread waited in vain");
+    assert_eq!(rt;
+        gate.counts.confirms.load(Ordering::SeqCst),
+        1,
+        "the confirm"
+    );
+    assert_eq!(rt;
+        gate.counts.missed.load(Ordering::SeqCst),
+        0,
+        "the flow was known too early, or a thread waited in vain"
+    );
     Ok(())
 }
