@@ -6,8 +6,11 @@ use crate::case::{Case, Text, holds_through};
 use crate::content::{Content, PLAIN};
 use crate::packet::QUERY;
 use ct_io::{Crossing, Gate};
+use std::process::Abort;
+use std::sync::Wait;
 use std::sync::atomic::{AtomicU64, Ordering};
 use std::test::Fail;
+use std::thread::Threads;
 
 /// How often a thread looks for the other one, at most.
 const TURNS: u32 = 1 << 28;
@@ -50,9 +53,17 @@ impl Counts {
             self.missed.fetch_add(1, Ordering::SeqCst);
         }
     }
+
+    /// The second thread has come to a packet: before its first one it waits until the first thread is in its confirm.
+    fn come(&self) {
+        if self.packets.fetch_add(1, Ordering::SeqCst) == 0 {
+            self.wait(&self.confirms, 1);
+        }
+    }
 }
 
-/// A gate at which the first thread stays in its confirm until the second one has come to its second packet.
+/// A gate at which the second thread waits before its first packet until the first one is in its confirm, which then stays
+/// there until the second one has come to its second packet.
 #[derive(Drop)]
 struct Passed {
     counts: Counts,
@@ -66,9 +77,7 @@ impl Gate for Passed {
                 counts.confirms.fetch_add(1, Ordering::SeqCst);
                 counts.wait(&counts.packets, 2);
             }
-            (1, Crossing::BeforePacket) => {
-                counts.packets.fetch_add(1, Ordering::SeqCst);
-            }
+            (1, Crossing::BeforePacket) => counts.come(),
             (_, _) => {}
         }
     }
@@ -89,20 +98,13 @@ impl Held {
             self.counts.missed.fetch_add(1, Ordering::SeqCst);
         }
     }
-
-    /// The second thread has come to a packet.
-    fn come(&self) {
-        if self.counts.packets.fetch_add(1, Ordering::SeqCst) == 0 {
-            self.counts.wait(&self.counts.confirms, 1);
-        }
-    }
 }
 
 impl Gate for Held {
     fn at(&self, worker: u32, crossing: Crossing) {
         match (worker, crossing) {
             (0, Crossing::InConfirm) => self.stay(),
-            (1, Crossing::BeforePacket) => self.come(),
+            (1, Crossing::BeforePacket) => self.counts.come(),
             (_, _) => {}
         }
     }
@@ -135,6 +137,29 @@ fn a_confirm_holds_up_no_other_flow(rt: HostRuntime) -> Result<(), Fail> {
     Ok(())
 }
 
+/// Runs two captures, of which the first is in its confirm for a while. The second one comes to its second packet only when that
+/// has ended.
+fn second_waits<R: Threads + Wait + Sync + AllocGlobal + Abort>(
+    rt: &R,
+    case: &Case<'_>,
+) -> Result<(), Fail> {
+    let gate = Held {
+        counts: Counts::new(),
+    };
+    holds_through(rt, case, &gate, 0)?;
+    assert_eq!(rt;
+        gate.counts.confirms.load(Ordering::SeqCst),
+        1,
+        "the confirm"
+    );
+    assert_eq!(rt;
+        gate.counts.missed.load(Ordering::SeqCst),
+        0,
+        "the second thread went on, or a thread waited in vain"
+    );
+    Ok(())
+}
+
 /// A query.
 const ONCE: Content<'static> = Content::Capture(PLAIN, &[(1000, 0, QUERY)]);
 
@@ -150,19 +175,17 @@ fn a_flow_waits_for_its_confirm(rt: HostRuntime) -> Result<(), Fail> {
         out: Text::Is("summary threads=2 packets=3 events=3 live=1\nNEW 3\n"),
         ..REPLAYED
     };
-    let gate = Held {
-        counts: Counts::new(),
+    second_waits(&rt, &CASE)
+}
+
+/// In a table of one bucket each flow waits for the confirm of any other: the words decide the table.
+#[test]
+fn one_bucket_is_locked_for_all_flows(rt: HostRuntime) -> Result<(), Fail> {
+    static CASE: Case<'static> = Case {
+        words: &["ctreplay", "--buckets", "1", "--summary", NAME, SECOND],
+        files: &[(NAME, ONCE), (SECOND, ELSEWHERE)],
+        out: Text::Is("summary threads=2 packets=3 events=3 live=2\nNEW 2\nESTABLISHED_REPLY 1\n"),
+        ..REPLAYED
     };
-    holds_through(&rt, &CASE, &gate, 0)?;
-    assert_eq!(rt;
-        gate.counts.confirms.load(Ordering::SeqCst),
-        1,
-        "the confirm"
-    );
-    assert_eq!(rt;
-        gate.counts.missed.load(Ordering::SeqCst),
-        0,
-        "the flow was known too early, or a thread waited in vain"
-    );
-    Ok(())
+    second_waits(&rt, &CASE)
 }

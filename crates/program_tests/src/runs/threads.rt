@@ -126,6 +126,79 @@ fn two_threads_run_at_once(rt: HostRuntime) -> Result<(), Fail> {
     meet(&rt, &CASE, 2, 2)
 }
 
+/// A gate that counts to how many packets each of five threads comes.
+#[derive(Drop)]
+struct Counted {
+    packets: [AtomicU64; 5],
+    others: AtomicU64,
+}
+
+impl Counted {
+    /// No thread has come yet.
+    fn new() -> Counted {
+        Counted {
+            packets: [
+                AtomicU64::new(0),
+                AtomicU64::new(0),
+                AtomicU64::new(0),
+                AtomicU64::new(0),
+                AtomicU64::new(0),
+            ],
+            others: AtomicU64::new(0),
+        }
+    }
+}
+
+impl Gate for Counted {
+    fn at(&self, worker: u32, crossing: Crossing) {
+        match crossing {
+            Crossing::BeforePacket => {
+                let worker = worker as usize;
+                let count = if worker < 5 {
+                    &self.packets[worker]
+                } else {
+                    &self.others
+                };
+                count.fetch_add(1, Ordering::SeqCst);
+            }
+            Crossing::BeforeCommand | Crossing::InConfirm => {}
+        }
+    }
+}
+
+/// Each of five captures passes the gate before each of its packets, under its own number.
+#[test]
+fn threads_have_the_numbers_of_their_captures(rt: HostRuntime) -> Result<(), Fail> {
+    const AT: (u32, u32, Packet<'static>) = (1000, 0, QUERY);
+    static CASE: Case<'static> = Case {
+        words: &["ctreplay", "--summary", "0", "1", "2", "3", "4"],
+        files: &[
+            ("0", Content::Capture(PLAIN, &[AT])),
+            ("1", Content::Capture(PLAIN, &[AT, AT])),
+            ("2", Content::Capture(PLAIN, &[AT, AT, AT])),
+            ("3", Content::Capture(PLAIN, &[AT, AT, AT, AT])),
+            ("4", Content::Capture(PLAIN, &[AT, AT, AT, AT, AT])),
+        ],
+        out: Text::Around("summary threads=5 packets=15 ", "\n"),
+        ..REPLAYED
+    };
+    let gate = Counted::new();
+    holds_through(&rt, &CASE, &gate, 0)?;
+    for (number, count) in gate.packets.iter().enumerate() {
+        assert_eq!(rt;
+            count.load(Ordering::SeqCst),
+            number as u64 + 1,
+            "the packets of a thread"
+        );
+    }
+    assert_eq!(rt;
+        gate.others.load(Ordering::SeqCst),
+        0,
+        "a thread of no capture"
+    );
+    Ok(())
+}
+
 /// What is printed where the command in front of `wait` is answered before the first event, between both, and behind them.
 const BESIDE_TWO_EVENTS: [&str; 3] = [
     "\
