@@ -46,7 +46,7 @@ threads_of (named names) = length names.captures
 threads_of (made workload) = workload.threads
 
 -- The sizes of the tracker that is asked for. It makes a pass for each capture and one for the script. Its buckets and its
--- seed are read by no definition.
+-- seed are read by no definition of this clause.
 abbrev pub sizes_of : Request → Sizes
 sizes_of asked =
     record { entries = asked.entries; buckets = asked.buckets; seed = 1; passes = threads_of asked.origin + 1; expectations = 1024 }
