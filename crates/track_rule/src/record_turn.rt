@@ -1,11 +1,12 @@
 //! The turn of the record of a place. A pass takes it, has the record of the entry that is live there out of its slot, changes
 //! it, puts it back, and gives the turn back. Taking and giving back are each one atomic step; moving the record is none.
 
-ghost use Rattle.std.specs.Prelude.{◌≡◌, ◌<◌, None};
+ghost use Rattle.std.specs.Prelude.{◌≡◌, ◌<◌, None, Some};
 ghost use Rattle.atomic_table.specs.Table.{rest};
 ghost use Rattle.history_book.specs.Sizes.{AreWithinLimits};
+ghost use Rattle.history_book.specs.declared.record.Record.{Record};
 ghost use Rattle.track_rule.specs.declared.view.Middle.TheVariants.{Calm};
-ghost use Rattle.track_rule.specs.Layout.{turn_word, word_count};
+ghost use Rattle.track_rule.specs.Layout.{record_slot, turn_word, word_count};
 ghost use Rattle.track_rule.specs.Records.{has_hand};
 ghost use Rattle.track_rule.specs.Sights.{sizes_of};
 ghost use Rattle.track_rule.specs.TurnSteps.{CanGiveTurn, TakesTurn, gave_turn, subject_in, with_subject};
@@ -17,6 +18,7 @@ use crate::view::View;
 use atomic_table::Play;
 use history_book::record::Record;
 use history_book::sizes::Sizes;
+use proto_rules::Part;
 
 /// The first slot of a record.
 const RECORD_SLOT: usize = 2;
@@ -49,6 +51,13 @@ fn turn_word(sizes: &Sizes, place: u32) -> usize
     refs_word(sizes, place) + 2
 }
 
+/// The slot of the record of a place.
+fn record_slot(place: u32) -> usize
+    ensures { result ≡ record_slot place }
+{
+    RECORD_SLOT + place as usize
+}
+
 impl<'b> Pass<'b> {
     /// Takes the turn of the record of a place, if no pass has it, and the record out of its slot. The pass has no other
     /// record, and not the free list.
@@ -72,11 +81,39 @@ impl<'b> Pass<'b> {
         ensures subject { result ≡ subject_in self.old.slots }
         ensures kept { self.new ≡ record self.old { slots = with_subject place subject self.old.slots } }
     {
-        let slot = RECORD_SLOT + place as usize;
+        let slot = record_slot(place);
         subject_of(
             self.shared
                 .exchange(&mut self.seat, slot, with_subject(subject)),
         )
+    }
+
+    /// The record that is out, or none. It stays there.
+    pub fn record_load(&mut self, place: u32) -> Option<Record>
+        requires turn { has_hand place self.old.view ≡ 1 }
+        requires free { self.old.view.free ≡ None }
+        ensures subject { result ≡ subject_in self.old.slots }
+        ensures same { self.new ≡ self.old }
+    {
+        match self.seat.slot_mut(self.shared, record_slot(place)) {
+            Slot::Subject(subject) => Some(*subject),
+            Slot::Vacant | Slot::Free(_) | Slot::Expects(_) => None,
+        }
+    }
+
+    /// Puts a part into the record that is out, where there is one.
+    pub fn part_store(&mut self, place: u32, part: Part)
+        requires turn { has_hand place self.old.view ≡ 1 }
+        requires free { self.old.view.free ≡ None }
+        ensures part { (subject : Record) → subject_in self.old.slots ≡ Some subject → self.new ≡ record self.old {
+          slots = with_subject place (Some (record subject { part = part })) self.old.slots;
+        } }
+        ensures none { subject_in self.old.slots ≡ None → self.new ≡ self.old }
+    {
+        match self.seat.slot_mut(self.shared, record_slot(place)) {
+            Slot::Subject(subject) => subject.part = part,
+            Slot::Vacant | Slot::Free(_) | Slot::Expects(_) => {}
+        }
     }
 
     /// Gives the turn back, and the record with it.
