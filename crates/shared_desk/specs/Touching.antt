@@ -22,6 +22,7 @@ use Rattle.shared_desk.specs.Commit.{seen_with}
 use Rattle.track_rule.specs.TouchSteps.{hand_goes_on, known_phase, known_record}
 use Rattle.track_rule.specs.TurnSteps.{with_subject}
 use Rattle.shared_desk.specs.Looking.{HasRecord}
+use Rattle.shared_desk.specs.declared.touching.MadeTouch.{MadeTouch}
 use Rattle.shared_desk.specs.declared.touching.Packet.{Packet}
 
 -- The pass holds the place for an entry, whose protocol is that of the packet, and has room for an event.
@@ -40,6 +41,11 @@ Notes (Some note) old new = new ≡ old ++ note ∷ []
 -- its Touch
 abbrev pub touch_of : Packet → ℕ → Part → Event
 touch_of p id after = Touch id p.direction p.segment p.moment after
+
+-- as an own event, if it was made
+abbrev pub touch_note : Packet → Option MadeTouch → Option Note
+touch_note p None = None
+touch_note p (Some made) = Some (record { number = made.number; event = touch_of p made.id made.after })
 
 -- The Touch of the entry was made after all these events, and was lawful.
 pub record IsTouched (place : ℕ) (p : Packet) (number : ℕ) (before : Record) (v w : PassSight) : Type 0 where

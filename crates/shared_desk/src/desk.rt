@@ -17,7 +17,7 @@ use crate::confirm::confirm;
 use crate::entry::{kill, peek, touch};
 use crate::expecting::expect;
 use crate::holding::hold;
-use crate::noting::{note_confirm, note_event};
+use crate::noting::{note_confirm, note_event, note_touch};
 use crate::touching::Packet;
 use bucket_table::finding::FindOnce;
 use ct_io::Gate;
@@ -167,8 +167,8 @@ impl<'t, G: Gate> Desk for Clerk<'t, G> {
             segment,
             moment,
         };
-        let (outcome, note) = touch(rt, &mut self.pass, place, &packet);
-        note_event(&mut self.notes, &mut self.spare, note);
+        let (outcome, made) = touch(rt, &mut self.pass, place, &packet);
+        note_touch(&mut self.notes, &mut self.spare, &packet, made);
         outcome
     }
 

@@ -3,13 +3,13 @@
 ghost use Rattle.std.specs.Prelude.{◌≡◌};
 ghost use Rattle.shared_desk.specs.Killing.{Kills, KillsUnder, SuitsKill};
 ghost use Rattle.shared_desk.specs.Looking.{HasRecord, IsFreeFor, Peeks};
-ghost use Rattle.shared_desk.specs.Touching.{Notes, SuitsEntry, Touches, TouchesUnder};
+ghost use Rattle.shared_desk.specs.Touching.{Notes, SuitsEntry, touch_note, Touches, TouchesUnder};
 ghost use Rattle.track_rule.specs.TurnSteps.{subject_in};
 
 use crate::clerk::events_in;
 use crate::commit::take_turn;
 use crate::killing::judge;
-use crate::touching::{Packet, step_record};
+use crate::touching::{MadeTouch, Packet, step_record};
 use bucket_table::finding::LIVE;
 use history_book::event::{Note, Why};
 use history_book::laws::entries_keep_their_protocol;
@@ -24,9 +24,7 @@ pub fn record_out(pass: &mut Pass, place: u32) -> Option<Record>
     ensures record { result ≡ subject_in pass.old.slots }
     ensures same { pass.new ≡ pass.old }
 {
-    let subject = pass.record_swap(place, None);
-    let _ = pass.record_swap(place, subject);
-    subject
+    pass.record_load(place)
 }
 
 /// Reads the entry for which a place is held, under the turn of the place's record.
@@ -57,11 +55,11 @@ pub fn peek<R: Wait>(rt: &R, pass: &mut Pass, place: u32) -> PeekOutcome
 }
 
 /// Touches the entry for which a place is held, under the turn of the place's record.
-fn touch_record(pass: &mut Pass, place: u32, packet: &Packet) -> (TouchOutcome, Option<Note>)
+fn touch_record(pass: &mut Pass, place: u32, packet: &Packet) -> (TouchOutcome, Option<MadeTouch>)
     requires has { HasRecord place pass.old }
     requires suits { SuitsEntry place packet.now pass.old }
     ensures touches { TouchesUnder place packet.now result.0 pass.old pass.new }
-    ensures noted { Notes result.1 pass.old.view.seen.own pass.new.view.seen.own }
+    ensures noted { Notes (touch_note packet.now result.1) pass.old.view.seen.own pass.new.view.seen.own }
 {
     entries_keep_their_protocol();
     let phase = pass.phase_load(place);
@@ -81,11 +79,11 @@ pub fn touch<R: Wait>(
     pass: &mut Pass,
     place: u32,
     packet: &Packet,
-) -> (TouchOutcome, Option<Note>)
+) -> (TouchOutcome, Option<MadeTouch>)
     requires free { IsFreeFor place pass.old }
     requires suits { SuitsEntry place packet.now pass.old }
     ensures touches { Touches place packet.now result.0 pass.old pass.new }
-    ensures noted { Notes result.1 pass.old.view.seen.own pass.new.view.seen.own }
+    ensures noted { Notes (touch_note packet.now result.1) pass.old.view.seen.own pass.new.view.seen.own }
 {
     take_turn(rt, pass, place);
     let outcome = touch_record(pass, place, packet);

@@ -2,8 +2,10 @@
 
 ghost use Rattle.std.specs.Prelude.{◌≡◌, ◌+◌, ◌<◌, ◌≤◌, length};
 ghost use Rattle.shared_desk.specs.Noting.{made_by, room_after, room_for, with_note};
+ghost use Rattle.shared_desk.specs.Touching.{touch_note};
 
 use crate::commit::record_for;
+use crate::touching::{MadeTouch, Packet, touch_event};
 use history_book::event::{Event, Note};
 use history_book::outcome::ConfirmOutcome;
 use history_book::record::Flow;
@@ -45,6 +47,22 @@ pub fn note_event(notes: &mut Notes, spare: &mut u64, made: Option<Note>)
 {
     if let Some(note) = made {
         notes.push(note);
+        *spare -= 1;
+    }
+}
+
+/// Notes the Touch by a packet, if the call made it. There is room for it.
+pub fn note_touch(notes: &mut Notes, spare: &mut u64, packet: &Packet, made: Option<MadeTouch>)
+    requires room { length notes.old.items + spare.old ≤ notes.old.room }
+    requires spare { 1 ≤ spare.old }
+    ensures notes { notes.new ≡ with_note (touch_note packet.now made) notes.old }
+    ensures spare { spare.new ≡ room_after (touch_note packet.now made) spare.old }
+{
+    if let Some(MadeTouch { number, id, after }) = made {
+        notes.push(Note {
+            number,
+            event: touch_event(packet, id, after),
+        });
         *spare -= 1;
     }
 }

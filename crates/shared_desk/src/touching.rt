@@ -4,9 +4,9 @@ ghost use Rattle.std.specs.Prelude.{◌≡◌, ◌<◌, ◌≤◌, ◌^◌, true
 ghost use Rattle.proto_rules.specs.Protocol.{is_of_protocol};
 ghost use Rattle.proto_rules.specs.Step.{step_of};
 ghost use Rattle.proto_rules.specs.declared.Outcome.TheVariants as outcome;
-ghost use Rattle.shared_desk.specs.Touching.{GoesOn, KnowsEntry, Notes, StepsRecord};
+ghost use Rattle.shared_desk.specs.Touching.{GoesOn, KnowsEntry, Notes, StepsRecord, touch_note, touch_of};
 
-use history_book::event::{Event, Note};
+use history_book::event::Event;
 use history_book::outcome::TouchOutcome;
 use history_book::record::Record;
 use proto_rules::laws::same_part_is_equality;
@@ -22,7 +22,33 @@ pub struct Packet {
     pub moment: u64,
 }
 
-/// The entry accepts a packet and goes on with this part. Gives the Touch, with its number.
+/// A Touch that was made: its number, and the part with which the entry of this id goes on.
+#[derive(Clone, Copy)]
+pub struct MadeTouch {
+    pub number: u64,
+    pub id: u64,
+    pub after: Part,
+}
+
+/// The Touch of the entry of this id by a packet, with which it goes on so.
+pub fn touch_event(packet: &Packet, id: u64, after: Part) -> Event
+    ensures { result ≡ touch_of packet.now id after }
+{
+    let Packet {
+        direction,
+        segment,
+        moment,
+    } = *packet;
+    Event::Touch {
+        id,
+        direction,
+        segment,
+        moment,
+        after,
+    }
+}
+
+/// The entry accepts a packet and goes on with this part. Gives the Touch.
 fn go_on(
     pass: &mut Pass,
     place: u32,
@@ -30,32 +56,18 @@ fn go_on(
     before: &Record,
     packet: &Packet,
     after: Part,
-) -> Note
+) -> MadeTouch
     requires knows { KnowsEntry place id before.now pass.old }
     requires protocol { is_of_protocol packet.now.segment before.now.part.kind ≡ true }
     requires step { step_of before.now.part packet.now.direction packet.now.segment packet.now.moment ≡ outcome.Accept after }
     requires few { length pass.old.view.seen.own < 2 ^ 30 }
     ensures goes { GoesOn place id before.now packet.now after result.number pass.old pass.new }
-    ensures noted { Notes (Some result) pass.old.view.seen.own pass.new.view.seen.own }
+    ensures noted { Notes (touch_note packet.now (Some result)) pass.old.view.seen.own pass.new.view.seen.own }
 {
     same_part_is_equality();
-    let Packet {
-        direction,
-        segment,
-        moment,
-    } = *packet;
-    let event = Event::Touch {
-        id,
-        direction,
-        segment,
-        moment,
-        after,
-    };
-    let number = pass.touch_add(event);
-    let mut subject = *before;
-    subject.part = after;
-    let _ = pass.record_swap(place, Some(subject));
-    Note { number, event }
+    let number = pass.touch_add(touch_event(packet, id, after));
+    pass.part_store(place, after);
+    MadeTouch { number, id, after }
 }
 
 /// Does what the step says that a packet does to an entry, which was so at this point.
@@ -66,13 +78,13 @@ pub fn step_record(
     before: &Record,
     packet: &Packet,
     at: u64,
-) -> (TouchOutcome, Option<Note>)
+) -> (TouchOutcome, Option<MadeTouch>)
     requires knows { KnowsEntry place id before.now pass.old }
     requires protocol { is_of_protocol packet.now.segment before.now.part.kind ≡ true }
     requires timely { packet.now.moment ≤ 10 ^ 16 }
     requires few { length pass.old.view.seen.own < 2 ^ 30 }
     ensures steps { StepsRecord place id before.now packet.now at result.0 pass.old pass.new }
-    ensures noted { Notes result.1 pass.old.view.seen.own pass.new.view.seen.own }
+    ensures noted { Notes (touch_note packet.now result.1) pass.old.view.seen.own pass.new.view.seen.own }
 {
     let outcome = match step(
         &before.part,
@@ -81,12 +93,12 @@ pub fn step_record(
         packet.moment,
     ) {
         Outcome::Accept(after) => {
-            let note = go_on(pass, place, id, before, packet, after);
+            let made = go_on(pass, place, id, before, packet, after);
             let touched = TouchOutcome::Touched {
-                number: note.number,
+                number: made.number,
                 before: *before,
             };
-            return (touched, Some(note));
+            return (touched, Some(made));
         }
         Outcome::Ignore => TouchOutcome::Ignored { at },
         Outcome::Invalid => TouchOutcome::Invalid { at },

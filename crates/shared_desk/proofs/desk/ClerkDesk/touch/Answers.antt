@@ -2,6 +2,7 @@ use Rattle.std.proofs.Common.{◌≤◌, ap, subst, sym, ◌∙◌}
 use Rattle.history_book.specs.Entry.{is_of_entry}
 use Rattle.history_book.specs.Held.{held_id, is_held_for_entry}
 use Rattle.shared_desk.specs.Sights.{ClerkSight, sight_of}
+use Rattle.shared_desk.specs.Touching.{touch_note}
 use Rattle.shared_desk.proofs.Accepting.{rest_touching, says_touching, suits_entry}
 use Rattle.shared_desk.proofs.Peeking.{free_for}
 use Rattle.shared_desk.proofs.desk.ClerkDesk.touch.Goals as goal
@@ -22,19 +23,19 @@ touch-outcome-requires-clause-suits g c =
 
 pub invariant_of-self : goal.invariant_of-self
 invariant_of-self g c =
-    rw (c.note_event.ensures.notes, c.note_event.ensures.spare) (rest_touching c.self.inside.pass c.self.inside.notes c.self.inside.spare c.args.place
+    rw (c.note_touch.ensures.notes, c.note_touch.ensures.spare) (rest_touching c.self.inside.pass c.self.inside.notes c.self.inside.spare c.args.place
     (record { direction = c.args.direction; segment = c.args.segment; moment = c.args.moment }) c.self.invariant
     (ap (λ (s : ClerkSight). is_held_for_entry c.args.place (sight_of s).held) c.self.view_is ∙ c.requires.held)
     (subst (λ (s : ClerkSight). 1 ≤ s.spare) (sym c.self.view_is) c.requires.spare)
-    c.touch-outcome.result.0 c.touch-outcome.new.pass c.touch-outcome.result.1 c.touch-outcome.ensures.touches c.touch-outcome.ensures.noted)
+    c.touch-outcome.result.0 c.touch-outcome.new.pass (touch_note (record { direction = c.args.direction; segment = c.args.segment; moment = c.args.moment }) c.touch-outcome.result.1) c.touch-outcome.ensures.touches c.touch-outcome.ensures.noted)
 
 pub returns-clause-says : goal.returns-clause-says
 returns-clause-says g c =
-    rw (← c.self.view_is) (rw (c.note_event.ensures.spare) (says_touching c.self.inside.pass c.self.inside.notes c.self.inside.spare c.args.place
+    rw (← c.self.view_is) (rw (c.note_touch.ensures.spare) (says_touching c.self.inside.pass c.self.inside.notes c.self.inside.spare c.args.place
     (record { direction = c.args.direction; segment = c.args.segment; moment = c.args.moment }) c.self.invariant
     (ap (λ (s : ClerkSight). is_held_for_entry c.args.place (sight_of s).held) c.self.view_is ∙ c.requires.held)
     (subst (λ (s : ClerkSight). 1 ≤ s.spare) (sym c.self.view_is) c.requires.spare) c.states_stay.ensures
-    c.touch-outcome.result.0 c.touch-outcome.new.pass c.touch-outcome.result.1 c.touch-outcome.ensures.touches c.touch-outcome.ensures.noted))
+    c.touch-outcome.result.0 c.touch-outcome.new.pass (touch_note (record { direction = c.args.direction; segment = c.args.segment; moment = c.args.moment }) c.touch-outcome.result.1) c.touch-outcome.ensures.touches c.touch-outcome.ensures.noted))
 
 pub returns-clause-knows : goal.returns-clause-knows
 returns-clause-knows g c = (invariant_of-self g c).knows
