@@ -71,12 +71,20 @@ struct Seen {
     outcome: Option<ConfirmOutcome>,
     count: LiveCount,
     found: FindOnce,
+    /// Of the flow that the first clerk confirms.
+    shut: FindOnce,
     /// The first one came in before, and had not gone out after.
     meanwhile: bool,
 }
 
-/// Waits until the other clerk is in its confirm, confirms a flow, counts, looks for the flow, and lets the other go.
-fn confirm_meanwhile<R: Wait>(rt: &R, clerk: &mut Clerk<Halt>, gate: &Halt, flow: &Flow) -> Seen
+/// Waits until the other clerk is in its confirm of a first flow, confirms another one, counts, looks for both, and lets the other go.
+fn confirm_meanwhile<R: Wait>(
+    rt: &R,
+    clerk: &mut Clerk<Halt>,
+    gate: &Halt,
+    first: &Flow,
+    flow: &Flow,
+) -> Seen
     requires nothing { HoldsNothing (sight_of clerk.old) }
     requires protocol { is_flow_of_one_protocol flow.now ≡ true }
     requires spare { 1 ≤ (sight_of clerk.old).spare }
@@ -85,12 +93,14 @@ fn confirm_meanwhile<R: Wait>(rt: &R, clerk: &mut Clerk<Halt>, gate: &Halt, flow
     let outcome = answer(rt, clerk, flow);
     let count = clerk.count_now();
     let found = look(rt, clerk, &flow.original);
+    let shut = look(rt, clerk, &first.original);
     let outside = gate.outside.load(SeqCst);
     gate.let_go.store(1, SeqCst);
     Seen {
         outcome,
         count,
         found,
+        shut,
         meanwhile: inside && outside == 0,
     }
 }
@@ -115,7 +125,7 @@ fn both_confirm<R: Threads + Wait + Sync>(
         { answer(rt, one, first) },
         &mut ||
             requires { HoldsNothing (sight_of two.now) × (is_flow_of_one_protocol second.now ≡ true) × (1 ≤ (sight_of two.now).spare) }
-        { confirm_meanwhile(rt, two, gate, second) },
+        { confirm_meanwhile(rt, two, gate, first, second) },
     )
 }
 
@@ -141,8 +151,8 @@ fn query_from(port: u16) -> Flow
     )
 }
 
-/// A clerk in the middle of a confirm holds nobody up whose flow is of other buckets, no count, and no lookup there. Where the threads
-/// ran so that the first clerk stood in its confirm all the while, the second one's entry is the first, and is found.
+/// A clerk in the middle of a confirm holds nobody up whose flow is of other buckets, no count, and no lookup there: the other clerk's
+/// entry is the first, and is found. Nor does a lookup wait in the buckets of that confirm: it says that they are shut.
 #[test]
 fn a_confirm_holds_up_no_other_buckets(rt: HostRuntime) -> Result<(), Fail> {
     let first = query_from(5000);
@@ -161,10 +171,10 @@ fn a_confirm_holds_up_no_other_buckets(rt: HostRuntime) -> Result<(), Fail> {
     let Some(ConfirmOutcome::Confirmed { id: other }) = seen.outcome else {
         panic!(rt; "nobody has the second flow");
     };
-    assert!(rt; matches!((id, other), (0, 1) | (1, 0)));
-    if seen.meanwhile {
-        assert_eq!(rt; (other, seen.count.live, seen.count.at), (0, 1, 1));
-        assert!(rt; matches!(seen.found, FindOnce::Found { id: 0, at: 1, .. }));
-    }
+    assert!(rt; seen.meanwhile, "a clerk waited in vain");
+    assert_eq!(rt; (id, other), (1, 0));
+    assert_eq!(rt; (seen.count.live, seen.count.at), (1, 1));
+    assert!(rt; matches!(seen.found, FindOnce::Found { id: 0, at: 1, .. }));
+    assert!(rt; matches!(seen.shut, FindOnce::Moved { .. }));
     Ok(())
 }
