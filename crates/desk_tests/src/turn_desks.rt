@@ -1,4 +1,4 @@
-//! Desks of one tracker whose passes take turns, and packets over them.
+//! Desks of one tracker whose passes take turns, and packets over them; and the same packets over a clerk of the shared table.
 
 ghost use Rattle.std.specs.Prelude.{◌≡◌, ◌≤◌, None, IfOk};
 ghost use Rattle.history_book.specs.Places.{HoldsNothing, HoldsOne};
@@ -20,6 +20,7 @@ use history_book::sizes::Sizes;
 use history_book::verdict::Class;
 use overtaken::Overtaken;
 use proto_rules::{Part, PartKind};
+use shared_desk::tracker::Tracker;
 use std::process::Abort;
 use std::sync::Wait;
 use std::test::Fail;
@@ -97,6 +98,15 @@ fn expiry_makes_room_on_a_plain_desk(rt: HostRuntime) -> Result<(), Fail> {
 fn expiry_makes_room_on_a_desk_of_turns(rt: HostRuntime) -> Result<(), Fail> {
     let (book, spot) = TurnBook::new(rt.alloc(), sizes(1, 1))?;
     let mut desk = book.desk(spot, &NoGate, 0);
+    one_flow_fills_it(&rt, &mut desk)?;
+    its_end_makes_room(&rt, &mut desk)?;
+    Ok(())
+}
+
+#[test]
+fn expiry_makes_room_on_a_clerk(rt: HostRuntime) -> Result<(), Fail> {
+    let (tracker, spot) = Tracker::new(rt.alloc(), sizes(1, 1))?;
+    let mut desk = tracker.clerk(spot, &NoGate, 0);
     one_flow_fills_it(&rt, &mut desk)?;
     its_end_makes_room(&rt, &mut desk)?;
     Ok(())
