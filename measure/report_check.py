@@ -1,0 +1,845 @@
+#!/usr/bin/env python3
+"""Checks a report of ctreplay against the captures, rules and script that it is of. Written from docs/FORMATS.md and
+docs/DEFINITIONS.md, and not from the program. It is a module: thread_rows.py calls it.
+
+What it checks. Events are numbered from 0. Each was made by a packet or command that exists, in the order of its thread,
+and its whole line is the one that the rules give in the state that the events before it leave: a confirm is of free
+tuples, one that an entry begins with, with the right deadline, state, master and helper; a touch, destroy, expect or
+claim is of what is live then. Never are more live than there may be. Each verdict is of its packet, in order, and says
+what its own events are; its points are in the history, do not fall in a thread, and stand behind the thread's own
+events; and the named entry is live there, and such as the verdict says. A packet has no event but those of its verdict.
+Each answer to a command is so between its points, with its rows as the entries were at theirs.
+
+What it does not check: errors of ICMP, fragments and broken headers (there may be none in its captures); which of the free
+ports a rule takes; that an answer which may be given only in a race was given in one, but for the bounds that the
+documents state (FULL, MERGED, CLASH, CONTENDED); and that NOPORT had no port left.
+"""
+import re
+import struct
+from bisect import bisect_right
+from collections import namedtuple
+
+SECOND = 1_000_000
+STATES = "NONE SYN_SENT SYN_RECV ESTABLISHED FIN_WAIT CLOSE_WAIT LAST_ACK TIME_WAIT CLOSE SYN_SENT2".split()
+SHORT = dict(zip("NO SS SR ES FW CW LA TW CL S2".split(), STATES))
+# A row for each kind of segment, a column for each old state; IV is invalid, IG ignored.
+ORIGINAL = {
+    "SYN": "SS SS IG IG IG IG IG SS SS S2",
+    "SYN+ACK": "IV IV SR IV IV IV IV IV IV SR",
+    "FIN": "IV IV FW FW LA LA LA TW CL IV",
+    "ACK": "ES IV ES ES CW CW TW TW CL IV",
+    "RST": "IV CL CL CL CL CL CL CL CL CL",
+    "BARE": "IV IV IV IV IV IV IV IV IV IV",
+}
+REPLY = {
+    "SYN": "IV S2 IV IV IV IV IV SS IV S2",
+    "SYN+ACK": "IV SR IG IG IG IG IG IG IG SR",
+    "FIN": "IV IV FW FW LA LA LA TW CL IV",
+    "ACK": "IV IG SR ES CW CW TW TW CL IG",
+    "RST": "IV CL CL CL CL CL CL CL CL CL",
+    "BARE": "IV IV IV IV IV IV IV IV IV IV",
+}
+TIMEOUTS = dict(zip(STATES, (0, 120, 60, 432000, 120, 60, 30, 120, 10, 120)))
+NUMBERS = {"icmp": 1, "tcp": 6, "udp": 17}
+PARTNERS = {8: 0, 0: 8, 13: 14, 14: 13, 15: 16, 16: 15, 17: 18, 18: 17}
+ASKS = (8, 13, 15, 17)
+
+Tuple = namedtuple("Tuple", "proto source destination first second")
+Packet = namedtuple("Packet", "moment tuple kind payload")
+Part = namedtuple("Part", "state replied assured deadline")
+Rule = namedtuple("Rule", "kind options address low high")
+Command = namedtuple("Command", "word options moment")
+Inputs = namedtuple("Inputs", "captures rules commands wait entries ports")
+
+
+class Refused(Exception):
+    """A report that is not well-formed, with the reason."""
+
+
+def want(truth, why):
+    if not truth:
+        raise Refused(why)
+
+
+# The inputs.
+
+
+def kind_of(flags):
+    if flags & 4:
+        return "RST"
+    if flags & 2:
+        return "SYN+ACK" if flags & 16 else "SYN"
+    if flags & 1:
+        return "FIN"
+    return "ACK" if flags & 16 else "BARE"
+
+
+def packet_of(frame, moment):
+    header = 4 * (frame[0] & 15)
+    total = struct.unpack(">H", frame[2:4])[0]
+    body = frame[header:total]
+    source, destination = struct.unpack(">II", frame[12:20])
+    first, second = struct.unpack(">HH", body[:4])
+    if frame[9] == 17:
+        return Packet(moment, Tuple("udp", source, destination, first, second), None, b"")
+    if frame[9] == 6:
+        payload = body[4 * (body[12] >> 4) :]
+        return Packet(moment, Tuple("tcp", source, destination, first, second), kind_of(body[13]), payload)
+    if frame[9] != 1 or body[0] not in PARTNERS:
+        raise ValueError("a packet that this checker does not know")
+    number = struct.unpack(">H", body[4:6])[0]
+    return Packet(moment, Tuple("icmp", source, destination, number, first), None, b"")
+
+
+def read_capture(data):
+    """The packets of a capture in microseconds whose numbers have the lowest byte first."""
+    magic, _, _, _, _, _, link = struct.unpack("<IHHIIII", data[:24])
+    if magic != 0xA1B2C3D4 or link not in (1, 101):
+        raise ValueError("a capture that this checker does not know")
+    packets, at = [], 24
+    while at < len(data):
+        seconds, micros, length, _ = struct.unpack("<IIII", data[at : at + 16])
+        frame = data[at + 16 : at + 16 + length]
+        packets.append(packet_of(frame[14:] if link == 1 else frame, seconds * SECOND + micros))
+        at += 16 + length
+    return packets
+
+
+def address_of(text):
+    parts = [int(part) for part in text.split(".")]
+    return (parts[0] << 24) + (parts[1] << 16) + (parts[2] << 8) + parts[3]
+
+
+def address_text(address):
+    return ".".join(str(address >> shift & 255) for shift in (24, 16, 8, 0))
+
+
+def words_of(text):
+    lines = [line.split() for line in text.splitlines()]
+    return [words for words in lines if words and not words[0].startswith("#")]
+
+
+def options_of(words):
+    return dict(zip(words[::2], words[1::2]))
+
+
+def read_rules(text):
+    rules = []
+    for words in words_of(text):
+        address, _, ports = words[-1].partition(":")
+        low, _, high = ports.partition("-")
+        bounds = (int(low), int(high or low)) if low else (None, None)
+        rules.append(Rule(words[0], options_of(words[1:-2]), address_of(address), *bounds))
+    return rules
+
+
+def read_script(text):
+    """The commands, and how many stand above `wait`."""
+    commands, wait = [], None
+    for words in words_of(text):
+        if words[0] == "wait":
+            wait = len(commands)
+        elif words[0] == "expire":
+            commands.append(Command("expire", {}, int(words[1])))
+        elif words[1:] == ["expect"]:
+            commands.append(Command("-L expect", {}, None))
+        else:
+            commands.append(Command(words[0], options_of(words[1:]), None))
+    return commands, len(commands) if wait is None else wait
+
+
+def inputs_of(captures, rules="", script="", entries=65536, ports=(21,)):
+    commands, wait = read_script(script)
+    return Inputs([read_capture(data) for data in captures], read_rules(rules), commands, wait, entries, ports)
+
+
+# Flows.
+
+
+def tuple_text(flow):
+    ends = f"src={address_text(flow.source)} dst={address_text(flow.destination)}"
+    if flow.proto == "icmp":
+        return f"{ends} type={flow.second >> 8} code={flow.second & 255} id={flow.first}"
+    return f"{ends} sport={flow.first} dport={flow.second}"
+
+
+def inverse(flow):
+    if flow.proto == "icmp":
+        second = PARTNERS[flow.second >> 8] * 256 + flow.second % 256
+        return Tuple("icmp", flow.destination, flow.source, flow.first, second)
+    return Tuple(flow.proto, flow.destination, flow.source, flow.second, flow.first)
+
+
+def is_within(address, network):
+    base, _, length = network.partition("/")
+    shift = 32 - int(length or 32)
+    return address >> shift == address_of(base) >> shift
+
+
+def is_meant(options, original, reply):
+    tests = {
+        "-p": lambda value: original.proto == value,
+        "-s": lambda value: is_within(original.source, value),
+        "-d": lambda value: is_within(original.destination, value),
+        "-r": lambda value: is_within(reply.source, value),
+        "-q": lambda value: is_within(reply.destination, value),
+        "--sport": lambda value: original.first == int(value),
+        "--dport": lambda value: original.second == int(value),
+    }
+    return all(tests[name](value) for name, value in options.items())
+
+
+def rule_for(rules, flow):
+    for rule in rules:
+        if is_meant(rule.options, flow, inverse(flow)):
+            return rule
+    return None
+
+
+def fits_number(rule, own, number):
+    if rule.low is not None:
+        return rule.low <= number <= rule.high
+    if number == own:
+        return True
+    if own < 512:
+        return 1 <= number < 512
+    return 600 <= number < 1024 if own < 1024 else number >= 1024
+
+
+def is_reply_of(rules, flow, reply):
+    """Whether the replies of this flow may have this tuple."""
+    rule, plain = rule_for(rules, flow), inverse(flow)
+    if rule is None:
+        return reply == plain
+    if rule.kind == "snat":
+        plain = plain._replace(destination=rule.address)
+        field = "first" if flow.proto == "icmp" else "second"
+    else:
+        plain = plain._replace(source=rule.address)
+        field = "first"
+    number = getattr(reply, field)
+    if flow.proto != "icmp" and not fits_number(rule, getattr(plain, field), number):
+        return False
+    return reply == plain._replace(**{field: number})
+
+
+def lifetime(proto, state, replied_before, replied):
+    if proto == "icmp":
+        return 30
+    if proto == "udp":
+        return 120 if replied else 30
+    return 300 if state == "ESTABLISHED" and not replied_before else TIMEOUTS[state]
+
+
+def start_of(packet):
+    """The part that an entry begins with, or none."""
+    proto, state = packet.tuple.proto, None
+    if proto == "icmp" and packet.tuple.second >> 8 not in ASKS:
+        return None
+    if proto == "tcp":
+        cell = ORIGINAL[packet.kind].split()[0]
+        if cell in ("IV", "IG"):
+            return None
+        state = SHORT[cell]
+    return Part(state, False, False, packet.moment + lifetime(proto, state, False, False) * SECOND)
+
+
+def step_of(part, direction, packet):
+    """What the packet does to an entry of this part, and the part that it leaves."""
+    if part.deadline <= packet.moment:
+        return "expired", None
+    proto, state = packet.tuple.proto, part.state
+    if proto == "tcp":
+        if packet.kind == "RST" and not part.replied:
+            return "reset", None
+        table = ORIGINAL if direction == "original" else REPLY
+        cell = table[packet.kind].split()[STATES.index(part.state)]
+        if cell in ("IV", "IG"):
+            return ("invalid" if cell == "IV" else "ignored"), None
+        state = SHORT[cell]
+        if state == "SYN_SENT" and part.state in ("TIME_WAIT", "CLOSE"):
+            return "reopened", None
+    replied = part.replied or direction == "reply"
+    assured = part.assured
+    if proto == "udp":
+        assured = assured or (direction == "original" and part.replied)
+    if proto == "tcp":
+        assured = assured or (part.replied and part.state in ("SYN_RECV", "ESTABLISHED") and state == "ESTABLISHED")
+    deadline = packet.moment + lifetime(proto, state, part.replied, replied) * SECOND
+    return "accepted", Part(state, replied, assured, deadline)
+
+
+def named_end(packet, direction):
+    """The address (none where the form has none) and the port that the payload names, or none."""
+    six = rb"(\d{1,3}),(\d{1,3}),(\d{1,3}),(\d{1,3}),(\d{1,3}),(\d{1,3})"
+    if direction == "original":
+        found = re.match(rb"(?i:PORT) " + six + rb"[\r\n]", packet.payload)
+    else:
+        found = re.match(rb"227 [^\d\r\n]*" + six + rb"\D", packet.payload)
+    if not found:
+        return None
+    numbers = [int(number) for number in found.groups()]
+    port = numbers[4] * 256 + numbers[5]
+    if max(numbers) > 255 or port == 0:
+        return None
+    return (numbers[0] << 24) + (numbers[1] << 16) + (numbers[2] << 8) + numbers[3], port
+
+
+# The history.
+
+
+class Entry:
+    """An entry, with its part from each point on, and the number of its destroy."""
+
+    def __init__(self, number, original, reply, part, master, helper):
+        self.number, self.original, self.reply = number, original, reply
+        self.master, self.helper, self.end = master, helper, None
+        self.points, self.parts = [number + 1], [part]
+
+    def is_live(self, point):
+        return self.number < point and (self.end is None or point <= self.end)
+
+    def part(self, point):
+        return self.parts[bisect_right(self.points, point) - 1]
+
+    def direction(self, flow):
+        return "original" if flow == self.original else "reply"
+
+    def change(self, number, part):
+        self.points.append(number + 1)
+        self.parts.append(part)
+
+
+class Expectation:
+    """What an entry expects, with the number of the event that ended it."""
+
+    def __init__(self, number, master, source, destination, port, deadline):
+        self.number, self.master, self.deadline, self.end = number, master, deadline, None
+        self.source, self.destination, self.port = source, destination, port
+
+    def is_there(self, point):
+        return self.number < point and (self.end is None or point <= self.end)
+
+    def meets(self, flow, moment):
+        ends = (flow.source, flow.destination, flow.second)
+        return flow.proto == "tcp" and moment < self.deadline and ends == (self.source, self.destination, self.port)
+
+
+class History:
+    """Reads the events one after the other, each in the state that those before it leave."""
+
+    def __init__(self, inputs):
+        self.inputs = inputs
+        self.entries, self.by_tuple, self.expected = {}, {}, {}
+        self.live_counts, self.kinds = [0], []
+        self.made, self.last, self.claimed = {}, {}, {}
+
+    def live(self, number, point):
+        entry = self.entries.get(number)
+        want(entry is not None and entry.is_live(point), f"entry {number} is not live at {point}")
+        return entry
+
+    def live_under(self, flow, point):
+        having = [self.entries[number] for number in self.by_tuple.get(flow, ()) if self.entries[number].is_live(point)]
+        own = [entry for entry in having if entry.original == flow]
+        return (own or having or [None])[0]
+
+    def expected_at(self, point):
+        return [one for one in self.expected.values() if one.is_there(point)]
+
+    def first_match(self, flow, moment, point):
+        for one in self.expected_at(point):
+            if one.meets(flow, moment):
+                return one
+        return None
+
+    def read(self, lines):
+        for number, line in enumerate(lines):
+            words = line.split(" ")
+            want(len(words) > 3 and words[0] == str(number), f"event {number} has another number: {line}")
+            who = self.who(words[2], number)
+            expected = getattr(self, "read_" + words[1], self.no_event)(number, words, who)
+            want(line == f"{number} {words[1]} {words[2]} {expected}", f"event {number} is not: {words[1]} {expected}")
+            self.kinds.append(words[1])
+            self.made.setdefault(who, []).append(number)
+            step = {"confirm": 1, "destroy": -1}.get(words[1], 0)
+            self.live_counts.append(self.live_counts[-1] + step)
+            want(self.live_counts[-1] <= self.inputs.entries, f"after event {number} too many are live")
+
+    def no_event(self, number, words, who):
+        raise Refused(f"event {number} is a {words[1]}")
+
+    def who(self, text, number):
+        found = re.fullmatch(r"(s|0|[1-9]\d*)\.(0|[1-9]\d*)", text)
+        want(found, f"event {number} was made by {text}")
+        thread, index = found.group(1), int(found.group(2))
+        if thread != "s":
+            thread = int(thread)
+            want(thread < len(self.inputs.captures), f"event {number} was made by thread {thread}")
+        count = len(self.inputs.commands if thread == "s" else self.inputs.captures[thread])
+        want(index < count, f"event {number} was made by {text}, which is not there")
+        want(self.last.get(thread, 0) <= index, f"event {number} is not in the order of its thread")
+        self.last[thread] = index
+        return thread, index
+
+    def packet(self, who, number):
+        want(who[0] != "s", f"event {number} was made by a command")
+        return self.inputs.captures[who[0]][who[1]]
+
+    def identity(self, word, name, number):
+        found = re.fullmatch(name + r"=(0|[1-9]\d*)", word)
+        want(found, f"event {number} has no {name}")
+        return int(found.group(1))
+
+    def read_confirm(self, number, words, who):
+        packet = self.packet(who, number)
+        part, flow = start_of(packet), packet.tuple
+        want(part is not None, f"event {number} is of a packet with which no entry begins")
+        reply = reply_in(words, flow.proto)
+        want(reply is not None and is_reply_of(self.inputs.rules, flow, reply), f"event {number} has a wrong reply tuple")
+        for one in (flow, reply):
+            want(self.live_under(one, number) is None, f"event {number} confirms a tuple that is live")
+        master = self.claimed.pop(who, None)
+        helper = flow.proto == "tcp" and reply.first in self.inputs.ports
+        entry = Entry(number, flow, reply, part, master, helper)
+        self.entries[number] = entry
+        for one in {flow, reply}:
+            self.by_tuple.setdefault(one, []).append(number)
+        text = f"{flow.proto} {tuple_text(flow)} {tuple_text(reply)} until={part.deadline}"
+        text += f" state={part.state}" if part.state else ""
+        text += f" master={master}" if master is not None else ""
+        return text + (" helper" if helper else "")
+
+    def read_touch(self, number, words, who):
+        packet = self.packet(who, number)
+        entry = self.live(self.identity(words[3], "id", number), number)
+        want(packet.tuple in (entry.original, entry.reply), f"event {number} touches an entry of another flow")
+        direction = entry.direction(packet.tuple)
+        outcome, part = step_of(entry.part(number), direction, packet)
+        want(outcome == "accepted", f"event {number} touches where the packet is {outcome}")
+        entry.change(number, part)
+        text = f"id={entry.number} {direction} until={part.deadline}" + (f" state={part.state}" if part.state else "")
+        return text + (" replied" if part.replied else "") + (" assured" if part.assured else "")
+
+    def read_destroy(self, number, words, who):
+        entry = self.live(self.identity(words[3], "id", number), number)
+        want(len(words) == 5, f"event {number} has no reason")
+        part, reason = entry.part(number), words[4]
+        if who[0] == "s":
+            command = self.inputs.commands[who[1]]
+            right = {
+                "deleted": command.word == "-D" and is_meant(command.options, entry.original, entry.reply),
+                "flushed": command.word == "-F",
+                "expired": command.word == "expire" and part.deadline <= command.moment,
+            }.get(reason, False)
+        else:
+            packet = self.packet(who, number)
+            want(packet.tuple in (entry.original, entry.reply), f"event {number} destroys an entry of another flow")
+            right = step_of(part, entry.direction(packet.tuple), packet)[0] == reason
+        want(right, f"event {number} destroys for a wrong reason: {reason}")
+        want(reason in ("expired", "reopened", "reset", "deleted", "flushed"), f"event {number} has no such reason")
+        entry.end = number
+        for one in self.expected_at(number):
+            if one.master == entry.number:
+                one.end = number
+        return f"id={entry.number} {reason}"
+
+    def read_expect(self, number, words, who):
+        packet = self.packet(who, number)
+        entry = self.live(self.identity(words[3], "master", number), number)
+        direction = entry.direction(packet.tuple)
+        end = named_end(packet, direction)
+        want(entry.helper and end is not None, f"event {number} expects what no payload names")
+        want(end[0] == packet.tuple.source, f"event {number} expects a connection to another address")
+        source = entry.reply.source if direction == "original" else entry.original.source
+        deadline = packet.moment + 300 * SECOND
+        new = Expectation(number, entry.number, source, end[0], end[1], deadline)
+        others = self.expected_at(number)
+        replaced = [one for one in others if one.master == entry.number]
+        want(not self.rivals(new, packet.moment, number), f"event {number} expects what another entry expects")
+        for one in replaced:
+            one.end = number
+        self.expected[number] = new
+        text = f"master={entry.number} src={address_text(source)} dst={address_text(end[0])} dport={end[1]}"
+        return f"{text} until={deadline}" + "".join(f" replaces={one.number}" for one in replaced)
+
+    def rivals(self, new, moment, point):
+        ends = (new.source, new.destination, new.port)
+        return [
+            one
+            for one in self.expected_at(point)
+            if one.master != new.master and moment < one.deadline and ends == (one.source, one.destination, one.port)
+        ]
+
+    def read_claim(self, number, words, who):
+        packet = self.packet(who, number)
+        one = self.first_match(packet.tuple, packet.moment, number)
+        want(one is not None, f"event {number} claims what is not expected")
+        one.end = number
+        self.claimed[who] = one.master
+        return f"expect={one.number} master={one.master}"
+
+    def read_unexpect(self, number, words, who):
+        want(who[0] == "s" and self.inputs.commands[who[1]].word == "expire", f"event {number} is of no expire")
+        one = self.expected.get(self.identity(words[3], "expect", number))
+        want(one is not None and one.is_there(number), f"event {number} ends what is not expected")
+        want(one.deadline <= self.inputs.commands[who[1]].moment, f"event {number} ends what is due")
+        one.end = number
+        return f"expect={one.number} expired"
+
+
+def reply_in(words, proto):
+    """The second tuple of a confirm."""
+    length = 5 if proto == "icmp" else 4
+    values = [word.partition("=")[2] for word in words[4 + length : 4 + 2 * length]]
+    try:
+        numbers = [int(value) for value in values[2:]]
+        ends = address_of(values[0]), address_of(values[1])
+    except (ValueError, IndexError):
+        return None
+    if len(numbers) != length - 2:
+        return None
+    if proto == "icmp":
+        return Tuple(proto, *ends, numbers[2], numbers[0] * 256 + numbers[1])
+    return Tuple(proto, *ends, *numbers)
+
+
+# The verdicts.
+
+NUMBER = r"(0|[1-9]\d*)"
+VERDICT = re.compile(
+    r"(NEW|RELATED|ESTABLISHED|ESTABLISHED_REPLY|IGNORED|INVALID state|INVALID new|MERGED|CLASH|NOPORT|FULL|CONTENDED)"
+    rf"(?: id={NUMBER})? @{NUMBER}(?: @{NUMBER})?( ftp .*)?"
+)
+FTP = re.compile(rf" ftp (?:(expect)={NUMBER}|(address)|(clash)={NUMBER} @{NUMBER}|(full|gone) @{NUMBER})")
+# The packet's events by their first letters: d destroys an old entry, l claims, c confirms, t touches, e expects.
+EVENTS = {
+    "NEW": "d{0,4}(c|t|r)",
+    "RELATED": "d{0,4}(lc|t|r)",
+    "ESTABLISHED": "d{0,4}te?",
+    "ESTABLISHED_REPLY": "d{0,4}(te?|r)",
+    "IGNORED": "d{0,4}",
+    "INVALID state": "d{0,4}",
+    "INVALID new": "d{0,4}",
+    "MERGED": "d{0,4}",
+    "CLASH": "d{0,4}l?",
+    "NOPORT": "d{0,4}",
+    "FULL": "d{0,4}",
+    "CONTENDED": "d{4}",
+}
+
+
+class Thread:
+    """Reads the verdicts of one thread, with its mark: the point behind which no verdict looks back."""
+
+    def __init__(self, history, thread):
+        self.history, self.thread, self.mark = history, thread, 0
+        self.count = len(history.kinds)
+
+    def read(self, lines):
+        for index, line in enumerate(lines):
+            number, _, text = line.partition(" ")
+            self.name = f"verdict {index} of thread {self.thread}"
+            want(number == str(index), f"{self.name} has another number")
+            found = VERDICT.fullmatch(text)
+            want(found, f"{self.name} is none: {text}")
+            self.read_verdict(self.history.inputs.captures[self.thread][index], index, found)
+
+    def letters(self, numbers):
+        """The events, as letters."""
+        history, letters = self.history, ""
+        for number in numbers:
+            kind = history.kinds[number]
+            letter = {"destroy": "d", "claim": "l", "confirm": "c", "touch": "t", "expect": "e"}.get(kind, "?")
+            letters += "r" if letter == "d" and history.reasons[number] == "reset" else letter
+        return letters
+
+    def read_verdict(self, packet, index, found):
+        word, identity, point, second, ftp = found.groups()
+        self.packet, self.own = packet, self.history.made.get((self.thread, index), [])
+        letters = self.letters(self.own)
+        want(re.fullmatch(EVENTS[word], letters), f"{self.name} is {word}, with other events")
+        want((second is not None) == (word == "NOPORT"), f"{self.name} has other points")
+        want((identity is None) == (word in ("INVALID new", "NOPORT", "FULL")), f"{self.name} names an entry, or none")
+        self.before = self.mark
+        for one in self.own:
+            want(self.mark <= one, f"{self.name} has an event that is older than what its thread had seen")
+            self.mark = one + 1
+        if letters.endswith("e"):
+            self.mark = self.own[-2] + 1
+        self.see(int(point))
+        self.judge(word, letters, None if identity is None else int(identity), int(point))
+        if second is not None:
+            self.see(int(second))
+        self.read_ftp(ftp, word, letters, identity)
+
+    def see(self, point):
+        want(self.mark <= point <= self.count, f"{self.name} looks back, or beyond the history: @{point}")
+        self.mark = point
+
+    def judge(self, word, letters, identity, point):
+        history = self.history
+        if letters[-1:] in ("c", "t", "r", "e"):
+            number = self.own[-2] if letters[-1] == "e" else self.own[-1]
+            want(point == number + 1, f"{self.name} does not stand behind its event")
+            want(history.subjects[number] == identity, f"{self.name} names another entry than its event")
+            if letters[-1] != "c":
+                self.judge_label(word, history.entries[identity], number)
+            else:
+                self.judge_begun(number)
+            return
+        self.judge_look(word, identity, point)
+
+    def judge_label(self, word, entry, number):
+        part = entry.part(number)
+        label = "RELATED" if entry.master is not None else "NEW"
+        if part.replied:
+            label = "ESTABLISHED"
+        if entry.direction(self.packet.tuple) == "reply":
+            label = "ESTABLISHED_REPLY"
+        want(word == label, f"{self.name} is {word}, and not {label}")
+
+    def judge_begun(self, number):
+        """Where nothing was claimed, at some point nothing was there to claim."""
+        history, packet = self.history, self.packet
+        if history.entries[number].master is None:
+            points = range(self.before, number + 1)
+            missed = any(history.first_match(packet.tuple, packet.moment, point) is None for point in points)
+            want(missed, f"{self.name} claimed nothing")
+
+    def judge_look(self, word, identity, point):
+        history, packet = self.history, self.packet
+        flow = packet.tuple
+        begins = start_of(packet) is not None
+        if word in ("IGNORED", "INVALID state"):
+            entry = history.live(identity, point)
+            want(flow in (entry.original, entry.reply), f"{self.name} names an entry of another flow")
+            outcome = step_of(entry.part(point), entry.direction(flow), packet)[0]
+            want(outcome == {"IGNORED": "ignored"}.get(word, "invalid"), f"{self.name} is {outcome} at {point}")
+        elif word == "INVALID new":
+            want(not begins, f"{self.name} would begin an entry")
+            want(history.live_under(flow, point) is None, f"{self.name} is of an entry at {point}")
+        else:
+            want(begins, f"{self.name} would begin no entry")
+            self.judge_none_begun(word, identity, point)
+
+    def judge_none_begun(self, word, identity, point):
+        history, flow = self.history, self.packet.tuple
+        rules, inputs = history.inputs.rules, history.inputs
+        if word == "FULL":
+            least = inputs.entries - 4 * len(inputs.captures)
+            want(history.live_counts[point] >= least, f"{self.name} is FULL with {history.live_counts[point]} live")
+        elif word == "NOPORT":
+            want(rule_for(rules, flow) is not None, f"{self.name} has no rule")
+        elif word == "CONTENDED":
+            entry = history.live(identity, point)
+            want(flow in (entry.original, entry.reply), f"{self.name} names an entry of another flow")
+        else:
+            entry = history.live(identity, point)
+            both = entry.original == flow and is_reply_of(rules, flow, entry.reply)
+            older = identity < self.before
+            if word == "MERGED":
+                want(both and flow.proto == "udp", f"{self.name} is merged into another flow")
+                want(not older, f"{self.name} is merged into an entry that its thread had seen")
+            else:
+                self.judge_clash(entry, both, older)
+
+    def judge_clash(self, entry, both, older):
+        flow, rules = self.packet.tuple, self.history.inputs.rules
+        having = (entry.original, entry.reply)
+        translated = rule_for(rules, flow) is not None
+        has_reply = any(is_reply_of(rules, flow, one) for one in having)
+        want(flow in having or has_reply, f"{self.name} clashes with an entry that has none of its tuples")
+        want(not older or (has_reply and not translated), f"{self.name} clashes with an older entry")
+        want(translated or not (both and flow.proto == "udp"), f"{self.name} clashes, and is to be merged")
+
+    def read_ftp(self, text, word, letters, identity):
+        packet, end = self.packet, None
+        if word in ("ESTABLISHED", "ESTABLISHED_REPLY") and letters[-1] in "te" and packet.tuple.proto == "tcp":
+            entry = self.history.entries[int(identity)]
+            direction = entry.direction(packet.tuple)
+            end = named_end(packet, direction) if entry.helper else None
+        want((text is not None) == (end is not None), f"{self.name} tells of a payload, or does not")
+        if end is None:
+            return
+        found = FTP.fullmatch(text)
+        want(found, f"{self.name} ends with {text}")
+        expect, event, address, clash, rival, clash_point, other, point = found.groups()
+        want((expect is not None) == letters.endswith("e"), f"{self.name} has another event of the payload")
+        want((address is not None) == (end[0] != packet.tuple.source), f"{self.name} names an address")
+        if expect:
+            want(int(event) == self.own[-1], f"{self.name} names another expectation")
+            self.mark = self.own[-1] + 1
+        elif clash or other:
+            self.judge_payload(entry, direction, end, rival, other, int(clash_point or point))
+
+    def judge_payload(self, entry, direction, end, rival, other, point):
+        self.see(point)
+        history = self.history
+        if other == "gone":
+            want(not entry.is_live(point), f"{self.name} says that the entry is gone")
+        elif other == "full":
+            expected = history.expected_at(point)
+            want(len(expected) == 1024, f"{self.name} says that too much is expected")
+        else:
+            history.live(entry.number, point)
+            source = entry.reply.source if direction == "original" else entry.original.source
+            new = Expectation(0, entry.number, source, end[0], end[1], 0)
+            rivals = history.rivals(new, self.packet.moment, point)
+            want(rivals and rivals[0].number == int(rival), f"{self.name} names a rival that is none")
+
+
+# The script.
+
+
+def row_of(entry, point, moment):
+    part, proto = entry.part(point), entry.original.proto
+    left = max(0, part.deadline - moment) // SECOND
+    text = f"{proto:<8} {NUMBERS[proto]} {left} " + (f"{part.state} " if part.state else "")
+    text += tuple_text(entry.original) + ("" if part.replied else " [UNREPLIED]")
+    return f"{text} {tuple_text(entry.reply)}" + (" [ASSURED]" if part.assured else "") + f" @{point}"
+
+
+class Script:
+    """Reads the answers."""
+
+    def __init__(self, history):
+        self.history, self.mark, self.count = history, 0, len(history.kinds)
+        moments = [packet.moment for capture in history.inputs.captures for packet in capture]
+        self.moment = max(moments, default=0)
+
+    def read(self, lines):
+        inputs, at = self.history.inputs, 0
+        for index, command in enumerate(inputs.commands):
+            self.name = f"answer {index}"
+            if index == inputs.wait:
+                self.wait()
+            want(at < len(lines), f"{self.name} is missing")
+            at = self.read_answer(index, command, lines, at)
+        want(at == len(lines), "there are lines behind the last answer")
+
+    def wait(self):
+        """All captures were replayed: their events have been seen."""
+        made = [numbers[-1] + 1 for (thread, _), numbers in self.history.made.items() if thread != "s"]
+        self.mark = max([self.mark] + made)
+
+    def read_answer(self, index, command, lines, at):
+        words = {
+            "-L": "list", "-L expect": "expectations", "-G": "get", "-D": "deleted", "-F": "flushed", "-C": "count",
+            "expire": "expired",
+        }  # fmt: skip
+        counts = 2 if command.word == "expire" else 1
+        points = 2 if command.word in ("-L", "-D", "-F", "expire") else 1
+        form = f"{index} {words[command.word]}" + f" {NUMBER}" * counts + f" @{NUMBER}" * points
+        found = re.fullmatch(form, lines[at])
+        want(found, f"{self.name} is none: {lines[at]}")
+        numbers = [int(number) for number in found.groups()]
+        begin, end = numbers[counts], numbers[-1]
+        want(self.mark <= begin <= end <= self.count, f"{self.name} looks back, or beyond the history")
+        own = self.history.made.get(("s", index), [])
+        want(all(begin <= number < end for number in own), f"{self.name} has events beyond its points")
+        self.mark = end
+        rows = 0 if command.word in ("-F", "-C", "expire") else numbers[0]
+        want(at + rows < len(lines), f"{self.name} has too few rows")
+        self.judge(command, numbers, begin, end, own, lines[at + 1 : at + 1 + rows])
+        return at + 1 + rows
+
+    def meant_at(self, options, point):
+        entries = self.history.entries.values()
+        return [one for one in entries if one.is_live(point) and is_meant(options, one.original, one.reply)]
+
+    def judge(self, command, numbers, begin, end, own, rows):
+        history, word = self.history, command.word
+        if word == "-L":
+            self.judge_list(command, begin, end, rows)
+        elif word == "-C":
+            want(numbers[0] == history.live_counts[begin], f"{self.name} is another count")
+        elif word == "-G":
+            self.judge_get(command, begin, rows)
+        elif word == "-L expect":
+            self.judge_expected(begin, rows)
+        elif word == "expire":
+            kinds = [history.kinds[number] for number in own]
+            counts = [kinds.count("destroy"), kinds.count("unexpect")]
+            want(numbers[:2] == counts, f"{self.name} counts other events")
+            self.judge_expired(command.moment, begin, end)
+        else:
+            self.judge_swept(command, numbers[0], begin, end, own, rows)
+
+    def judge_list(self, command, begin, end, rows):
+        last, listed = -1, set()
+        for row in rows:
+            point = int(row.rpartition("@")[2])
+            want(begin <= point <= end, f"{self.name} has a row beyond its points")
+            found = [one for one in self.meant_at(command.options, point) if row_of(one, point, self.moment) == row]
+            want(len(found) == 1, f"{self.name} has a row of no entry: {row}")
+            want(last < found[0].number, f"{self.name} has rows out of order")
+            last = found[0].number
+            listed.add(last)
+        for one in self.meant_at(command.options, begin):
+            want(not one.is_live(end) or one.number in listed, f"{self.name} leaves out entry {one.number}")
+
+    def judge_get(self, command, point, rows):
+        options = command.options
+        numbers = int(options["--sport"]), int(options["--dport"])
+        flow = Tuple(options["-p"], address_of(options["-s"]), address_of(options["-d"]), *numbers)
+        entry = self.history.live_under(flow, point)
+        want(rows == ([] if entry is None else [row_of(entry, point, self.moment)]), f"{self.name} is another entry")
+
+    def judge_expected(self, point, rows):
+        texts = []
+        for one in self.history.expected_at(point):
+            left = max(0, one.deadline - self.moment) // SECOND
+            ends = f"src={address_text(one.source)} dst={address_text(one.destination)} sport=0 dport={one.port}"
+            texts.append(f"{left} proto=6 {ends} master={one.master} @{point}")
+        want(rows == texts, f"{self.name} lists other expectations")
+
+    def judge_expired(self, moment, begin, end):
+        for one in self.history.entries.values():
+            stays = one.is_live(begin) and one.is_live(end)
+            parts = [one.part(point) for point in range(begin, end + 1)] if stays else []
+            throughout = stays and all(part.deadline <= moment for part in parts)
+            want(not throughout, f"{self.name} leaves the expired entry {one.number}")
+        for one in self.history.expected_at(begin):
+            past = one.deadline <= moment and one.is_there(end)
+            want(not past, f"{self.name} leaves the expectation {one.number}")
+
+    def judge_swept(self, command, count, begin, end, own, rows):
+        want(count == len(own), f"{self.name} counts other events")
+        for one in self.meant_at(command.options, begin):
+            want(not one.is_live(end), f"{self.name} leaves entry {one.number}")
+        if command.word == "-D":
+            found = sorted((self.history.subjects[number], number) for number in own)
+            texts = [row_of(self.history.entries[entry], number, self.moment) for entry, number in found]
+            want(rows == texts, f"{self.name} has other rows")
+
+
+def check(report, inputs):
+    """Checks a report of these inputs. Gives its history."""
+    want(report.endswith("\n"), "the last line does not end")
+    lines = report[:-1].split("\n")
+    found = re.fullmatch(f"events {NUMBER}", lines[0])
+    want(found, "the first line does not count the events")
+    count, at = int(found.group(1)), 1 + int(found.group(1))
+    want(len(lines) > count, "there are too few events")
+    history = History(inputs)
+    history.read(lines[1:at])
+    events = [line.split(" ") for line in lines[1:at]]
+    history.reasons = [words[4] if words[1] == "destroy" else None for words in events]
+    history.subjects = [subject_of(number, words) for number, words in enumerate(events)]
+    for thread, packets in enumerate(inputs.captures):
+        want(lines[at : at + 1] == [f"thread {thread} packets {len(packets)}"], f"thread {thread} is not there")
+        behind = at + 1 + len(packets)
+        want(behind < len(lines), f"thread {thread} has too few verdicts")
+        Thread(history, thread).read(lines[at + 1 : behind])
+        at = behind
+    want(lines[at] == f"script {len(inputs.commands)}", "the script's part is another one")
+    Script(history).read(lines[at + 1 :])
+    return history
+
+
+def subject_of(number, words):
+    """The entry that an event is about."""
+    if words[1] in ("touch", "destroy"):
+        return int(words[3].partition("=")[2])
+    return number

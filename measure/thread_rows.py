@@ -1,0 +1,501 @@
+#!/usr/bin/env python3
+"""Runs the built program many times on the worked flows of docs/FORMATS.md with several captures at once, and checks each
+report with report_check.py, whose head says what that checks.
+
+usage: thread_rows.py [--runs N] [--jobs N] [--times N] [--program FILE] [--only WORD] [--keep FOLDER]
+       thread_rows.py --self-test
+
+Without --runs each case runs 1000 times, without --jobs one run at a time. With --times each thread has so many times as
+many flows: where a line says that few changes of thread stand between two events, one thread was done before the next
+began, and more flows are wanted. Without --program it is the program of
+../ctreplay, which is built if it is not there. --only takes the cases whose name has the word. A report that is refused is
+kept in the folder of --keep, with its inputs, and the script goes on with the next case; it ends with status 1 then.
+
+--self-test runs no program. It checks the examples of README.md and docs/FORMATS.md, damages them, and wants each damage
+refused.
+
+The cases: a query and its answer, a control connection of FTP, a script, and an office behind one address, each with flows
+of each thread's own ("apart") and with the same flows on all threads in another order ("same"); one flow of UDP on four
+threads; a pool that is too small for eight threads. Apart, each thread's events and verdicts are those of the example, but
+for numbers and points. Buckets are 1, 16 or 16384, from run to run.
+"""
+import argparse
+import os
+import re
+import struct
+import subprocess
+import sys
+import tempfile
+import time
+from collections import namedtuple
+from concurrent.futures import ThreadPoolExecutor
+
+from report_check import Refused, check, inputs_of, want
+
+HERE = os.path.dirname(os.path.abspath(__file__))
+TOP = os.path.dirname(HERE)
+DATA = os.path.join(TOP, "crates", "ctreplay", "data")
+BUCKETS = (1, 16, 16384)
+# How many flows each thread has of a row.
+FLOWS = {"query": 24, "sweep": 16, "ftp": 8, "office": 4}
+# What is to be so of a run's history and report beside the checker's rules: `holds` says it.
+Case = namedtuple("Case", "name captures rules script entries holds")
+SWEEP = """wait
+-L
+-D -p udp
+-C
+-F
+-G -p tcp -s 10.0.0.1 -d 10.0.0.2 --sport 40000 --dport 80
+-L
+"""
+
+
+def read_bytes(*names):
+    with open(os.path.join(*names), "rb") as file:
+        return file.read()
+
+
+def read_text(*names):
+    return read_bytes(*names).decode()
+
+
+def example(name, begin):
+    """The block of a document that begins so."""
+    blocks = re.findall(r"```\n(.*?)```", read_text(TOP, name), re.S)
+    return next(block for block in blocks if block.startswith(begin))
+
+
+# Captures.
+
+HEADER = struct.pack("<IHHIIII", 0xA1B2C3D4, 2, 4, 0, 0, 65535, 101)
+
+
+def packet(proto, ends, body):
+    source, destination = ends
+    head = struct.pack(">BBHHHBBHII", 0x45, 0, 20 + len(body), 0, 0, 64, proto, 0, source, destination)
+    return head + body
+
+
+def query(client, server, port, back=False):
+    """A query of UDP from the client, or its answer."""
+    ends, ports = ((server, client), (53, port)) if back else ((client, server), (port, 53))
+    return packet(17, ends, struct.pack(">HHHH", *ports, 8, 0))
+
+
+def opening(client, server):
+    return packet(6, (client, server), struct.pack(">HHIIBBHHH", 40000, 80, 0, 0, 0x50, 2, 0, 0, 0))
+
+
+def record(moment, frame):
+    return struct.pack("<IIII", moment // 1_000_000, moment % 1_000_000, len(frame), len(frame)) + frame
+
+
+def capture(sent):
+    return HEADER + b"".join(record(moment, frame) for moment, frame in sent)
+
+
+def packets_of(data):
+    """The moments and IP packets of a capture."""
+    link = struct.unpack("<I", data[20:24])[0]
+    sent, at = [], 24
+    while at < len(data):
+        seconds, micros, length, _ = struct.unpack("<IIII", data[at : at + 16])
+        frame = data[at + 16 : at + 16 + length]
+        sent.append((seconds * 1_000_000 + micros, frame[14:] if link == 1 else frame))
+        at += 16 + length
+    return sent
+
+
+def moved(sent, old, new):
+    """The packets with other addresses: those that begin with the first three bytes begin with the others. So do those that a
+    payload names."""
+    names = [",".join(str(part) for part in parts).encode() + b"," for parts in (old, new)]
+    change = lambda address: new + address[3:] if address[:3] == old else address
+    others = []
+    for moment, frame in sent:
+        ends = change(frame[12:16]) + change(frame[16:20])
+        frame = frame[:12] + ends + frame[20:].replace(*names)
+        total = struct.pack(">H", len(frame))
+        others.append((moment, frame[:2] + total + frame[4:]))
+    return others
+
+
+# The worked flows, each a row: its packets, the three bytes of the addresses that change from flow to flow, and its report.
+Row = namedtuple("Row", "name sent base rules report")
+
+
+def rows():
+    asked = packets_of(read_bytes(DATA, "c.pcap"))
+    opened = asked + [(1_001_000_000, opening(0x0A000001, 0x0A000002))]
+    formats = "docs/FORMATS.md"
+    office = read_text(DATA, "office.rules")
+    answered = read_text(TOP, "crates", "ctreplay", "stdout")
+    ftp = packets_of(read_bytes(DATA, "ftp.pcap"))
+    masked = packets_of(read_bytes(DATA, "office.pcap"))
+    return {
+        "query": Row("query", asked, b"\x0a\0\0", "", answered),
+        "sweep": Row("sweep", opened, b"\x0a\0\0", "", None),
+        "ftp": Row("ftp", ftp, b"\x0a\0\0", "", example(formats, "events 11\n0 confirm 0.0 tcp")),
+        "office": Row("office", masked, bytes((198, 51, 100)), office, example(formats, "events 19")),
+    }
+
+
+def flow_base(row, flow):
+    """The three bytes of the addresses of this flow of the row. The first is that of the row."""
+    return (int.from_bytes(row.base, "big") + flow).to_bytes(3, "big")
+
+
+def flow_of(row, flow):
+    return moved(row.sent, row.base, flow_base(row, flow))
+
+
+def captures_apart(row, threads):
+    flows = FLOWS[row.name]
+    return [
+        capture([one for flow in range(flows) for one in flow_of(row, thread * flows + flow)]) for thread in range(threads)
+    ]
+
+
+def captures_same(row, threads):
+    """All threads begin with one flow, and then go on in other orders."""
+    flows = FLOWS[row.name]
+    orders = [sorted(range(flows), key=lambda flow: flow * (2 * thread + 1) % flows) for thread in range(threads)]
+    return [capture([one for flow in order for one in flow_of(row, flow)]) for order in orders]
+
+
+# What is so of each run of a case.
+
+
+def parts_of(report, count):
+    """The events and verdicts of each flow of each thread, so many packets, with ids counted among them, without points."""
+    lines, ids, parts = report.splitlines(), {}, {}
+    events = int(lines[0].split()[1])
+
+    def part_for(thread, packet):
+        key = int(thread), packet // count
+        return parts.setdefault(key, []), ids.setdefault(key, {})
+
+    def renamed(pattern, names, text):
+        return re.sub(pattern, lambda found: f"{found[1]}={names.get(found[2], '?')}", text)
+
+    for line in lines[1 : 1 + events]:
+        number, word, who, rest = line.split(" ", 3)
+        thread, _, packet = who.partition(".")
+        if thread != "s":
+            part, names = part_for(thread, int(packet))
+            names[number] = len(names)
+            text = renamed(r"(^id|master|expect|replaces)=(\d+)", names, rest)
+            part.append(f"{names[number]} {word} {int(packet) % count} {text}")
+    for line in lines[1 + events :]:
+        word, _, rest = line.partition(" ")
+        if word == "script":
+            break
+        if word == "thread":
+            thread = rest.split()[0]
+            continue
+        part, names = part_for(thread, int(word))
+        text = renamed(r"(id|expect|clash)=(\d+)", names, rest)
+        part.append(f"{int(word) % count} " + re.sub(r" @\d+", "", text))
+    return {key: "\n".join(part) for key, part in parts.items()}
+
+
+def is_as_alone(row, threads):
+    """Each flow of a thread has the events and verdicts that it has alone."""
+    count, flows = len(row.sent), FLOWS[row.name]
+    alone = parts_of(row.report, count)[0, 0]
+    text = lambda base: ".".join(str(piece) for piece in base) + "."
+
+    def holds(history, report):
+        parts = parts_of(report, count)
+        for thread in range(threads):
+            for flow in range(flows):
+                base = flow_base(row, thread * flows + flow)
+                got = parts[thread, flow].replace(text(base), text(row.base))
+                want(got == alone, f"flow {flow} of thread {thread} is not as it is alone")
+
+    return holds
+
+
+def any_history(history, report):
+    """Whatever is well-formed."""
+
+
+def is_one_entry(history, report):
+    want(history.kinds.count("confirm") == 1 and history.live_counts[-1] == 1, "there is not one entry")
+
+
+def is_swept(threads):
+    """Each thread has left two entries in each flow, of which the script finds all, and deletes them."""
+    flows = threads * FLOWS["sweep"]
+
+    def holds(history, report):
+        lines = report[report.index("\nscript 6\n") :].splitlines()
+        heads = [line.partition(" @")[0] for line in lines if re.match(r"\d+ [a-z]", line)]
+        wanted = [f"0 list {2 * flows}", f"1 deleted {flows}", f"2 count {flows}", f"3 flushed {flows}", "4 get 0", "5 list 0"]
+        want(heads == wanted, f"the script is answered {heads}")
+        want(history.live_counts[-1] == 0, "entries are left")
+
+    return holds
+
+
+def is_full(entries):
+    """No place is lost: each has an entry at the end."""
+
+    def holds(history, report):
+        want(history.live_counts[-1] == entries, f"{history.live_counts[-1]} are live at the end, of {entries}")
+        want(" FULL @" in report, "nobody found the pool full")
+
+    return holds
+
+
+def pool_captures(threads, flows, rounds):
+    """Each thread asks for flows of its own, and again after they are expired."""
+    return [
+        capture(
+            [
+                (1_000_000_000 + 100_000_000 * turn + flow, query(0x0A000000 + 256 * thread + flow, 0x0A010001, 5000, back))
+                for turn in range(rounds)
+                for flow in range(flows)
+                for back in (False, True)
+            ]
+        )
+        for thread in range(threads)
+    ]
+
+
+def all_cases():
+    row = rows()
+    sweep = captures_apart(row["sweep"], 4)
+    beside = SWEEP.replace("wait\n", "") + "-L\n-D -p tcp\n-C\n-L expect\nexpire 1100000000\n-L\n-F\n-C\n"
+    one_flow = capture(
+        [(1_000_000_000 + 1000 * turn, query(0x0A000001, 0x0A000002, 5000, turn % 2 == 1)) for turn in range(100)]
+    )
+    cases = []
+    for name in ("query", "ftp", "office"):
+        one = row[name]
+        cases.append(Case(f"{name}-apart", captures_apart(one, 4), one.rules, "", 2048, is_as_alone(one, 4)))
+        cases.append(Case(f"{name}-same", captures_same(one, 4), one.rules, "", 2048, any_history))
+    ftp_script = "-L expect\n-D -p tcp\n" * 8
+    return cases + [
+        Case("sweep-apart", sweep, "", SWEEP, 2048, is_swept(4)),
+        Case("sweep-beside", captures_same(row["sweep"], 4), "", beside, 2048, any_history),
+        Case("ftp-beside", captures_same(row["ftp"], 3), "", ftp_script, 2048, any_history),
+        Case("one-flow", [one_flow] * 4, "", "", 2048, is_one_entry),
+        Case("pool-once", pool_captures(8, 60, 1), "", "", 120, is_full(120)),
+        Case("pool-again", pool_captures(8, 24, 4), "", "", 80, is_full(80)),
+        Case("pool-same", pool_captures(1, 40, 3) * 8, "", "-C\n-L\nwait\n-C\n", 34, any_history),
+    ]
+
+
+# The runs.
+
+
+def place(case, folder):
+    """Writes the inputs of a case, and gives the words of a run, but for the buckets."""
+    words = []
+    for option, text in (("--rules", case.rules), ("--script", case.script)):
+        if text:
+            name = os.path.join(folder, option[2:])
+            with open(name, "w", encoding="ascii") as file:
+                file.write(text)
+            words += [option, name]
+    words += ["--entries", str(case.entries)]
+    for thread, data in enumerate(case.captures):
+        words.append(os.path.join(folder, f"{thread}.pcap"))
+        with open(words[-1], "wb") as file:
+            file.write(data)
+    return words
+
+
+def run_once(program, words, number):
+    buckets = ["--buckets", str(BUCKETS[number % len(BUCKETS)])]
+    done = subprocess.run([program] + buckets + words, capture_output=True, text=True, timeout=600, check=False)
+    if done.returncode:
+        return number, None, f"status {done.returncode}: {done.stderr.strip()}"
+    return number, done.stdout, None
+
+
+def changes_of(report):
+    """How often two events that stand side by side are of two threads."""
+    lines = report.splitlines()
+    makers = [line.split(" ", 3)[2].split(".")[0] for line in lines[1 : 1 + int(lines[0].split()[1])]]
+    return sum(one != other for one, other in zip(makers, makers[1:]))
+
+
+def judged(case, inputs, report):
+    """Why a report is refused, or none."""
+    try:
+        case.holds(check(report, inputs), report)
+    except Refused as fault:
+        return str(fault)
+    return None
+
+
+def keep(folder, case, number, report, why):
+    name = os.path.join(folder, f"{case.name}-{number}")
+    os.makedirs(name, exist_ok=True)
+    place(case, name)
+    for file_name, text in (("report", report or ""), ("why", why + "\n")):
+        with open(os.path.join(name, file_name), "w", encoding="ascii") as file:
+            file.write(text)
+
+
+def run_case(case, given):
+    """Runs a case. Gives whether each report was good."""
+    begin, changes, words = time.time(), [], {}
+    inputs = inputs_of(case.captures, case.rules, case.script, case.entries)
+    with tempfile.TemporaryDirectory() as folder, ThreadPoolExecutor(given.jobs) as pool:
+        line = place(case, folder)
+        for begun in range(0, given.runs, 50):
+            numbers = range(begun, min(begun + 50, given.runs))
+            for number, report, why in pool.map(lambda n: run_once(given.program, line, n), numbers):
+                why = why or judged(case, inputs, report)
+                if why:
+                    print(f"{case.name}: run {number} is refused: {why}", flush=True)
+                    if given.keep:
+                        keep(given.keep, case, number, report, why)
+                    return False
+                changes.append(changes_of(report))
+                for word in re.findall(r"^\d+ ([A-Z_]+(?: state| new)?) .*@", report, re.M):
+                    words[word] = words.get(word, 0) + 1
+    middle = sorted(changes)[len(changes) // 2]
+    counts = ", ".join(f"{word} {count}" for word, count in sorted(words.items()))
+    print(
+        f"{case.name}: {given.runs} runs in {time.time() - begin:.0f} s, all good; changes of thread between two events"
+        f" {min(changes)} to {max(changes)}, in the middle {middle}; verdicts {counts}",
+        flush=True,
+    )
+    return True
+
+
+# The test of the checker.
+
+
+# The query and its answer on two threads, of which the second was late.
+MERGED = """events 3
+0 confirm 0.0 udp src=10.0.0.1 dst=10.0.0.2 sport=5000 dport=53 src=10.0.0.2 dst=10.0.0.1 sport=53 dport=5000 until=1030000000
+1 touch 0.1 id=0 reply until=1120500000 replied
+2 touch 1.1 id=0 reply until=1120500000 replied
+thread 0 packets 2
+0 NEW id=0 @1
+1 ESTABLISHED_REPLY id=0 @2
+thread 1 packets 2
+0 MERGED id=0 @1
+1 ESTABLISHED_REPLY id=0 @3
+script 0
+"""
+
+
+def damages():
+    """Examples, each with its inputs and damages: a text of the report, and what stands in its place."""
+    data = lambda *names: [read_bytes(DATA, name) for name in names]
+    rules, script = read_text(DATA, "nat.rules"), read_text(DATA, "demo.script")
+    both = inputs_of(data("nat.pcap", "icmp.pcap"), rules, script)
+    office = inputs_of(data("office.pcap"), read_text(DATA, "office.rules"))
+    return [
+        (
+            example("README.md", "events 6"),
+            both,
+            [
+                ("1 confirm 0.0", "2 confirm 0.0"),
+                ("2 touch 1.1 id=0", "2 touch 1.1 id=1"),
+                ("5 destroy s.1 id=0", "5 destroy s.1 id=3"),
+                ("5 destroy s.1", "5 destroy s.2"),
+                ("5 destroy s.1", "5 destroy 0.2"),
+                ("3 touch 0.1 id=1 reply", "3 touch 0.1 id=1 original"),
+                ("3 touch 0.1", "3 touch 0.3"),
+                ("4 confirm 0.2", "4 confirm 0.0"),
+                ("sport=53 dport=5001 until", "sport=53 dport=5000 until"),
+                ("until=1120500000", "until=1120500001"),
+                ("1 ESTABLISHED_REPLY id=1 @4", "1 ESTABLISHED id=1 @4"),
+                ("1 ESTABLISHED_REPLY id=1 @4", "1 ESTABLISHED_REPLY id=1 @3"),
+                ("1 ESTABLISHED_REPLY id=1 @4", "1 ESTABLISHED_REPLY id=0 @4"),
+                ("2 NEW id=4 @5", "2 NEW id=4 @7"),
+                ("2 NEW id=4 @5", "2 FULL @5"),
+                ("2 INVALID new @4", "2 INVALID new @2"),
+                ("2 INVALID new @4", "2 IGNORED id=0 @4"),
+                ("thread 1 packets 3", "thread 1 packets 2"),
+                ("0 list 3 @5 @5", "0 list 3 @4 @5"),
+                ("1 deleted 1 @5 @6", "1 deleted 0 @5 @6"),
+                ("2 count 2 @6", "2 count 3 @6"),
+                ("2 count 2 @6", "2 count 3 @5"),
+                (" 30 src=10.0.0.2", " 29 src=10.0.0.2"),
+            ],
+        ),
+        (
+            MERGED,
+            inputs_of(data("c.pcap", "c.pcap")),
+            [
+                ("0 MERGED id=0 @1", "0 CLASH id=0 @1"),
+                ("0 MERGED id=0 @1", "0 MERGED id=0 @0"),
+                ("0 MERGED id=0 @1", "0 MERGED id=0 @3"),
+                ("0 MERGED id=0 @1", "0 FULL @1"),
+                ("0 MERGED id=0 @1", "0 NEW id=0 @1"),
+                ("1 ESTABLISHED_REPLY id=0 @2", "1 MERGED id=0 @2"),
+            ],
+        ),
+        (
+            example("docs/FORMATS.md", "events 19"),
+            office,
+            [
+                ("17 claim 0.16 expect=16", "17 claim 0.16 expect=15"),
+                (" master=12\nthread", "\nthread"),
+                ("dport=40001 until=224", "dport=40002 until=224"),
+                (" helper", ""),
+                ("state=LAST_ACK", "state=TIME_WAIT"),
+                ("ftp expect=16", "ftp address"),
+                (" @16 ftp expect=16", " @16"),
+                ("16 RELATED id=18", "16 NEW id=18"),
+            ],
+        ),
+    ]
+
+
+def self_test():
+    """Whether each example is good, and each damage is refused."""
+    tried, missed = 0, 0
+    for report, inputs, changes in damages():
+        check(report, inputs)
+        for old, new in changes:
+            want(report.count(old) >= 1, f"the example has no {old}")
+            tried += 1
+            try:
+                check(report.replace(old, new, 1), inputs)
+                missed += 1
+                print(f"self-test: not refused: {new} in the place of {old}")
+            except Refused as fault:
+                print(f"refused: {fault}")
+    print(f"self-test: {tried - missed} of {tried} damages refused")
+    return missed == 0
+
+
+def found_program():
+    program = os.path.join(TOP, "crates", "ctreplay", "out", "ctreplay")
+    if not os.access(program, os.X_OK):
+        subprocess.run([os.path.join(TOP, "ctreplay"), os.path.join(DATA, "c.pcap")], stdout=subprocess.DEVNULL, check=True)
+    return program
+
+
+def main():
+    parser = argparse.ArgumentParser(description="Runs the program many times on several captures, and checks each report.")
+    parser.add_argument("--runs", type=int, default=1000)
+    parser.add_argument("--jobs", type=int, default=1)
+    parser.add_argument("--times", type=int, default=1)
+    parser.add_argument("--program")
+    parser.add_argument("--only", default="")
+    parser.add_argument("--keep")
+    parser.add_argument("--self-test", action="store_true")
+    given = parser.parse_args()
+    if given.self_test:
+        sys.exit(0 if self_test() else 1)
+    given.program = given.program or found_program()
+    FLOWS.update({name: given.times * flows for name, flows in FLOWS.items()})
+    cases = [case for case in all_cases() if given.only in case.name]
+    if not cases or min(given.runs, given.jobs, given.times) < 1:
+        sys.exit("thread_rows: no such case, or no runs")
+    good = [run_case(case, given) for case in cases]
+    sys.exit(0 if all(good) else 1)
+
+
+if __name__ == "__main__":
+    main()
