@@ -20,6 +20,7 @@ pub mod Sight
 pub mod WentOn
 pub mod SightLaws
 pub mod Places
+pub mod PlaceUse
 pub mod Fresh
 pub mod Leave
 pub mod Split

@@ -10,6 +10,7 @@ pub mod laws;
 pub mod legality;
 pub mod merge;
 pub mod outcome;
+pub mod place_use;
 pub mod places;
 pub mod record;
 pub mod report;
