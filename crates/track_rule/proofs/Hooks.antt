@@ -8,6 +8,7 @@ use mathlib.Core.Option.{some, some-injective, some-ne-none}
 use lib.ListN.{get_elem?}
 use Rattle.atomic_table.specs.Table.{State}
 use Rattle.history_book.specs.declared.sizes.Sizes.{Sizes}
+use Rattle.history_book.specs.declared.event.Event.{Event}
 use Rattle.history_book.specs.declared.record.Record.{Record}
 use Rattle.track_rule.specs.declared.slot.Slot.{Slot}
 use Rattle.track_rule.specs.declared.view.Hook.{Hook}
@@ -52,6 +53,20 @@ hooks_new z ws p hooks = record {
   down = (refl, refl);
 }
 
+-- who is in the middle of a commit at a place keeps a reference to it
+committing : (z : Sizes) (log : List Event) (p : ℕ) (u : View) (r : Record)
+    → IsCommitting z log u.commit.hand u.places.carried u.buckets.shut r → of_place p r ≤ keeps p u
+committing z log p u r k =
+    ⊎_elim
+    (λ (e : r.place ≡ p). omega (arith, same_bit r.place p e, subst (λ (x : ℕ). 0 < times x u.places.carried) e k.reference))
+    (λ (e : r.place ≢ p). omega (arith, other_bit r.place p e)) (cases_eq r.place p)
+
+pub middle_kept : (z : Sizes) (log : List Event) (p : ℕ) (m : Middle) (u : View)
+    → IsMiddle z log m u.commit.hand u.places.carried u.buckets.shut u.expected → middle_weight (of_place p) m ≤ keeps p u
+middle_kept z log p Calm u k = omega arith
+middle_kept z log p (Born r) u k = committing z log p u r k
+middle_kept z log p (Dying r) u k = committing z log p u r k.0
+
 -- nobody has a hook of a place without references, nor is an entry live there
 module _ (z : Sizes) (l : Ledger) (s : State Slot View) (h : IsKept z l s) (id : ℕ) (v : View) (at : get_elem? s.views id ≡ some v)
     (p : ℕ) (below : p < z.entries) (nobody : refs_at z s.words p ≡ 0) where
@@ -81,20 +96,8 @@ module _ (z : Sizes) (l : Ledger) (s : State Slot View) (h : IsKept z l s) (id :
         h.phases.used p below,
         h.references.counted p below,
         nobody,
-        total_le (middle_of (of_place p)) (keeps p) s.views (λ i u at'. middle_kept p u.commit.middle u (h.commits i u at')),
+        total_le (middle_of (of_place p)) (keeps p) s.views (λ i u at'. middle_kept z l.log p u.commit.middle u (h.commits i u at')),
       )
-    where
-      -- who is in the middle of a commit at a place keeps a reference to it
-      committing : (p : ℕ) (u : View) (r : Record) → IsCommitting z l.log u.commit.hand u.places.carried u.buckets.shut r → of_place p r ≤ keeps p u
-      committing p u r k =
-          ⊎_elim
-          (λ (e : r.place ≡ p). omega (arith, same_bit r.place p e, subst (λ (x : ℕ). 0 < times x u.places.carried) e k.reference))
-          (λ (e : r.place ≢ p). omega (arith, other_bit r.place p e)) (cases_eq r.place p)
-
-      middle_kept : (p : ℕ) (m : Middle) (u : View) → IsMiddle z l.log m u.commit.hand u.places.carried u.buckets.shut u.expected → middle_weight (of_place p) m ≤ keeps p u
-      middle_kept p Calm u k = omega arith
-      middle_kept p (Born r) u k = committing p u r k
-      middle_kept p (Dying r) u k = committing p u r k.0
 
   -- nor has a pass destroyed one there, of which it carries the table's reference
   pub none_ended : total (ends p) s.views ≡ 0
