@@ -1,23 +1,17 @@
 //! What the rule of the turns says of the places of all passes: each law is the contract of a function that does nothing.
 
-ghost use Rattle.book_desk.specs.Turn.Laws.{HeldPlacesAreNotFree, HeldPlacesAreNotGiven, KeptLeavesAUse, KeptPlacesAreInUse, LastLeavesNoUse, NoOtherPlaces, PlacesHaveOneUse, RecycledPlacesAreFree, TakenPlacesWereNobodys};
+ghost use Rattle.history_book.specs.PlaceUse.{PlacesAreRight};
+ghost use Rattle.book_desk.specs.Turn.Laws.{HeldPlacesAreNotGiven, IsBetween, KeptLeavesAUse, LastLeavesNoUse, RecycledPlacesAreFree, TakenPlacesWereNobodys, entries_of, part_in, uses_in};
+
+use history_book::place_use::uses_exclude_others;
 
 /// Between any two steps of a tracker's passes each place of its pool is free once, or owed once by one pass, or in use by
-/// an entry or by references of passes, and never two of these. A place that is none of the pool's is none of these.
-pub fn places_have_one_use()
-    ensures each { PlacesHaveOneUse }
-    ensures no_others { NoOtherPlaces }
-{}
-
-/// A place that one pass holds or owes is not free.
-pub fn held_places_are_not_free()
-    ensures { HeldPlacesAreNotFree }
-{}
-
-/// A place of the pool that is neither free nor owed is in use by an entry or by references of passes.
-pub fn kept_places_are_in_use()
-    ensures { KeptPlacesAreInUse }
-{}
+/// an entry or by references of passes; and what follows for who holds it, who is given it, and who gives it up.
+pub fn places_are_right()
+    ensures { PlacesAreRight IsBetween entries_of uses_in part_in }
+{
+    uses_exclude_others();
+}
 
 /// A turn takes a place only where no pass holds it or owes it and no live entry has it: so a place that some pass holds
 /// or owes is given to no pass.

@@ -4,6 +4,7 @@ use mathlib.Core.Option.{some}
 use lib.ListN.{get_elem?}
 use Rattle.atomic_table.specs.Table.{State}
 use Rattle.history_book.specs.Held.{is_at}
+use Rattle.history_book.specs.PlaceUse.{IsPartOf, IsRightUse, PlacesAreRight, UsesExcludeOthers, users_of}
 use Rattle.history_book.specs.Record.{has_place}
 use Rattle.history_book.specs.declared.event.Event.{Event}
 use Rattle.history_book.specs.declared.sizes.Sizes.{Sizes}
@@ -14,7 +15,7 @@ use Rattle.book_desk.specs.declared.turn.change.PlaceChange.TheVariants.{Holds, 
 use Rattle.book_desk.specs.declared.turn.view.View.{View}
 use Rattle.book_desk.specs.Uses.{bit, tally, times, uses}
 use Rattle.book_desk.specs.Turn.Change.{IsRightChange}
-use Rattle.book_desk.specs.Turn.Laws.{MayEnd, debts_of, held_at, owed_at, users_of, views_then}
+use Rattle.book_desk.specs.Turn.Laws.{Between, IsBetween, MayEnd, debts_of, entries_of, held_at, owed_at, part_in, part_of, use_in, uses_in, views_then}
 use Rattle.book_desk.specs.Turn.Places.{AreOfPasses}
 use Rattle.book_desk.specs.Turn.Rule.{IsKept}
 use Rattle.book_desk.specs.Turn.Steps.{free_in}
@@ -29,7 +30,7 @@ tally_total p [] = refl
 tally_total p (x ∷ xs) = ap (λ (n : ℕ). bit (p x) + n) (tally_total p xs)
 
 -- the users of a place in the book are the entry and the references of all passes
-users_same : (b : Book) (views : List View) (place : ℕ) → AreOfPasses b views → uses place b.records.items b.holds.items ≡ users_of place b views
+users_same : (b : Book) (views : List View) (place : ℕ) → AreOfPasses b views → uses place b.records.items b.holds.items ≡ users_of (use_in place b views)
 users_same b views place h = ap (λ (n : ℕ). tally (has_place place) b.records.items + n)
     (tally_total (is_at place) b.holds.items ∙ h.held (λ k. bit (is_at place k)))
 
@@ -38,40 +39,43 @@ debts_same : (b : Book) (views : List View) (place : ℕ) → AreOfPasses b view
 debts_same b views place h = tally_total (λ p. p == place) b.owed.items ∙ h.owed (λ p. bit (p == place))
 
 module _ (z : Sizes) (log : List Event) (b : Book) (s : State (Option Book) View) (place : ℕ) (kept : IsKept z log b s) where
-  pub one_use : place < z.entries → times place b.free.items + debts_of place s.views + min (users_of place b s.views) 1 ≡ 1
-  one_use below = subst (λ (n : ℕ). times place b.free.items + n + min (users_of place b s.views) 1 ≡ 1) (debts_same b s.views place kept.places)
+  pub one_use : place < z.entries → times place b.free.items + debts_of place s.views + min (users_of (use_in place b s.views)) 1 ≡ 1
+  one_use below = subst (λ (n : ℕ). times place b.free.items + n + min (users_of (use_in place b s.views)) 1 ≡ 1) (debts_same b s.views place kept.places)
       (subst (λ (n : ℕ). times place b.free.items + times place b.owed.items + min n 1 ≡ 1) (users_same b s.views place kept.places)
       (kept.book.places.once place (subst (λ (y : Sizes). place < y.entries) (sym kept.sizes) below)))
 
-  pub no_other : z.entries ≤ place → times place b.free.items + debts_of place s.views + users_of place b s.views ≡ 0
+  pub no_other : z.entries ≤ place → times place b.free.items + debts_of place s.views + users_of (use_in place b s.views) ≡ 0
   no_other beyond =
       let none = kept.book.places.beyond place (subst (λ (y : Sizes). y.entries ≤ place) (sym kept.sizes) beyond) in
       omega (arith, none, users_same b s.views place kept.places, debts_same b s.views place kept.places)
 
--- one of three that add up to one, of which the last counts once at most
-not_first : (f d n h o : ℕ) → f + d + min n 1 ≡ 1 → h ≤ n → o ≤ d → 0 < h + o → f ≡ 0
-not_first f d zero h o all low owes any = omega (arith, all, low, owes, any)
-not_first f d (suc n) h o all low owes any = omega (arith, all)
+-- one pass holds and owes no more than all
+among_all : (place : ℕ) (views : List View) (i : ℕ)
+    → IsPartOf (part_of place (get_elem? views i)) (record { kept = total (λ v. held_at place v) views; owed = debts_of place views })
+among_all place [] i = record { kept = omega arith; owed = omega arith }
+among_all place (v ∷ views) zero = record { kept = omega arith; owed = omega arith }
+among_all place (v ∷ views) (suc i) =
+    let rest = among_all place views i in record { kept = omega (arith, rest.kept); owed = omega (arith, rest.owed) }
 
-last_left : (n u : ℕ) → n + min u 1 ≡ 1 → n ≡ 0 → 0 < u
-last_left n zero all none = omega (arith, all, none)
-last_left n (suc u) all none = omega (arith)
+module _ (others : UsesExcludeOthers) where
+  right_use : (b : Between) (place : ℕ) → IsBetween b → IsRightUse (entries_of b) place (uses_in b place)
+  right_use b place kept = record {
+    one = one_use b.sizes b.log b.book b.table place kept;
+    beyond = no_other b.sizes b.log b.book b.table place kept;
+  }
 
-pub in_use : (z : Sizes) (log : List Event) (b : Book) (s : State (Option Book) View) (place : ℕ) → IsKept z log b s → place < z.entries
-    → times place b.free.items + debts_of place s.views ≡ 0 → 0 < users_of place b s.views
-in_use z log b s place kept below none =
-    last_left (times place b.free.items + debts_of place s.views) (users_of place b s.views) (one_use z log b s place kept below) none
-
-pub not_free : (z : Sizes) (log : List Event) (b : Book) (s : State (Option Book) View) (i place : ℕ) (v : View) → IsKept z log b s
-    → get_elem? s.views i ≡ some v → 0 < held_at place v + owed_at place v → times place b.free.items ≡ 0
-not_free z log b s i place v kept at has =
-    let low : held_at place v ≤ total (λ w. held_at place w) s.views = total_term (λ w. held_at place w) s.views i v at in
-    let held : held_at place v ≤ users_of place b s.views = omega (arith, low) in
-    let owed : owed_at place v ≤ debts_of place s.views = total_term (λ w. owed_at place w) s.views i v at in
-    ⊎_elim (λ (below : place < z.entries). not_first (times place b.free.items) (debts_of place s.views) (users_of place b s.views)
-    (held_at place v) (owed_at place v) (one_use z log b s place kept below) held owed has)
-    (λ (beyond : z.entries ≤ place). omega (arith, no_other z log b s place kept beyond))
-    (cases_lt place z.entries)
+  pub right_places : PlacesAreRight IsBetween entries_of uses_in part_in
+  right_places = record {
+    one = λ b place kept. (right_use b place kept).one;
+    beyond = λ b place kept. (right_use b place kept).beyond;
+    part = λ b pass place kept. among_all place b.table.views pass;
+    nobodys = λ b place kept. others.nobodys (entries_of b) place (uses_in b place) (right_use b place kept);
+    held = λ b pass place kept. others.held (entries_of b) place (uses_in b place) (part_in b pass place) (right_use b place kept) (among_all place b.table.views pass);
+    last = λ b pass place kept. others.last (entries_of b) place (uses_in b place) (part_in b pass place) (right_use b place kept) (among_all place b.table.views pass);
+    kept = λ b b' place kept kept' same.
+        others.kept (entries_of b) place (uses_in b place) (uses_in b' place) (right_use b place kept)
+        (subst (λ (n : ℕ). IsRightUse n place (uses_in b' place)) same (right_use b' place kept'));
+  }
 
 -- where the first of three is one, the others are nothing
 only_first : (f d n : ℕ) → f + d + min n 1 ≡ 1 → f ≡ 1 → d + n ≡ 0
@@ -96,10 +100,10 @@ module _ (z : Sizes) (log : List Event) (b : Book) (s : State (Option Book) View
       places_ended z e v b new s i m.at m.can known
       (subst (λ (l : List Event). IsKept z l b s) (sym (m.kept.away i v m.at m.can.turn).1) m.kept)
 
-  pub nobodys : e.places ≡ Holds (record { place = place; id = None }) → debts_of place s.views + users_of place b s.views ≡ 0
+  pub nobodys : e.places ≡ Holds (record { place = place; id = None }) → debts_of place s.views + users_of (use_in place b s.views) ≡ 0
   nobodys is =
       let free : times place b.free.items ≡ 1 = right (Holds (record { place = place; id = None })) is in
-      ⊎_elim (λ (below : place < z.entries). only_first (times place b.free.items) (debts_of place s.views) (users_of place b s.views)
+      ⊎_elim (λ (below : place < z.entries). only_first (times place b.free.items) (debts_of place s.views) (users_of (use_in place b s.views))
       (one_use z log b s place m.kept below) free)
       (λ (beyond : z.entries ≤ place). absurd (omega (arith, free, no_other z log b s place m.kept beyond)))
       (cases_lt place z.entries)
@@ -111,14 +115,14 @@ module _ (z : Sizes) (log : List Event) (b : Book) (s : State (Option Book) View
       let owed : owed_at place u ≤ debts_of place s.views = total_term (λ w. owed_at place w) s.views j u at in
       omega (arith, has, held, owed, nobodys is)
 
-  pub use_left : e.places ≡ Releases place → 0 < users_of place new (views_then s.views i v e)
+  pub use_left : e.places ≡ Releases place → 0 < users_of (use_in place new (views_then s.views i v e))
   use_left is = subst (λ (n : ℕ). 0 < n) (users_same new (views_then s.views i v e) place places_then) (right (Releases place) is)
 
-  pub no_use_left : e.places ≡ Owes place → users_of place new (views_then s.views i v e) ≡ 0
+  pub no_use_left : e.places ≡ Owes place → users_of (use_in place new (views_then s.views i v e)) ≡ 0
   no_use_left is = sym (users_same new (views_then s.views i v e) place places_then) ∙ right (Owes place) is
 
   pub free_then : e.places ≡ Pays place
-      → (times place new.free.items ≡ 1) × (debts_of place (views_then s.views i v e) + users_of place new (views_then s.views i v e) ≡ 0)
+      → (times place new.free.items ≡ 1) × (debts_of place (views_then s.views i v e) + users_of (use_in place new (views_then s.views i v e)) ≡ 0)
   free_then is =
       let free : times place new.free.items ≡ 1 = right (Pays place) is in
       let none : times place new.owed.items + uses place new.records.items new.holds.items ≡ 0 =

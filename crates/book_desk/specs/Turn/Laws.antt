@@ -1,9 +1,10 @@
 -- What the rule of the turns says of the places of all passes: between any two steps, and where a turn ends.
-use Rattle.std.specs.Prelude.{◌≡◌, ◌≢◌, ℕ, ◌+◌, ◌<◌, ◌≤◌, min, ◌==◌, Option, None, List}
-use mathlib.Core.Option.{some}
+use Rattle.std.specs.Prelude.{◌≡◌, ◌≢◌, ℕ, ◌+◌, ◌<◌, ◌==◌, Option, None, List}
+use mathlib.Core.Option.{Option as Slotted, none, some}
 use lib.ListN.{get_elem?, set}
 use Rattle.atomic_table.specs.Table.{State}
 use Rattle.history_book.specs.Held.{is_at}
+use Rattle.history_book.specs.PlaceUse.{PassUse, PlaceUse, users_of}
 use Rattle.history_book.specs.Record.{has_place}
 use Rattle.history_book.specs.declared.event.Event.{Event}
 use Rattle.history_book.specs.declared.sizes.Sizes.{Sizes}
@@ -24,38 +25,41 @@ held_at place v = total (λ h. bit (is_at place h)) v.held
 abbrev pub owed_at : ℕ → View → ℕ
 owed_at place v = total (λ p. bit (p == place)) v.owed
 
--- how many live entries have the place, and how many references of all passes are to it
-abbrev pub users_of : ℕ → Book → List View → ℕ
-users_of place b views = tally (has_place place) b.records.items + total (λ v. held_at place v) views
-
 -- how often a pass owes it
 abbrev pub debts_of : ℕ → List View → ℕ
 debts_of place views = total (λ v. owed_at place v) views
 
--- Each place of the pool is free once, or owed once by one pass, or in use by an entry or by references of passes, and
--- never two of these.
-abbrev pub PlacesHaveOneUse : Type 0
-PlacesHaveOneUse =
-    (z : Sizes) (log : List Event) (b : Book) (s : State (Option Book) View) (place : ℕ) → IsKept z log b s → place < z.entries
-    → times place b.free.items + debts_of place s.views + min (users_of place b s.views) 1 ≡ 1
+-- what is counted of a place in a book, among what these passes know
+abbrev pub use_in : ℕ → Book → List View → PlaceUse
+use_in place b views = record {
+  free = times place b.free.items;
+  live = tally (has_place place) b.records.items;
+  passes = record { kept = total (λ v. held_at place v) views; owed = debts_of place views };
+}
 
--- A place that is none of the pool's is not free, and nobody owes it or uses it.
-abbrev pub NoOtherPlaces : Type 0
-NoOtherPlaces =
-    (z : Sizes) (log : List Event) (b : Book) (s : State (Option Book) View) (place : ℕ) → IsKept z log b s → z.entries ≤ place
-    → times place b.free.items + debts_of place s.views + users_of place b s.views ≡ 0
+-- a tracker between two steps of its passes
+pub record Between : Type 0 where
+  pub sizes : Sizes
+  pub log : List Event
+  pub book : Book
+  pub table : State (Option Book) View
 
--- A place that a pass holds or owes is not free.
-abbrev pub HeldPlacesAreNotFree : Type 0
-HeldPlacesAreNotFree =
-    (z : Sizes) (log : List Event) (b : Book) (s : State (Option Book) View) (i place : ℕ) (v : View) → IsKept z log b s
-    → get_elem? s.views i ≡ some v → 0 < held_at place v + owed_at place v → times place b.free.items ≡ 0
+abbrev pub IsBetween : Between → Type 0
+IsBetween b = IsKept b.sizes b.log b.book b.table
 
--- A place of the pool that is not free, and that no pass owes, has a live entry or a reference of some pass.
-abbrev pub KeptPlacesAreInUse : Type 0
-KeptPlacesAreInUse =
-    (z : Sizes) (log : List Event) (b : Book) (s : State (Option Book) View) (place : ℕ) → IsKept z log b s → place < z.entries
-    → times place b.free.items + debts_of place s.views ≡ 0 → 0 < users_of place b s.views
+abbrev pub entries_of : Between → ℕ
+entries_of b = b.sizes.entries
+
+abbrev pub uses_in : Between → ℕ → PlaceUse
+uses_in b place = use_in place b.book b.table.views
+
+-- and of it what is one pass's: where no pass has the number, nothing
+abbrev pub part_of : ℕ → Slotted View → PassUse
+part_of place none = record { kept = 0; owed = 0 }
+part_of place (some v) = record { kept = held_at place v; owed = owed_at place v }
+
+abbrev pub part_in : Between → ℕ → ℕ → PassUse
+part_in b pass place = part_of place (get_elem? b.table.views pass)
 
 -- Between two steps this pass has the turn, and may end it with this change of places and this book.
 pub record MayEnd (z : Sizes) (log : List Event) (b : Book) (s : State (Option Book) View) (i : ℕ) (v : View) (e : Ending) (new : Book) : Type 0 where
@@ -72,7 +76,7 @@ abbrev pub TakenPlacesWereNobodys : Type 0
 TakenPlacesWereNobodys =
     (z : Sizes) (log : List Event) (b : Book) (s : State (Option Book) View) (i place : ℕ) (v : View) (e : Ending) (new : Book)
     → MayEnd z log b s i v e new → e.places ≡ Holds (record { place = place; id = None })
-    → debts_of place s.views + users_of place b s.views ≡ 0
+    → debts_of place s.views + users_of (use_in place b s.views) ≡ 0
 
 -- So a place that some pass holds or owes is given to no pass: no turn may end with it taken.
 abbrev pub HeldPlacesAreNotGiven : Type 0
@@ -86,17 +90,17 @@ HeldPlacesAreNotGiven =
 abbrev pub KeptLeavesAUse : Type 0
 KeptLeavesAUse =
     (z : Sizes) (log : List Event) (b : Book) (s : State (Option Book) View) (i place : ℕ) (v : View) (e : Ending) (new : Book)
-    → MayEnd z log b s i v e new → e.places ≡ Releases place → 0 < users_of place new (views_then s.views i v e)
+    → MayEnd z log b s i v e new → e.places ≡ Releases place → 0 < users_of (use_in place new (views_then s.views i v e))
 
 -- A turn that gives up the last reference, so that the place is owed, leaves no live entry in it and no reference to it.
 abbrev pub LastLeavesNoUse : Type 0
 LastLeavesNoUse =
     (z : Sizes) (log : List Event) (b : Book) (s : State (Option Book) View) (i place : ℕ) (v : View) (e : Ending) (new : Book)
-    → MayEnd z log b s i v e new → e.places ≡ Owes place → users_of place new (views_then s.views i v e) ≡ 0
+    → MayEnd z log b s i v e new → e.places ≡ Owes place → users_of (use_in place new (views_then s.views i v e)) ≡ 0
 
 -- A turn that gives a place back leaves it free: no pass owes it, no entry has it and no reference is to it.
 abbrev pub RecycledPlacesAreFree : Type 0
 RecycledPlacesAreFree =
     (z : Sizes) (log : List Event) (b : Book) (s : State (Option Book) View) (i place : ℕ) (v : View) (e : Ending) (new : Book)
     → MayEnd z log b s i v e new → e.places ≡ Pays place
-    → (times place new.free.items ≡ 1) × (debts_of place (views_then s.views i v e) + users_of place new (views_then s.views i v e) ≡ 0)
+    → (times place new.free.items ≡ 1) × (debts_of place (views_then s.views i v e) + users_of (use_in place new (views_then s.views i v e)) ≡ 0)
