@@ -10,7 +10,7 @@ use Rattle.history_book.specs.declared.sizes.Sizes.{Sizes}
 use Rattle.track_rule.specs.declared.view.View.{View}
 use Rattle.track_rule.specs.Free.{has_turn, owes, turn_of}
 use Rattle.track_rule.specs.History.{records_after}
-use Rattle.track_rule.specs.Laws.{Between, CountsUsers, IsBetween, KeptLeavesAUse, OnePassHasTheList, ReleasesStayOut, TakenPlacesAreNew, TheListIsKnown, WordsCountUsers, entries_of, part_in, part_of, uses_in}
+use Rattle.track_rule.specs.Laws.{Between, CountsUsers, IsBetween, KeptLeavesAUse, LastReferenceIsAlone, OnePassHasTheList, ReleasesStayOut, TakenPlacesAreNew, TheListIsKnown, WordsCountUsers, entries_of, part_in, part_of, uses_in}
 use Rattle.track_rule.specs.Layout.{phase_at, refs_at}
 use Rattle.track_rule.specs.Phases.{middle_of, of_place, table_keeps}
 use Rattle.track_rule.specs.References.{keeps}
@@ -113,6 +113,10 @@ list_known z l s i v h at turn = list_of v.free l.free turn (h.free_list.away i 
 pub one_has_list : OnePassHasTheList
 one_has_list z l s i j v u h at at' other turn =
     omega (arith, h.free_list.turn, h.free_list.single, total_two has_turn s.views i j v u at at' other, turn)
+
+pub last_alone : LastReferenceIsAlone
+last_alone z l s i j place v u h at at' other one below mine =
+    omega (arith, h.references.counted place below, one, total_two (keeps place) s.views i j v u at at' other, mine)
 
 pub taken_new : TakenPlacesAreNew
 taken_new z l s place h = h.references.taken place

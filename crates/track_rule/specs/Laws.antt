@@ -69,7 +69,6 @@ pub record CountsUsers (word : ℕ) (u : PlaceUse) : Type 0 where
   pub most : word ≤ users_of u
   pub some : min word 1 ≡ min (users_of u) 1
 
--- So who finds it at 1, and keeps a reference, is alone with it.
 abbrev pub WordsCountUsers : Type 0
 WordsCountUsers =
     (b : Between) (place : ℕ) → IsBetween b → place < entries_of b
@@ -86,6 +85,12 @@ abbrev pub OnePassHasTheList : Type 0
 OnePassHasTheList =
     (z : Sizes) (l : Ledger) (s : State Slot View) (i j : ℕ) (v u : View) → IsKept z l s
     → get_elem? s.views i ≡ some v → get_elem? s.views j ≡ some u → j ≢ i → has_turn v ≡ 1 → has_turn u ≡ 0
+
+-- Where a place has one reference, and a pass holds it, no other pass does. So who gives up the last one was alone with it.
+abbrev pub LastReferenceIsAlone : Type 0
+LastReferenceIsAlone =
+    (z : Sizes) (l : Ledger) (s : State Slot View) (i j place : ℕ) (v u : View) → IsKept z l s
+    → get_elem? s.views i ≡ some v → get_elem? s.views j ≡ some u → j ≢ i → refs_at z s.words place ≡ 1 → place < z.entries → 0 < keeps place v → keeps place u ≡ 0
 
 -- A place is taken for a new entry by one pass at most, and then no live entry has it, nor has a pass destroyed its entry and still
 -- carries the table's reference.

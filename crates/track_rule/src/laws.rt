@@ -1,7 +1,7 @@
 //! What the rule says of all passes: each law is the contract of a function that does nothing.
 
 ghost use Rattle.history_book.specs.PlaceUse.{PlacesAreRight};
-ghost use Rattle.track_rule.specs.Laws.{HeldPlacesHaveTheirTuples, IsBetween, KeptLeavesAUse, LivePlacesHaveTheirTuples, OnePassHasTheList, ReleasesStayOut, TakenPlacesAreNew, TheListIsKnown, WordsCountUsers, entries_of, part_in, uses_in};
+ghost use Rattle.track_rule.specs.Laws.{HeldPlacesHaveTheirTuples, IsBetween, KeptLeavesAUse, LastReferenceIsAlone, LivePlacesHaveTheirTuples, OnePassHasTheList, ReleasesStayOut, TakenPlacesAreNew, TheListIsKnown, WordsCountUsers, entries_of, part_in, uses_in};
 
 use history_book::laws::{live_records_are_confirmed, places_are_in_the_pool};
 use history_book::place_use::uses_exclude_others;
@@ -33,6 +33,11 @@ pub fn words_count_users()
 pub fn one_pass_has_the_list()
     ensures known { TheListIsKnown }
     ensures alone { OnePassHasTheList }
+{}
+
+/// Who gives up the last reference to a place was alone with it.
+pub fn last_reference_is_alone()
+    ensures { LastReferenceIsAlone }
 {}
 
 /// A place is taken for one new entry at a time.
