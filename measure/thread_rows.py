@@ -30,7 +30,8 @@ import time
 from collections import namedtuple
 from concurrent.futures import ThreadPoolExecutor
 
-from report_check import Refused, check, inputs_of, want
+from report_check import check
+from tracker_rules import Refused, inputs_of, want
 
 HERE = os.path.dirname(os.path.abspath(__file__))
 TOP = os.path.dirname(HERE)
