@@ -1,4 +1,4 @@
-//! Desks of one tracker whose passes take turns, and packets over them; and the same packets over a clerk of the shared table.
+//! Desks of one tracker whose passes take turns, and packets over them; and the same packets over clerks of the shared table.
 
 ghost use Rattle.std.specs.Prelude.{◌≡◌, ◌≤◌, None, IfOk};
 ghost use Rattle.history_book.specs.Places.{HoldsNothing, HoldsOne};
@@ -196,24 +196,59 @@ fn two_desks_confirm_one_flow(rt: HostRuntime) -> Result<(), Fail> {
     Ok(())
 }
 
-/// What becomes of a packet of a flow that the other pass confirms, after the flow was looked up and before it is
-/// confirmed.
-fn class_of_overtaken<R: Wait + Abort + AllocGlobal>(
+/// What becomes of a packet of a flow that the other desk of a tracker confirms, after the flow was looked up and before it
+/// is confirmed.
+fn class_of_overtaken<R: Wait + Abort + AllocGlobal, D: Desk + Drop>(
+    rt: &R,
+    desk: D,
+    other: D,
+    packet: &[u8],
+) -> Result<Class, NoMemory>
+    requires empty { HoldsNothing (D.sight desk) }
+    requires other_empty { HoldsNothing (D.sight other) }
+{
+    let mut desk = Overtaken::new(rt, desk, other)?;
+    let verdict = handled(rt, &mut desk, packet, 1_000_000)?;
+    Ok(verdict.class)
+}
+
+/// The same of two desks whose passes take turns.
+fn class_on_a_list<R: Wait + Abort + AllocGlobal>(
     rt: &R,
     packet: &[u8],
 ) -> Result<Class, NoMemory> {
     let (book, spot) = TurnBook::new(rt.alloc(), sizes(2, 2))?;
-    let mut desk = Overtaken::new(rt, book.desk(spot, &NoGate, 0))?;
-    let verdict = handled(rt, &mut desk, packet, 1_000_000)?;
-    Ok(verdict.class)
+    let mut desk = book.desk(spot, &NoGate, 0);
+    let other = desk.split(1, 1);
+    class_of_overtaken(rt, desk, other, packet)
+}
+
+/// And of two clerks of the shared table.
+fn class_on_a_table<R: Wait + Abort + AllocGlobal>(
+    rt: &R,
+    packet: &[u8],
+) -> Result<Class, NoMemory> {
+    let (tracker, spot) = Tracker::new(rt.alloc(), sizes(2, 2))?;
+    let mut desk = tracker.clerk(spot, &NoGate, 0);
+    let other = desk.split(1, 1);
+    class_of_overtaken(rt, desk, other, packet)
 }
 
 /// One entry is enough for two queries of one flow; two connections are never one.
 #[test]
 fn a_flow_that_the_other_pass_confirms_first(rt: HostRuntime) -> Result<(), Fail> {
-    let query = class_of_overtaken(&rt, &QUERY)?;
+    let query = class_on_a_list(&rt, &QUERY)?;
     assert!(rt; matches!(query, Class::Merged { id: 0, at: 1, .. }));
-    let syn = class_of_overtaken(&rt, &SYN)?;
+    let syn = class_on_a_list(&rt, &SYN)?;
+    assert!(rt; matches!(syn, Class::Clash { id: 0, at: 1, .. }));
+    Ok(())
+}
+
+#[test]
+fn a_flow_that_the_other_clerk_confirms_first(rt: HostRuntime) -> Result<(), Fail> {
+    let query = class_on_a_table(&rt, &QUERY)?;
+    assert!(rt; matches!(query, Class::Merged { id: 0, at: 1, .. }));
+    let syn = class_on_a_table(&rt, &SYN)?;
     assert!(rt; matches!(syn, Class::Clash { id: 0, at: 1, .. }));
     Ok(())
 }

@@ -1,11 +1,8 @@
-//! A desk of one pass of two. Just before it confirms its first flow, the other pass confirms the same one.
+//! A desk of a tracker of two. Just before it confirms its first flow, the other one confirms the same.
 
 ghost use Rattle.std.specs.Prelude.{◌≡◌, ◌+◌, ◌≤◌, true, [], length, IfOk};
 ghost use Rattle.history_book.specs.Places.{HoldsNothing};
-ghost use Rattle.history_book.specs.Split.{CanSplit};
 
-use book_desk::turn_desk::TurnDesk;
-use ct_io::Gate;
 use expect_table::expectation::Want;
 use history_book::desk::Desk;
 use history_book::event::Why;
@@ -22,33 +19,33 @@ use tuple_core::{Direction, NoMemory, Segment, Tuple};
 
 /// Two desks of one tracker, of which contracts see the first alone.
 #[derive(Drop)]
-pub struct Overtaken<'t, G: Gate> {
-    desk: TurnDesk<'t, G>,
-    other: TurnDesk<'t, G>,
-    /// The place that the other pass has taken and in which it has confirmed no flow yet.
+pub struct Overtaken<D: Desk + Drop> {
+    desk: D,
+    other: D,
+    /// The place that the other desk has taken and in which it has confirmed no flow yet.
     place: Option<u32>,
 }
 
-impl<'t, G: Gate> Model for Overtaken<'t, G> {
+impl<D: Desk + Drop> Model for Overtaken<D> {
     ghost use Rattle.history_book.specs.Sight.{Sight};
     ghost use Rattle.desk_tests.specs.Overtaken.{CanOvertake};
 
     ghost Value = { Sight };
 
-    ghost view = { λ d. d.desk };
+    ghost view = { λ d. D.sight d.desk };
 
-    ghost invariant = { λ d. CanOvertake d.place d.other };
+    ghost invariant = { λ d. CanOvertake d.place (D.sight d.other) };
 }
 
-impl<'t, G: Gate> Overtaken<'t, G> {
-    /// The other pass takes its share of this desk's, asks for room for one event, and takes a place.
-    pub fn new<R: Wait + Abort>(rt: &R, desk: TurnDesk<'t, G>) -> Result<Overtaken<'t, G>, NoMemory>
-        requires shares { CanSplit 1 desk }
-        requires empty { HoldsNothing desk }
+impl<D: Desk + Drop> Overtaken<D> {
+    /// The second desk asks for room for one event, and takes a place.
+    pub fn new<R: Wait + Abort>(rt: &R, desk: D, other: D) -> Result<Overtaken<D>, NoMemory>
+        requires empty { HoldsNothing (D.sight desk) }
+        requires other_empty { HoldsNothing (D.sight other) }
         ensures { IfOk result (λ d. HoldsNothing d) }
     {
-        let mut desk = desk;
-        let mut other = desk.split(1, 1);
+        let mut other = other;
+        assert!(rt; other.made() < 1000);
         other.ready(1)?;
         match other.take(rt) {
             TakeOutcome::Taken { place } => Ok(Overtaken {
@@ -61,7 +58,7 @@ impl<'t, G: Gate> Overtaken<'t, G> {
     }
 }
 
-impl<'t, G: Gate> Desk for Overtaken<'t, G> {
+impl<D: Desk + Drop> Desk for Overtaken<D> {
     ghost sight = { λ d. d };
 
     fn places(&self) -> u32 {
