@@ -1,6 +1,6 @@
 //! A thread that stands in the middle of a confirm, and what another one does meanwhile.
 
-use super::threads::ELSEWHERE;
+use super::threads::{BREAK, ELSEWHERE, TURNS};
 use super::{CAPTURE, NAME, REPLAYED, SECOND};
 use crate::case::{Case, Text, holds_through};
 use crate::content::{Content, PLAIN};
@@ -10,19 +10,19 @@ use std::process::Abort;
 use std::sync::Wait;
 use std::sync::atomic::{AtomicU64, Ordering};
 use std::test::Fail;
-use std::thread::Threads;
-
-/// How often a thread looks for the other one, at most.
-const TURNS: u32 = 1 << 28;
+use std::thread::{Threads, yield_now};
 
 /// How often it looks, where it waits for nothing.
 const STAY: u32 = 1 << 24;
 
 /// Whether a count is so high before the turns run out.
 fn is_reached(count: &AtomicU64, least: u64, turns: u32) -> bool {
-    for _turn in 0..turns {
+    for turn in 0..turns {
         if count.load(Ordering::SeqCst) >= least {
             return true;
+        }
+        if turn % BREAK == 0 {
+            yield_now();
         }
     }
     false

@@ -9,10 +9,13 @@ use std::process::Abort;
 use std::sync::Wait;
 use std::sync::atomic::{AtomicU64, Ordering};
 use std::test::Fail;
-use std::thread::Threads;
+use std::thread::{Threads, yield_now};
 
 /// How often a thread looks for the other one, at most.
-const TURNS: u32 = 1 << 28;
+pub const TURNS: u32 = 1 << 28;
+
+/// After so many looks it lets others run, so that a busy machine does not fail a test.
+pub const BREAK: u32 = 256;
 
 /// A gate at which two threads meet before their first packets or commands: each waits there until the other one has come,
 /// or until it has looked often enough.
@@ -25,9 +28,12 @@ struct Meeting {
 
 /// Whether a flag is raised before the turns run out.
 fn is_raised_in_time(flag: &AtomicU64) -> bool {
-    for _turn in 0..TURNS {
+    for turn in 0..TURNS {
         if flag.load(Ordering::SeqCst) != 0 {
             return true;
+        }
+        if turn % BREAK == 0 {
+            yield_now();
         }
     }
     false
