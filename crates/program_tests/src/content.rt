@@ -35,6 +35,8 @@ pub enum Content<'c> {
     Capture(Form, &'c [Sent<'c>]),
     /// A capture of one query of each of so many clients, and then the first client's again.
     Clients(u32),
+    /// A capture of so many queries of one client, each from a port of its own, one each second from 0 on.
+    Ports(u32, u32),
 }
 
 /// Adds a number of a capture of this form.
@@ -125,6 +127,26 @@ fn push_clients(alloc: Global, bytes: &mut Vec<u8>, clients: u32) -> Result<(), 
     push_record(alloc, bytes, &PLAIN, &(1000, 0, first))
 }
 
+/// Adds a capture of so many queries of one client, each from a port of its own.
+fn push_ports(
+    alloc: Global,
+    bytes: &mut Vec<u8>,
+    client: u32,
+    queries: u32,
+) -> Result<(), AllocError> {
+    push_head(bytes, &PLAIN)?;
+    for query in 0..queries {
+        let asked = Packet::Udp(Ends {
+            src: client,
+            sport: 1000 + (query % 50_000) as u16,
+            dst: 0x0a09_0909,
+            dport: 53,
+        });
+        push_record(alloc, bytes, &PLAIN, &(query, 0, asked))?;
+    }
+    Ok(())
+}
+
 /// Adds a text so many times.
 fn push_repeated(bytes: &mut Vec<u8>, times: u32, text: &str) -> Result<(), AllocError> {
     for _ in 0..times {
@@ -149,6 +171,7 @@ pub fn bytes_of(alloc: Global, content: &Content<'_>) -> Result<Vec<u8>, AllocEr
         }
         Content::Capture(form, packets) => push_capture(alloc, &mut bytes, form, packets)?,
         Content::Clients(clients) => push_clients(alloc, &mut bytes, *clients)?,
+        Content::Ports(client, queries) => push_ports(alloc, &mut bytes, *client, *queries)?,
     }
     Ok(bytes)
 }

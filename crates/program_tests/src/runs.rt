@@ -7,6 +7,7 @@ use std::test::Fail;
 
 mod captures;
 mod confirms;
+mod devices;
 mod flows;
 mod ftp;
 mod made;

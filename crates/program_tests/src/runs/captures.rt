@@ -6,7 +6,30 @@ use crate::content::{Content, Form, PLAIN};
 use crate::packet::{ANSWER, Packet, QUERY, Sent};
 use std::test::Fail;
 
-static DAMAGED: [Case<'static>; 12] = [
+/// The header of a capture, with no record.
+const HEADER: [u8; 24] = [
+    0xd4, 0xc3, 0xb2, 0xa1, 2, 0, 4, 0, 0, 0, 0, 0, 0, 0, 0, 0, 0xff, 0xff, 0, 0, 0x65, 0, 0, 0,
+];
+
+/// The magic number of a pcapng file.
+const NEXT_GENERATION: [(usize, u8); 4] = [(0, 0x0a), (1, 0x0d), (2, 0x0d), (3, 0x0a)];
+
+/// The first record has 262,145 captured bytes.
+const TOO_LONG: [(usize, u8); 3] = [(32, 1), (33, 0), (34, 4)];
+
+/// The first record's fraction is 1,000,000 microseconds.
+const WHOLE_SECOND: [(usize, u8); 3] = [(28, 0x40), (29, 0x42), (30, 0x0f)];
+
+/// The report of the query alone.
+const ASKED_ONCE: &str = "\
+events 1
+0 confirm 0.0 udp src=10.0.0.1 dst=10.0.0.2 sport=5000 dport=53 src=10.0.0.2 dst=10.0.0.1 sport=53 dport=5000 until=1030000000
+thread 0 packets 1
+0 NEW id=0 @1
+script 0
+";
+
+static DAMAGED: [Case<'static>; 18] = [
     Case {
         files: &[(NAME, Content::Text(""))],
         err: Text::Is("ctreplay: c.pcap: short header\n"),
@@ -66,6 +89,36 @@ static DAMAGED: [Case<'static>; 12] = [
         files: &[(NAME, Content::Changed(&CAPTURE, &[(79, 0x7f)]))],
         err: Text::Is("ctreplay: c.pcap: record 1 fraction\n"),
         ..REFUSED
+    },
+    Case {
+        files: &[(NAME, Content::Changed(&HEADER, &NEXT_GENERATION))],
+        err: Text::Is("ctreplay: c.pcap: bad magic\n"),
+        ..REFUSED
+    },
+    Case {
+        files: &[(NAME, Content::Changed(&HEADER, &[(6, 3)]))],
+        err: Text::Is("ctreplay: c.pcap: bad version\n"),
+        ..REFUSED
+    },
+    Case {
+        files: &[(NAME, Content::Changed(&HEADER, &[(20, 113)]))],
+        err: Text::Is("ctreplay: c.pcap: link type 113\n"),
+        ..REFUSED
+    },
+    Case {
+        files: &[(NAME, Content::Changed(&CAPTURE, &TOO_LONG))],
+        err: Text::Is("ctreplay: c.pcap: record 0 too long\n"),
+        ..REFUSED
+    },
+    Case {
+        files: &[(NAME, Content::Changed(&CAPTURE, &WHOLE_SECOND))],
+        err: Text::Is("ctreplay: c.pcap: record 0 fraction\n"),
+        ..REFUSED
+    },
+    Case {
+        files: &[(NAME, Content::First(72, &CAPTURE))],
+        out: Text::Is(ASKED_ONCE),
+        ..REPLAYED
     },
 ];
 

@@ -292,3 +292,21 @@ fn four_threads_have_one_flow(rt: HostRuntime) -> Result<(), Fail> {
     }
     Ok(())
 }
+
+/// Two threads have fifty flows each, and there is one place: whichever is the first takes it, and it is never free again.
+#[test]
+fn two_threads_have_one_place(rt: HostRuntime) -> Result<(), Fail> {
+    static CASE: Case<'static> = Case {
+        words: &["ctreplay", "--entries", "1", "--summary", NAME, SECOND],
+        files: &[
+            (NAME, Content::Ports(0x0a00_0001, 50)),
+            (SECOND, Content::Ports(0x0a01_0001, 50)),
+        ],
+        out: Text::Is("summary threads=2 packets=100 events=1 live=1\nNEW 1\nFULL 99\n"),
+        ..REPLAYED
+    };
+    for number in 0..50 {
+        holds(&rt, &CASE, number)?;
+    }
+    Ok(())
+}
