@@ -37,7 +37,8 @@ from collections import namedtuple
 import damaged_captures
 import damaged_storms
 import damaged_texts
-from report_check import Inputs, Refused, check, inputs_of, want
+from report_check import check
+from tracker_rules import Inputs, Refused, inputs_of, want
 from thread_rows import changes_of
 
 HERE = os.path.dirname(os.path.abspath(__file__))

@@ -5,7 +5,8 @@ import re
 import struct
 from collections import namedtuple
 
-from report_check import NUMBER, PARTNERS, Packet, Tuple, check, inverse, kind_of, want
+from report_check import NUMBER, check
+from tracker_rules import PARTNERS, Packet, Tuple, inverse, kind_of, want
 
 # The order of a capture's numbers, whether its times are in nanoseconds, and whether its frames have an Ethernet header.
 Form = namedtuple("Form", "order nanoseconds ethernet")

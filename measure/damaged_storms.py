@@ -5,7 +5,7 @@ import struct
 from collections import namedtuple
 
 import thread_rows
-from report_check import want
+from tracker_rules import want
 from thread_rows import any_history, capture, packet, query
 
 # The captures and other inputs of a storm; `meets` has the words of which some are to come in its runs.

@@ -3,7 +3,7 @@ Written from that document, and not from the program. It is a module of damaged.
 """
 import re
 
-from report_check import Command, Rule, address_of
+from tracker_rules import Command, Rule, address_of
 
 MOST_BYTES = 1_048_576
 MOST_LINES = 256

@@ -21,7 +21,8 @@ import tempfile
 import time
 
 from damaged import Case, Done, FAKES, TOP, is_good, is_read, is_refused, place, read_bytes, run_case, why_refused
-from report_check import check, inputs_of, want
+from report_check import check
+from tracker_rules import inputs_of, want
 from thread_rows import SWEEP, capture, query
 
 DATA = ("crates", "ctreplay", "data")
