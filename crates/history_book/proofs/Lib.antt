@@ -6,6 +6,7 @@ pub mod Entries
 pub mod Pairs
 pub mod Sound
 pub mod Passing
+pub mod Late
 pub mod Records
 pub mod Live
 pub mod OneProtocol

@@ -152,12 +152,3 @@ reason_moment_of (why.Reopened direction segment moment) = moment
 reason_moment_of (why.Reset segment moment) = moment
 reason_moment_of (why.Deleted filter) = 0
 reason_moment_of why.Flushed = 0
-
--- the moment of the packet that an event was made by, where the step reads it or a deadline is reckoned by it
-abbrev pub step_moment_of : Event → ℕ
-step_moment_of (Confirm r) = 0
-step_moment_of (Touch id direction segment moment after) = moment
-step_moment_of (Destroy id why) = reason_moment_of why
-step_moment_of (Expect expectation replaced moment) = moment
-step_moment_of (Claim expectation master tuple moment) = 0
-step_moment_of (Unexpect expectation moment) = 0

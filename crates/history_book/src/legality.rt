@@ -1,6 +1,6 @@
 //! Which events may happen: the plain programs of the definitions.
 
-ghost use Rattle.std.specs.Prelude.{◌≡◌, ◌≤◌, ◌^◌, Some, true, find};
+ghost use Rattle.std.specs.Prelude.{◌≡◌, ◌==◌, ◌+◌, ◌≤◌, ◌^◌, Some, true, find};
 ghost use Rattle.std.specs.List.{list_any};
 ghost use Rattle.expect_table.specs.Expectations.{matching};
 ghost use Rattle.expect_table.specs.Match.{has_id};
@@ -8,10 +8,11 @@ ghost use Rattle.history_book.specs.DeskExpectations.{expectation_at};
 ghost use Rattle.history_book.specs.Legality.{expected_for, has_helper, is_added, is_of_one_protocol};
 ghost use Rattle.history_book.specs.Legality.{is_reason, is_reopen, is_reset, same_id};
 ghost use Rattle.history_book.specs.Legality.{may_claim, may_confirm, may_expect, may_happen, may_touch};
-ghost use Rattle.history_book.specs.Legality.{may_unexpect, reason_moment_of};
-ghost use Rattle.history_book.specs.Legality.{step_moment_of};
+ghost use Rattle.history_book.specs.Legality.{may_unexpect};
 ghost use Rattle.proto_rules.specs.Protocol.{is_of_protocol};
+ghost use Rattle.proto_rules.specs.Same.{same_part};
 ghost use Rattle.proto_rules.specs.Step.{step_of};
+ghost use Rattle.history_book.specs.Internal.Late.{later, later_part};
 ghost use Rattle.history_book.specs.Record.{has_place, has_tuple};
 ghost use Rattle.history_book.specs.State.{record_of, state_of};
 
@@ -70,6 +71,35 @@ fn is_confirmable(sizes: &Sizes, records: &[Record], number: u64, subject: &Reco
         && !is_taken(records, &subject.reply)
 }
 
+/// The latest moment that `step` takes, in microseconds.
+const LATEST: u64 = 10_000_000_000_000_000;
+
+/// What a packet does to the entry, reckoned at a moment that `step` takes, and by how much the packet came later.
+fn reckoned_step(part: &Part, direction: Direction, segment: Segment, moment: u64) -> (Outcome, u64)
+    requires { is_of_protocol segment part.now.kind ≡ true }
+    ensures { later result.1 result.0 ≡ step_of part.now direction segment moment }
+{
+    if part.deadline <= moment {
+        return (Outcome::Expired, 0);
+    }
+    let late = moment.saturating_sub(LATEST);
+    (step(part, direction, segment, moment - late), late)
+}
+
+/// Whether `after` is the part, with a deadline that is later by so much.
+fn is_later_part(part: &Part, late: u64, after: &Part) -> bool
+    ensures { result ≡ same_part (later_part late part.now) after.now }
+{
+    after.deadline >= late
+        && is_same_part(
+            part,
+            &Part {
+                deadline: after.deadline - late,
+                ..*after
+            },
+        )
+}
+
 /// Whether the record may be touched by such a packet, and goes on with the part `after`.
 fn is_touchable(
     r: &Record,
@@ -78,14 +108,14 @@ fn is_touchable(
     moment: u64,
     after: &Part,
 ) -> bool
-    requires { moment ≤ 10 ^ 16 }
     ensures { result ≡ may_touch (Some r.now) direction segment moment after.now }
 {
     if !is_of_protocol(segment, r.part.kind) {
         return false;
     }
-    match step(&r.part, direction, segment, moment) {
-        Outcome::Accept(next) => is_same_part(&next, after),
+    let (outcome, late) = reckoned_step(&r.part, direction, segment, moment);
+    match outcome {
+        Outcome::Accept(next) => is_later_part(&next, late, after),
         Outcome::Ignore | Outcome::Invalid | Outcome::Reopen | Outcome::Reset | Outcome::Expired =>
             false,
     }
@@ -93,11 +123,11 @@ fn is_touchable(
 
 /// Whether such a packet reopens the connection.
 fn is_reopening(part: &Part, direction: Direction, segment: Segment, moment: u64) -> bool
-    requires fits { moment ≤ 10 ^ 16 }
-    requires same { is_of_protocol segment part.now.kind ≡ true }
+    requires { is_of_protocol segment part.now.kind ≡ true }
     ensures { result ≡ is_reopen (step_of part.now direction segment moment) }
 {
-    match step(part, direction, segment, moment) {
+    let (outcome, _late) = reckoned_step(part, direction, segment, moment);
+    match outcome {
         Outcome::Reopen => true,
         Outcome::Accept(_)
         | Outcome::Ignore
@@ -109,11 +139,11 @@ fn is_reopening(part: &Part, direction: Direction, segment: Segment, moment: u64
 
 /// Whether such a packet resets the connection.
 fn is_resetting(part: &Part, segment: Segment, moment: u64) -> bool
-    requires fits { moment ≤ 10 ^ 16 }
-    requires same { is_of_protocol segment part.now.kind ≡ true }
+    requires { is_of_protocol segment part.now.kind ≡ true }
     ensures { result ≡ is_reset (step_of part.now Direction.Original segment moment) }
 {
-    match step(part, Direction::Original, segment, moment) {
+    let (outcome, _late) = reckoned_step(part, Direction::Original, segment, moment);
+    match outcome {
         Outcome::Reset => true,
         Outcome::Accept(_)
         | Outcome::Ignore
@@ -125,7 +155,6 @@ fn is_resetting(part: &Part, segment: Segment, moment: u64) -> bool
 
 /// Whether the reason holds of the record.
 pub fn is_reason_for(why: &Why, r: &Record) -> bool
-    requires { reason_moment_of why.now ≤ 10 ^ 16 }
     ensures { result ≡ is_reason why.now r.now }
 {
     match *why {
@@ -193,6 +222,13 @@ fn is_added(outcome: AddOutcome, older: Option<u64>) -> bool
     }
 }
 
+/// Whether what is expected from the moment on is expected until the deadline.
+fn is_expected_from(moment: u64, deadline: u64) -> bool
+    ensures { result ≡ (deadline == moment + expected_for) }
+{
+    deadline >= EXPECTED_FOR && deadline - EXPECTED_FOR == moment
+}
+
 /// Whether this may be expected as event `number`, beside these records and expectations, in a tracker of these
 /// sizes.
 fn is_expectable(
@@ -204,12 +240,11 @@ fn is_expectable(
     replaced: Option<u64>,
     moment: u64,
 ) -> bool
-    requires { moment ≤ 10 ^ 16 }
     ensures { result ≡ may_expect sizes.now (record { records = records.now; expects = expects.now })
         number e.now replaced moment }
 {
     e.id == number
-        && e.deadline == moment + EXPECTED_FOR
+        && is_expected_from(moment, e.deadline)
         && is_helped(records, e.master)
         && is_added(outcome_of(expects, sizes.expectations, e, moment), replaced)
 }
@@ -243,7 +278,6 @@ pub fn is_lawful(
     number: u64,
     event: &Event,
 ) -> bool
-    requires { step_moment_of event.now ≤ 10 ^ 16 }
     ensures { result ≡ may_happen sizes.now (record { records = records.now; expects = expects.now })
         number event.now }
 {
