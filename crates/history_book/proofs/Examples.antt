@@ -10,16 +10,20 @@ use Rattle.tuple_core.specs.declared.Kind.TheVariants.{Syn, SynAck, Fin, Ack, Rs
 use Rattle.tuple_core.specs.declared.Proto.TheVariants as proto
 use Rattle.tuple_core.specs.declared.Segment.TheVariants as segment
 use Rattle.tuple_core.specs.declared.Tuple.{Tuple}
+use Rattle.history_book.specs.declared.check.Checked.TheVariants.{Legal, Broken}
 use Rattle.history_book.specs.declared.event.Event.{Event}
 use Rattle.history_book.specs.declared.event.Event.TheVariants.{Confirm, Touch, Destroy, Expect, Claim, Unexpect}
-use Rattle.history_book.specs.declared.event.Why.TheVariants.{Expired, Reopened, Reset}
+use Rattle.history_book.specs.declared.event.Numbered.{Numbered}
+use Rattle.history_book.specs.declared.event.Why.TheVariants.{Expired, Reopened, Reset, Flushed}
 use Rattle.proto_rules.specs.declared.Part.{Part}
 use Rattle.proto_rules.specs.declared.PartKind.TheVariants as kind
 use Rattle.proto_rules.specs.declared.TcpState.{TcpState}
 use Rattle.proto_rules.specs.declared.TcpState.TheVariants.{SynSent, SynRecv, Established, FinWait, LastAck, TimeWait, Close}
 use Rattle.proto_rules.specs.TcpTable.{original_cell, reply_cell}
 use Rattle.history_book.specs.declared.sizes.Sizes.{Sizes}
+use Rattle.history_book.specs.Checked.{CountsLive, IsBrokenAt, IsLegalHistory, NamesFirstBroken, sizes_with}
 use Rattle.history_book.specs.History.{after, is_legal}
+use Rattle.history_book.proofs.Checking.{none_broken}
 
 -- the sizes of a tracker with 65,536 places
 abbrev sizes : Sizes
@@ -326,3 +330,57 @@ none_is_expected_once_it_was_claimed = refl
 none_is_expected_once_it_ended_unmet : length (after (unmet_at 302) 3).expects ≡ 0
 unfolding after
 none_is_expected_once_it_ended_unmet = refl
+
+-- the events of one thread, numbered from this number on
+abbrev listed : ℕ → List Event → List Numbered
+listed n [] = []
+listed n (e ∷ es) = record { number = n; thread = 0; index = 0; event = e } ∷ listed (n + 1) es
+
+-- the query and its answer, which names the entry of this id
+abbrev query_and_answer : ℕ → List Numbered
+query_and_answer id = listed 0 (asked ∷ Touch id Reply segment.Udp 1000500000 (part true 1120500000) ∷ [])
+
+-- the entry is flushed, and then the answer comes
+abbrev touched_once_gone : List Numbered
+touched_once_gone = listed 0 (asked ∷ Destroy 0 Flushed ∷ answered 1120500000 ∷ [])
+
+-- an entry that lives on past the moments of a capture is touched then
+abbrev touched_late : ℕ → List Numbered
+touched_late deadline =
+    listed 0 (begins 0 0 5000 30000000000000000 ∷ Touch 0 Reply segment.Udp 20000000000000000 (part true deadline) ∷ [])
+
+a_checked_history_is_legal : IsLegalHistory (sizes_with 65536 1024) (query_and_answer 0)
+unfolding is_legal
+a_checked_history_is_legal = record { numbers = (refl, (refl, tt)); events = refl }
+
+a_checked_history_leaves_one_live : CountsLive (query_and_answer 0) (Legal 1)
+unfolding after
+a_checked_history_leaves_one_live = refl
+
+a_touch_of_no_entry_is_the_first_broken : NamesFirstBroken (sizes_with 65536 1024) (query_and_answer 5) (Broken 1)
+unfolding is_legal after
+a_touch_of_no_entry_is_the_first_broken = record {
+  here = record { item = _; stands = refl; broken = refl };
+  before = λ k low. none_broken (sizes_with 65536 1024) (query_and_answer 5) 1 k
+      (record { numbers = (refl, tt); events = refl }) low;
+}
+
+a_number_that_is_not_the_index_is_broken : IsBrokenAt (sizes_with 65536 1024) (listed 1 (asked ∷ [])) 0
+unfolding after
+a_number_that_is_not_the_index_is_broken = record { item = _; stands = refl; broken = refl }
+
+a_touch_of_a_gone_entry_is_broken : IsBrokenAt (sizes_with 65536 1024) touched_once_gone 2
+unfolding after
+a_touch_of_a_gone_entry_is_broken = record { item = _; stands = refl; broken = refl }
+
+none_is_live_once_it_was_flushed : CountsLive (listed 0 (asked ∷ Destroy 0 Flushed ∷ [])) (Legal 0)
+unfolding after
+none_is_live_once_it_was_flushed = refl
+
+a_late_touch_is_legal : IsLegalHistory (sizes_with 65536 1024) (touched_late 20000000120000000)
+unfolding is_legal
+a_late_touch_is_legal = record { numbers = (refl, (refl, tt)); events = refl }
+
+a_late_touch_keeps_the_deadline : IsBrokenAt (sizes_with 65536 1024) (touched_late 30000000000000000) 1
+unfolding after
+a_late_touch_keeps_the_deadline = record { item = _; stands = refl; broken = refl }

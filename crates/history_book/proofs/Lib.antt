@@ -17,6 +17,7 @@ pub mod HeldPlaces
 pub mod Placed
 pub mod Room
 pub mod Expecting
+pub mod Checking
 pub mod Sights
 pub mod Examples
 pub mod Merging

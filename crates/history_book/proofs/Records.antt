@@ -46,7 +46,7 @@ others_apart (q ∷ rs) (suc i) r (h, hs) at =
     (apart_sym q r (each_at (AreApart q) rs i r h at), others_apart rs i r hs at)
 
 -- no other record has the id
-with_part-other : (id : ℕ) (part : Part) (r : Record) → r.id ≢ id → with_part id part r ≡ r
+pub with_part-other : (id : ℕ) (part : Part) (r : Record) → r.id ≢ id → with_part id part r ≡ r
 with_part-other id part r other = ap (λ b. cond b (record r { part = part }) r) (ne_eqb r.id id other)
 
 pub with_part-others : (id : ℕ) (part : Part) (rs : List Record) → AllByRecursion (λ r. r.id ≢ id) rs → map (with_part id part) rs ≡ rs

@@ -1,5 +1,5 @@
 -- A place of the pool that no live record has leaves room: the places of the records are others, and no two are the same.
-use Rattle.std.proofs.Common.{◌≡◌, ℕ, ◌<◌, true, false, List, [], ◌∷◌, length, sym, arith, ⊎_elim}
+use Rattle.std.proofs.Common.{◌≡◌, ℕ, ◌<◌, ◌≤◌, true, false, List, [], ◌∷◌, length, sym, arith, ⊎_elim}
 use Rattle.std.specs.List.{AllByRecursion, IsDistinct, list_any}
 use Rattle.std.specs.Prelude.{map, ◌==◌}
 use Rattle.std.proofs.lemmas.Bool.{eqb-true, eqb-false, ne_eqb, not-true, or_cases}
@@ -58,6 +58,15 @@ fewer_than n q rs low all other apart =
           ⊎_elim (λ (e : (p == q) ≡ true). omega (arith, low, eqb-true p q e))
           (λ (e : list_any (λ p'. p == p') (places_of rs) ≡ true). below n rs p all e)
           (or_cases (p == q) (list_any (λ p'. p == p') (places_of rs)) there)),
+    )
+
+-- no more records than the bound on their places
+pub no_more_than : (n : ℕ) (rs : List Record) → AllByRecursion (λ r. r.place < n) rs → Pairs rs → length rs ≤ n
+no_more_than n rs all apart =
+    omega (
+      arith,
+      length-map rs (λ (r : Record). r.place),
+      length-le_from_distinct_below (places_of rs) n (distinct rs apart) (λ p there. below n rs p all there),
     )
 
 pub room_beside : (sizes : Sizes) (log : List Event) (p place : ℕ) → is_legal sizes log ≡ true → place < sizes.entries

@@ -10,6 +10,7 @@ pub mod Label
 pub mod Notes
 pub mod Mark
 pub mod Numbered
+pub mod Checked
 pub mod Merge
 pub mod Internal
 pub mod Entry

@@ -2,6 +2,7 @@
 #![tactic(auto)]
 
 pub mod answer;
+pub mod check;
 pub mod desk;
 pub mod event;
 pub mod filter;
