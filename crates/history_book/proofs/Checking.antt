@@ -5,7 +5,7 @@ use Rattle.std.specs.Prelude.{◌==◌, ◌&&◌, not}
 use Rattle.std.proofs.lemmas.Bool.{and_from, and_parts, eq-eqb, eqb-true, false≢true, not-false}
 use Rattle.std.proofs.lemmas.List.{take_all}
 use Rattle.std.proofs.lemmas.Option.{slice_get-get_or, slice_get_within}
-use Rattle.history_book.specs.Checked.{IsBrokenAt, IsFirstBroken, IsLegalHistory, TwoSizesDecide, sizes_with}
+use Rattle.history_book.specs.Checked.{IsBrokenAt, IsFirstBroken, IsLegalHistory, TwoSizesDecide, is_broken_at, sizes_with}
 use Rattle.history_book.specs.declared.event.Event.{Event}
 use Rattle.history_book.specs.declared.event.Event.TheVariants.{Confirm, Touch, Destroy, Expect, Claim, Unexpect}
 use Rattle.history_book.specs.declared.event.Numbered.{Numbered}
@@ -158,17 +158,46 @@ broken_here sizes z items i d b s same h within tells is_true =
     (sym tells ∙ is_true) in
     first_broken sizes items i s (get_or items i d) h (slice_get-get_or items i d within) test
 
-pub broken_not_legal : (sizes : Sizes) (items : List Numbered) (i : ℕ) → IsFirstBroken sizes items i → ¬ IsLegalHistory sizes items
-broken_not_legal sizes items i first h =
+pub legal_unbroken : (sizes : Sizes) (items : List Numbered) → IsLegalHistory sizes items → (k : ℕ) → ¬ IsBrokenAt sizes items k
+legal_unbroken sizes items h k bad =
     let whole : items ≡ take (length items) items = sym (take_all (length items) items (omega arith)) in
-    none_broken sizes items (length items) i (subst (λ (l : List Numbered). IsLegalHistory sizes l) whole h)
-    (slice_get_within items i first.here.item first.here.stands) first.here
+    none_broken sizes items (length items) k (subst (λ (l : List Numbered). IsLegalHistory sizes l) whole h)
+    (slice_get_within items k bad.item bad.stands) bad
 
 -- the whole is legal once each item was seen
 pub whole_legal : (sizes : Sizes) (items : List Numbered) (i : ℕ) (s : State) → IsSoundTo sizes items i s → length items ≤ i
     → IsLegalHistory sizes items
 whole_legal sizes items i s h all =
     subst (λ (l : List Numbered). IsLegalHistory sizes l) (take_all i items all) h.front
+
+-- the item at an index
+there : (items : List Numbered) (i : ℕ) → i < length items → (item : Numbered) × (slice_get items i ≡ Some item)
+there [] i low = absurd (omega (arith, low))
+there (x ∷ xs) zero low = (x, refl)
+there (x ∷ xs) (suc i) low = there xs i (omega (arith, low))
+
+false_from_ne_true : (b : Bool) → ¬ (b ≡ true) → b ≡ false
+false_from_ne_true true h = absurd (h refl)
+false_from_ne_true false h = refl
+
+-- where no item is broken, the first ones are a legal history, however many
+unbroken_to : (sizes : Sizes) (items : List Numbered) → ((k : ℕ) → ¬ IsBrokenAt sizes items k) → (i : ℕ) → i ≤ length items
+    → IsSoundTo sizes items i (after (events_of items) i)
+unfolding is_legal after
+unbroken_to sizes items none zero le = record { leaves = refl; front = record { numbers = tt; events = refl } }
+unbroken_to sizes items none (suc i) le =
+    let found = there items i (omega (arith, le)) in
+    let good : is_broken_at sizes (events_of items) i found.0 ≡ false =
+    false_from_ne_true _ (λ bad. none i (record { item = found.0; stands = found.1; broken = bad })) in
+    let more : i + 1 ≡ suc i = omega arith in
+    subst (λ k. IsSoundTo sizes items k (after (events_of items) (suc i))) more
+    (sound_more sizes items i (after (events_of items) i) (after (events_of items) (suc i)) found.0
+    (unbroken_to sizes items none i (omega (arith, le))) found.1 good (run_more empty_state items i found.0 found.1))
+
+pub unbroken_legal : (sizes : Sizes) (items : List Numbered) → ((k : ℕ) → ¬ IsBrokenAt sizes items k) → IsLegalHistory sizes items
+unbroken_legal sizes items none =
+    whole_legal sizes items (length items) (after (events_of items) (length items))
+    (unbroken_to sizes items none (length items) (omega arith)) (omega arith)
 
 -- no more records than places
 pub few_live : (sizes : Sizes) (items : List Numbered) (i : ℕ) (s : State) → IsSoundTo sizes items i s → length items ≤ i

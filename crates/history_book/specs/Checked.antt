@@ -1,5 +1,5 @@
 -- A check of one given history: whether it is a legal one, and which of its items is the first that is broken.
-use Rattle.std.specs.Prelude.{◌≡◌, ◌<◌, ℕ, Bool, true, false, not, ◌==◌, ◌&&◌, Some, List, length, slice_get}
+use Rattle.std.specs.Prelude.{◌≡◌, ◌↔◌, ◌<◌, ℕ, Bool, true, false, not, ◌==◌, ◌&&◌, Some, List, length, slice_get}
 use Rattle.history_book.specs.declared.check.Checked.{Checked}
 use Rattle.history_book.specs.declared.check.Checked.TheVariants.{Legal, Broken}
 use Rattle.history_book.specs.declared.event.Event.{Event}
@@ -39,6 +39,11 @@ pub record IsBrokenAt (sizes : Sizes) (history : List Numbered) (index : ℕ) : 
 pub record IsFirstBroken (sizes : Sizes) (history : List Numbered) (index : ℕ) : Type 0 where
   pub here : IsBrokenAt sizes history index
   pub before : (k : ℕ) → k < index → ¬ IsBrokenAt sizes history k
+
+-- a history is legal exactly where none of its items is broken
+abbrev pub LegalIsUnbroken : Type 0
+LegalIsUnbroken =
+    (sizes : Sizes) (history : List Numbered) → IsLegalHistory sizes history ↔ ((k : ℕ) → ¬ IsBrokenAt sizes history k)
 
 -- the answer is that the history is legal
 abbrev pub says_legal : Checked → Bool

@@ -2,7 +2,7 @@
 
 ghost use Rattle.std.specs.Prelude.{◌≡◌, ◌==◌, ◌&&◌, ◌↔◌, not, filter, map, IfOk, IsTrue, OnOk};
 ghost use Rattle.expect_table.specs.Expectations.{with_one, without_id, without_master};
-ghost use Rattle.history_book.specs.Checked.{CountsLive, IsLegalHistory, NamesFirstBroken, TwoSizesDecide, says_legal, sizes_with};
+ghost use Rattle.history_book.specs.Checked.{CountsLive, IsLegalHistory, LegalIsUnbroken, NamesFirstBroken, TwoSizesDecide, says_legal, sizes_with};
 ghost use Rattle.history_book.specs.Internal.Checking.{state_in};
 ghost use Rattle.history_book.specs.Legality.{may_happen};
 ghost use Rattle.history_book.specs.Record.{has_id};
@@ -158,7 +158,8 @@ fn check_items(
     entries: u32,
     expectations: u32,
 ) -> Result<Checked, NoMemory>
-    ensures legal { IfOk result (λ c. IsTrue (says_legal c) ↔ IsLegalHistory (sizes_with entries expectations) items.now) }
+    ensures legal { IfOk result (λ c. IsTrue (says_legal c)
+        ↔ IsLegalHistory (sizes_with entries expectations) items.now) }
     ensures live { IfOk result (CountsLive items.now) }
     ensures broken { IfOk result (NamesFirstBroken (sizes_with entries expectations) items.now) }
 {
@@ -183,7 +184,8 @@ pub fn check_history(
     entries: u32,
     expectations: u32,
 ) -> Result<Checked, NoMemory>
-    ensures legal { IfOk result (λ c. IsTrue (says_legal c) ↔ IsLegalHistory (sizes_with entries expectations) history.now.items) }
+    ensures legal { IfOk result (λ c. IsTrue (says_legal c)
+        ↔ IsLegalHistory (sizes_with entries expectations) history.now.items) }
     ensures live { IfOk result (CountsLive history.now.items) }
     ensures broken { IfOk result (NamesFirstBroken (sizes_with entries expectations) history.now.items) }
 {
@@ -194,4 +196,9 @@ pub fn check_history(
 /// contract of a function that does nothing.
 pub fn two_sizes_decide()
     ensures { TwoSizesDecide }
+{}
+
+/// A history is legal exactly where none of its items is broken: a law, the contract of a function that does nothing.
+pub fn legal_is_unbroken()
+    ensures { LegalIsUnbroken }
 {}

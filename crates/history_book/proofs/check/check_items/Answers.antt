@@ -3,7 +3,7 @@ use Rattle.std.proofs.lemmas.Bool.{false≢true}
 use Rattle.history_book.specs.Checked.{sizes_with}
 use Rattle.history_book.specs.Internal.Checking.{state_in}
 use Rattle.history_book.specs.State.{State}
-use Rattle.history_book.proofs.Checking.{IsSoundTo, broken_here, broken_not_legal, few_live, sound_on, sound_start}
+use Rattle.history_book.proofs.Checking.{IsSoundTo, broken_here, few_live, legal_unbroken, sound_on, sound_start}
 use Rattle.history_book.proofs.check.check_items.Goals as goal
 
 pub items-init : goal.items-init
@@ -26,10 +26,10 @@ returns-then-is_broken-clause-broken c =
 pub returns-then-is_broken-clause-legal : goal.returns-then-is_broken-clause-legal
 returns-then-is_broken-clause-legal c = (
   λ t. absurd (false≢true t),
-  λ h. absurd (broken_not_legal (sizes_with c.args.entries c.args.expectations) c.args.items.now c.items.index
+  λ h. absurd (legal_unbroken (sizes_with c.args.entries c.args.expectations) c.args.items.now h c.items.index
       (broken_here (sizes_with c.args.entries c.args.expectations) c.sizes_with-sizes.result c.args.items.now c.items.index _
       c.is_broken.result (state_in c.items.table) c.sizes_with-sizes.ensures c.items.invariant c.items-test.true
-      c.is_broken.ensures c.if-is_broken.true) h),
+      c.is_broken.ensures c.if-is_broken.true).here),
 )
 
 pub overflow_cast-live : goal.overflow_cast-live
