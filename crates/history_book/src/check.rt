@@ -176,8 +176,8 @@ fn check_items(
     Ok(Checked::Legal { live })
 }
 
-/// Checks a history of a tracker with so many places and room for so many expectations. Takes memory for what is live
-/// at once, and time in proportion to the history times what is live.
+/// Checks a history of a tracker with so many places and room for so many expectations. Takes memory for what is live and
+/// expected at once, and time in proportion to the history times that.
 pub fn check_history(
     alloc: Global,
     history: &History,
