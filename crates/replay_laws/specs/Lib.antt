@@ -1,0 +1,2 @@
+pub mod Reaction
+pub mod OneAnswer
