@@ -1,7 +1,9 @@
 //! Runs of the whole program as data, and one call that makes a run and compares.
 
 use crate::content::{Content, bytes_of};
+use crate::reported::{are_spans, is_history};
 use ct_io::{Gate, MemFiles, MemSink, NoGate};
+use history_book::report::Report;
 use replay_top::top;
 use std::alloc::{AllocError, Global};
 use std::process::Abort;
@@ -154,7 +156,7 @@ fn files_of(
 #[derive(Drop)]
 struct Left {
     status: u8,
-    reported: bool,
+    report: Option<Report>,
     out: MemSink,
     err: MemSink,
 }
@@ -174,13 +176,42 @@ fn run<R: Threads + Wait + Sync + AllocGlobal, G: Gate + Sync>(
     let run = top(rt, alloc, words, &mut files, &mut out, &mut err, gate);
     Ok(Left {
         status: run.status,
-        reported: run.report.is_some(),
+        report: run.report,
         out,
         err,
     })
 }
 
-/// Asserts that a run whose threads pass this gate leaves what it is to leave.
+/// How many places a table has where the words do not say.
+const PLACES: u32 = 65536;
+
+/// The number that a word's digits are.
+fn digits_of(word: &[u8]) -> u32 {
+    let mut number = 0u32;
+    for byte in word {
+        if byte.is_ascii_digit() {
+            let digit = u32::from(byte.wrapping_sub(b'0'));
+            number = number.wrapping_mul(10).wrapping_add(digit);
+        }
+    }
+    number
+}
+
+/// How many places the table of a run with these words has.
+fn places_of(words: &[&str]) -> u32 {
+    let mut places = PLACES;
+    let mut is_behind = false;
+    for word in words {
+        if is_behind || word.starts_with("--entries=") {
+            places = digits_of(word.as_bytes());
+        }
+        is_behind = *word == "--entries";
+    }
+    places
+}
+
+/// Asserts that a run whose threads pass this gate leaves what it is to leave, and that its report, where there is one, has
+/// a legal history with the spans and points that it is to have.
 pub fn holds_through<R: Threads + Wait + Sync + AllocGlobal + Abort, G: Gate + Sync>(
     rt: &R,
     case: &Case<'_>,
@@ -190,7 +221,15 @@ pub fn holds_through<R: Threads + Wait + Sync + AllocGlobal + Abort, G: Gate + S
     let left = run(rt, case, gate)?;
     assert_eq!(rt; left.status, case.status, "status of run {number}");
     let reported = case.status == 0 || case.status == 4;
-    assert_eq!(rt; left.reported, reported, "report of run {number}");
+    assert_eq!(rt; left.report.is_some(), reported, "report of run {number}");
+    if let Some(report) = &left.report {
+        let places = places_of(case.words);
+        assert!(rt;
+            is_history(rt.alloc(), report, places)?,
+            "history of run {number}"
+        );
+        assert!(rt; are_spans(report), "spans and points of run {number}");
+    }
     assert!(rt; fits(left.out.bytes(), &case.out), "out of run {number}");
     assert!(rt; fits(left.err.bytes(), &case.err), "err of run {number}");
     Ok(())

@@ -8,4 +8,6 @@ mod content;
 #[cfg(test)]
 mod packet;
 #[cfg(test)]
+mod reported;
+#[cfg(test)]
 mod runs;

@@ -13,6 +13,7 @@ mod ftp;
 mod made;
 mod rules;
 mod scripts;
+mod storms;
 mod summaries;
 mod threads;
 mod translated;
