@@ -37,6 +37,8 @@ pub enum Content<'c> {
     Clients(u32),
     /// A capture of so many queries of one client, each from a port of its own, one each second from 0 on.
     Ports(u32, u32),
+    /// A capture of one query of a client, and of a frame without a header: a thread that comes to it is done with the query.
+    Asked(u32),
 }
 
 /// Adds a number of a capture of this form.
@@ -147,6 +149,12 @@ fn push_ports(
     Ok(())
 }
 
+/// Adds a capture of one query of a client, and of a frame without a header.
+fn push_asked(alloc: Global, bytes: &mut Vec<u8>, client: u32) -> Result<(), AllocError> {
+    push_ports(alloc, bytes, client, 1)?;
+    push_record(alloc, bytes, &PLAIN, &(1, 0, Packet::Raw(b"")))
+}
+
 /// Adds a text so many times.
 fn push_repeated(bytes: &mut Vec<u8>, times: u32, text: &str) -> Result<(), AllocError> {
     for _ in 0..times {
@@ -172,6 +180,7 @@ pub fn bytes_of(alloc: Global, content: &Content<'_>) -> Result<Vec<u8>, AllocEr
         Content::Capture(form, packets) => push_capture(alloc, &mut bytes, form, packets)?,
         Content::Clients(clients) => push_clients(alloc, &mut bytes, *clients)?,
         Content::Ports(client, queries) => push_ports(alloc, &mut bytes, *client, *queries)?,
+        Content::Asked(client) => push_asked(alloc, &mut bytes, *client)?,
     }
     Ok(bytes)
 }

@@ -11,6 +11,7 @@ mod devices;
 mod flows;
 mod ftp;
 mod made;
+mod pools;
 mod rules;
 mod scripts;
 mod storms;

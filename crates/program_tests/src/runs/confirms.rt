@@ -16,7 +16,7 @@ use std::thread::{Threads, yield_now};
 const STAY: u32 = 1 << 24;
 
 /// Whether a count is so high before the turns run out.
-fn is_reached(count: &AtomicU64, least: u64, turns: u32) -> bool {
+pub fn is_reached(count: &AtomicU64, least: u64, turns: u32) -> bool {
     for turn in 0..turns {
         if count.load(Ordering::SeqCst) >= least {
             return true;
