@@ -182,6 +182,15 @@ fn run<R: Threads + Wait + Sync + AllocGlobal, G: Gate + Sync>(
     })
 }
 
+/// The report of a run, where there is one.
+pub fn report_of<R: Threads + Wait + Sync + AllocGlobal>(
+    rt: &R,
+    case: &Case<'_>,
+) -> Result<Option<Report>, Fail> {
+    let Left { report, .. } = run(rt, case, &NoGate)?;
+    Ok(report)
+}
+
 /// How many places a table has where the words do not say.
 const PLACES: u32 = 65536;
 
