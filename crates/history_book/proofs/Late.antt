@@ -40,19 +40,19 @@ cell_later part direction old (cell.To new) by m =
 
 live_later : (part : Part) (k : PartKind) (direction : Direction) (s : Segment) (by m : ℕ)
     → later by (live_step part k direction s m) ≡ live_step part k direction s (m + by)
-live_later part (kind.Tcp state) direction (segment.Tcp flags) by m =
-    either (is_rst flags && not part.replied) Reset
-    (cell_step part direction state (tcp_cell direction flags state) m)
-    (cell_step part direction state (tcp_cell direction flags state) (m + by)) by refl
-    (cell_later part direction state (tcp_cell direction flags state) by m)
+live_later part (kind.Tcp state) direction (segment.Tcp tcp_kind) by m =
+    either (is_rst tcp_kind && not part.replied) Reset
+    (cell_step part direction state (tcp_cell direction tcp_kind state) m)
+    (cell_step part direction state (tcp_cell direction tcp_kind state) (m + by)) by refl
+    (cell_later part direction state (tcp_cell direction tcp_kind state) by m)
 live_later part (kind.Tcp state) direction segment.Udp by m = refl
 live_later part (kind.Tcp state) direction (segment.Icmp type) by m = refl
-live_later part kind.Udp direction (segment.Tcp flags) by m = refl
+live_later part kind.Udp direction (segment.Tcp tcp_kind) by m = refl
 live_later part kind.Udp direction segment.Udp by m =
     ap (λ d. Accept (record (udp_part part direction m) { deadline = d }))
     (moved by m (seconds (udp_timeout (replied_after part direction))))
 live_later part kind.Udp direction (segment.Icmp type) by m = refl
-live_later part kind.Icmp direction (segment.Tcp flags) by m = refl
+live_later part kind.Icmp direction (segment.Tcp tcp_kind) by m = refl
 live_later part kind.Icmp direction segment.Udp by m = refl
 live_later part kind.Icmp direction (segment.Icmp type) by m =
     ap (λ d. Accept (record (icmp_part part direction m) { deadline = d })) (moved by m (seconds icmp_timeout))

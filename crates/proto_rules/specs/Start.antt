@@ -30,6 +30,6 @@ asks type = type == 8 || type == 13 || type == 15 || type == 17
 
 -- the part of the entry that begins with the segment, if one does
 abbrev pub start_of : Segment → ℕ → Option Part
-start_of (segment.Tcp flags) moment = tcp_start (tcp_cell Original flags Unset) moment
+start_of (segment.Tcp tcp_kind) moment = tcp_start (tcp_cell Original tcp_kind Unset) moment
 start_of segment.Udp moment = Some (begun kind.Udp (udp_timeout false) moment)
 start_of (segment.Icmp type) moment = (if asks type then Some (begun kind.Icmp icmp_timeout moment) else None)

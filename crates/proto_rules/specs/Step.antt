@@ -38,19 +38,19 @@ cell_step part direction old (cell.To new) moment =
 
 -- an RST in either direction resets a connection while no reply was seen
 abbrev pub tcp_step : Part → Direction → TcpState → Kind → ℕ → Outcome
-tcp_step part direction state flags moment =
-    (if is_rst flags && not part.replied then Reset
-    else cell_step part direction state (tcp_cell direction flags state) moment)
+tcp_step part direction state tcp_kind moment =
+    (if is_rst tcp_kind && not part.replied then Reset
+    else cell_step part direction state (tcp_cell direction tcp_kind state) moment)
 
 -- what a packet does to an entry that is not expired; one of another protocol is invalid
 abbrev pub live_step : Part → PartKind → Direction → Segment → ℕ → Outcome
-live_step part (kind.Tcp state) direction (segment.Tcp flags) moment = tcp_step part direction state flags moment
+live_step part (kind.Tcp state) direction (segment.Tcp tcp_kind) moment = tcp_step part direction state tcp_kind moment
 live_step part (kind.Tcp state) direction segment.Udp moment = Invalid
 live_step part (kind.Tcp state) direction (segment.Icmp type) moment = Invalid
-live_step part kind.Udp direction (segment.Tcp flags) moment = Invalid
+live_step part kind.Udp direction (segment.Tcp tcp_kind) moment = Invalid
 live_step part kind.Udp direction segment.Udp moment = Accept (udp_part part direction moment)
 live_step part kind.Udp direction (segment.Icmp type) moment = Invalid
-live_step part kind.Icmp direction (segment.Tcp flags) moment = Invalid
+live_step part kind.Icmp direction (segment.Tcp tcp_kind) moment = Invalid
 live_step part kind.Icmp direction segment.Udp moment = Invalid
 live_step part kind.Icmp direction (segment.Icmp type) moment = Accept (icmp_part part direction moment)
 

@@ -98,5 +98,5 @@ reply_cell Bare =
     by_state IV IV IV IV IV IV IV IV IV IV
 
 abbrev pub tcp_cell : Direction → Kind → TcpState → Cell
-tcp_cell Original flags state = original_cell flags state
-tcp_cell Reply flags state = reply_cell flags state
+tcp_cell Original tcp_kind state = original_cell tcp_kind state
+tcp_cell Reply tcp_kind state = reply_cell tcp_kind state

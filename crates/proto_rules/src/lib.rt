@@ -95,7 +95,7 @@ pub fn start(segment: Segment, moment: u64) -> Option<Part>
     ensures { result ≡ start_of segment moment }
 {
     match segment {
-        Segment::Tcp(flags) => tcp_start(flags, moment),
+        Segment::Tcp(tcp_kind) => tcp_start(tcp_kind, moment),
         Segment::Udp => Some(begin(PartKind::Udp, udp_timeout(false), moment)),
         Segment::Icmp(8 | 13 | 15 | 17) => Some(begin(PartKind::Icmp, ICMP_TIMEOUT, moment)),
         Segment::Icmp(_) => None,
@@ -113,8 +113,8 @@ pub fn step(part: &Part, direction: Direction, segment: Segment, moment: u64) ->
         return Outcome::Expired;
     }
     match (part.kind, segment) {
-        (PartKind::Tcp(state), Segment::Tcp(flags)) => {
-            tcp_step(part, state, direction, flags, moment)
+        (PartKind::Tcp(state), Segment::Tcp(tcp_kind)) => {
+            tcp_step(part, state, direction, tcp_kind, moment)
         }
         (PartKind::Udp, Segment::Udp) => Outcome::Accept(udp_part(part, direction, moment)),
         (PartKind::Icmp, Segment::Icmp(_)) => Outcome::Accept(icmp_part(part, direction, moment)),

@@ -11,11 +11,11 @@ use crate::{Cell, Outcome, Part, PartKind, TcpState, tcp_cell};
 use tuple_core::{Direction, Kind};
 
 /// The part of the entry that begins with this segment, if one does.
-pub fn tcp_start(flags: Kind, moment: u64) -> Option<Part>
+pub fn tcp_start(tcp_kind: Kind, moment: u64) -> Option<Part>
     requires { moment ≤ 10 ^ 16 }
-    ensures { result ≡ tcp_start (tcp_cell Direction.Original flags TcpState.Unset) moment }
+    ensures { result ≡ tcp_start (tcp_cell Direction.Original tcp_kind TcpState.Unset) moment }
 {
-    match tcp_cell(Direction::Original, flags, TcpState::Unset) {
+    match tcp_cell(Direction::Original, tcp_kind, TcpState::Unset) {
         Cell::To(state) => {
             let timeout = tcp_lifetime(false, state);
             Some(begin(PartKind::Tcp(state), timeout, moment))
@@ -36,16 +36,16 @@ pub fn tcp_step(
     part: &Part,
     state: TcpState,
     direction: Direction,
-    flags: Kind,
+    tcp_kind: Kind,
     moment: u64,
 ) -> Outcome
     requires { moment ≤ 10 ^ 16 }
-    ensures { result ≡ tcp_step part.now direction state flags moment }
+    ensures { result ≡ tcp_step part.now direction state tcp_kind moment }
 {
-    if matches!(flags, Kind::Rst) && !part.replied {
+    if matches!(tcp_kind, Kind::Rst) && !part.replied {
         return Outcome::Reset;
     }
-    match tcp_cell(direction, flags, state) {
+    match tcp_cell(direction, tcp_kind, state) {
         Cell::To(new) if reopens(state, new) => Outcome::Reopen,
         Cell::To(new) => Outcome::Accept(tcp_part(part, direction, state, new, moment)),
         Cell::Ignored => Outcome::Ignore,

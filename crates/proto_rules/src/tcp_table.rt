@@ -21,11 +21,11 @@ pub enum Cell {
 }
 
 /// The row of the grids for a kind of segment.
-fn row(flags: Kind) -> usize
-    ensures exact { result ≡ row_of flags }
+fn row(tcp_kind: Kind) -> usize
+    ensures exact { result ≡ row_of tcp_kind }
     ensures within { result < 6 }
 {
-    flags as usize
+    tcp_kind as usize
 }
 
 /// The column of the grids for an old state.
@@ -71,8 +71,8 @@ fn read_cell(number: u8) -> Cell
 }
 
 /// What a segment of this kind and direction does to a connection in a state.
-pub fn tcp_cell(direction: Direction, flags: Kind, state: TcpState) -> Cell
-    ensures { result ≡ tcp_cell direction flags state }
+pub fn tcp_cell(direction: Direction, tcp_kind: Kind, state: TcpState) -> Cell
+    ensures { result ≡ tcp_cell direction tcp_kind state }
 {
-    read_cell(number_at(direction, row(flags), column(state)))
+    read_cell(number_at(direction, row(tcp_kind), column(state)))
 }

@@ -46,10 +46,10 @@ fn word_of(cell: Cell) -> &'static str {
 }
 
 /// The row of a table, a space after each cell.
-fn row_of(alloc: Global, direction: Direction, flags: Kind) -> Result<String, AllocError> {
+fn row_of(alloc: Global, direction: Direction, tcp_kind: Kind) -> Result<String, AllocError> {
     let mut text = String::new(alloc);
     for state in &STATES {
-        text.push_str(word_of(tcp_cell(direction, flags, *state)))?;
+        text.push_str(word_of(tcp_cell(direction, tcp_kind, *state)))?;
         text.push_str(" ")?;
     }
     Ok(text)
@@ -57,7 +57,7 @@ fn row_of(alloc: Global, direction: Direction, flags: Kind) -> Result<String, Al
 
 #[test]
 fn cells_of_the_original_direction(rt: HostRuntime) -> Result<(), Fail> {
-    for (flags, row) in [
+    for (tcp_kind, row) in [
         (Syn, "SS SS IG IG IG IG IG SS SS S2 "),
         (SynAck, "IV IV SR IV IV IV IV IV IV SR "),
         (Fin, "IV IV FW FW LA LA LA TW CL IV "),
@@ -65,14 +65,14 @@ fn cells_of_the_original_direction(rt: HostRuntime) -> Result<(), Fail> {
         (Rst, "IV CL CL CL CL CL CL CL CL CL "),
         (Bare, "IV IV IV IV IV IV IV IV IV IV "),
     ] {
-        assert_eq!(rt; row_of(rt.alloc(), Original, flags)?.as_str(), row);
+        assert_eq!(rt; row_of(rt.alloc(), Original, tcp_kind)?.as_str(), row);
     }
     Ok(())
 }
 
 #[test]
 fn cells_of_the_reply_direction(rt: HostRuntime) -> Result<(), Fail> {
-    for (flags, row) in [
+    for (tcp_kind, row) in [
         (Syn, "IV S2 IV IV IV IV IV SS IV S2 "),
         (SynAck, "IV SR IG IG IG IG IG IG IG SR "),
         (Fin, "IV IV FW FW LA LA LA TW CL IV "),
@@ -80,7 +80,7 @@ fn cells_of_the_reply_direction(rt: HostRuntime) -> Result<(), Fail> {
         (Rst, "IV CL CL CL CL CL CL CL CL CL "),
         (Bare, "IV IV IV IV IV IV IV IV IV IV "),
     ] {
-        assert_eq!(rt; row_of(rt.alloc(), Reply, flags)?.as_str(), row);
+        assert_eq!(rt; row_of(rt.alloc(), Reply, tcp_kind)?.as_str(), row);
     }
     Ok(())
 }
@@ -132,7 +132,7 @@ fn accept<R: Abort>(rt: &R, part: &Part, second: u16, way: Direction, segment: S
 fn connection_from_its_first_segment_to_a_new_one(rt: HostRuntime) {
     let mut part = tcp(SynSent, false, false, 121);
     assert!(rt; begins_as(Segment::Tcp(Syn), &part));
-    for (second, way, flags, state, assured, deadline) in [
+    for (second, way, tcp_kind, state, assured, deadline) in [
         (2, Reply, SynAck, SynRecv, false, 62),
         (3, Original, Ack, Established, true, 432_003),
         (4, Original, Ack, Established, true, 432_004),
@@ -140,7 +140,7 @@ fn connection_from_its_first_segment_to_a_new_one(rt: HostRuntime) {
         (6, Reply, Fin, LastAck, true, 36),
         (7, Original, Ack, TimeWait, true, 127),
     ] {
-        part = accept(&rt, &part, second, way, Segment::Tcp(flags));
+        part = accept(&rt, &part, second, way, Segment::Tcp(tcp_kind));
         assert!(rt;
             is_same_part(&part, &tcp(state, true, assured, deadline)),
             "at {second} s"
@@ -195,8 +195,8 @@ fn connection_seen_from_its_middle(rt: HostRuntime) {
     }
     let late = step_at(&rt, &part, 6, Reply, Segment::Tcp(SynAck));
     assert!(rt; matches!(late, Outcome::Ignore));
-    for flags in [SynAck, Fin, Rst, Bare] {
-        assert!(rt; start(Segment::Tcp(flags), 0).is_none());
+    for tcp_kind in [SynAck, Fin, Rst, Bare] {
+        assert!(rt; start(Segment::Tcp(tcp_kind), 0).is_none());
     }
 }
 

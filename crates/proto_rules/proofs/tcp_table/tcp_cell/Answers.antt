@@ -7,10 +7,10 @@ use Rattle.proto_rules.proofs.tcp_table.tcp_cell.Goals as goal
 
 pub read_cell-requires : goal.read_cell-requires
 read_cell-requires c =
-    let read : c.number_at.result ≡ cell (grid_of c.args.direction) (row_of c.args.flags) (column_of c.args.state) = search rules in
-    rw (read ∙ grids_tell c.args.direction c.args.flags c.args.state) (number_small _)
+    let read : c.number_at.result ≡ cell (grid_of c.args.direction) (row_of c.args.tcp_kind) (column_of c.args.state) = search rules in
+    rw (read ∙ grids_tell c.args.direction c.args.tcp_kind c.args.state) (number_small _)
 
 pub returns : goal.returns
 returns c =
-    let read : c.number_at.result ≡ cell (grid_of c.args.direction) (row_of c.args.flags) (column_of c.args.state) = search rules in
-    number_tells _ _ (c.read_cell.ensures ∙ read ∙ grids_tell c.args.direction c.args.flags c.args.state)
+    let read : c.number_at.result ≡ cell (grid_of c.args.direction) (row_of c.args.tcp_kind) (column_of c.args.state) = search rules in
+    number_tells _ _ (c.read_cell.ensures ∙ read ∙ grids_tell c.args.direction c.args.tcp_kind c.args.state)
