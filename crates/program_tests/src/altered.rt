@@ -39,8 +39,10 @@ enum Change {
     LeftOut,
     /// It names another packet.
     Index,
-    /// It is another thread's.
+    /// It is the script's.
     Thread,
+    /// It is a thread's of which there is none.
+    NoThread,
     /// The verdict's events begin one further on.
     First,
     /// The verdict has one event more.
@@ -53,12 +55,13 @@ enum Change {
     Live,
 }
 
-static CHANGES: [Change; 10] = [
+static CHANGES: [Change; 11] = [
     Change::Number,
     Change::Twice,
     Change::LeftOut,
     Change::Index,
     Change::Thread,
+    Change::NoThread,
     Change::First,
     Change::Made,
     Change::Behind,
@@ -73,6 +76,7 @@ fn event_changed(item: &Numbered, change: Change) -> Numbered {
         Change::Number => changed.number = 1,
         Change::Index => changed.index = 1,
         Change::Thread => changed.thread = 1,
+        Change::NoThread => changed.thread = 2,
         _ => {}
     }
     changed

@@ -206,10 +206,23 @@ fn are_answers(items: &[Numbered], thread: usize, answers: &[Answer]) -> bool {
     way.next().is_none()
 }
 
+/// Whether each event is of a thread of a capture, of which there are so many, or of the script's behind them.
+fn are_of_threads(items: &[Numbered], captures: usize) -> bool {
+    for item in items {
+        if item.thread as usize > captures {
+            return false;
+        }
+    }
+    true
+}
+
 /// Whether the spans and points of all threads are as they have to be.
 pub fn are_spans(report: &Report) -> bool {
     let items = report.history.as_slice();
     let threads = report.threads.as_slice();
+    if !are_of_threads(items, threads.len()) {
+        return false;
+    }
     for (thread, verdicts) in threads.iter().enumerate() {
         if !are_verdicts(items, thread, verdicts.as_slice()) {
             return false;

@@ -1,7 +1,7 @@
 //! Flows that rules translate, from their packets to the report.
 
 use super::{NAME, REPLAYED, RULES};
-use crate::case::{Case, Number, Text, holds};
+use crate::case::{Case, Number, Text, all_hold, holds};
 use crate::content::{Content, PLAIN};
 use crate::packet::{Ends, Packet, SYN, Sent};
 use std::test::Fail;
@@ -38,20 +38,38 @@ thread 0 packets 2
 script 0
 ";
 
+/// A query of the client and the same of the router itself, which has the tuple that the first one is translated to.
+const OF_A_CLIENT_AND_THE_ROUTER: [Sent<'static>; 2] = [
+    (1, 0, Packet::Udp(QUERY)),
+    (
+        2,
+        0,
+        Packet::Udp(Ends {
+            src: ROUTER,
+            ..QUERY
+        }),
+    ),
+];
+
+/// A query of the client and one of its neighbour.
+const OF_TWO_CLIENTS: [Sent<'static>; 2] = [
+    (1, 0, Packet::Udp(QUERY)),
+    (
+        2,
+        0,
+        Packet::Udp(Ends {
+            src: CLIENT + 1,
+            ..QUERY
+        }),
+    ),
+];
+
 #[test]
 fn a_flow_whose_reply_tuple_is_taken(rt: HostRuntime) -> Result<(), Fail> {
-    const OF_THE_ROUTER: Ends = Ends {
-        src: ROUTER,
-        ..QUERY
-    };
-    const SENT: [Sent<'static>; 2] = [
-        (1, 0, Packet::Udp(QUERY)),
-        (2, 0, Packet::Udp(OF_THE_ROUTER)),
-    ];
     static CASE: Case<'static> = Case {
         files: &[
             (RULES, Content::Text("snat -s 10.0.0.0/8 to 192.0.2.1\n")),
-            (NAME, Content::Capture(PLAIN, &SENT)),
+            (NAME, Content::Capture(PLAIN, &OF_A_CLIENT_AND_THE_ROUTER)),
         ],
         out: Text::Is(TAKEN_BY_A_TRANSLATED_FLOW),
         ..RULED
@@ -68,27 +86,35 @@ thread 0 packets 2
 script 0
 ";
 
-/// The second flow's own reply tuple is another, so that it is no neighbour of the first: it wants the one place.
-#[test]
-fn a_flow_for_which_there_is_no_place(rt: HostRuntime) -> Result<(), Fail> {
-    const OF_A_SECOND_CLIENT: Ends = Ends {
-        src: CLIENT + 1,
-        ..QUERY
-    };
-    const SENT: [Sent<'static>; 2] = [
-        (1, 0, Packet::Udp(QUERY)),
-        (2, 0, Packet::Udp(OF_A_SECOND_CLIENT)),
-    ];
-    static CASE: Case<'static> = Case {
-        words: &["ctreplay", "--rules", RULES, "--entries", "1", NAME],
+/// A run of two flows that a rule translates, in a table of one place.
+const IN_ONE_PLACE: Case<'static> = Case {
+    words: &["ctreplay", "--rules", RULES, "--entries", "1", NAME],
+    out: Text::Is(NO_ROOM_FOR_A_SECOND_FLOW),
+    ..RULED
+};
+
+/// The second flow is another client's, whose reply tuple nobody has, or the router's own, whose reply tuple the first one
+/// has. Either wants the one place before it can meet another.
+static NO_PLACE: [Case<'static>; 2] = [
+    Case {
         files: &[
             (RULES, Content::Text("snat -s 10.0.0.0/8 to 192.0.2.1\n")),
-            (NAME, Content::Capture(PLAIN, &SENT)),
+            (NAME, Content::Capture(PLAIN, &OF_TWO_CLIENTS)),
         ],
-        out: Text::Is(NO_ROOM_FOR_A_SECOND_FLOW),
-        ..RULED
-    };
-    holds(&rt, &CASE, 0)
+        ..IN_ONE_PLACE
+    },
+    Case {
+        files: &[
+            (RULES, Content::Text("snat -s 10.0.0.0/8 to 192.0.2.1\n")),
+            (NAME, Content::Capture(PLAIN, &OF_A_CLIENT_AND_THE_ROUTER)),
+        ],
+        ..IN_ONE_PLACE
+    },
+];
+
+#[test]
+fn a_flow_for_which_there_is_no_place(rt: HostRuntime) -> Result<(), Fail> {
+    all_hold(&rt, &NO_PLACE)
 }
 
 const ERRORS: &str = "\
