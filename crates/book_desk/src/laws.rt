@@ -1,14 +1,14 @@
 //! What the rule of the turns says of the places of all passes: each law is the contract of a function that does nothing.
 
 ghost use Rattle.history_book.specs.PlaceUse.{PlacesAreRight};
-ghost use Rattle.book_desk.specs.Turn.Laws.{HeldPlacesAreNotGiven, IsBetween, KeptLeavesAUse, LastLeavesNoUse, RecycledPlacesAreFree, TakenPlacesWereNobodys, entries_of, part_in, uses_in};
+ghost use Rattle.book_desk.specs.Turn.Laws.{HeldPlacesAreNotGiven, KeepsTurnRule, KeptLeavesAUse, LastLeavesNoUse, RecycledPlacesAreFree, TakenPlacesWereNobodys, turn_entries, turn_part_in, turn_uses};
 
 use history_book::place_use::uses_exclude_others;
 
 /// Between any two steps of a tracker's passes each place of its pool is free once, or owed once by one pass, or in use by
 /// an entry or by references of passes; and what follows for who holds it, who is given it, and who gives it up.
 pub fn places_are_right()
-    ensures { PlacesAreRight IsBetween entries_of uses_in part_in }
+    ensures { PlacesAreRight KeepsTurnRule turn_entries turn_uses turn_part_in }
 {
     uses_exclude_others();
 }

@@ -15,7 +15,7 @@ use Rattle.book_desk.specs.declared.turn.change.PlaceChange.TheVariants.{Holds, 
 use Rattle.book_desk.specs.declared.turn.view.View.{View}
 use Rattle.book_desk.specs.Uses.{bit, tally, times, uses}
 use Rattle.book_desk.specs.Turn.Change.{IsRightChange}
-use Rattle.book_desk.specs.Turn.Laws.{Between, IsBetween, MayEnd, debts_of, entries_of, held_at, owed_at, part_in, part_of, use_in, uses_in, views_then}
+use Rattle.book_desk.specs.Turn.Laws.{KeepsTurnRule, MayEnd, TurnBookState, debts_of, held_at, owed_at, turn_entries, turn_part, turn_part_in, turn_uses, use_in, views_then}
 use Rattle.book_desk.specs.Turn.Places.{AreOfPasses}
 use Rattle.book_desk.specs.Turn.Rule.{IsKept}
 use Rattle.book_desk.specs.Turn.Steps.{free_in}
@@ -51,30 +51,30 @@ module _ (z : Sizes) (log : List Event) (b : Book) (s : State (Option Book) View
 
 -- one pass holds and owes no more than all
 among_all : (place : ℕ) (views : List View) (i : ℕ)
-    → IsPartOf (part_of place (get_elem? views i)) (record { kept = total (λ v. held_at place v) views; owed = debts_of place views })
+    → IsPartOf (turn_part place (get_elem? views i)) (record { kept = total (λ v. held_at place v) views; owed = debts_of place views })
 among_all place [] i = record { kept = omega arith; owed = omega arith }
 among_all place (v ∷ views) zero = record { kept = omega arith; owed = omega arith }
 among_all place (v ∷ views) (suc i) =
     let rest = among_all place views i in record { kept = omega (arith, rest.kept); owed = omega (arith, rest.owed) }
 
 module _ (others : UsesExcludeOthers) where
-  right_use : (b : Between) (place : ℕ) → IsBetween b → IsRightUse (entries_of b) place (uses_in b place)
+  right_use : (b : TurnBookState) (place : ℕ) → KeepsTurnRule b → IsRightUse (turn_entries b) place (turn_uses b place)
   right_use b place kept = record {
     one = one_use b.sizes b.log b.book b.table place kept;
     beyond = no_other b.sizes b.log b.book b.table place kept;
   }
 
-  pub right_places : PlacesAreRight IsBetween entries_of uses_in part_in
+  pub right_places : PlacesAreRight KeepsTurnRule turn_entries turn_uses turn_part_in
   right_places = record {
     one = λ b place kept. (right_use b place kept).one;
     beyond = λ b place kept. (right_use b place kept).beyond;
     part = λ b pass place kept. among_all place b.table.views pass;
-    nobodys = λ b place kept. others.nobodys (entries_of b) place (uses_in b place) (right_use b place kept);
-    held = λ b pass place kept. others.held (entries_of b) place (uses_in b place) (part_in b pass place) (right_use b place kept) (among_all place b.table.views pass);
-    last = λ b pass place kept. others.last (entries_of b) place (uses_in b place) (part_in b pass place) (right_use b place kept) (among_all place b.table.views pass);
+    nobodys = λ b place kept. others.nobodys (turn_entries b) place (turn_uses b place) (right_use b place kept);
+    held = λ b pass place kept. others.held (turn_entries b) place (turn_uses b place) (turn_part_in b pass place) (right_use b place kept) (among_all place b.table.views pass);
+    last = λ b pass place kept. others.last (turn_entries b) place (turn_uses b place) (turn_part_in b pass place) (right_use b place kept) (among_all place b.table.views pass);
     kept = λ b b' place kept kept' same.
-        others.kept (entries_of b) place (uses_in b place) (uses_in b' place) (right_use b place kept)
-        (subst (λ (n : ℕ). IsRightUse n place (uses_in b' place)) same (right_use b' place kept'));
+        others.kept (turn_entries b) place (turn_uses b place) (turn_uses b' place) (right_use b place kept)
+        (subst (λ (n : ℕ). IsRightUse n place (turn_uses b' place)) same (right_use b' place kept'));
   }
 
 -- where the first of three is one, the others are nothing

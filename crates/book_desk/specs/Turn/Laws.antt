@@ -38,28 +38,28 @@ use_in place b views = record {
 }
 
 -- a tracker between two steps of its passes
-pub record Between : Type 0 where
+pub record TurnBookState : Type 0 where
   pub sizes : Sizes
   pub log : List Event
   pub book : Book
   pub table : State (Option Book) View
 
-abbrev pub IsBetween : Between → Type 0
-IsBetween b = IsKept b.sizes b.log b.book b.table
+abbrev pub KeepsTurnRule : TurnBookState → Type 0
+KeepsTurnRule b = IsKept b.sizes b.log b.book b.table
 
-abbrev pub entries_of : Between → ℕ
-entries_of b = b.sizes.entries
+abbrev pub turn_entries : TurnBookState → ℕ
+turn_entries b = b.sizes.entries
 
-abbrev pub uses_in : Between → ℕ → PlaceUse
-uses_in b place = use_in place b.book b.table.views
+abbrev pub turn_uses : TurnBookState → ℕ → PlaceUse
+turn_uses b place = use_in place b.book b.table.views
 
 -- and of it what is one pass's: where no pass has the number, nothing
-abbrev pub part_of : ℕ → Slotted View → PassUse
-part_of place none = record { kept = 0; owed = 0 }
-part_of place (some v) = record { kept = held_at place v; owed = owed_at place v }
+abbrev pub turn_part : ℕ → Slotted View → PassUse
+turn_part place none = record { kept = 0; owed = 0 }
+turn_part place (some v) = record { kept = held_at place v; owed = owed_at place v }
 
-abbrev pub part_in : Between → ℕ → ℕ → PassUse
-part_in b pass place = part_of place (get_elem? b.table.views pass)
+abbrev pub turn_part_in : TurnBookState → ℕ → ℕ → PassUse
+turn_part_in b pass place = turn_part place (get_elem? b.table.views pass)
 
 -- Between two steps this pass has the turn, and may end it with this change of places and this book.
 pub record MayEnd (z : Sizes) (log : List Event) (b : Book) (s : State (Option Book) View) (i : ℕ) (v : View) (e : Ending) (new : Book) : Type 0 where
