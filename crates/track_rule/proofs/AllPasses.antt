@@ -10,7 +10,7 @@ use Rattle.history_book.specs.declared.sizes.Sizes.{Sizes}
 use Rattle.track_rule.specs.declared.view.View.{View}
 use Rattle.track_rule.specs.Free.{has_turn, owes, turn_of}
 use Rattle.track_rule.specs.History.{records_after}
-use Rattle.track_rule.specs.Laws.{Between, CountsUsers, IsBetween, KeptLeavesAUse, LastReferenceIsAlone, OnePassHasTheList, ReleasesStayOut, TakenPlacesAreNew, TheListIsKnown, WordsCountUsers, entries_of, part_in, part_of, uses_in}
+use Rattle.track_rule.specs.Laws.{CountsUsers, KeepsTableRule, KeptLeavesAUse, LastReferenceIsAlone, OnePassHasTheList, ReleasesStayOut, TableState, TakenPlacesAreNew, TheListIsKnown, WordsCountUsers, entries_of, part_in, part_of, uses_in}
 use Rattle.track_rule.specs.Layout.{phase_at, refs_at}
 use Rattle.track_rule.specs.Phases.{middle_of, of_place, table_keeps}
 use Rattle.track_rule.specs.References.{keeps}
@@ -64,7 +64,7 @@ among_all place (v ∷ views) (suc i) =
     let rest = among_all place views i in record { kept = omega (arith, rest.kept); owed = omega (arith, rest.owed) }
 
 module _ (others : UsesExcludeOthers) (low : PlacesAreInThePool) where
-  right_use : (b : Between) (place : ℕ) → IsBetween b → IsRightUse (entries_of b) place (uses_in b place)
+  right_use : (b : TableState) (place : ℕ) → KeepsTableRule b → IsRightUse (entries_of b) place (uses_in b place)
   right_use b place h = record {
     one = λ below.
         subst (λ (n : ℕ). times place b.ledger.free + total (owes place) b.table.views + n ≡ 1) (words_count b place h below).some
@@ -78,7 +78,7 @@ module _ (others : UsesExcludeOthers) (low : PlacesAreInThePool) where
         );
   }
 
-  pub right : PlacesAreRight IsBetween entries_of uses_in part_in
+  pub right : PlacesAreRight KeepsTableRule entries_of uses_in part_in
   right = record {
     one = λ b place h. (right_use b place h).one;
     beyond = λ b place h. (right_use b place h).beyond;

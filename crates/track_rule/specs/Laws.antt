@@ -17,19 +17,19 @@ use Rattle.track_rule.specs.Rule.{IsKept, Ledger}
 use Rattle.track_rule.specs.Sums.{times, total}
 
 -- a table between two steps of its passes
-pub record Between : Type 0 where
+pub record TableState : Type 0 where
   pub sizes : Sizes
   pub ledger : Ledger
   pub table : State Slot View
 
-abbrev pub IsBetween : Between → Type 0
-IsBetween b = IsKept b.sizes b.ledger b.table
+abbrev pub KeepsTableRule : TableState → Type 0
+KeepsTableRule b = IsKept b.sizes b.ledger b.table
 
-abbrev pub entries_of : Between → ℕ
+abbrev pub entries_of : TableState → ℕ
 entries_of b = b.sizes.entries
 
 -- what is counted of a place
-abbrev pub uses_in : Between → ℕ → PlaceUse
+abbrev pub uses_in : TableState → ℕ → PlaceUse
 uses_in b place = record {
   free = times place b.ledger.free;
   live = total (of_place place) (records_after b.ledger.log);
@@ -41,12 +41,12 @@ abbrev pub part_of : ℕ → Slotted View → PassUse
 part_of place none = record { kept = 0; owed = 0 }
 part_of place (some v) = record { kept = keeps place v; owed = owes place v }
 
-abbrev pub part_in : Between → ℕ → ℕ → PassUse
+abbrev pub part_in : TableState → ℕ → ℕ → PassUse
 part_in b pass place = part_of place (get_elem? b.table.views pass)
 
 -- A step of one pass gives no place back to the list and takes none from it, and the pass owes what it owed: so it is with a
 -- release that leaves a reference.
-pub record OwesNoMore (b b' : Between) (i : ℕ) (v w : View) : Type 0 where
+pub record OwesNoMore (b b' : TableState) (i : ℕ) (v w : View) : Type 0 where
   pub at : get_elem? b.table.views i ≡ some v
   pub sizes : b'.sizes ≡ b.sizes
   pub views : b'.table.views ≡ set b.table.views i w
@@ -55,12 +55,12 @@ pub record OwesNoMore (b b' : Between) (i : ℕ) (v w : View) : Type 0 where
 
 abbrev pub ReleasesStayOut : Type 0
 ReleasesStayOut =
-    (b b' : Between) (i place : ℕ) (v w : View) → OwesNoMore b b' i v w → StaysOut (uses_in b place) (uses_in b' place)
+    (b b' : TableState) (i place : ℕ) (v w : View) → OwesNoMore b b' i v w → StaysOut (uses_in b place) (uses_in b' place)
 
 -- So a place that the pass held before it is in use after it.
 abbrev pub KeptLeavesAUse : Type 0
 KeptLeavesAUse =
-    (b b' : Between) (i place : ℕ) (v w : View) → IsBetween b → IsBetween b' → OwesNoMore b b' i v w
+    (b b' : TableState) (i place : ℕ) (v w : View) → KeepsTableRule b → KeepsTableRule b' → OwesNoMore b b' i v w
     → 0 < keeps place v → 0 < users_of (uses_in b' place)
 
 -- The references word of a place counts what the passes keep and no more than all users, and is 0 only where there are none.
@@ -71,7 +71,7 @@ pub record CountsUsers (word : ℕ) (u : PlaceUse) : Type 0 where
 
 abbrev pub WordsCountUsers : Type 0
 WordsCountUsers =
-    (b : Between) (place : ℕ) → IsBetween b → place < entries_of b
+    (b : TableState) (place : ℕ) → KeepsTableRule b → place < entries_of b
     → CountsUsers (refs_at b.sizes b.table.words place) (uses_in b place)
 
 -- A pass that has the turn of the free list knows the list of all free places.

@@ -1,7 +1,7 @@
 //! What the rule says of all passes: each law is the contract of a function that does nothing.
 
 ghost use Rattle.history_book.specs.PlaceUse.{PlacesAreRight};
-ghost use Rattle.track_rule.specs.Laws.{HeldPlacesHaveTheirTuples, IsBetween, KeptLeavesAUse, LastReferenceIsAlone, LivePlacesHaveTheirTuples, OnePassHasTheList, ReleasesStayOut, TakenPlacesAreNew, TheListIsKnown, WordsCountUsers, entries_of, part_in, uses_in};
+ghost use Rattle.track_rule.specs.Laws.{HeldPlacesHaveTheirTuples, KeepsTableRule, KeptLeavesAUse, LastReferenceIsAlone, LivePlacesHaveTheirTuples, OnePassHasTheList, ReleasesStayOut, TakenPlacesAreNew, TheListIsKnown, WordsCountUsers, entries_of, part_in, uses_in};
 
 use history_book::laws::{live_records_are_confirmed, places_are_in_the_pool};
 use history_book::place_use::uses_exclude_others;
@@ -9,7 +9,7 @@ use history_book::place_use::uses_exclude_others;
 /// Between any two steps each place of the pool is free once, or owed once by one pass, or in use; and what follows for who
 /// holds it, who is given it, and who gives it up.
 pub fn places_are_right()
-    ensures { PlacesAreRight IsBetween entries_of uses_in part_in }
+    ensures { PlacesAreRight KeepsTableRule entries_of uses_in part_in }
 {
     uses_exclude_others();
     places_are_in_the_pool();
