@@ -1,9 +1,8 @@
 -- Which flows a rule is for.
 use Rattle.std.specs.Prelude.{◌≡◌, ℕ, ◌-◌, ◌/◌, ◌^◌, ◌≤◌, Bool, true, ◌==◌, ◌&&◌, ◌||◌, Option, Some, None, is_none, List, find}
-use Rattle.tuple_core.specs.declared.Proto.{Proto}
 use Rattle.tuple_core.specs.declared.Tuple.{Tuple}
-use Rattle.tuple_core.specs.Tuple.{number_of}
 use Rattle.file_text.specs.Protocols.{has_ports}
+use Rattle.history_book.specs.Filter.{is_number, is_proto}
 use Rattle.nat_setup.specs.declared.rule.Block.{Block}
 use Rattle.nat_setup.specs.declared.rule.PortRange.{PortRange}
 use Rattle.nat_setup.specs.declared.rule.Rule.{Rule}
@@ -17,19 +16,11 @@ abbrev pub is_from : Option Block → ℕ → Bool
 is_from None address = true
 is_from (Some block) address = is_in_block block address
 
-abbrev pub is_port : Option ℕ → ℕ → Bool
-is_port None number = true
-is_port (Some wanted) number = wanted == number
-
-abbrev pub is_proto : Option Proto → Proto → Bool
-is_proto None proto = true
-is_proto (Some wanted) proto = number_of wanted == number_of proto
-
 -- each option of the rule allows the original tuple
 abbrev pub matches : Tuple → Rule → Bool
 matches t rule =
     is_proto rule.proto t.proto && is_from rule.src t.src && is_from rule.dst t.dst
-    && is_port rule.sport t.a && is_port rule.dport t.b
+    && is_number rule.sport t.a && is_number rule.dport t.b
 
 -- the first of the rules that is for flows with this original tuple
 abbrev pub rule_for : List Rule → Tuple → Option Rule

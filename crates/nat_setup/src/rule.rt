@@ -2,7 +2,8 @@
 
 ghost use Rattle.std.specs.Prelude.{◌≡◌, ◌≤◌};
 ghost use Rattle.std.specs.List.{AllByRecursion};
-ghost use Rattle.nat_setup.specs.Rule.{IsBlock, is_from, is_in_block, is_port, is_proto, IsLawfulRule, matches, rule_for};
+ghost use Rattle.history_book.specs.Filter.{is_number, is_proto};
+ghost use Rattle.nat_setup.specs.Rule.{IsBlock, is_from, is_in_block, IsLawfulRule, matches, rule_for};
 
 use room_list::RoomList;
 use tuple_core::{Proto, Tuple};
@@ -73,7 +74,7 @@ fn is_from(block: &Option<Block>, address: u32) -> bool
 
 /// Whether the port, where there is one, is this.
 fn is_port(option: Option<u16>, number: u16) -> bool
-    ensures { result ≡ is_port option number }
+    ensures { result ≡ is_number option number }
 {
     match option {
         Some(wanted) => wanted == number,
