@@ -41,6 +41,7 @@ pub saw_twice : (a b c : Sight) → Saw a b → Saw b c → Saw a c
 saw_twice a b c one two = record {
   went = after_none a b c [] one two.went;
   spare = two.spare ∙ one.spare;
+  taken = two.taken ∙ one.taken;
 }
 
 pub saw_then_made : (a b c : Sight) (n : ℕ) (e : Event) → Saw a b → MadeEvent b c n e → MadeEvent a c n e
@@ -50,6 +51,7 @@ saw_then_made a b c n e saw made = record {
   low = omega (arith, length_grows b.front a.front saw.went.front, made.low);
   high = made.high;
   happened = made.happened;
+  taken = made.taken ∙ saw.taken;
 }
 
 pub made_then_saw : (a b c : Sight) (n : ℕ) (e : Event) → MadeEvent a b n e → Saw b c → MadeEvent a c n e
@@ -59,6 +61,7 @@ made_then_saw a b c n e made saw = record {
   low = made.low;
   high = omega (arith, made.high, length_grows c.front b.front saw.went.front);
   happened = get_grows c.front b.front n e saw.went.front made.happened;
+  taken = saw.taken ∙ made.taken;
 }
 
 pub resting : (s : Sight) → Saw s s
@@ -70,4 +73,5 @@ resting s = record {
     pass = record { tracker = refl; sizes = refl; shares = refl; returned = refl; gathered = refl };
   };
   spare = refl;
+  taken = refl;
 }

@@ -30,7 +30,7 @@ use Rattle.history_book.specs.History.{after}
 use Rattle.history_book.specs.Legality.{is_reason}
 use Rattle.history_book.specs.Point.{At}
 use Rattle.history_book.specs.Record.{has_original, has_reply}
-use Rattle.history_book.specs.Sight.{Sight}
+use Rattle.history_book.specs.Sight.{risen, Sight}
 use Rattle.history_book.specs.WentOn.{Looked, MadeEvent, Saw}
 use Rattle.history_book.specs.Sizes.{fewest_of_full}
 use Rattle.history_book.specs.State.{Found, State, is_unused, live_under, record_of, winner}
@@ -73,9 +73,11 @@ CountSays old new count =
     Looked old new count.at (λ s. count.live ≡ length s.records) × SamePlaces old new
 
 -- a place of the pool that this desk neither held nor owed, and now holds for no entry; where this pass is
--- the only one no entry has it
+-- the only one no entry has it. No other call takes a place, and this one takes no further one: so the desk
+-- counts one more than before
 pub record Takes (old new : Sight) (place : ℕ) : Type 0 where
-  pub saw : Saw old new
+  pub saw : Saw old (record new { taken = old.taken })
+  pub taken : new.taken ≡ risen old.taken
   pub below : place < old.sizes.entries
   pub unheld : is_held place old.held ≡ false
   pub unowed : is_owed place old.owed ≡ false

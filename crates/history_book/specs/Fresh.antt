@@ -16,3 +16,4 @@ pub record IsFresh (numbers : List ℕ) (given : Sizes) (s : Sight) : Type 0 whe
   pub shares : s.shares ≡ given.passes
   pub returned : s.returned ≡ 0
   pub gathered : s.gathered ≡ []
+  pub taken : s.taken ≡ 0

@@ -1,5 +1,5 @@
 -- What a desk knows of the tracker.
-use Rattle.std.specs.Prelude.{◌≡◌, ◌≢◌, ℕ, ◌+◌, ◌*◌, ◌<◌, ◌≤◌, ◌^◌, true, false, Option, Some, None, List, [], ◌∷◌, length, slice_get, All, AllPairs, IsSome}
+use Rattle.std.specs.Prelude.{◌≡◌, ◌≢◌, ℕ, ◌+◌, ◌-◌, ◌*◌, ◌<◌, ◌≤◌, ◌^◌, true, false, Option, Some, None, List, [], ◌∷◌, length, slice_get, min, All, AllPairs, IsSome}
 use Rattle.history_book.specs.declared.desk.Hold.{Hold}
 use Rattle.history_book.specs.declared.event.Event.{Event}
 use Rattle.history_book.specs.declared.event.Event.TheVariants.{Confirm}
@@ -14,7 +14,7 @@ use Rattle.history_book.specs.History.{is_legal}
 -- how many further own events it has room. The desk is one pass of a tracker, which is told from others by
 -- some numbers (by none where no desk joins another) and has these sizes. It has shares of the tracker's
 -- passes, which it may hand over to further desks; of the desks that joined it, it has the shares that they
--- returned, and the events that they made.
+-- returned, and the events that they made. Last it counts how many times it took a place.
 pub record Sight : Type 0 where
   pub front : List Event
   pub own : List Note
@@ -26,6 +26,11 @@ pub record Sight : Type 0 where
   pub shares : ℕ
   pub returned : ℕ
   pub gathered : List Note
+  pub taken : ℕ
+
+-- a count of 64 bits after one more: it stands still at its end
+abbrev pub risen : ℕ → ℕ
+risen n = min (n + 1) (2 ^ 64 - 1)
 
 -- these events with their numbers, which rise from n by one
 abbrev pub notes_from : ℕ → List Event → List Note

@@ -9,7 +9,7 @@ pub record CanSplit (shares : ℕ) (s : Sight) : Type 0 where
   pub rest : shares < s.shares
 
 -- The desk keeps all but the shares, and may have seen more. The further one has these shares and has seen as much; it
--- made no event, keeps no place, and nothing was returned to it.
+-- made no event, took and keeps no place, and nothing was returned to it.
 pub record Splits (shares : ℕ) (old new further : Sight) : Type 0 where
   pub front : StartsWith new.front old.front
   pub shared : old.shares ≡ new.shares + shares
@@ -25,4 +25,5 @@ pub record Splits (shares : ℕ) (old new further : Sight) : Type 0 where
     shares = shares;
     returned = 0;
     gathered = [];
+    taken = 0;
   }

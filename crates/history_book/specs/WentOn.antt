@@ -15,17 +15,18 @@ pub record IsSamePass (old new : Sight) : Type 0 where
   pub gathered : new.gathered ≡ old.gathered
 
 -- The desk saw no less than before, and made these events of its own. It has as much room for further ones as these
--- left, or more where it asked for some. What it holds and owes is said beside this.
+-- left, or more where it asked for some. What it holds, owes and took is said beside this.
 pub record WentOn (old new : Sight) (made : List Note) : Type 0 where
   pub front : StartsWith new.front old.front
   pub own : new.own ≡ old.own ++ made
   pub spare : old.spare ≤ new.spare + length made
   pub pass : IsSamePass old new
 
--- it saw no less than before, and made no event
+-- it saw no less than before, made no event and took no place
 pub record Saw (old new : Sight) : Type 0 where
   pub went : WentOn old new []
   pub spare : new.spare ≡ old.spare
+  pub taken : new.taken ≡ old.taken
 
 -- it looked: this was so at the point, which is no older than what it had seen
 pub record Looked (old new : Sight) (at : ℕ) (F : State → Type 0) : Type 0 where
@@ -33,10 +34,11 @@ pub record Looked (old new : Sight) (at : ℕ) (F : State → Type 0) : Type 0 w
   pub low : length old.front ≤ at
   pub fact : At new.front at F
 
--- it made one event of its own, of which it had not seen the number
+-- it made one event of its own, of which it had not seen the number, and took no place
 pub record MadeEvent (old new : Sight) (number : ℕ) (event : Event) : Type 0 where
   pub went : WentOn old new (record { number = number; event = event } ∷ [])
   pub spare : old.spare ≡ new.spare + 1
   pub low : length old.front ≤ number
   pub high : number < length new.front
   pub happened : slice_get new.front number ≡ Some event
+  pub taken : new.taken ≡ old.taken
