@@ -9,6 +9,7 @@ pub mod filter;
 pub mod find;
 pub mod laws;
 pub mod legality;
+pub mod many_threads;
 pub mod merge;
 pub mod outcome;
 pub mod place_use;
