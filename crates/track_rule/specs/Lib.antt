@@ -2,6 +2,7 @@ pub mod Sums
 pub mod Layout
 pub mod Slots
 pub mod Readings
+pub mod ChangesOnly
 pub mod Passes
 pub mod History
 pub mod References
