@@ -28,8 +28,6 @@ use Rattle.history_book.specs.declared.outcome.PeekOutcome.{PeekOutcome}
 use Rattle.history_book.specs.declared.outcome.PeekOutcome.TheVariants as peek
 use Rattle.history_book.specs.declared.outcome.ReleaseOutcome.{ReleaseOutcome}
 use Rattle.history_book.specs.declared.outcome.ReleaseOutcome.TheVariants as release
-use Rattle.history_book.specs.declared.outcome.TakeOutcome.{TakeOutcome}
-use Rattle.history_book.specs.declared.outcome.TakeOutcome.TheVariants as take
 use Rattle.history_book.specs.declared.outcome.TouchOutcome.{TouchOutcome}
 use Rattle.history_book.specs.declared.outcome.TouchOutcome.TheVariants as touch
 use Rattle.history_book.specs.declared.record.Flow.{Flow}

@@ -1,23 +1,32 @@
+use Rattle.std.proofs.Common.{ℕ, subst, sym}
+use Rattle.history_book.specs.declared.outcome.TakeOutcome.{TakeOutcome}
+use Rattle.history_book.specs.Desk.{TakeSays, Takes}
+use Rattle.desk_tests.specs.Busy.{seen_by}
 use Rattle.desk_tests.proofs.BusyDesk.{busy_took, busy_silent, busy_went, full_went, known_seen, took_went}
 use Rattle.desk_tests.proofs.busy_desk.BusyDeskDesk.take.Goals as goal
 
-pub invariant_of-self-in-Full : goal.invariant_of-self-in-Full
-invariant_of-self-in-Full g c =
+pub invariant_of-self : goal.invariant_of-self
+invariant_of-self g c =
     busy_silent c.self.inside.stage.desk c.other_begins.new.self.desk c.take-outcome.new.self c.self.inside.notes.items c.self.inside.notes.room
     c.self.inside.spare c.self.inside.stage.others c.other_begins.new.self.others c.self.invariant c.other_begins.ensures
     c.in-Full.ensures.says.looked.saw c.take-outcome.ensures.knows
 
 pub returns-in-Full-clause-says : goal.returns-in-Full-clause-says
 returns-in-Full-clause-says g c =
+    let t : ℕ = c.self.inside.taken in
     rw (← c.self.view_is)
-    (full_went c.self.inside.taken c.self.inside.stage.desk c.other_begins.new.self.desk c.take-outcome.new.self c.self.inside.notes.items
+    (subst
+    (λ (o : TakeOutcome). TakeSays (seen_by t c.self.inside.stage.desk c.self.inside.notes.items c.self.inside.spare)
+    (seen_by t c.take-outcome.new.self c.self.inside.notes.items c.self.inside.spare) o)
+    (sym c.in-Full.is)
+    (full_went t c.self.inside.stage.desk c.other_begins.new.self.desk c.take-outcome.new.self c.self.inside.notes.items
     c.self.inside.spare c.self.inside.stage.others c.other_begins.new.self.others c.in-Full.at c.other_begins.ensures c.self.invariant.lone
-    c.in-Full.ensures.says)
+    c.in-Full.ensures.says))
 
 pub returns-in-Full-clause-knows : goal.returns-in-Full-clause-knows
 returns-in-Full-clause-knows g c =
     known_seen c.self.inside.taken c.take-outcome.new.self c.self.inside.notes.items c.self.inside.notes.room c.self.inside.spare
-    c.other_begins.new.self.others (invariant_of-self-in-Full g c)
+    c.other_begins.new.self.others (invariant_of-self g c)
 
 pub invariant_of-self-in-Taken : goal.invariant_of-self-in-Taken
 invariant_of-self-in-Taken g c =
@@ -29,10 +38,18 @@ invariant_of-self-in-Taken g c =
 
 pub returns-in-Taken-clause-says : goal.returns-in-Taken-clause-says
 returns-in-Taken-clause-says g c =
+    let old = seen_by c.self.inside.taken c.self.inside.stage.desk c.self.inside.notes.items c.self.inside.spare in
     rw (← c.self.view_is)
+    (subst
+    (λ (o : TakeOutcome). TakeSays old
+    (seen_by c.saturating_add-self-inside.result c.take-outcome.new.self c.self.inside.notes.items c.self.inside.spare) o)
+    (sym c.in-Taken.is)
+    (subst
+    (λ (n : ℕ). Takes old (seen_by n c.take-outcome.new.self c.self.inside.notes.items c.self.inside.spare) c.in-Taken.place)
+    (sym c.saturating_add-self-inside.ensures)
     (took_went c.self.inside.taken c.self.inside.stage.desk c.other_begins.new.self.desk c.take-outcome.new.self c.self.inside.notes.items
     c.self.inside.spare c.self.inside.stage.others c.other_begins.new.self.others c.in-Taken.place c.other_begins.ensures
-    c.in-Taken.ensures.says)
+    c.in-Taken.ensures.says)))
 
 pub returns-in-Taken-clause-knows : goal.returns-in-Taken-clause-knows
 returns-in-Taken-clause-knows g c =
