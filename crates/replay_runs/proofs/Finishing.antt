@@ -44,7 +44,7 @@ threads_still still tracker longer log starts end (gs ∷ gss) (w ∷ vss) [] th
 threads_still still tracker longer log starts end (gs ∷ gss) (w ∷ vss) (l ∷ lists) (thread, threads) = (
   record {
     fit = notes_still_fit still tracker longer log starts l.items at_start gs w.items thread.fit;
-    below = thread.below;
+    mark = thread.mark;
     ordered = thread.ordered;
   },
   threads_still still tracker longer log starts end gss vss lists threads,

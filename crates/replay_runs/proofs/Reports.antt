@@ -1,7 +1,7 @@
 -- A report made of the events of several desks is well formed.
 use Rattle.std.proofs.Common.{◌≡◌, ℕ, ◌+◌, ◌<◌, ◌≤◌, true, List, [], ◌∷◌, ◌++◌, length, Some, slice_get, refl, sym, ap, subst, ◌∙◌, arith}
 use Rattle.std.specs.List.{AllByRecursion}
-use Rattle.std.specs.Prelude.{Err, IfOk, nat_lt, Ok, Result}
+use Rattle.std.specs.Prelude.{Err, IfOk, Ok, Result}
 use Rattle.std.proofs.lemmas.List.Elements.{All-from_recursion, recursion_from_All}
 use Rattle.room_list.specs.Roomed.{Roomed}
 use Rattle.conntrack_cmd.specs.Laws.{AnswersStillFit}
@@ -27,7 +27,7 @@ use Rattle.replay_runs.proofs.Interleaved.{each_of_history, events_same, made_sa
 use Rattle.replay_runs.proofs.Joining.{notes_push}
 use Rattle.replay_runs.proofs.Names.{all_named, all_named_notes, each_stands, named_in_notes}
 use Rattle.replay_runs.proofs.Scripts.{answers_stay}
-use Rattle.replay_runs.proofs.Threads.{each_named_from, ends_within, events_before, lists_count, lists_covered, lists_fit, ListsFit, made_rises, script_made, threads_fit, threads_within}
+use Rattle.replay_runs.proofs.Threads.{each_named_from, ends_within, lists_count, lists_covered, lists_fit, ListsFit, made_rises, script_made, threads_fit, threads_within}
 
 -- events that are all of a history are so in another order
 turned : (log : List Event) (own gathered : List Note) → AreAllEventsOf log (own ++ gathered) → AreAllEventsOf log (gathered ++ own)
@@ -160,12 +160,12 @@ module _ (still : VerdictsStillFit) (answers_still : AnswersStillFit) (tracker :
     unfolding names threads answers
     all_are_named = each_named_from history 0 lists (spans_of threads answers) covered (λ t from. made t)
 
-    captures_before : captures_end (length work.captures) history ≤ run.end
+    captures_before : captures_end history 0 threads ≤ run.end
     unfolding names threads answers
     captures_before =
-        ends_within run.end (length work.captures) history
-        (each_of_history history names stands once (λ (n : Numbered). nat_lt n.thread (length work.captures) ≡ true → n.number < run.end)
-        (events_before tracker closes.log run.end script lists_are answers 0 (length work.captures) (omega arith)))
+        ends_within tracker run.end script history
+        (subst (λ (log : List Event). ListsFit tracker log run.end script work.captures threads lists) events_are lists_are)
+        answers 0 (λ t from. made t)
 
     script_notes : notes_of (made_by (length work.captures) history) ≡ script
     unfolding names threads answers
@@ -174,16 +174,16 @@ module _ (still : VerdictsStillFit) (answers_still : AnswersStillFit) (tracker :
         ∙ ap notes_of (script_made tracker closes.log run.end script lists_are answers 0 (length work.captures) (omega arith))
         ∙ named_in_notes (length work.captures) 0 0 (length script) script (spans_of_answers answers) script_covered (omega arith)
 
-    all_answered : AnswersFit (run_of work history) (notes_of (made_by (length work.captures) history)) at_start work.commands answers
+    all_answered : AnswersFit (run_of work history threads) (notes_of (made_by (length work.captures) history)) at_start work.commands answers
     all_answered =
-        subst (λ xs. AnswersFit (run_of work history) xs at_start work.commands answers) (sym script_notes)
+        subst (λ xs. AnswersFit (run_of work history threads) xs at_start work.commands answers) (sym script_notes)
         (subst (λ (log : List Event). AnswersFit (record {
           log = log;
           moment = latest_of 0 work.captures;
           wait = work.wait;
-          end_of_captures = captures_end (length work.captures) history;
+          end_of_captures = captures_end history 0 threads;
         }) script at_start work.commands answers) events_are
-        (script_fit (captures_end (length work.captures) history) captures_before))
+        (script_fit (captures_end history 0 threads) captures_before))
 
     -- a report of the merged events is well formed
     reported : (report : Report) → report.history.items ≡ history → report.threads.items ≡ threads → report.answers.items ≡ answers
@@ -199,10 +199,12 @@ module _ (still : VerdictsStillFit) (answers_still : AnswersStillFit) (tracker :
           (subst (λ xs. AreNamedInEach 0 history (spans_of threads xs)) (sym is_answers) all_are_named));
       verdicts = subst (λ vss. ThreadsFit tracker report.history.items 0 work.captures vss) (sym is_threads)
           (subst (λ xs. ThreadsFit tracker xs 0 work.captures threads) (sym is_history) all_fit);
-      answers = subst (λ xs. AnswersFit (run_of work report.history.items)
+      answers = subst (λ xs. AnswersFit (run_of work report.history.items report.threads.items)
           (notes_of (made_by (length work.captures) report.history.items)) at_start work.commands xs) (sym is_answers)
-          (subst (λ xs. AnswersFit (run_of work xs) (notes_of (made_by (length work.captures) xs)) at_start work.commands answers)
-          (sym is_history) all_answered);
+          (subst (λ vss. AnswersFit (run_of work report.history.items vss)
+          (notes_of (made_by (length work.captures) report.history.items)) at_start work.commands answers) (sym is_threads)
+          (subst (λ xs. AnswersFit (run_of work xs threads) (notes_of (made_by (length work.captures) xs)) at_start work.commands answers)
+          (sym is_history) all_answered));
       live = is_live ∙ closes.live ∙ ap (λ k. length (after closes.log k).records) (sym long)
           ∙ ap (λ log. length (after log (length history)).records) events_are
           ∙ ap (λ (xs : List Numbered). length (after (events_of xs) (length xs)).records) (sym is_history);

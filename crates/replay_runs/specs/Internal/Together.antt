@@ -18,12 +18,13 @@ use Rattle.replay_runs.specs.declared.shared.Shared.{Shared}
 use Rattle.replay_runs.specs.Internal.Answered.{past_answers, run_seen}
 use Rattle.replay_runs.specs.Internal.Replayed.{given_frames, tracker_with}
 use Rattle.shared_desk.specs.Sights.{sight_of}
-use Rattle.replay_runs.specs.Report.{AnswersFit, at_start, latest_of, TrackerSetup, VerdictsFit, Work}
+use Rattle.replay_runs.specs.Report.{AnswersFit, at_start, latest_of, past_verdicts, TrackerSetup, VerdictsFit, Work}
 
--- the events of a capture's thread: the verdicts fit them, and their numbers rise and lie below the end
+-- the events of a capture's thread: the verdicts fit them, the thread's mark behind these lies in the end, and the numbers
+-- of the events rise
 pub record IsThread (tracker : TrackerSetup) (log : List Event) (end : ℕ) (given : List Given) (verdicts : List Verdict) (notes : List Note) : Type 0 where
   pub fit : VerdictsFit tracker log notes at_start given verdicts
-  pub below : AllByRecursion (λ (n : Note). n.number < end) notes
+  pub mark : (past_verdicts at_start notes verdicts).mark ≤ end
   pub ordered : AllPairs (λ (a b : Note). a.number < b.number) notes
 
 -- the same of several threads
@@ -47,6 +48,7 @@ pub record HasRun {G : Type 0} (shared : Shared G) (captures : List Capture) (co
     shares = 1;
     returned = length captures;
     gathered = all_notes joined.lists.items;
+    taken = new.taken;
   }
   pub known : IsKnown new
   pub threads : AreThreads (tracker_with shared.setup.now old) new.front (length new.front) (map given_frames captures)
@@ -66,7 +68,7 @@ abbrev pub remains_of : Outcome → Remains
 remains_of o = record { spot = sight_of o.spot; joined = o.joined; answers = o.answers }
 
 -- All of a tracker's work was done, and all of its desks joined the one that was left: this can be closed. When it began to
--- perform the commands behind `wait` it had seen this end, below which all events of captures are.
+-- perform the commands behind `wait` it had seen this end, in which the marks of the captures' threads lie.
 pub record IsRun (tracker : TrackerSetup) (work : Work) (numbers : List ℕ) (outcome : Remains) : Type 0 where
   pub tracked : outcome.spot.tracker ≡ numbers
   pub sized : outcome.spot.sizes ≡ tracker.sizes
