@@ -22,12 +22,13 @@ use Rattle.capture_list.specs.declared.Capture.{Capture}
 use Rattle.replay_runs.specs.declared.desks.Joined.{Joined}
 use Rattle.replay_runs.specs.declared.jobs.Job.{Job}
 use Rattle.replay_runs.specs.declared.shared.Shared.{Shared}
-use Rattle.replay_runs.specs.Internal.Answered.{Answered, past_answers, run_seen}
+use Rattle.replay_runs.specs.Internal.Answered.{Answered, past_answers}
 use Rattle.replay_runs.specs.Internal.Jobs.{AllRan, AreFurther, HasJoined, HasSplit, IsFurther, IsSet, items_of}
 use Rattle.replay_runs.specs.Internal.Replayed.{given_frames, Replayed, tracker_with}
 use Rattle.replay_runs.specs.Internal.Stopped.{Stopped}
-use Rattle.replay_runs.specs.Internal.Together.{AreThreads, HasRun, IsThread}
+use Rattle.replay_runs.specs.Internal.Together.{HasRun}
 use Rattle.replay_runs.specs.Report.{AnswersFit, at_start, past_verdicts, Progress, VerdictsFit}
+use Rattle.replay_runs.specs.Run.{AreThreads, IsThread, run_seen}
 use Rattle.replay_runs.proofs.Each.{each_weaker}
 use Rattle.replay_runs.proofs.Marks.{NumbersBelow, own_within}
 use Rattle.replay_runs.proofs.Replays.{notes_still_fit}

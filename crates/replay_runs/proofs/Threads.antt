@@ -16,8 +16,8 @@ use Rattle.history_book.specs.Numbered.{events_of, notes_of}
 use Rattle.packet_path.specs.Packet.{Given}
 use Rattle.packet_path.specs.Laws.{VerdictsStillFit}
 use Rattle.history_book.specs.Point.{StartsWith}
-use Rattle.replay_runs.specs.Internal.Together.{AreThreads}
 use Rattle.replay_runs.specs.Report.{AreNamedFrom, AreNamedInEach, at_start, captures_end, made_by, past_verdicts, ThreadsFit, TrackerSetup, VerdictsFit}
+use Rattle.replay_runs.specs.Run.{AreThreads}
 use Rattle.replay_runs.proofs.Counting.{either}
 use Rattle.replay_runs.proofs.Each.{each_append, each_passed, each_weaker}
 use Rattle.replay_runs.proofs.Interleaved.{rising, RisesFrom}
