@@ -214,29 +214,29 @@ module _ (follow : StatesFollow) (goes_on : LegalHistoriesGoOn) (apart : Records
       (ap (λ (hs : Roomed Hold). length hs.items) holds)
 
 module _ (stay : StatesStay) (apart : RecordsAreApart) (ids : IdsNameRecords) where
-  pub touches : (log : List Event) (spare : ℕ) (old new : Book) (i : ℕ) (r : Record) (direction : Direction) (segment : Segment) (moment : ℕ) (after : Part)
+  pub touches : (log : List Event) (spare taken : ℕ) (old new : Book) (i : ℕ) (r : Record) (direction : Direction) (segment : Segment) (moment : ℕ) (after : Part)
       → IsBook log old → Adds old new → slice_get old.records.items i ≡ Some r
       → step_of r.part direction segment moment ≡ Accept after → new.holds ≡ old.holds
-      → Touches r.id direction segment moment (sight_in log (spare + 1) old)
-      (sight_in (log ++ Touch r.id direction segment moment after ∷ []) spare new) old.events r
-  touches log spare old new i r direction segment moment after h adds item step holds =
+      → Touches r.id direction segment moment (sight_in log (spare + 1) taken old)
+      (sight_in (log ++ Touch r.id direction segment moment after ∷ []) spare taken new) old.events r
+  touches log spare taken old new i r direction segment moment after h adds item step holds =
       let e : Event = Touch r.id direction segment moment after in
       record {
         after = after;
-        made = made log spare old new old.events e h refl adds.sizes;
+        made = made log spare taken old new old.events e h refl adds.sizes;
         found = at_before stay log old old.events e (IsRecord r.id r) h refl
             (ids (state_in old) i r (apart_of apart log old h) item);
         step = step;
         same = record { held = ap (λ (hs : Roomed Hold). hs.items) holds; owed = ap (λ (o : Roomed ℕ). o.items) adds.owed };
       }
 
-  pub destroys : (log : List Event) (spare : ℕ) (old new : Book) (i : ℕ) (r : Record) (why : Why) → IsBook log old → Adds old new
+  pub destroys : (log : List Event) (spare taken : ℕ) (old new : Book) (i : ℕ) (r : Record) (why : Why) → IsBook log old → Adds old new
       → slice_get old.records.items i ≡ Some r → is_reason why r ≡ true → new.holds ≡ old.holds
-      → Destroys r.id why (sight_in log (spare + 1) old) (sight_in (log ++ Destroy r.id why ∷ []) spare new) old.events r
-  destroys log spare old new i r why h adds item reason holds =
+      → Destroys r.id why (sight_in log (spare + 1) taken old) (sight_in (log ++ Destroy r.id why ∷ []) spare taken new) old.events r
+  destroys log spare taken old new i r why h adds item reason holds =
       let e : Event = Destroy r.id why in
       record {
-        made = made log spare old new old.events e h refl adds.sizes;
+        made = made log spare taken old new old.events e h refl adds.sizes;
         found = at_before stay log old old.events e (IsRecord r.id r) h refl
             (ids (state_in old) i r (apart_of apart log old h) item);
         reason = reason;

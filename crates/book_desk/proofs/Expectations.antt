@@ -97,12 +97,12 @@ module _ (follow : StatesFollow) (goes_on : LegalHistoriesGoOn) where
       refl (record { records = records; holds = holds; expects = expects })
 
 -- what is told of an event that changes no reference
-pub made_alone : (log : List Event) (spare : ℕ) (old new : Book) (at : ℕ) (e : Event) → IsBook log old → at ≡ old.events → Adds old new
+pub made_alone : (log : List Event) (spare taken : ℕ) (old new : Book) (at : ℕ) (e : Event) → IsBook log old → at ≡ old.events → Adds old new
     → new.holds ≡ old.holds
-    → MadeEvent (sight_in log (spare + 1) old) (sight_in (log ++ e ∷ []) spare new) at e
-    × SamePlaces (sight_in log (spare + 1) old) (sight_in (log ++ e ∷ []) spare new)
-made_alone log spare old new at e h here adds holds = (
-  made log spare old new at e h here adds.sizes,
+    → MadeEvent (sight_in log (spare + 1) taken old) (sight_in (log ++ e ∷ []) spare taken new) at e
+    × SamePlaces (sight_in log (spare + 1) taken old) (sight_in (log ++ e ∷ []) spare taken new)
+made_alone log spare taken old new at e h here adds holds = (
+  made log spare taken old new at e h here adds.sizes,
   record { held = ap (λ (o : Roomed Hold). o.items) holds; owed = ap (λ (o : Roomed ℕ). o.items) adds.owed },
 )
 
@@ -136,18 +136,18 @@ can_expect law log b holds records p id i h same_holds same_records given found 
     }
 
 -- what is told where it was not added
-pub not_added : (log : List Event) (spare : ℕ) (b : Book) (p at id : ℕ) (want : Want) (moment : ℕ) (e : Expectation) (outcome : AddOutcome) → IsBook log b
+pub not_added : (log : List Event) (spare taken : ℕ) (b : Book) (p at id : ℕ) (want : Want) (moment : ℕ) (e : Expectation) (outcome : AddOutcome) → IsBook log b
     → at ≡ b.events → CanExpect b p id → e ≡ expectation_at at id want moment
     → add_outcome b.expects.room b.expects.items e moment ≡ outcome
-    → Looked (sight_in log spare b) (sight_in log spare b) at (AddGives b.sizes.expectations at (held_id p b.holds.items) want moment outcome)
-    × SamePlaces (sight_in log spare b) (sight_in log spare b)
-not_added log spare b p at id want moment e outcome h here can is gives =
+    → Looked (sight_in log spare taken b) (sight_in log spare taken b) at (AddGives b.sizes.expectations at (held_id p b.holds.items) want moment outcome)
+    × SamePlaces (sight_in log spare taken b) (sight_in log spare taken b)
+not_added log spare taken b p at id want moment e outcome h here can is gives =
     let fact : AddGives b.sizes.expectations at id want moment outcome (state_in b) = record {
       live = can.helped;
       gives = ap (λ (room : ℕ). add_outcome room b.expects.items (expectation_at at id want moment) moment) (sym h.rooms.expects)
           ∙ ap (λ (x : Expectation). add_outcome b.expects.room b.expects.items x moment) (sym is) ∙ gives;
     } in (
-      looked log spare b b at (AddGives b.sizes.expectations at (held_id p b.holds.items) want moment outcome) h here refl
+      looked log spare taken b b at (AddGives b.sizes.expectations at (held_id p b.holds.items) want moment outcome) h here refl
           (subst (λ (m : ℕ). AddGives b.sizes.expectations at m want moment outcome (state_in b)) can.given fact),
       record { held = refl; owed = refl },
     )

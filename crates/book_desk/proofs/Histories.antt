@@ -44,9 +44,9 @@ get_last [] x = refl
 get_last (y ∷ ys) x = get_last ys x
 
 -- the pass is the same
-same_pass : (log later : List Event) (spare less : ℕ) (old new : Book) → new.sizes ≡ old.sizes
-    → IsSamePass (sight_in log spare old) (sight_in later less new)
-same_pass log later spare less old new sizes = record {
+same_pass : (log later : List Event) (spare less taken : ℕ) (old new : Book) → new.sizes ≡ old.sizes
+    → IsSamePass (sight_in log spare taken old) (sight_in later less taken new)
+same_pass log later spare less taken old new sizes = record {
   tracker = refl;
   sizes = ap (λ (z : Sizes). record z { passes = 1 }) sizes;
   shares = refl;
@@ -55,32 +55,33 @@ same_pass log later spare less old new sizes = record {
 }
 
 -- what is told where there was no event
-pub saw : (log : List Event) (spare : ℕ) (old new : Book) → new.sizes ≡ old.sizes → Saw (sight_in log spare old) (sight_in log spare new)
-saw log spare old new sizes = record {
+pub saw : (log : List Event) (spare taken : ℕ) (old new : Book) → new.sizes ≡ old.sizes → Saw (sight_in log spare taken old) (sight_in log spare taken new)
+saw log spare taken old new sizes = record {
   went = record {
     front = ([], sym (append-nil log));
     own = sym (append-nil (notes_from 0 log));
     spare = omega arith;
-    pass = same_pass log log spare spare old new sizes;
+    pass = same_pass log log spare spare taken old new sizes;
   };
   spare = refl;
+  taken = refl;
 }
 
 -- what is told of a point
-pub looked : (log : List Event) (spare : ℕ) (old new : Book) (at : ℕ) (F : State → Type 0) → IsBook log old → at ≡ old.events
-    → new.sizes ≡ old.sizes → F (state_in old) → Looked (sight_in log spare old) (sight_in log spare new) at F
-looked log spare old new at F book here sizes fact =
+pub looked : (log : List Event) (spare taken : ℕ) (old new : Book) (at : ℕ) (F : State → Type 0) → IsBook log old → at ≡ old.events
+    → new.sizes ≡ old.sizes → F (state_in old) → Looked (sight_in log spare taken old) (sight_in log spare taken new) at F
+looked log spare taken old new at F book here sizes fact =
     let point : length log ≡ at = sym book.events ∙ sym here in
     record {
-      saw = saw log spare old new sizes;
+      saw = saw log spare taken old new sizes;
       low = omega (arith, point);
       fact = record { within = omega (arith, point); fact = subst F (book.history.state ∙ ap (after log) point) fact };
     }
 
 -- what is told of an event
-pub made : (log : List Event) (spare : ℕ) (old new : Book) (at : ℕ) (e : Event) → IsBook log old → at ≡ old.events
-    → new.sizes ≡ old.sizes → MadeEvent (sight_in log (spare + 1) old) (sight_in (log ++ e ∷ []) spare new) at e
-made log spare old new at e book here sizes =
+pub made : (log : List Event) (spare taken : ℕ) (old new : Book) (at : ℕ) (e : Event) → IsBook log old → at ≡ old.events
+    → new.sizes ≡ old.sizes → MadeEvent (sight_in log (spare + 1) taken old) (sight_in (log ++ e ∷ []) spare taken new) at e
+made log spare taken old new at e book here sizes =
     let point : length log ≡ at = sym book.events ∙ sym here in
     let number : 0 + length log ≡ at = omega (arith, point) in
     record {
@@ -88,9 +89,10 @@ made log spare old new at e book here sizes =
         front = (e ∷ [], refl);
         own = notes_from-push 0 log e ∙ ap (λ (n : ℕ). notes_from 0 log ++ record { number = n; event = e } ∷ []) number;
         spare = omega arith;
-        pass = same_pass log (log ++ e ∷ []) (spare + 1) spare old new sizes;
+        pass = same_pass log (log ++ e ∷ []) (spare + 1) spare taken old new sizes;
       };
       spare = refl;
+      taken = refl;
       low = omega (arith, point);
       high = omega (arith, point, length-append log (e ∷ []));
       happened = ap (slice_get (log ++ e ∷ [])) (sym point) ∙ get_last log e;

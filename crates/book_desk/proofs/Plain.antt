@@ -62,8 +62,8 @@ pub length-events : (notes : List Note) → length (events_of notes) ≡ length 
 length-events notes = length-map notes (λ (n : Note). n.event)
 
 -- a right desk knows what a desk knows
-pub known : (b : Book) (notes : Roomed Note) (spare : ℕ) → IsPlain b notes spare → IsKnown (plain_sight b notes.items spare)
-known b notes spare plain =
+pub known : (b : Book) (notes : Roomed Note) (spare taken : ℕ) → IsPlain b notes spare → IsKnown (plain_sight b notes.items spare taken)
+known b notes spare taken plain =
     let h : IsBook (events_of notes.items) b = plain.book in
     let log : List Event = events_of notes.items in
     let below : AllByRecursion (λ (k : Hold). k.place < b.sizes.entries) b.holds.items =
@@ -76,8 +76,8 @@ known b notes spare plain =
       own = All-from_recursion (λ (n : Note). slice_get log n.number ≡ Some n.event) notes.items
           (subst (AllByRecursion (λ (n : Note). slice_get log n.number ≡ Some n.event)) (sym plain.numbered) (noted_at 0 [] log refl));
       ordered = subst (AllPairs (λ (m n : Note). m.number < n.number)) (sym plain.numbered) (rising 0 log);
-      held = All-from_recursion (IsHoldOf (plain_sight b notes.items spare)) b.holds.items
-          (each_two (λ (k : Hold). k.place < b.sizes.entries) (λ (k : Hold). IsForEntryOf log k.place k.id) (IsHoldOf (plain_sight b notes.items spare)) b.holds.items
+      held = All-from_recursion (IsHoldOf (plain_sight b notes.items spare taken)) b.holds.items
+          (each_two (λ (k : Hold). k.place < b.sizes.entries) (λ (k : Hold). IsForEntryOf log k.place k.id) (IsHoldOf (plain_sight b notes.items spare taken)) b.holds.items
           (λ k low entry. (low, entry)) below h.references.confirmed);
       agreed = pairs_agree b.holds.items h.references.agreed;
       owed = All-from_recursion (λ p. p < b.sizes.entries) b.owed.items owing;
@@ -141,9 +141,9 @@ roomier b notes new spare more plain same room spared = record {
 }
 
 -- what a right desk leaves at its end
-pub closes : (b : Book) (notes : Roomed Note) (spare : ℕ) (closed : Closed) → IsPlain b notes spare → closed.events ≡ b.events
-    → closed.live ≡ length b.records.items → closed.notes.items ≡ notes.items → Closes (plain_sight b notes.items spare) closed
-closes b notes spare closed plain events live given =
+pub closes : (b : Book) (notes : Roomed Note) (spare taken : ℕ) (closed : Closed) → IsPlain b notes spare → closed.events ≡ b.events
+    → closed.live ≡ length b.records.items → closed.notes.items ≡ notes.items → Closes (plain_sight b notes.items spare taken) closed
+closes b notes spare taken closed plain events live given =
     let log : List Event = events_of notes.items in
     let all : notes.items ++ [] ≡ notes_from 0 log = append-nil notes.items ∙ plain.numbered in
     record {
@@ -154,16 +154,16 @@ closes b notes spare closed plain events live given =
       live = live ∙ ap (λ (s : State). length s.records) plain.book.history.state;
       notes = given;
       all = record {
-        events = subst (AreEventsOf log) (sym (append-nil notes.items)) (known b notes spare plain).own;
+        events = subst (AreEventsOf log) (sym (append-nil notes.items)) (known b notes spare taken plain).own;
         once = λ n low. ap (count_by (λ (note : Note). note.number == n)) all ∙ once_from n 0 log (omega arith) (omega (arith, low));
       };
       alone = λ one. refl;
     }
 
 -- what the desk knows is what one pass knows that kept everything
-plain_is : (b : Book) (notes : Roomed Note) (spare : ℕ) → IsPlain b notes spare
-    → plain_sight b notes.items spare ≡ sight_in (events_of notes.items) spare b
-plain_is b notes spare plain =
+plain_is : (b : Book) (notes : Roomed Note) (spare taken : ℕ) → IsPlain b notes spare
+    → plain_sight b notes.items spare taken ≡ sight_in (events_of notes.items) spare taken b
+plain_is b notes spare taken plain =
     let sizes : b.sizes ≡ record b.sizes { passes = 1 } = ap (λ (k : ℕ). record b.sizes { passes = k }) plain.one in
     λ i. record {
       front = events_of notes.items;
@@ -176,6 +176,7 @@ plain_is b notes spare plain =
       shares = 1;
       returned = 0;
       gathered = [];
+      taken = taken;
     }
 
 -- the events of the notes after a call
@@ -221,16 +222,17 @@ still_plain old new notes after spare more made plain stays sizes is =
     }
 
 -- what the call says of one pass that kept everything it says of the desk
-pub plain_says : (Says : Sight → Sight → Type 0) (old new : Book) (notes after : Roomed Note) (spare more : ℕ) (made : Option Event)
+pub plain_says : (Says : Sight → Sight → Type 0) (old new : Book) (notes after : Roomed Note) (spare more taken : ℕ) (made : Option Event)
     → IsPlain old notes spare → IsPlain new after more → IsNoted old notes after spare more made → Tells old new made Says
-    → Says (plain_sight old notes.items spare) (plain_sight new after.items more)
-plain_says Says old new notes after spare more made plain plain' is tells =
+    → Says (plain_sight old notes.items spare taken) (plain_sight new after.items more taken)
+plain_says Says old new notes after spare more taken made plain plain' is tells =
     let events : events_of after.items ≡ with_made (events_of notes.items) made =
     ap events_of is.items ∙ events-noted notes.items old.events made in
-    let told : Says (sight_in (events_of notes.items) (spare_before more made) old) (sight_in (with_made (events_of notes.items) made) more new) =
-    tells (events_of notes.items) more plain.book in
-    let before : sight_in (events_of notes.items) (spare_before more made) old ≡ plain_sight old notes.items spare =
-    ap (λ (k : ℕ). sight_in (events_of notes.items) k old) (sym is.less) ∙ sym (plain_is old notes spare plain) in
-    let behind : sight_in (with_made (events_of notes.items) made) more new ≡ plain_sight new after.items more =
-    ap (λ l. sight_in l more new) (sym events) ∙ sym (plain_is new after more plain') in
-    subst (Says (plain_sight old notes.items spare)) behind (subst (λ (s : Sight). Says s (sight_in (with_made (events_of notes.items) made) more new)) before told)
+    let told : Says (sight_in (events_of notes.items) (spare_before more made) taken old) (sight_in (with_made (events_of notes.items) made) more taken new) =
+    tells (events_of notes.items) more taken plain.book in
+    let before : sight_in (events_of notes.items) (spare_before more made) taken old ≡ plain_sight old notes.items spare taken =
+    ap (λ (k : ℕ). sight_in (events_of notes.items) k taken old) (sym is.less) ∙ sym (plain_is old notes spare taken plain) in
+    let behind : sight_in (with_made (events_of notes.items) made) more taken new ≡ plain_sight new after.items more taken =
+    ap (λ l. sight_in l more taken new) (sym events) ∙ sym (plain_is new after more taken plain') in
+    subst (Says (plain_sight old notes.items spare taken)) behind
+    (subst (λ (s : Sight). Says s (sight_in (with_made (events_of notes.items) made) more taken new)) before told)

@@ -14,7 +14,7 @@ use Rattle.history_book.specs.History.{after}
 use Rattle.history_book.specs.Laws.{AreApart, IsConfirmed, LiveRecordsAreConfirmed, RecordsAreApart}
 use Rattle.history_book.specs.StateLaws.{IdsNameRecords}
 use Rattle.history_book.specs.Record.{has_place}
-use Rattle.history_book.specs.Sight.{IsForOne, WasConfirmedIn}
+use Rattle.history_book.specs.Sight.{IsForOne, WasConfirmedIn, risen}
 use Rattle.history_book.specs.State.{State}
 use Rattle.book_desk.specs.declared.book.Book.{Book}
 use Rattle.book_desk.specs.Fields.{AreReferences, IsBook, IsForRecord, state_in}
@@ -223,17 +223,17 @@ not_not true = refl
 not_not false = refl
 
 -- whether a place is in use, by the fields
-pub used_is : (log : List Event) (spare : ℕ) (b : Book) (p : ℕ) → IsBook log b
-    → is_in_use p (sight_in log spare b) ≡ (list_any (has_place p) b.records.items || is_held p b.holds.items || is_owed p b.owed.items)
-used_is log spare b p h =
+pub used_is : (log : List Event) (spare taken : ℕ) (b : Book) (p : ℕ) → IsBook log b
+    → is_in_use p (sight_in log spare taken b) ≡ (list_any (has_place p) b.records.items || is_held p b.holds.items || is_owed p b.owed.items)
+used_is log spare taken b p h =
     ap (λ (s : State). not (not (list_any (has_place p) s.records)) || is_held p b.holds.items || is_owed p b.owed.items) (sym h.history.state)
     ∙ ap (λ x. x || is_held p b.holds.items || is_owed p b.owed.items) (not_not (list_any (has_place p) b.records.items))
 
 -- a place that counts is in use
-pub used : (log : List Event) (spare : ℕ) (b : Book) (p : ℕ) → IsBook log b
-    → 1 ≤ uses p b.records.items b.holds.items + times p b.owed.items → is_in_use p (sight_in log spare b) ≡ true
-used log spare b p h some =
-    used_is log spare b p h ∙ true_from_ne_false _ (λ e.
+pub used : (log : List Event) (spare taken : ℕ) (b : Book) (p : ℕ) → IsBook log b
+    → 1 ≤ uses p b.records.items b.holds.items + times p b.owed.items → is_in_use p (sight_in log spare taken b) ≡ true
+used log spare taken b p h some =
+    used_is log spare taken b p h ∙ true_from_ne_false _ (λ e.
     let parts = or_parts (list_any (has_place p) b.records.items || is_held p b.holds.items) (is_owed p b.owed.items) e in
     let both = or_parts (list_any (has_place p) b.records.items) (is_held p b.holds.items) parts.0 in
     omega (
@@ -245,20 +245,20 @@ used log spare b p h some =
     ))
 
 -- a place that does not count is in no use
-pub unused : (log : List Event) (spare : ℕ) (b : Book) (p : ℕ) → IsBook log b
-    → uses p b.records.items b.holds.items + times p b.owed.items ≡ 0 → is_in_use p (sight_in log spare b) ≡ false
-unused log spare b p h none =
-    used_is log spare b p h ∙ or_from _ _ (or_from _ _ (none_of (has_place p) b.records.items (omega (arith, none)))
+pub unused : (log : List Event) (spare taken : ℕ) (b : Book) (p : ℕ) → IsBook log b
+    → uses p b.records.items b.holds.items + times p b.owed.items ≡ 0 → is_in_use p (sight_in log spare taken b) ≡ false
+unused log spare taken b p h none =
+    used_is log spare taken b p h ∙ or_from _ _ (or_from _ _ (none_of (has_place p) b.records.items (omega (arith, none)))
     (none_of (is_at p) b.holds.items (omega (arith, none)))) (none_of (λ q. q == p) b.owed.items (omega (arith, none)))
 
 -- a place that is given back is in no use
-pub recycled : (log : List Event) (spare : ℕ) (b new : Book) (a : ℕ) → IsBook log b → IsBook log new → is_owed a b.owed.items ≡ true
-    → new.records ≡ b.records → new.holds ≡ b.holds → new.owed.items ≡ paid a b.owed.items → is_in_use a (sight_in log spare new) ≡ false
-recycled log spare b new a h right there records holds owed =
+pub recycled : (log : List Event) (spare taken : ℕ) (b new : Book) (a : ℕ) → IsBook log b → IsBook log new → is_owed a b.owed.items ≡ true
+    → new.records ≡ b.records → new.holds ≡ b.holds → new.owed.items ≡ paid a b.owed.items → is_in_use a (sight_in log spare taken new) ≡ false
+recycled log spare taken b new a h right there records holds owed =
     let less = same_paid a b.owed.items there in
     let low : a < b.sizes.entries =
     place_below b.sizes.entries b.records.items b.holds.items b.free.items b.owed.items a h.places (omega (arith, less)) in
-    unused log spare new a right (omega (
+    unused log spare taken new a right (omega (
       arith,
       less,
       h.places.once a low,
@@ -268,14 +268,14 @@ recycled log spare b new a h right there records holds owed =
     ))
 
 -- what the full pool says
-pub full : (log : List Event) (spare : ℕ) (b : Book) (at : ℕ) → IsBook log b → at ≡ b.events → b.free.items ≡ []
-    → FindsFull (sight_in log spare b) (sight_in log spare b) at
-full log spare b at h here none = record {
-  looked = looked log spare b b at
+pub full : (log : List Event) (spare taken : ℕ) (b : Book) (at : ℕ) → IsBook log b → at ≡ b.events → b.free.items ≡ []
+    → FindsFull (sight_in log spare taken b) (sight_in log spare taken b) at
+full log spare taken b at h here none = record {
+  looked = looked log spare taken b b at
       (λ s. b.sizes.entries - 4 * (1 - 1) - (length b.holds.items + length b.owed.items) ≤ length s.records) h here refl
       (omega (arith, full_pool b.sizes.entries b.records.items b.holds.items b.free.items b.owed.items h.places none));
   same = record { held = refl; owed = refl };
-  alone = λ one p low. used log spare b p h (omega (arith, h.places.once p low, ap (times p) none));
+  alone = λ one p low. used log spare taken b p h (omega (arith, h.places.once p low, ap (times p) none));
 }
 
 -- what is so of the records is so of the state after the events
@@ -284,13 +284,14 @@ state_has : (F : List Record → Type 0) (log : List Event) (b : Book) → IsBoo
 state_has F log b h fact = subst (λ (s : State). F s.records) h.history.state fact
 
 -- what a taken place says
-pub takes : (log : List Event) (spare : ℕ) (b new : Book) (i p : ℕ) → IsBook log b → slice_get b.free.items i ≡ Some p
+pub takes : (log : List Event) (spare taken : ℕ) (b new : Book) (i p : ℕ) → IsBook log b → slice_get b.free.items i ≡ Some p
     → new.sizes ≡ b.sizes → new.holds.items ≡ record { place = p; id = None } ∷ b.holds.items → new.owed ≡ b.owed
-    → Takes (sight_in log spare b) (sight_in log spare new) p
-takes log spare b new i p h at sizes holds owed =
+    → Takes (sight_in log spare taken b) (sight_in log spare (risen taken) new) p
+takes log spare taken b new i p h at sizes holds owed =
     let nobody : IsNobodys b p = free_nobodys log b i p h at in
     record {
-      saw = saw log spare b new sizes;
+      saw = saw log spare taken b new sizes;
+      taken = refl;
       below = nobody.below;
       unheld = none_of (is_at p) b.holds.items nobody.holds;
       unowed = none_of (λ q. q == p) b.owed.items nobody.owed;

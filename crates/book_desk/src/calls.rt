@@ -9,7 +9,7 @@ ghost use Rattle.history_book.specs.DeskExpectations.{ClaimSays, ExpectSays, Lis
 ghost use Rattle.history_book.specs.Entry.{is_flow_of_one_protocol, is_helped_entry, is_of_entry, suits_entry};
 ghost use Rattle.history_book.specs.Held.{held_id, is_held, is_held_for_entry, is_owed, is_taken};
 ghost use Rattle.history_book.specs.Legality.{reason_moment_of};
-ghost use Rattle.book_desk.specs.Internal.Book.{IsSomeBook, StaysBook, Tells};
+ghost use Rattle.book_desk.specs.Internal.Book.{IsSomeBook, StaysBook, Tells, counted};
 
 use crate::book::Book;
 use crate::entries::{is_same_flow, winner};
@@ -69,12 +69,12 @@ impl Book {
         }
     }
 
-    /// Takes a free place for a new entry.
+    /// Takes a free place for a new entry. The desk counts it.
     pub fn take(&mut self) -> TakeOutcome
         requires right { IsSomeBook (λ log. Unit {0}) self.old }
         requires room { length self.old.holds.items + length self.old.owed.items < 4 * self.old.sizes.passes }
         ensures stays { StaysBook self.old self.new None }
-        ensures says { Tells self.old self.new None (λ old new. TakeSays old new result) }
+        ensures says { Tells self.old self.new None (λ old new. TakeSays old (counted result new) result) }
         ensures sizes { self.new.sizes ≡ self.old.sizes }
     {
         let count = self.free.len();

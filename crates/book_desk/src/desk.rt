@@ -8,7 +8,7 @@ ghost use Rattle.history_book.specs.Sight.{IsKnown};
 ghost use Rattle.history_book.specs.Sizes.{AreWithinLimits};
 
 use crate::book::Book;
-use crate::noting::note;
+use crate::noting::{count_taken, note};
 use expect_table::expectation::Want;
 use history_book::desk::Desk;
 use history_book::event::Why;
@@ -32,6 +32,8 @@ pub struct PlainDesk {
     notes: Notes,
     /// For how many further events there is room.
     spare: u64,
+    /// How many times it took a place.
+    taken: u64,
 }
 
 impl Model for PlainDesk {
@@ -40,7 +42,7 @@ impl Model for PlainDesk {
 
     ghost Value = { Sight };
 
-    ghost view = { λ d. plain_sight d.book d.notes.items d.spare };
+    ghost view = { λ d. plain_sight d.book d.notes.items d.spare d.taken };
 
     ghost invariant = { λ d. IsPlain d.book d.notes d.spare };
 }
@@ -58,6 +60,7 @@ impl PlainDesk {
             book,
             notes: Notes::new(alloc, 0)?,
             spare: 0,
+            taken: 0,
         })
     }
 
@@ -107,7 +110,9 @@ impl Desk for PlainDesk {
     }
 
     fn take<R: Wait>(&mut self, _rt: &R) -> TakeOutcome {
-        self.book.take()
+        let outcome = self.book.take();
+        self.taken = count_taken(self.taken, &outcome);
+        outcome
     }
 
     fn confirm<R: Wait>(&mut self, _rt: &R, place: u32, flow: &Flow) -> ConfirmOutcome {

@@ -12,7 +12,7 @@ ghost use Rattle.history_book.specs.Sizes.{AreWithinLimits};
 ghost use Rattle.history_book.specs.Split.{CanSplit, Splits};
 
 use crate::book::Book;
-use crate::noting::note;
+use crate::noting::{count_taken, note};
 use crate::turn::change::{
     Ending, PlaceChange, confirmed_change, found_change, held_change, released_change, taken_change,
 };
@@ -25,6 +25,7 @@ use ct_io::Gate;
 use expect_table::expectation::Want;
 use history_book::desk::Desk;
 use history_book::event::Why;
+use history_book::many_threads::SharedDesk;
 use history_book::outcome::{
     ClaimOutcome, ConfirmOutcome, ExpectOutcome, FindOutcome, HoldOutcome, KillOutcome, LiveCount,
     PeekOutcome, ReleaseOutcome, TakeOutcome, TouchOutcome, UnexpectOutcome,
@@ -114,6 +115,7 @@ impl TurnBook {
             seat,
             notes: Notes::empty(alloc),
             spare: 0,
+            taken: 0,
         };
         Ok((TurnBook { table }, TurnSpot { pass }))
     }
@@ -173,6 +175,7 @@ impl<'t, G: Gate> TurnDesk<'t, G> {
             seat,
             notes: Notes::empty(self.pass.alloc),
             spare: 0,
+            taken: 0,
         };
         TurnDesk {
             pass,
@@ -242,6 +245,7 @@ impl<'t, G: Gate> Desk for TurnDesk<'t, G> {
     fn take<R: Wait>(&mut self, rt: &R) -> TakeOutcome {
         let mut book = steps::take_turn(rt, self.shared, &mut self.pass.seat);
         let outcome = book.take();
+        self.pass.taken = count_taken(self.pass.taken, &outcome);
         let ending = Ending {
             places: taken_change(&outcome),
             made: None,
@@ -387,5 +391,15 @@ impl<'t, G: Gate> Desk for TurnDesk<'t, G> {
             made: None,
         };
         steps::end_turn(self.shared, &mut self.pass.seat, book, ending);
+    }
+}
+
+impl<'t, G: Gate> SharedDesk for TurnDesk<'t, G> {
+    fn split(&mut self, worker: u32, shares: u32) -> Self {
+        self.split(worker, shares)
+    }
+
+    fn join(&mut self, other: Self) -> Notes {
+        self.join(other)
     }
 }

@@ -60,6 +60,7 @@ module _ (going : GoingOnAddsUp) (states : StatesStay) (events : EventsStay) whe
       let earlier : length a.front ≤ length b.front = starts_longer b.front a.front m.went.front in
       record {
         went = going.twice a b c first then m.went n.went;
+        taken = n.taken ∙ m.taken;
         happened = each_append (λ (x : Note). Happened c.front (length a.front) x × (x.number < length c.front)) first then
             (each_map (λ (x : Note). Happened c.front (length a.front) x × (x.number < length b.front))
             (λ (x : Note). Happened c.front (length a.front) x × (x.number < length c.front)) first

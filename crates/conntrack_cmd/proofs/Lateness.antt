@@ -132,6 +132,7 @@ module _ (going : GoingOnAddsUp) (states : StatesStay) (events : EventsStay) whe
   pub made_saw : (a b c : Sight) (notes : List Note) → MadeNotes a b notes → Saw b c → MadeNotes a c notes
   made_saw a b c notes m saw = record {
     went = going.before a b c notes m.went saw;
+    taken = saw.taken ∙ m.taken;
     happened = happened_wider c.front b.front (length a.front) notes saw.went.front m.happened;
   }
 
@@ -140,6 +141,7 @@ module _ (going : GoingOnAddsUp) (states : StatesStay) (events : EventsStay) whe
       → MadeNotes a c (notes ++ record { number = number; event = e } ∷ [])
   made_event a b c notes m number e made = record {
     went = going.twice a b c notes (record { number = number; event = e } ∷ []) m.went made.went;
+    taken = made.taken ∙ m.taken;
     happened = each_push (λ (n : Note). Happened c.front (length a.front) n × (n.number < length c.front)) notes
         (record { number = number; event = e }) (happened_wider c.front b.front (length a.front) notes made.went.front m.happened)
         (record { event = made.happened; later = omega (arith, made.low, starts_longer b.front a.front m.went.front) }, made.high);
@@ -211,7 +213,7 @@ module _ (going : GoingOnAddsUp) (states : StatesStay) (events : EventsStay) whe
 pub ending_start : GoingOnAddsUp → (moment : ℕ) (s : Sight) (listed : List Expectation) → HoldsNothing s → IsKnown s → IsEnding moment s s listed 0 0
 ending_start going moment s listed empty known = record {
   notes = [];
-  made = record { went = (going.resting s).went; happened = tt };
+  made = record { went = (going.resting s).went; taken = refl; happened = tt };
   exact = refl;
   few = omega arith;
   each = tt;

@@ -73,6 +73,7 @@ module _ (going : GoingOnAddsUp) (states : StatesStay) (old a b new : Sight) (fr
               (happened_grows events states new.front b.front last.saw.went.front (length a.front) (length b.front) notes made.happened);
           fits = fits;
         };
+        taken = last.saw.taken ∙ made.taken ∙ first.saw.taken;
         empty = empty;
       }
 
@@ -83,7 +84,7 @@ module _ (going : GoingOnAddsUp) (states : StatesStay) (old a b new : Sight) (fr
   list_speaks events keep pool filter rows sorted l same rises empty known =
       let longer : length a.front ≤ length b.front = starts_longer b.front a.front l.saw.went.front in
       made_between events (command.List filter) (said.Listed sorted) []
-      (record { went = l.saw.went; happened = tt })
+      (record { went = l.saw.went; taken = l.saw.taken; happened = tt })
       (omega arith) empty
       (record {
         rows = sorted;

@@ -29,6 +29,7 @@ one_look asked said old new at F looked empty fits = record {
   went = looked.saw.went;
   few = omega arith;
   fits = record { later = looked.low; order = omega arith; within = looked.fact.within; events = tt; fits = fits };
+  taken = looked.saw.taken;
   empty = empty;
 }
 

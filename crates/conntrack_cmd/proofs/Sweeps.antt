@@ -249,6 +249,7 @@ module _ (states : StatesStay) (keep : EntriesKeepTheirPlace) where
         notes = d.notes;
         made = record {
           went = going.before old now new d.notes d.made.went saw;
+          taken = saw.taken ∙ d.made.taken;
           happened = made_wider saw.went.front;
         };
         few = omega (arith, d.few);
@@ -269,6 +270,7 @@ module _ (states : StatesStay) (keep : EntriesKeepTheirPlace) where
             notes = d.notes ++ note ∷ [];
             made = record {
               went = going.twice old now new d.notes (note ∷ []) d.made.went k.made.went;
+              taken = k.made.taken ∙ d.made.taken;
               happened = each_push (λ (n : Note). Happened new.front (length old.front) n × (n.number < length new.front)) d.notes note
                   (made_wider k.made.went.front) (
                     record { event = k.made.happened; later = omega (arith, k.made.low, starts_longer now.front old.front d.made.went.front) },
@@ -327,7 +329,7 @@ listing_start going filter s empty known = record {
 pub destroying_start : GoingOnAddsUp → (why : Why) (s : Sight) → HoldsNothing s → IsKnown s → IsDestroying why s s 0 []
 destroying_start going why s empty known = record {
   notes = [];
-  made = record { went = (going.resting s).went; happened = tt };
+  made = record { went = (going.resting s).went; taken = refl; happened = tt };
   few = omega arith;
   as_many = refl;
   each = tt;

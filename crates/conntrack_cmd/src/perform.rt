@@ -73,8 +73,8 @@ fn speak<R: Wait, D: Desk>(
     }
 }
 
-/// Performs a command at a moment in microseconds. All memory that it needs is taken before its first event: where
-/// that is wanting, it made no event.
+/// Performs a command at a moment in microseconds, and takes no place of the pool. All memory that it needs is taken
+/// before its first event: where that is wanting, it made no event.
 pub fn perform<R: Wait, D: Desk>(
     rt: &R,
     alloc: Global,
@@ -91,6 +91,7 @@ pub fn perform<R: Wait, D: Desk>(
     ensures went { OnErr result (WentOn (D.sight desk.old) (D.sight desk.new) []) }
     ensures held { OnErr result ((D.sight desk.new).held ≡ []) }
     ensures owed { OnErr result ((D.sight desk.new).owed ≡ []) }
+    ensures none_taken { (D.sight desk.new).taken ≡ (D.sight desk.old).taken }
     ensures knows { IsKnown (D.sight desk.new) }
 {
     let first = desk.made();

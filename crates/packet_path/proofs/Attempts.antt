@@ -7,7 +7,8 @@ use Rattle.history_book.specs.declared.event.Event.{Event}
 use Rattle.history_book.specs.declared.event.Note.{Note}
 use Rattle.history_book.specs.declared.sizes.Sizes.{Sizes}
 use Rattle.history_book.specs.declared.verdict.Class.{Class}
-use Rattle.history_book.specs.WentOn.{Saw}
+use Rattle.history_book.specs.Desk.{Takes}
+use Rattle.history_book.specs.WentOn.{Saw, WentOn}
 use Rattle.history_book.specs.Laws.{EventsStay, StatesStay}
 use Rattle.history_book.specs.Mark.{mark_past}
 use Rattle.history_book.specs.Point.{At, StartsWith}
@@ -41,18 +42,41 @@ points_more m n [] le h = tt
 points_more m n (p ∷ ps) le (h, hs) = (omega (arith, h), points_more m n ps le hs)
 
 module _ (states : StatesStay) (events : EventsStay) (going : GoingOnAddsUp) (twice : SeeingAddsUp) where
-  -- an answer of a desk that had seen more is one of a desk that had seen less
-  pub answers_after : (setup : Setup) (a b c : Sight) (packet : FlowPacket) (n from : ℕ) (k : Class) → Saw a b → Answers setup b c packet n from k
+  -- an answer of a desk that went on without an event is one of the desk before
+  pub answers_on : (setup : Setup) (a b c : Sight) (packet : FlowPacket) (n from : ℕ) (k : Class) → WentOn a b [] → Answers setup b c packet n from k
       → Answers setup a c packet n from k
-  answers_after setup a b c packet n from k saw ans = record {
+  answers_on setup a b c packet n from k went ans = record {
     rest = ans.rest;
-    went = going.after a b c ans.rest saw ans.went;
+    went = going.twice a b c [] ans.rest went ans.went;
     few = ans.few;
     points = ans.points;
     fits = λ given mark kills flow count killed le.
-        subst (λ (z : Sizes). FitsFrame setup z c.front mark given (kills ++ ans.rest) k) saw.went.pass.sizes
-        (ans.fits given mark kills flow count (kills_all_grows events states b.front a.front saw.went.front mark packet kills killed) le);
+        subst (λ (z : Sizes). FitsFrame setup z c.front mark given (kills ++ ans.rest) k) went.pass.sizes
+        (ans.fits given mark kills flow count (kills_all_grows events states b.front a.front went.front mark packet kills killed) le);
   }
+
+  -- an answer of a desk that had seen more is one of a desk that had seen less
+  pub answers_after : (setup : Setup) (a b c : Sight) (packet : FlowPacket) (n from : ℕ) (k : Class) → Saw a b → Answers setup b c packet n from k
+      → Answers setup a c packet n from k
+  answers_after setup a b c packet n from k saw ans = answers_on setup a b c packet n from k saw.went ans
+
+  -- so is that of one that took a place
+  pub answers_placed : (setup : Setup) (a b c : Sight) (packet : FlowPacket) (n from place : ℕ) (k : Class) → Takes a b place
+      → Answers setup b c packet n from k → Answers setup a c packet n from k
+  answers_placed setup a b c packet n from place k takes ans =
+      let went : WentOn a (record b { taken = a.taken }) [] = takes.saw.went in
+      answers_on setup a b c packet n from k (record {
+        front = went.front;
+        own = went.own;
+        spare = went.spare;
+        pass = record {
+          tracker = went.pass.tracker;
+          sizes = went.pass.sizes;
+          shares = went.pass.shares;
+          returned = went.pass.returned;
+          gathered = went.pass.gathered;
+        };
+      }) ans
 
   -- an answer stays when the desk sees more
   pub answers_before : (setup : Setup) (a b c : Sight) (packet : FlowPacket) (n from : ℕ) (k : Class) → Answers setup a b packet n from k → Saw b c

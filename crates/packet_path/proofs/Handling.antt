@@ -28,6 +28,7 @@ use Rattle.packet_path.specs.Handled.{Handled}
 use Rattle.packet_path.specs.Packet.{Given, IsFlow}
 use Rattle.packet_path.specs.declared.setup.Setup.{Setup}
 use Rattle.history_book.specs.Mark.{points_of}
+use Rattle.packet_path.specs.Taken.{taken_by}
 use Rattle.packet_path.specs.Verdict.{FitsFrame, Kills, KillsAll}
 use Rattle.packet_path.proofs.Growth.{at_grows, kills_all_grows}
 use Rattle.packet_path.proofs.Marks.{happened_lower, mark_past-le}
@@ -54,8 +55,8 @@ mark_push m (k ∷ ks) note = mark_push (max m (k.number + 1)) ks note
 module _ (states : StatesStay) (events : EventsStay) (going : GoingOnAddsUp) (old : Sight) (packet : FlowPacket) where
   -- one kill more
   pub killing_more : (now new : Sight) (n : ℕ) → IsKilling old now packet n → KilledOne now new packet n (length now.front)
-      → HoldsNothing new → IsKnown new → IsKilling old new packet (n + 1)
-  killing_more now new n k one empty known =
+      → new.taken ≡ now.taken → HoldsNothing new → IsKnown new → IsKilling old new packet (n + 1)
+  killing_more now new n k one taken empty known =
       let grown : KillsAll new.front (length old.front) packet k.kills =
       kills_all_grows events states new.front now.front one.went.front (length old.front) packet k.kills k.all in
       record {
@@ -66,6 +67,7 @@ module _ (states : StatesStay) (events : EventsStay) (going : GoingOnAddsUp) (ol
         all = kills_push new.front (length old.front) (length now.front) packet k.kills one.note grown k.mark one.kill;
         mark = omega (arith, mark_push (length old.front) k.kills one.note, k.mark, one.high, starts_longer new.front now.front one.went.front);
         spare = omega (arith, k.spare, one.went.spare);
+        taken = taken ∙ k.taken;
         empty = empty;
         known = known;
       }
@@ -81,15 +83,16 @@ module _ (states : StatesStay) (events : EventsStay) (going : GoingOnAddsUp) (ol
     all = kills_all_grows events states new.front now.front saw.went.front (length old.front) packet k.kills k.all;
     mark = omega (arith, k.mark, starts_longer new.front now.front saw.went.front);
     spare = omega (arith, k.spare, saw.spare);
+    taken = saw.taken ∙ k.taken;
     empty = empty;
     known = known;
   }
 
   -- an answer after the kills
   pub killing_done : (setup : Setup) (now new : Sight) (n : ℕ) (verdict : Verdict) (given : Given) → IsFlow given packet → IsKilling old now packet n
-      → Answers setup now new packet n (length now.front) verdict.class → HoldsNothing new → verdict.first ≡ length old.own
+      → Answers setup now new packet n (length now.front) verdict.class → new.taken ≡ taken_by verdict.class now.taken → HoldsNothing new → verdict.first ≡ length old.own
       → verdict.made ≡ length new.own - length old.own → Handled setup given old new verdict
-  killing_done setup now new n verdict given flow k a empty first made =
+  killing_done setup now new n verdict given flow k a taken empty first made =
       let went : WentOn old new (k.kills ++ a.rest) = going.twice old now new k.kills a.rest k.went a.went in
       record {
         own = k.kills ++ a.rest;
@@ -102,6 +105,7 @@ module _ (states : StatesStay) (events : EventsStay) (going : GoingOnAddsUp) (ol
         points = a.points;
         held = empty.held;
         owed = empty.owed;
+        taken = taken ∙ ap (taken_by verdict.class) k.taken;
       }
 
 -- what is handled after making room is handled
@@ -133,14 +137,15 @@ handled_ready setup k old mid new given verdict ready h =
       points = h.points;
       held = h.held;
       owed = h.owed;
+      taken = h.taken ∙ ap (λ (s : Sight). taken_by verdict.class s.taken) ready.same;
     }
 
 -- a frame that makes no event is handled
 pub handled_silent : (setup : Setup) (old new : Sight) (given : Given) (verdict : Verdict) → Saw old new → HoldsNothing new
-    → verdict.first ≡ length old.own → verdict.made ≡ 0
+    → new.taken ≡ taken_by verdict.class old.taken → verdict.first ≡ length old.own → verdict.made ≡ 0
     → FitsFrame setup old.sizes new.front (length old.front) given [] verdict.class
     → AllByRecursion (λ p. p ≤ length new.front) (points_of verdict.class) → Handled setup given old new verdict
-handled_silent setup old new given verdict saw empty first made fits points = record {
+handled_silent setup old new given verdict saw empty taken first made fits points = record {
   own = [];
   went = saw.went;
   first = first;
@@ -150,6 +155,7 @@ handled_silent setup old new given verdict saw empty first made fits points = re
   points = points;
   held = empty.held;
   owed = empty.owed;
+  taken = taken;
 }
 
 -- what an error is about was looked up at a point that stays when the desk sees more

@@ -8,11 +8,12 @@ use Rattle.history_book.specs.Sight.{Sight}
 use Rattle.history_book.specs.WentOn.{WentOn}
 use Rattle.packet_path.specs.Packet.{Given}
 use Rattle.packet_path.specs.declared.setup.Setup.{Setup}
+use Rattle.packet_path.specs.Taken.{taken_by}
 use Rattle.packet_path.specs.Verdict.{FitsFrame}
 
 -- Of a tracker that is set up so: the desk went on by the events of the verdict, at most eight, and the verdict fits the
 -- frame on the new front: nothing of it is older than what the desk had seen, nor later than what it sees now. No place is
--- held or owed.
+-- held or owed, and none was taken but by a packet that began a flow or met one, which took one.
 pub record Handled (setup : Setup) (given : Given) (old new : Sight) (verdict : Verdict) : Type 0 where
   pub own : List Note
   pub went : WentOn old new own
@@ -23,3 +24,4 @@ pub record Handled (setup : Setup) (given : Given) (old new : Sight) (verdict : 
   pub points : AllByRecursion (λ p. p ≤ length new.front) (points_of verdict.class)
   pub held : new.held ≡ []
   pub owed : new.owed ≡ []
+  pub taken : new.taken ≡ taken_by verdict.class old.taken

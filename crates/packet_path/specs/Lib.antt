@@ -10,6 +10,7 @@ pub mod Passed
 pub mod Unchanged
 pub mod Full
 pub mod NoPort
+pub mod Taken
 pub mod Verdict
 pub mod Handled
 pub mod Internal

@@ -10,7 +10,7 @@ ghost use Rattle.history_book.specs.Label.{label_of};
 ghost use Rattle.history_book.specs.Sight.{IsKnown};
 ghost use Rattle.nat_setup.specs.Rule.{IsLawfulRule};
 ghost use Rattle.packet_path.specs.Internal.Attempt.{Answers, AttemptSays, EndsEntry, IsFoundFor, IsReplyOf};
-ghost use Rattle.packet_path.specs.Internal.Attempt.{IsClassified, IsMet};
+ghost use Rattle.packet_path.specs.Internal.Attempt.{IsClassified, IsMet, taken_in};
 ghost use Rattle.history_book.specs.Places.{HoldsNothing, HoldsOne};
 ghost use Rattle.packet_path.specs.Packet.{flow_packet};
 
@@ -78,6 +78,7 @@ fn reset_entry<R: Wait, D: Desk>(rt: &R, desk: &mut D, packet: &FlowView, met: &
     ensures says { (setup : Setup) (killed from : ℕ) → killed ≤ 4 → from ≤ length (D.sight desk.old).front →
         AttemptSays setup (D.sight desk.old) (D.sight desk.new) (flow_packet packet.now) killed from result }
     ensures places { SamePlaces (D.sight desk.old) (D.sight desk.new) }
+    ensures taken { (D.sight desk.new).taken ≡ taken_in result (D.sight desk.old).taken }
     ensures knows { IsKnown (D.sight desk.new) }
 {
     events_stay();
@@ -123,6 +124,7 @@ fn end_entry<R: Wait, D: Desk>(
     ensures says { (setup : Setup) (from : ℕ) → from ≤ at → from ≤ length (D.sight desk.old).front →
         AttemptSays setup (D.sight desk.old) (D.sight desk.new) (flow_packet packet.now) kills from result }
     ensures places { SamePlaces (D.sight desk.old) (D.sight desk.new) }
+    ensures taken { (D.sight desk.new).taken ≡ taken_in result (D.sight desk.old).taken }
     ensures knows { IsKnown (D.sight desk.new) }
 {
     events_stay();
@@ -162,6 +164,7 @@ fn meet_entry<R: Wait, D: Desk>(
     ensures says { (setup : Setup) → AttemptSays setup (D.sight desk.old) (D.sight desk.new)
         (flow_packet packet.now) kills (length (D.sight desk.old).front) result }
     ensures places { SamePlaces (D.sight desk.old) (D.sight desk.new) }
+    ensures taken { (D.sight desk.new).taken ≡ taken_in result (D.sight desk.old).taken }
     ensures knows { IsKnown (D.sight desk.new) }
 {
     entries_keep_their_helper();
@@ -227,6 +230,7 @@ pub fn try_packet<R: Wait, D: Desk>(
     ensures says { AttemptSays setup.now (D.sight desk.old) (D.sight desk.new)
         (flow_packet packet.now) kills (length (D.sight desk.old).front) result }
     ensures empty { HoldsNothing (D.sight desk.new) }
+    ensures taken { (D.sight desk.new).taken ≡ taken_in result (D.sight desk.old).taken }
     ensures knows { IsKnown (D.sight desk.new) }
 {
     events_stay();

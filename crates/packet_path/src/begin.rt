@@ -12,8 +12,9 @@ ghost use Rattle.nat_setup.specs.Rule.{IsLawfulRule};
 ghost use Rattle.packet_path.specs.Internal.Attempt.{Answers, claimed_master, IsClassified};
 ghost use Rattle.history_book.specs.Places.{HoldsNothing, HoldsOne};
 ghost use Rattle.packet_path.specs.Packet.{flow_packet};
-ghost use Rattle.packet_path.specs.Internal.Attempt.{IsFoundFor, IsReplyOf, unclaimed_at};
+ghost use Rattle.packet_path.specs.Internal.Attempt.{IsFoundFor, IsReplyOf, TookOne, unclaimed_at};
 ghost use Rattle.packet_path.specs.Made.{is_helped};
+ghost use Rattle.packet_path.specs.Taken.{taken_by};
 ghost use Rattle.proto_rules.specs.Start.{start_of};
 
 use crate::laws::same_protocol_is_equality;
@@ -90,6 +91,8 @@ fn confirm_flow<R: Wait, D: Desk>(
         IsFoundFor setup.now (flow_packet packet.now) (D.sight desk.old).front absent_at found.now →
         Answers setup.now (D.sight desk.old) (D.sight desk.new) (flow_packet packet.now) killed absent_at result }
     ensures empty { HoldsNothing (D.sight desk.new) }
+    ensures took { TookOne result }
+    ensures taken { (D.sight desk.new).taken ≡ (D.sight desk.old).taken }
     ensures knows { IsKnown (D.sight desk.new) }
 {
     absent_tuples_are_nobodys();
@@ -167,6 +170,7 @@ fn place_flow<R: Wait, D: Desk>(
         IsFoundFor setup.now (flow_packet packet.now) (D.sight desk.old).front absent_at found.now →
         Answers setup.now (D.sight desk.old) (D.sight desk.new) (flow_packet packet.now) killed absent_at result }
     ensures empty { HoldsNothing (D.sight desk.new) }
+    ensures taken { (D.sight desk.new).taken ≡ taken_by result (D.sight desk.old).taken }
     ensures knows { IsKnown (D.sight desk.new) }
 {
     events_stay();
@@ -200,6 +204,7 @@ pub fn begin_flow<R: Wait, D: Desk>(
     ensures answers { (killed : ℕ) → killed ≤ 4 → Answers setup.now
         (D.sight desk.old) (D.sight desk.new) (flow_packet packet.now) killed absent_at result }
     ensures empty { HoldsNothing (D.sight desk.new) }
+    ensures taken { (D.sight desk.new).taken ≡ taken_by result (D.sight desk.old).taken }
     ensures knows { IsKnown (D.sight desk.new) }
 {
     events_stay();

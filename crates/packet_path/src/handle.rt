@@ -14,6 +14,7 @@ ghost use Rattle.packet_path.specs.Internal.Attempt.{IsClassified};
 ghost use Rattle.history_book.specs.Places.{HoldsNothing};
 ghost use Rattle.packet_path.specs.Packet.{bytes_in, cause_of, flow_packet, given_by, given_of, Given, IsFlow};
 ghost use Rattle.history_book.specs.Mark.{points_of};
+ghost use Rattle.packet_path.specs.Taken.{taken_by};
 ghost use Rattle.packet_path.specs.Verdict.{FitsFrame};
 
 use crate::attempt::{Attempt, try_packet};
@@ -75,6 +76,7 @@ fn error_class<R: Wait, D: Desk>(
         (record { packet = Error inner.now outer_destination; moment = moment; payload = [] }) [] result }
     ensures points { AllByRecursion (λ p. p ≤ length (D.sight desk.new).front) (points_of result) }
     ensures empty { HoldsNothing (D.sight desk.new) }
+    ensures taken { (D.sight desk.new).taken ≡ taken_by result (D.sight desk.old).taken }
     ensures knows { IsKnown (D.sight desk.new) }
 {
     seeing_adds_up();

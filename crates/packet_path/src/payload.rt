@@ -87,6 +87,7 @@ pub fn follow_payload<R: Wait, D: Desk>(
         Follows (flow_packet packet.now) (record { subject = before.now; direction = direction }) touched
         (D.sight desk.old) (D.sight desk.new) result }
     ensures places { SamePlaces (D.sight desk.old) (D.sight desk.new) }
+    ensures taken { (D.sight desk.new).taken ≡ (D.sight desk.old).taken }
     ensures knows { IsKnown (D.sight desk.new) }
 {
     seeing_adds_up();

@@ -52,7 +52,7 @@ use Rattle.book_desk.specs.declared.turn.change.PlaceChange.{PlaceChange}
 use Rattle.book_desk.specs.declared.turn.change.PlaceChange.TheVariants.{Same, Holds, Names, Releases, Owes, Pays}
 use Rattle.book_desk.specs.declared.turn.view.View.{View}
 use Rattle.book_desk.specs.Made.{with_made, noted}
-use Rattle.book_desk.specs.Internal.Book.{sight_in, spare_before}
+use Rattle.book_desk.specs.Internal.Book.{counted, sight_in, spare_before}
 use Rattle.book_desk.specs.Internal.Seated.{pass_sight}
 use Rattle.book_desk.specs.Turn.Change.{confirmed_change, found_change, held_after, held_change, owed_after, released_change, taken_change}
 use Rattle.book_desk.specs.Turn.Steps.{HasTurn, ended, turned}
@@ -62,18 +62,18 @@ use Rattle.book_desk.proofs.Passes.Among.{Among, any_among, held_id_among, none_
 use Rattle.book_desk.proofs.Passes.Ended.{starts_on}
 
 -- the pass before and after, and one pass that kept everything before and after
-module _ (tracker : List ℕ) (v : View) (log : List Event) (b b' : Book) (made : Option Event) (notes : List Note) (less : ℕ) (has : HasTurn v log b) where
+module _ (tracker : List ℕ) (v : View) (log : List Event) (b b' : Book) (made : Option Event) (notes : List Note) (less : ℕ) (has : HasTurn v log b) (taken : ℕ) where
   abbrev pub before : Sight
-  before = pass_sight tracker v notes (spare_before less made)
+  before = pass_sight tracker v notes (spare_before less made) taken
 
   abbrev pub behind : PlaceChange → Sight
-  behind c = pass_sight tracker (ended (record { places = c; made = made }) (turned v log b)) (noted notes (length log) made) less
+  behind c = pass_sight tracker (ended (record { places = c; made = made }) (turned v log b)) (noted notes (length log) made) less taken
 
   abbrev pub one_before : Sight
-  one_before = sight_in log (spare_before less made) b
+  one_before = sight_in log (spare_before less made) taken b
 
   abbrev pub one_behind : Sight
-  one_behind = sight_in (with_made log made) less b'
+  one_behind = sight_in (with_made log made) less taken b'
 
   front_short : length v.front ≤ length log
   front_short = let s = has.all.front in omega (arith, ap length s.1, length-append v.front s.0)
@@ -85,52 +85,54 @@ module _ (tracker : List ℕ) (v : View) (log : List Event) (b b' : Book) (made 
   seen_on = starts_on log v.front made has.all.front
 
 -- where one pass made no event, so did this one
-saw_too : (tracker : List ℕ) (v : View) (log : List Event) (b b' : Book) (made : Option Event) (notes : List Note) (less : ℕ) (has : HasTurn v log b)
-    (c : PlaceChange) → Saw (one_before tracker v log b b' made notes less has) (one_behind tracker v log b b' made notes less has)
-    → (Saw (before tracker v log b b' made notes less has) (behind tracker v log b b' made notes less has c)) × (made ≡ None)
-saw_too tracker v log b b' None notes less has c saw = (
+saw_too : (tracker : List ℕ) (v : View) (log : List Event) (b b' : Book) (made : Option Event) (notes : List Note) (less : ℕ) (has : HasTurn v log b) (taken : ℕ)
+    (c : PlaceChange) → Saw (one_before tracker v log b b' made notes less has taken) (one_behind tracker v log b b' made notes less has taken)
+    → (Saw (before tracker v log b b' made notes less has taken) (behind tracker v log b b' made notes less has taken c)) × (made ≡ None)
+saw_too tracker v log b b' None notes less has taken c saw = (
   record {
     went = record {
       front = has.all.front;
       own = sym (append-nil notes);
       spare = omega arith;
-      pass = same_pass tracker v log b b' None notes less has c;
+      pass = same_pass tracker v log b b' None notes less has taken c;
     };
     spare = refl;
+    taken = refl;
   },
   refl,
 )
-saw_too tracker v log b b' (Some e) notes less has c saw = absurd (omega (arith, saw.spare))
+saw_too tracker v log b b' (Some e) notes less has taken c saw = absurd (omega (arith, saw.spare))
 
-looked_too : (tracker : List ℕ) (v : View) (log : List Event) (b b' : Book) (made : Option Event) (notes : List Note) (less : ℕ) (has : HasTurn v log b)
+looked_too : (tracker : List ℕ) (v : View) (log : List Event) (b b' : Book) (made : Option Event) (notes : List Note) (less : ℕ) (has : HasTurn v log b) (taken : ℕ)
     (c : PlaceChange) (at : ℕ) (F : State → Type 0)
-    → Looked (one_before tracker v log b b' made notes less has) (one_behind tracker v log b b' made notes less has) at F
-    → Looked (before tracker v log b b' made notes less has) (behind tracker v log b b' made notes less has c) at F
-looked_too tracker v log b b' made notes less has c at F l = record {
-  saw = (saw_too tracker v log b b' made notes less has c l.saw).0;
-  low = omega (arith, l.low, front_short tracker v log b b' made notes less has);
+    → Looked (one_before tracker v log b b' made notes less has taken) (one_behind tracker v log b b' made notes less has taken) at F
+    → Looked (before tracker v log b b' made notes less has taken) (behind tracker v log b b' made notes less has taken c) at F
+looked_too tracker v log b b' made notes less has taken c at F l = record {
+  saw = (saw_too tracker v log b b' made notes less has taken c l.saw).0;
+  low = omega (arith, l.low, front_short tracker v log b b' made notes less has taken);
   fact = l.fact;
 }
 
-made_too : (tracker : List ℕ) (v : View) (log : List Event) (b b' : Book) (made : Option Event) (notes : List Note) (less : ℕ) (has : HasTurn v log b)
+made_too : (tracker : List ℕ) (v : View) (log : List Event) (b b' : Book) (made : Option Event) (notes : List Note) (less : ℕ) (has : HasTurn v log b) (taken : ℕ)
     (c : PlaceChange) (number : ℕ) (e : Event)
-    → MadeEvent (one_before tracker v log b b' made notes less has) (one_behind tracker v log b b' made notes less has) number e
-    → MadeEvent (before tracker v log b b' made notes less has) (behind tracker v log b b' made notes less has c) number e
-made_too tracker v log b b' None notes less has c number e m = absurd (omega (arith, m.low, m.high))
-made_too tracker v log b b' (Some x) notes less has c number e m =
+    → MadeEvent (one_before tracker v log b b' made notes less has taken) (one_behind tracker v log b b' made notes less has taken) number e
+    → MadeEvent (before tracker v log b b' made notes less has taken) (behind tracker v log b b' made notes less has taken c) number e
+made_too tracker v log b b' None notes less has taken c number e m = absurd (omega (arith, m.low, m.high))
+made_too tracker v log b b' (Some x) notes less has taken c number e m =
     let here : number ≡ length log = omega (arith, m.low, m.high, length-append log (x ∷ [])) in
     let same : Some x ≡ Some e = sym (get_last log x) ∙ ap (slice_get (log ++ x ∷ [])) (sym here) ∙ m.happened in
     let its : x ≡ e = cc in
     let note : record { number = length log; event = x } ≡ record { number = number; event = e } = λ i. record { number = sym here i; event = its i } in
     record {
       went = record {
-        front = seen_on tracker v log b b' (Some x) notes less has;
+        front = seen_on tracker v log b b' (Some x) notes less has taken;
         own = ap (λ (n : Note). notes ++ n ∷ []) note;
         spare = omega arith;
-        pass = same_pass tracker v log b b' (Some x) notes less has c;
+        pass = same_pass tracker v log b b' (Some x) notes less has taken c;
       };
       spare = refl;
-      low = omega (arith, m.low, front_short tracker v log b b' (Some x) notes less has);
+      taken = refl;
+      low = omega (arith, m.low, front_short tracker v log b b' (Some x) notes less has taken);
       high = m.high;
       happened = m.happened;
     }
@@ -156,18 +158,18 @@ not_in_use p s t front held owed unused =
     or_from _ _ (or_from _ _ (subst (λ l. not (is_unused p (after l (length l))) ≡ false) front two.0) (none_among (is_at p) s.held t.held held two.1))
     (none_among (λ q. q == p) s.owed t.owed owed parts.1)
 
-module _ (tracker : List ℕ) (v : View) (log : List Event) (b b' : Book) (notes : List Note) (less : ℕ) (has : HasTurn v log b) where
+module _ (tracker : List ℕ) (v : View) (log : List Event) (b b' : Book) (notes : List Note) (less : ℕ) (has : HasTurn v log b) (taken : ℕ) where
   abbrev S : Sight
-  S = one_before tracker v log b b' None notes less has
+  S = one_before tracker v log b b' None notes less has taken
 
   abbrev T : Sight
-  T = one_behind tracker v log b b' None notes less has
+  T = one_behind tracker v log b b' None notes less has taken
 
   pub find_says : (t : Tuple) (o : FindOutcome) → FindSays t S T o
-      → FindSays t (before tracker v log b b' None notes less has) (behind tracker v log b b' None notes less has (found_change o)) o
+      → FindSays t (before tracker v log b b' None notes less has taken) (behind tracker v log b b' None notes less has taken (found_change o)) o
   find_says t (find.Found place id direction at) (looked, holds) =
-      (looked_too tracker v log b b' None notes less has (Holds (record { place = place; id = Some id })) at _ looked, record { held = refl; owed = refl })
-  find_says t (find.Absent at) (looked, same) = (looked_too tracker v log b b' None notes less has Same at _ looked, record { held = refl; owed = refl })
+      (looked_too tracker v log b b' None notes less has taken (Holds (record { place = place; id = Some id })) at _ looked, record { held = refl; owed = refl })
+  find_says t (find.Absent at) (looked, same) = (looked_too tracker v log b b' None notes less has taken Same at _ looked, record { held = refl; owed = refl })
 
   pub find_places : (t : Tuple) (o : FindOutcome) → FindSays t S T o
       → (b'.holds.items ≡ held_after (found_change o) b.holds.items) × (b'.owed.items ≡ owed_after (found_change o) b.owed.items)
@@ -175,20 +177,21 @@ module _ (tracker : List ℕ) (v : View) (log : List Event) (b b' : Book) (notes
   find_places t (find.Absent at) (looked, same) = (same.held, same.owed)
 
   pub hold_says : (place : ℕ) (o : HoldOutcome) → HoldSays place S T o
-      → HoldSays place (before tracker v log b b' None notes less has) (behind tracker v log b b' None notes less has (held_change place o)) o
+      → HoldSays place (before tracker v log b b' None notes less has taken) (behind tracker v log b b' None notes less has taken (held_change place o)) o
   hold_says place (hold.Held id at) (looked, holds) =
-      (looked_too tracker v log b b' None notes less has (Holds (record { place = place; id = Some id })) at _ looked, record { held = refl; owed = refl })
-  hold_says place (hold.Empty at) (looked, same) = (looked_too tracker v log b b' None notes less has Same at _ looked, record { held = refl; owed = refl })
+      (looked_too tracker v log b b' None notes less has taken (Holds (record { place = place; id = Some id })) at _ looked, record { held = refl; owed = refl })
+  hold_says place (hold.Empty at) (looked, same) = (looked_too tracker v log b b' None notes less has taken Same at _ looked, record { held = refl; owed = refl })
 
   pub hold_places : (place : ℕ) (o : HoldOutcome) → HoldSays place S T o
       → (b'.holds.items ≡ held_after (held_change place o) b.holds.items) × (b'.owed.items ≡ owed_after (held_change place o) b.owed.items)
   hold_places place (hold.Held id at) (looked, holds) = (holds.held, holds.owed)
   hold_places place (hold.Empty at) (looked, same) = (same.held, same.owed)
 
-  pub take_says : (o : TakeOutcome) → TakeSays S T o
-      → TakeSays (before tracker v log b b' None notes less has) (behind tracker v log b b' None notes less has (taken_change o)) o
+  pub take_says : (o : TakeOutcome) → TakeSays S (counted o T) o
+      → TakeSays (before tracker v log b b' None notes less has taken) (counted o (behind tracker v log b b' None notes less has taken (taken_change o))) o
   take_says (take.Taken place) t = record {
-    saw = (saw_too tracker v log b b' None notes less has (Holds (record { place = place; id = None })) t.saw).0;
+    saw = (saw_too tracker v log b b' None notes less has taken (Holds (record { place = place; id = None })) t.saw).0;
+    taken = refl;
     below = omega (arith, t.below, ap (λ (z : Sizes). z.entries) has.sizes);
     unheld = none_among (is_at place) v.held b.holds.items has.held t.unheld;
     unowed = none_among (λ q. q == place) v.owed b.owed.items has.owed t.unowed;
@@ -196,7 +199,7 @@ module _ (tracker : List ℕ) (v : View) (log : List Event) (b b' : Book) (notes
     alone = λ one. t.alone refl;
   }
   take_says (take.Full at) f = record {
-    looked = looked_too tracker v log b b' None notes less has Same at
+    looked = looked_too tracker v log b b' None notes less has taken Same at
         (λ s. v.sizes.entries - 4 * (v.sizes.passes - 1) - (length v.held + length v.owed) ≤ length s.records) (record {
           saw = f.looked.saw;
           low = f.looked.low;
@@ -206,13 +209,13 @@ module _ (tracker : List ℕ) (v : View) (log : List Event) (b b' : Book) (notes
           };
         });
     same = record { held = refl; owed = refl };
-    alone = λ one p low. in_use p T (behind tracker v log b b' None notes less has Same) refl
+    alone = λ one p low. in_use p T (behind tracker v log b b' None notes less has taken Same) refl
         (λ weight. omega (arith, ap (total weight) f.same.held, has.only_held one weight))
         (λ weight. omega (arith, ap (total weight) f.same.owed, has.only_owed one weight))
         (f.alone refl p (omega (arith, low, ap (λ (z : Sizes). z.entries) has.sizes)));
   }
 
-  pub take_places : (o : TakeOutcome) → TakeSays S T o
+  pub take_places : (o : TakeOutcome) → TakeSays S (counted o T) o
       → (b'.holds.items ≡ held_after (taken_change o) b.holds.items) × (b'.owed.items ≡ owed_after (taken_change o) b.owed.items)
   take_places (take.Taken place) t = (t.holds.held, t.holds.owed)
   take_places (take.Full at) f = (f.same.held, f.same.owed)
@@ -221,15 +224,15 @@ module _ (tracker : List ℕ) (v : View) (log : List Event) (b b' : Book) (notes
   same_entry place there = sym (held_id_among place v.held b.holds.items has.book.references.agreed has.held there)
 
   pub peek_says : (place : ℕ) (o : PeekOutcome) → is_held place v.held ≡ true → PeekSays place S T o
-      → PeekSays place (before tracker v log b b' None notes less has) (behind tracker v log b b' None notes less has Same) o
+      → PeekSays place (before tracker v log b b' None notes less has taken) (behind tracker v log b b' None notes less has taken Same) o
   peek_says place (peek.Seen subject at) there (looked, same) = (
-    subst (λ (k : ℕ). Looked (before tracker v log b b' None notes less has) (behind tracker v log b b' None notes less has Same) at (IsRecord k subject))
-        (same_entry place there) (looked_too tracker v log b b' None notes less has Same at (IsRecord (held_id place b.holds.items) subject) looked),
+    subst (λ (k : ℕ). Looked (before tracker v log b b' None notes less has taken) (behind tracker v log b b' None notes less has taken Same) at (IsRecord k subject))
+        (same_entry place there) (looked_too tracker v log b b' None notes less has taken Same at (IsRecord (held_id place b.holds.items) subject) looked),
     record { held = refl; owed = refl },
   )
   peek_says place (peek.Gone at) there (looked, same) = (
-    subst (λ (k : ℕ). Looked (before tracker v log b b' None notes less has) (behind tracker v log b b' None notes less has Same) at (λ s. record_of k s ≡ None))
-        (same_entry place there) (looked_too tracker v log b b' None notes less has Same at (λ s. record_of (held_id place b.holds.items) s ≡ None) looked),
+    subst (λ (k : ℕ). Looked (before tracker v log b b' None notes less has taken) (behind tracker v log b b' None notes less has taken Same) at (λ s. record_of k s ≡ None))
+        (same_entry place there) (looked_too tracker v log b b' None notes less has taken Same at (λ s. record_of (held_id place b.holds.items) s ≡ None) looked),
     record { held = refl; owed = refl },
   )
 
@@ -238,24 +241,24 @@ module _ (tracker : List ℕ) (v : View) (log : List Event) (b b' : Book) (notes
   peek_places place (peek.Gone at) (looked, same) = (same.held, same.owed)
 
   pub lists_says : (listed : List Expectation) (at : ℕ) → ListsExpected listed S T at
-      → ListsExpected listed (before tracker v log b b' None notes less has) (behind tracker v log b b' None notes less has Same) at
+      → ListsExpected listed (before tracker v log b b' None notes less has taken) (behind tracker v log b b' None notes less has taken Same) at
   lists_says listed at (looked, same) =
-      (looked_too tracker v log b b' None notes less has Same at (λ s. listed ≡ s.expects) looked, record { held = refl; owed = refl })
+      (looked_too tracker v log b b' None notes less has taken Same at (λ s. listed ≡ s.expects) looked, record { held = refl; owed = refl })
 
   pub release_says : (place : ℕ) (o : ReleaseOutcome) → is_held place v.held ≡ true
       → Among (held_after (released_change place o) v.held) b'.holds.items
       → (v.sizes.passes ≡ 1 → Among b'.holds.items (held_after (released_change place o) v.held))
       → ReleaseSays place S T o
-      → ReleaseSays place (before tracker v log b b' None notes less has) (behind tracker v log b b' None notes less has (released_change place o)) o
+      → ReleaseSays place (before tracker v log b b' None notes less has taken) (behind tracker v log b b' None notes less has taken (released_change place o)) o
   release_says place release.Kept there among only k = record {
-    saw = (saw_too tracker v log b b' None notes less has (Releases place) k.saw).0;
+    saw = (saw_too tracker v log b b' None notes less has taken (Releases place) k.saw).0;
     held = refl;
     owed = refl;
-    alone = λ one. in_use place T (behind tracker v log b b' None notes less has (Releases place)) refl (only one)
+    alone = λ one. in_use place T (behind tracker v log b b' None notes less has taken (Releases place)) refl (only one)
         (λ weight. omega (arith, ap (total weight) k.owed, has.only_owed one weight)) (k.alone refl);
   }
   release_says place release.Last there among only k = record {
-    saw = (saw_too tracker v log b b' None notes less has (Owes place) k.saw).0;
+    saw = (saw_too tracker v log b b' None notes less has taken (Owes place) k.saw).0;
     held = refl;
     owed = refl;
     unheld = none_among (is_at place) (held_after (Owes place) v.held) b'.holds.items among k.unheld;
@@ -268,33 +271,33 @@ module _ (tracker : List ℕ) (v : View) (log : List Event) (b b' : Book) (notes
   release_places place release.Last k = (k.held, k.owed)
 
   pub recycle_says : (place : ℕ) → Among v.held b'.holds.items → Among (owed_after (Pays place) v.owed) b'.owed.items → RecycleSays place S T
-      → RecycleSays place (before tracker v log b b' None notes less has) (behind tracker v log b b' None notes less has (Pays place))
+      → RecycleSays place (before tracker v log b b' None notes less has taken) (behind tracker v log b b' None notes less has taken (Pays place))
   recycle_says place held owed r = record {
-    saw = (saw_too tracker v log b b' None notes less has (Pays place) r.saw).0;
+    saw = (saw_too tracker v log b b' None notes less has taken (Pays place) r.saw).0;
     held = refl;
     owed = refl;
-    alone = λ one. not_in_use place (behind tracker v log b b' None notes less has (Pays place)) T refl held owed (r.alone refl);
+    alone = λ one. not_in_use place (behind tracker v log b b' None notes less has taken (Pays place)) T refl held owed (r.alone refl);
   }
 
-module _ (tracker : List ℕ) (v : View) (log : List Event) (b b' : Book) (made : Option Event) (notes : List Note) (less : ℕ) (has : HasTurn v log b)
+module _ (tracker : List ℕ) (v : View) (log : List Event) (b b' : Book) (made : Option Event) (notes : List Note) (less : ℕ) (has : HasTurn v log b) (taken : ℕ)
     (same_sizes : b'.sizes ≡ b.sizes) where
   abbrev S' : Sight
-  S' = one_before tracker v log b b' made notes less has
+  S' = one_before tracker v log b b' made notes less has taken
 
   abbrev T' : Sight
-  T' = one_behind tracker v log b b' made notes less has
+  T' = one_behind tracker v log b b' made notes less has taken
 
   abbrev A' : Sight
-  A' = before tracker v log b b' made notes less has
+  A' = before tracker v log b b' made notes less has taken
 
   abbrev B' : PlaceChange → Sight
-  B' c = behind tracker v log b b' made notes less has c
+  B' c = behind tracker v log b b' made notes less has taken c
 
   its_entry : (place : ℕ) → is_held place v.held ≡ true → held_id place b.holds.items ≡ held_id place v.held
   its_entry place there = sym (held_id_among place v.held b.holds.items has.book.references.agreed has.held there)
 
   looked_at : (c : PlaceChange) (at : ℕ) (F : State → Type 0) → Looked S' T' at F → Looked A' (B' c) at F
-  looked_at c at F l = looked_too tracker v log b b' made notes less has c at F l
+  looked_at c at F l = looked_too tracker v log b b' made notes less has taken c at F l
 
   -- the same of the entry for which the place is held
   looked_of : (place at : ℕ) (F : ℕ → State → Type 0) → is_held place v.held ≡ true → Looked S' T' at (F (held_id place b.holds.items))
@@ -303,7 +306,7 @@ module _ (tracker : List ℕ) (v : View) (log : List Event) (b b' : Book) (made 
       subst (λ (k : ℕ). Looked A' (B' Same) at (F k)) (its_entry place there) (looked_at Same at (F (held_id place b.holds.items)) l)
 
   made_of : (c : PlaceChange) (number : ℕ) (e : Event) → MadeEvent S' T' number e → MadeEvent A' (B' c) number e
-  made_of c number e m = made_too tracker v log b b' made notes less has c number e m
+  made_of c number e m = made_too tracker v log b b' made notes less has taken c number e m
 
   pub confirm_says : (place : ℕ) (flow : Flow) (o : ConfirmOutcome) → ConfirmSays place flow S' T' o
       → ConfirmSays place flow A' (B' (confirmed_change place o)) o

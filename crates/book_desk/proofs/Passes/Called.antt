@@ -46,10 +46,10 @@ longer_log log None spare less is = omega (arith, is)
 longer_log log (Some e) spare less is = omega (arith, is, length-append log (e ∷ []))
 
 -- a call in its turn: what it did to the book, and to the pass's places and events
-pub record IsCall (tracker : List ℕ) (v : View) (log : List Event) (b b' : Book) (e : Ending) (notes : List Note) (spare : ℕ) : Type 0 where
+pub record IsCall (tracker : List ℕ) (v : View) (log : List Event) (b b' : Book) (e : Ending) (notes : List Note) (spare taken : ℕ) : Type 0 where
   pub has : HasTurn v log b
   pub some_shares : 0 < v.shares
-  pub known : IsKnown (pass_sight tracker v notes spare)
+  pub known : IsKnown (pass_sight tracker v notes spare taken)
   pub own : notes ≡ v.own
   pub book : IsBook (with_made log e.made) b'
   pub sizes : b'.sizes ≡ b.sizes
@@ -58,8 +58,8 @@ pub record IsCall (tracker : List ℕ) (v : View) (log : List Event) (b b' : Boo
   pub can : CanChange e.places v.held v.owed
   pub right : IsRightChange e.places b.free.items b'
 
-module _ (tracker : List ℕ) (v : View) (log : List Event) (b b' : Book) (e : Ending) (notes : List Note) (spare less : ℕ)
-    (c : IsCall tracker v log b b' e notes spare) (room : spare ≡ spare_before less e.made) where
+module _ (tracker : List ℕ) (v : View) (log : List Event) (b b' : Book) (e : Ending) (notes : List Note) (spare taken less : ℕ)
+    (c : IsCall tracker v log b b' e notes spare taken) (room : spare ≡ spare_before less e.made) where
   pub can_end : CanEnd e (turned v log b) b'
   can_end = record {
     some = c.some_shares;
@@ -108,8 +108,9 @@ module _ (tracker : List ℕ) (v : View) (log : List Event) (b b' : Book) (e : E
             (place_below b'.sizes.entries b'.records.items b'.holds.items b'.free.items b'.owed.items p c.book.places (omega (arith, some_there))),
       )))
 
-  pub known_after : IsKnown (pass_sight tracker (ended e (turned v log b)) (noted notes (length log) e.made) less)
-  known_after =
+  -- however often it took a place
+  pub known_after : (now : ℕ) → IsKnown (pass_sight tracker (ended e (turned v log b)) (noted notes (length log) e.made) less now)
+  known_after now =
       let held : List Hold = held_after e.places v.held in
       let owed : List ℕ = owed_after e.places v.owed in
       let own_there : AreEventsOf log notes = events_later log v.front notes c.has.all.front c.known.own in

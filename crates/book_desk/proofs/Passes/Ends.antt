@@ -24,16 +24,16 @@ use Rattle.book_desk.proofs.Passes.Called.{events_later}
 use Rattle.book_desk.proofs.Passes.Sums.{total_append}
 
 -- a pass that took in another one, and then saw all events
-known_joined : (tracker : List ℕ) (v w : View) (log : List Event) (notes others : List Note) (spare more : ℕ)
-    → IsKnown (pass_sight tracker v notes spare) → IsKnown (pass_sight tracker w others more) → notes ≡ v.own → others ≡ w.own
+known_joined : (tracker : List ℕ) (v w : View) (log : List Event) (notes others : List Note) (spare taken more other_taken now : ℕ)
+    → IsKnown (pass_sight tracker v notes spare taken) → IsKnown (pass_sight tracker w others more other_taken) → notes ≡ v.own → others ≡ w.own
     → v.held ≡ [] → (all : AreAll (joined v w) log)
-    → IsKnown (pass_sight tracker (record (joined v w) { front = log }) notes spare)
-known_joined tracker v w log notes others spare more k l own own' none all = record {
+    → IsKnown (pass_sight tracker (record (joined v w) { front = log }) notes spare now)
+known_joined tracker v w log notes others spare taken more other_taken now k l own own' none all = record {
   legal = all.legal;
   few = omega (arith, all.few, all.passes);
   own = events_later log v.front notes all.front k.own;
   ordered = k.ordered;
-  held = subst (All (IsHoldOf (pass_sight tracker (record (joined v w) { front = log }) notes spare))) (sym none) (λ i d short. absurd (omega (arith, short)));
+  held = subst (All (IsHoldOf (pass_sight tracker (record (joined v w) { front = log }) notes spare now))) (sym none) (λ i d short. absurd (omega (arith, short)));
   agreed = k.agreed;
   owed = k.owed;
   unowed = k.unowed;
@@ -61,8 +61,8 @@ known_joined tracker v w log notes others spare more k l own own' none all = rec
 }
 
 -- what a pass knows it knows by whatever numbers of its tracker
-known_anywhere : (s t : List ℕ) (v : View) (notes : List Note) (spare : ℕ) → IsKnown (pass_sight t v notes spare) → IsKnown (pass_sight s v notes spare)
-known_anywhere s t v notes spare k = record {
+known_anywhere : (s t : List ℕ) (v : View) (notes : List Note) (spare taken : ℕ) → IsKnown (pass_sight t v notes spare taken) → IsKnown (pass_sight s v notes spare taken)
+known_anywhere s t v notes spare taken k = record {
   legal = k.legal;
   few = k.few;
   own = k.own;
@@ -99,11 +99,11 @@ seated_joined p q new mid word h k none is looks away table sizes notes spare =
       sizes = sizes ∙ h.sizes ∙ sym (ap (λ (u : View). u.sizes) view);
       own = ap (λ ns. ns.items) notes ∙ h.own ∙ sym (ap (λ (u : View). u.own) view);
       room = subst (λ ns. length ns.items + new.spare ≤ ns.room) (sym notes) (subst (λ (n : ℕ). length p.notes.items + n ≤ p.notes.room) (sym spare) h.room);
-      knows = subst (λ ns. IsKnown (pass_sight (numbers_of new.seat.table_id) new.seat.me.0 ns.items new.spare)) (sym notes)
-          (subst (λ (n : ℕ). IsKnown (pass_sight (numbers_of new.seat.table_id) new.seat.me.0 p.notes.items n)) (sym spare)
-          (subst (λ (u : View). IsKnown (pass_sight (numbers_of new.seat.table_id) u p.notes.items p.spare)) (sym view)
-          (subst (λ t. IsKnown (pass_sight (numbers_of t) (record (joined v w) { front = log }) p.notes.items p.spare)) (sym table)
-          (known_joined (numbers_of p.seat.table_id) v w log p.notes.items q.notes.items p.spare q.spare h.knows (known_anywhere (numbers_of p.seat.table_id) (numbers_of q.seat.table_id) q.seat.me.0 q.notes.items q.spare k.knows) h.own k.own none seen.all))));
+      knows = subst (λ ns. IsKnown (pass_sight (numbers_of new.seat.table_id) new.seat.me.0 ns.items new.spare new.taken)) (sym notes)
+          (subst (λ (n : ℕ). IsKnown (pass_sight (numbers_of new.seat.table_id) new.seat.me.0 p.notes.items n new.taken)) (sym spare)
+          (subst (λ (u : View). IsKnown (pass_sight (numbers_of new.seat.table_id) u p.notes.items p.spare new.taken)) (sym view)
+          (subst (λ t. IsKnown (pass_sight (numbers_of t) (record (joined v w) { front = log }) p.notes.items p.spare new.taken)) (sym table)
+          (known_joined (numbers_of p.seat.table_id) v w log p.notes.items q.notes.items p.spare p.taken q.spare q.taken new.taken h.knows (known_anywhere (numbers_of p.seat.table_id) (numbers_of q.seat.table_id) q.seat.me.0 q.notes.items q.spare q.taken k.knows) h.own k.own none seen.all))));
     }
 
 -- counting is a sum

@@ -25,7 +25,7 @@ use Rattle.history_book.specs.State.{Found, State, live_under, original_first}
 use Rattle.history_book.specs.WentOn.{Looked}
 use Rattle.book_desk.specs.declared.book.Book.{Book}
 use Rattle.book_desk.specs.Fields.{IsBook, state_in}
-use Rattle.book_desk.specs.Internal.Book.{sight_in}
+use Rattle.book_desk.specs.Internal.Book.{counted, sight_in}
 use Rattle.book_desk.specs.Turn.Change.{IsRightChange, confirmed_change, found_change, held_change, is_entry_in, released_change, taken_change}
 use Rattle.book_desk.specs.Uses.{bit, tally, times, uses}
 use Rattle.book_desk.proofs.Lists.{same_bit, tally_none, tally_some}
@@ -54,15 +54,15 @@ live_counts q t s f live passes = first_counts (find (has_original t) s.records)
         let same : r ≡ f.subject = cc in found_counts (has_reply t) q s.records r there (ap q same ∙ passes)
     first_counts None None here there is = cc
 
-module _ (log : List Event) (spare : ℕ) (b b' : Book) (old : IsBook log b) (new : IsBook log b') where
+module _ (log : List Event) (spare taken : ℕ) (b b' : Book) (old : IsBook log b) (new : IsBook log b') where
   -- what a look found is so of the book
-  present : (at : ℕ) (F : State → Type 0) → Looked (sight_in log spare b) (sight_in log spare b') at F
+  present : (at : ℕ) (F : State → Type 0) → Looked (sight_in log spare taken b) (sight_in log spare taken b') at F
       → F (state_in b')
   present at F l =
       let here : at ≡ length log = omega (arith, l.low, l.fact.within) in
       subst F (sym new.history.state) (subst (λ (p : ℕ). F (after log p)) here l.fact.fact)
 
-  pub find_right : (t : Tuple) (o : FindOutcome) → FindSays t (sight_in log spare b) (sight_in log spare b') o
+  pub find_right : (t : Tuple) (o : FindOutcome) → FindSays t (sight_in log spare taken b) (sight_in log spare taken b') o
       → IsRightChange (found_change o) b.free.items b'
   find_right t (look.Found place id direction at) (looked, holds) =
       let there = present at _ looked in
@@ -70,7 +70,7 @@ module _ (log : List Event) (spare : ℕ) (b b' : Book) (old : IsBook log b) (ne
       (and_from _ _ (eq-eqb there.subject.place place there.placed) (eq-eqb there.subject.id id there.named))
   find_right t (look.Absent at) says = tt
 
-  pub hold_right : (place : ℕ) (o : HoldOutcome) → HoldSays place (sight_in log spare b) (sight_in log spare b') o
+  pub hold_right : (place : ℕ) (o : HoldOutcome) → HoldSays place (sight_in log spare taken b) (sight_in log spare taken b') o
       → IsRightChange (held_change place o) b.free.items b'
   hold_right place (hold.Held id at) (looked, holds) =
       let there = present at _ looked in
@@ -79,7 +79,7 @@ module _ (log : List Event) (spare : ℕ) (b b' : Book) (old : IsBook log b) (ne
   hold_right place (hold.Empty at) says = tt
 
   -- a place in which no entry is live, and that nobody holds or owes, is free
-  pub take_right : (o : TakeOutcome) → TakeSays (sight_in log spare b) (sight_in log spare b') o
+  pub take_right : (o : TakeOutcome) → TakeSays (sight_in log spare taken b) (counted o (sight_in log spare taken b')) o
       → IsRightChange (taken_change o) b.free.items b'
   take_right (take.Taken place) t =
       let unused : list_any (has_place place) b.records.items ≡ false =
@@ -95,7 +95,7 @@ module _ (log : List Event) (spare : ℕ) (b b' : Book) (old : IsBook log b) (ne
 
   -- a place that was held is not owed, so what keeps it in use is an entry or a reference
   pub release_right : (place : ℕ) (o : ReleaseOutcome) → is_held place b.holds.items ≡ true
-      → ReleaseSays place (sight_in log spare b) (sight_in log spare b') o
+      → ReleaseSays place (sight_in log spare taken b) (sight_in log spare taken b') o
       → IsRightChange (released_change place o) b.free.items b'
   release_right place release.Kept held k =
       let some : 1 ≤ tally (is_at place) b.holds.items = tally_some (is_at place) b.holds.items held in
@@ -109,7 +109,7 @@ module _ (log : List Event) (spare : ℕ) (b b' : Book) (old : IsBook log b) (ne
       (or_cases (list_any (has_place place) b'.records.items) (is_held place b'.holds.items) e))
       (λ (e : is_owed place b'.owed.items ≡ true). absurd (omega (arith, unowed, tally_some (λ q. q == place) b'.owed.items e)))
       (or_cases (list_any (has_place place) b'.records.items || is_held place b'.holds.items) (is_owed place b'.owed.items)
-      (sym (used_is log spare b' place new) ∙ k.alone refl))
+      (sym (used_is log spare taken b' place new) ∙ k.alone refl))
   release_right place release.Last held k =
       let owed : times place b'.owed.items ≡ 1 + times place b.owed.items = ap (times place) k.owed ∙ ap (λ (n : ℕ). n + times place b.owed.items) (same_bit place place refl) in
       let below : place < b'.sizes.entries =
@@ -123,13 +123,13 @@ module _ (log : List Event) (spare : ℕ) (b b' : Book) (old : IsBook log b) (ne
 
   -- a place in no use is free
   pub recycle_right : (place : ℕ) → is_owed place b.owed.items ≡ true → b'.sizes ≡ b.sizes
-      → RecycleSays place (sight_in log spare b) (sight_in log spare b') → times place b'.free.items ≡ 1
+      → RecycleSays place (sight_in log spare taken b) (sight_in log spare taken b') → times place b'.free.items ≡ 1
   recycle_right place owed sizes r =
       let some : 1 ≤ times place b.owed.items = tally_some (λ q. q == place) b.owed.items owed in
       let below : place < b.sizes.entries =
       place_below b.sizes.entries b.records.items b.holds.items b.free.items b.owed.items place old.places (omega (arith, some)) in
       let parts = or_parts (list_any (has_place place) b'.records.items || is_held place b'.holds.items) (is_owed place b'.owed.items)
-      (sym (used_is log spare b' place new) ∙ r.alone refl) in
+      (sym (used_is log spare taken b' place new) ∙ r.alone refl) in
       let both = or_parts (list_any (has_place place) b'.records.items) (is_held place b'.holds.items) parts.0 in
       omega (
         arith,

@@ -62,7 +62,7 @@ module _ (p : Pass) (me : Me (Option Book) View) (b b' : Book) (places : PlaceCh
   abbrev ending : Ending
   ending = record { places = places; made = made }
 
-  call : IsCall (numbers_of p.seat.table_id) p.seat.me.0 t.log b b' ending p.notes.items p.spare
+  call : IsCall (numbers_of p.seat.table_id) p.seat.me.0 t.log b b' ending p.notes.items p.spare p.taken
   call = record {
     has = t.has;
     some_shares = omega (arith, t.seated.knows.shared);
@@ -81,12 +81,12 @@ module _ (p : Pass) (me : Me (Option Book) View) (b b' : Book) (places : PlaceCh
   turn_ends q is =
       subst (λ (x : PlaceChange). CanEnd (record { places = x; made = made }) me.0 b') (sym is)
       (subst (λ (m : Me (Option Book) View). CanEnd ending m.0 b') (sym t.same)
-      (can_end (numbers_of p.seat.table_id) p.seat.me.0 t.log b b' ending p.notes.items p.spare less call t.room))
+      (can_end (numbers_of p.seat.table_id) p.seat.me.0 t.log b b' ending p.notes.items p.spare p.taken less call t.room))
 
   -- there are few events then
   pub turn_few : b'.events < 2 ^ 40
   turn_few =
-      let k = known_after (numbers_of p.seat.table_id) p.seat.me.0 t.log b b' ending p.notes.items p.spare less call t.room in
+      let k = known_after (numbers_of p.seat.table_id) p.seat.me.0 t.log b b' ending p.notes.items p.spare p.taken less call t.room p.taken in
       omega (arith, k.few, t.book.events)
 
 -- the desk after the turn
@@ -113,15 +113,15 @@ module _ (p : Pass) (me : Me (Option Book) View) (b b' : Book) (places q : Place
   notes_then : new.notes.items ≡ noted p.notes.items (length t.log) made
   notes_then = a.notes ∙ ap (λ (n : ℕ). noted p.notes.items n made) t.has.book.events
 
-  pub sight_then : sight_at new ≡ behind (numbers_of p.seat.table_id) p.seat.me.0 t.log b b' made p.notes.items less t.has places
+  pub sight_then : sight_at new ≡ behind (numbers_of p.seat.table_id) p.seat.me.0 t.log b b' made p.notes.items less t.has new.taken places
   sight_then =
-      ap (λ tr. pass_sight (numbers_of tr) new.seat.me.0 new.notes.items new.spare) a.table
-      ∙ ap (λ (m : Me (Option Book) View). pass_sight (numbers_of p.seat.table_id) m.0 new.notes.items new.spare) knows_then
-      ∙ ap (λ ns. pass_sight (numbers_of p.seat.table_id) (ended end_of (turned p.seat.me.0 t.log b)) ns new.spare) notes_then
-      ∙ ap (λ (k : ℕ). pass_sight (numbers_of p.seat.table_id) (ended end_of (turned p.seat.me.0 t.log b)) (noted p.notes.items (length t.log) made) k) a.spare
+      ap (λ tr. pass_sight (numbers_of tr) new.seat.me.0 new.notes.items new.spare new.taken) a.table
+      ∙ ap (λ (m : Me (Option Book) View). pass_sight (numbers_of p.seat.table_id) m.0 new.notes.items new.spare new.taken) knows_then
+      ∙ ap (λ ns. pass_sight (numbers_of p.seat.table_id) (ended end_of (turned p.seat.me.0 t.log b)) ns new.spare new.taken) notes_then
+      ∙ ap (λ (k : ℕ). pass_sight (numbers_of p.seat.table_id) (ended end_of (turned p.seat.me.0 t.log b)) (noted p.notes.items (length t.log) made) k new.taken) a.spare
 
-  pub sight_first : before (numbers_of p.seat.table_id) p.seat.me.0 t.log b b' made p.notes.items less t.has ≡ sight_at p
-  sight_first = ap (λ (k : ℕ). pass_sight (numbers_of p.seat.table_id) p.seat.me.0 p.notes.items k) (sym t.room)
+  pub sight_first : before (numbers_of p.seat.table_id) p.seat.me.0 t.log b b' made p.notes.items less t.has p.taken ≡ sight_at p
+  sight_first = ap (λ (k : ℕ). pass_sight (numbers_of p.seat.table_id) p.seat.me.0 p.notes.items k p.taken) (sym t.room)
 
   -- the desk is right after it
   pub seated_then : IsSeated new
@@ -142,25 +142,26 @@ module _ (p : Pass) (me : Me (Option Book) View) (b b' : Book) (places q : Place
           longer p.notes.items b.events made p.spare less t.room,
         );
         knows = subst IsKnown (sym sight_then)
-            (known_after (numbers_of p.seat.table_id) p.seat.me.0 t.log b b' end_of p.notes.items p.spare less
-            (call p me b b' places made less t) t.room);
+            (known_after (numbers_of p.seat.table_id) p.seat.me.0 t.log b b' end_of p.notes.items p.spare p.taken less
+            (call p me b b' places made less t) t.room new.taken);
       }
 
-  -- what is told of the pass is told of the desk
-  pub told : (Says : Sight → Sight → Type 0)
-      → Says (before (numbers_of p.seat.table_id) p.seat.me.0 t.log b b' made p.notes.items less t.has)
-      (behind (numbers_of p.seat.table_id) p.seat.me.0 t.log b b' made p.notes.items less t.has places)
+  -- what is told of the pass is told of the desk, which took a place so many times
+  pub told : (taken : ℕ) → new.taken ≡ taken → (Says : Sight → Sight → Type 0)
+      → Says (before (numbers_of p.seat.table_id) p.seat.me.0 t.log b b' made p.notes.items less t.has p.taken)
+      (behind (numbers_of p.seat.table_id) p.seat.me.0 t.log b b' made p.notes.items less t.has taken places)
       → Says (sight_at p) (sight_at new)
-  told Says says =
+  told taken is Says says =
       subst (Says (sight_at p)) (sym sight_then)
-      (subst (λ (s : Sight). Says s (behind (numbers_of p.seat.table_id) p.seat.me.0 t.log b b' made p.notes.items less t.has places)) sight_first says)
+      (subst (λ (k : ℕ). Says (sight_at p) (behind (numbers_of p.seat.table_id) p.seat.me.0 t.log b b' made p.notes.items less t.has k places)) (sym is)
+      (subst (λ (s : Sight). Says s (behind (numbers_of p.seat.table_id) p.seat.me.0 t.log b b' made p.notes.items less t.has taken places)) sight_first says))
 
   -- what the pass keeps then is among what the book has then
   pub held_then : Among (held_after places p.seat.me.0.held) b'.holds.items
-  held_then = held_among (numbers_of p.seat.table_id) p.seat.me.0 t.log b b' end_of p.notes.items p.spare less (call p me b b' places made less t) t.room
+  held_then = held_among (numbers_of p.seat.table_id) p.seat.me.0 t.log b b' end_of p.notes.items p.spare p.taken less (call p me b b' places made less t) t.room
 
   pub owed_then : Among (owed_after places p.seat.me.0.owed) b'.owed.items
-  owed_then = owed_among (numbers_of p.seat.table_id) p.seat.me.0 t.log b b' end_of p.notes.items p.spare less (call p me b b' places made less t) t.room
+  owed_then = owed_among (numbers_of p.seat.table_id) p.seat.me.0 t.log b b' end_of p.notes.items p.spare p.taken less (call p me b b' places made less t) t.room
 
 -- an answer that adds a reference has room for it
 pub can_find : (o : FindOutcome) (held : List Hold) (owed : List ℕ) → length held + length owed ≤ 3 → CanChange (found_change o) held owed

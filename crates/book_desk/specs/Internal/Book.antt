@@ -2,8 +2,10 @@
 use Rattle.std.specs.Prelude.{◌≡◌, ℕ, ◌+◌, ◌<◌, ◌≤◌, Option, Some, None, List, [], slice_get}
 use Rattle.history_book.specs.declared.event.Event.{Event}
 use Rattle.history_book.specs.declared.find.FoundAt.{FoundAt}
+use Rattle.history_book.specs.declared.outcome.TakeOutcome.{TakeOutcome}
+use Rattle.history_book.specs.declared.outcome.TakeOutcome.TheVariants as take
 use Rattle.history_book.specs.declared.record.Record.{Record}
-use Rattle.history_book.specs.Sight.{Sight, notes_from}
+use Rattle.history_book.specs.Sight.{Sight, notes_from, risen}
 use Rattle.history_book.specs.State.{State, winner}
 use Rattle.tuple_core.specs.declared.Tuple.{Tuple}
 use Rattle.book_desk.specs.declared.book.Book.{Book}
@@ -28,9 +30,9 @@ pub record WinsAt (original reply : Tuple) (s : State) (found : FoundAt) : Type 
   pub wins : winner original reply s ≡ Some (record { subject = subject; direction = found.direction })
 
 -- What one pass would know that kept all references and owed all places, and made all events: these, which led to the
--- fields. It has room for so many further ones.
-abbrev pub sight_in : List Event → ℕ → Book → Sight
-sight_in log spare b = record {
+-- fields. It has room for so many further ones, and took a place so many times.
+abbrev pub sight_in : List Event → ℕ → ℕ → Book → Sight
+sight_in log spare taken b = record {
   front = log;
   own = notes_from 0 log;
   held = b.holds.items;
@@ -41,7 +43,17 @@ sight_in log spare b = record {
   shares = 1;
   returned = 0;
   gathered = [];
+  taken = taken;
 }
+
+-- how many times a place was taken once a call that takes one gave this answer
+abbrev pub taken_then : TakeOutcome → ℕ → ℕ
+taken_then (take.Taken place) taken = risen taken
+taken_then (take.Full at) taken = taken
+
+-- what is known once this answer is counted
+abbrev pub counted : TakeOutcome → Sight → Sight
+counted outcome s = record s { taken = taken_then outcome s.taken }
 
 -- some events led to them, of which this holds
 abbrev pub IsSomeBook : (List Event → Type 0) → Book → Type 0
@@ -56,11 +68,11 @@ spare_before spare (Some e) = spare + 1
 abbrev pub StaysBook : Book → Book → Option Event → Type 0
 StaysBook old new made = (log : List Event) → IsBook log old → IsBook (with_made log made) new
 
--- and one pass that kept everything would be told this
+-- and one pass that kept everything would be told this, however often it took a place
 abbrev pub Tells : Book → Book → Option Event → (Sight → Sight → Type 0) → Type 0
 Tells old new made Says =
-    (log : List Event) (spare : ℕ) → IsBook log old
-    → Says (sight_in log (spare_before spare made) old) (sight_in (with_made log made) spare new)
+    (log : List Event) (spare taken : ℕ) → IsBook log old
+    → Says (sight_in log (spare_before spare made) taken old) (sight_in (with_made log made) spare taken new)
 
 -- no place but those below n is among the places, and each of those once
 pub record AreBelow (n from : ℕ) (places : List ℕ) : Type 0 where

@@ -12,8 +12,8 @@ abbrev pub events_of : List Note → List Event
 events_of notes = map (λ (n : Note). n.event) notes
 
 -- what the desk knows: it is the one pass of its tracker, which stands on no table
-abbrev pub plain_sight : Book → List Note → ℕ → Sight
-plain_sight b notes spare = record {
+abbrev pub plain_sight : Book → List Note → ℕ → ℕ → Sight
+plain_sight b notes spare taken = record {
   front = events_of notes;
   own = notes;
   held = b.holds.items;
@@ -24,6 +24,7 @@ plain_sight b notes spare = record {
   shares = 1;
   returned = 0;
   gathered = [];
+  taken = taken;
 }
 
 -- the notes are all events so far, with their numbers, and led to the book of one pass; there is room for as many further

@@ -11,9 +11,9 @@ use Rattle.book_desk.specs.Turn.Rule.{IsTable}
 abbrev pub numbers_of : TableId → List ℕ
 numbers_of t = t.words ∷ t.slots ∷ t.views_name ∷ t.atom ∷ t.block ∷ t.offset ∷ t.slot_names
 
--- what a pass knows, with these own events and room for so many further ones
-abbrev pub pass_sight : List ℕ → View → List Note → ℕ → Sight
-pass_sight tracker v notes spare = record {
+-- what a pass knows, with these own events and room for so many further ones, which took a place so many times
+abbrev pub pass_sight : List ℕ → View → List Note → ℕ → ℕ → Sight
+pass_sight tracker v notes spare taken = record {
   front = v.front;
   own = notes;
   held = v.held;
@@ -24,11 +24,12 @@ pass_sight tracker v notes spare = record {
   shares = v.shares;
   returned = v.returned;
   gathered = v.gathered;
+  taken = taken;
 }
 
 -- what it knows by its fields
 abbrev pub sight_at : Pass → Sight
-sight_at p = pass_sight (numbers_of p.seat.table_id) p.seat.me.0 p.notes.items p.spare
+sight_at p = pass_sight (numbers_of p.seat.table_id) p.seat.me.0 p.notes.items p.spare p.taken
 
 -- the pass is at a shared book, without the turn; the notes are its own events, and there is room for further ones
 pub record IsSeated (p : Pass) : Type 0 where

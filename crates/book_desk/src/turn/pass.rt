@@ -5,7 +5,7 @@ use history_book::report::Notes;
 use history_book::sizes::Sizes;
 use std::alloc::Global;
 
-/// A pass's place at the shared book, and its own events.
+/// A pass's place at the shared book, its own events, and what it counts.
 #[derive(Drop)]
 pub struct Pass {
     pub alloc: Global,
@@ -14,4 +14,6 @@ pub struct Pass {
     pub notes: Notes,
     /// For how many further events there is room.
     pub spare: u64,
+    /// How many times it took a place.
+    pub taken: u64,
 }

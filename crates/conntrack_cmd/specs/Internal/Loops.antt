@@ -41,9 +41,10 @@ pub record IsListing (filter : Filter) (old now : Sight) (count : ℕ) (rows : L
   pub empty : HoldsNothing now
   pub known : IsKnown now
 
--- the desk went on by these events
+-- the desk went on by these events, and took no place
 pub record MadeNotes (old now : Sight) (notes : List Note) : Type 0 where
   pub went : WentOn old now notes
+  pub taken : now.taken ≡ old.taken
   pub happened : AllByRecursion (λ n. Happened now.front (length old.front) n × (n.number < length now.front)) notes
 
 -- so many places were looked at; the entries of these rows were destroyed, and none is left for which the reason held

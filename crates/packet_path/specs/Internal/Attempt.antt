@@ -21,7 +21,7 @@ use Rattle.history_book.specs.WentOn.{Saw, WentOn}
 use Rattle.history_book.specs.Mark.{mark_past}
 use Rattle.history_book.specs.Places.{HoldsNothing, HoldsOne}
 use Rattle.history_book.specs.Point.{At}
-use Rattle.history_book.specs.Sight.{IsKnown, Sight}
+use Rattle.history_book.specs.Sight.{IsKnown, Sight, risen}
 use Rattle.packet_headers.specs.ClassifySound.{protocol_of}
 use Rattle.packet_path.specs.declared.attempt.Attempt.{Attempt}
 use Rattle.packet_path.specs.declared.attempt.Attempt.TheVariants.{Done, Killed, Again}
@@ -33,6 +33,7 @@ use Rattle.packet_path.specs.declared.payload.Wanted.{Wanted}
 use Rattle.packet_path.specs.declared.payload.Wanted.TheVariants.{Nothing, Foreign, End}
 use Rattle.packet_path.specs.FtpPart.{Asks, NamesNone, FtpFits}
 use Rattle.history_book.specs.Mark.{ftp_points, points_of}
+use Rattle.packet_path.specs.Taken.{taken_by}
 use Rattle.packet_path.specs.Verdict.{FitsFrame, Kills, KillsAll}
 
 -- the tuple is valid and of the segment's protocol, and the moment is one that a capture can name
@@ -116,7 +117,17 @@ AttemptSays setup old new packet killed from (Done answer) = Answers setup old n
 AttemptSays setup old new packet killed from Killed = KilledOne old new packet killed from
 AttemptSays setup old new packet killed from Again = Saw old new
 
--- what was done with a packet so far: so many kills, and nothing is held
+-- how often a desk took a place after an attempt
+abbrev pub taken_in : Attempt → ℕ → ℕ
+taken_in (Done answer) taken = taken_by answer taken
+taken_in Killed taken = taken
+taken_in Again taken = taken
+
+-- the class is that of a packet that took a place
+abbrev pub TookOne : Class → Type 0
+TookOne answer = (taken : ℕ) → taken_by answer taken ≡ risen taken
+
+-- what was done with a packet so far: so many kills; no place was taken, and nothing is held
 pub record IsKilling (old now : Sight) (packet : FlowPacket) (killed : ℕ) : Type 0 where
   pub kills : List Note
   pub went : WentOn old now kills
@@ -125,5 +136,6 @@ pub record IsKilling (old now : Sight) (packet : FlowPacket) (killed : ℕ) : Ty
   pub all : KillsAll now.front (length old.front) packet kills
   pub mark : mark_past (length old.front) kills ≤ length now.front
   pub spare : old.spare ≤ now.spare + killed
+  pub taken : now.taken ≡ old.taken
   pub empty : HoldsNothing now
   pub known : IsKnown now

@@ -14,5 +14,5 @@ returns-in-Error-clause-handled g c =
     let verdict : Verdict = record { class = c.error_class-class.result; first = c.made-first.result; made = 0 } in
     subst (λ (p : Packet). Handled c.args.setup.now (given_by c.args.bytes.now p c.args.moment) s new verdict) (sym c.in-Error.is)
     (handled_silent c.args.setup.now s new (record { packet = Error c.in-Error.inner c.in-Error.outer_destination; moment = c.args.moment; payload = [] }) verdict
-    c.error_class-class.ensures.saw c.error_class-class.ensures.empty c.made-first.ensures.exact refl
+    c.error_class-class.ensures.saw c.error_class-class.ensures.empty c.error_class-class.ensures.taken c.made-first.ensures.exact refl
     (c.error_class-class.ensures.fits c.args.setup.now c.args.moment) c.error_class-class.ensures.points)

@@ -10,6 +10,6 @@ returns-clause-stays c log h =
     c.end_expectation.ensures.holds c.end_expectation.ensures.expects
 
 pub returns-clause-says : goal.returns-clause-says
-returns-clause-says c log spare h =
-    made_alone log spare c.args.self.now c.end_expectation.new.self c.args.self.now.events
+returns-clause-says c log spare taken h =
+    made_alone log spare taken c.args.self.now c.end_expectation.new.self c.args.self.now.events
     (Claim c.in-Some.met.id c.in-Some.met.master c.args.t.now c.args.moment) h refl c.end_expectation.ensures.adds c.end_expectation.ensures.holds

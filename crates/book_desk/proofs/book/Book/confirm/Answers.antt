@@ -11,12 +11,12 @@ use Rattle.book_desk.proofs.Histories.{looked, made}
 use Rattle.book_desk.proofs.book.Book.confirm.Goals as goal
 
 pub returns-in-Some-clause-says : goal.returns-in-Some-clause-says
-returns-in-Some-clause-says c log spare h =
+returns-in-Some-clause-says c log spare taken h =
     let b = c.args.self.now in
     let flow = c.args.flow.now in
     let wins : WinsAt flow.original flow.reply (state_of b.records.items) c.in-Some.found =
     subst (λ rs. WinsAt flow.original flow.reply (state_of rs) c.in-Some.found) c.as_slice-records.ensures c.in-Some.ensures.wins in (
-      looked log spare b b b.events (IsClash c.args.place flow c.at-subject.result.now.id c.in-Some.found.direction c.is_same_flow.result)
+      looked log spare taken b b b.events (IsClash c.args.place flow c.at-subject.result.now.id c.in-Some.found.direction c.is_same_flow.result)
           h refl refl
           (record {
             winner = winner_is b flow c.in-Some.found c.at-subject.result.now c.is_same_flow.result wins c.at-subject.ensures c.is_same_flow.ensures;
@@ -40,12 +40,12 @@ returns-clause-stays c log h =
     c.enter-event.ensures.records c.enter-event.ensures.holds c.enter-event.ensures.expects)
 
 pub returns-clause-says : goal.returns-clause-says
-returns-clause-says c log spare h =
+returns-clause-says c log spare taken h =
     let b = c.args.self.now in
     let adds = c.enter-event.ensures.adds in
-    subst (λ (e : Event). Confirms c.args.place c.args.flow.now (sight_in log (spare + 1) b) (sight_in (log ++ e ∷ []) spare c.enter-event.new.self) b.events)
+    subst (λ (e : Event). Confirms c.args.place c.args.flow.now (sight_in log (spare + 1) taken b) (sight_in (log ++ e ∷ []) spare taken c.enter-event.new.self) b.events)
     (sym c.enter-event.ensures.event) (record {
-      made = made log spare b c.enter-event.new.self b.events (Confirm (record_for c.args.flow.now b.events c.args.place)) h refl adds.sizes;
+      made = made log spare taken b c.enter-event.new.self b.events (Confirm (record_for c.args.flow.now b.events c.args.place)) h refl adds.sizes;
       held = c.enter-event.ensures.holds;
       owed = ap (λ os. os.items) adds.owed;
     })

@@ -32,32 +32,32 @@ returns-in-Added-clause-stays c log h =
     (sym c.outcome.ensures ∙ c.in-Added.is) c.promise.ensures.records c.promise.ensures.holds c.promise.ensures.expects
 
 pub returns-in-Added-clause-says : goal.returns-in-Added-clause-says
-returns-in-Added-clause-says c log spare h =
+returns-in-Added-clause-says c log spare taken h =
     let b = c.args.self.now in
     let can : CanExpect b c.args.place c.held_id-id.result =
     can_expect c.entries_keep_their_helper.ensures c.requires.right.0 b c.as_slice.result.now c.as_slice-2.result.now c.args.place c.held_id-id.result c.in-Some.field-0
     c.requires.right.1 c.as_slice.ensures c.as_slice-2.ensures c.held_id-id.ensures c.in-Some.ensures.found c.requires.right.2 in
     let made : Event = Expect c.expectation_at-e.result c.in-Added.replaced c.args.moment in
     subst (λ (x : Expectation).
-    MadeEvent (sight_in log (spare + 1) b) (sight_in (log ++ made ∷ []) spare c.promise.new.self) b.events (Expect x c.in-Added.replaced c.args.moment)
-    × SamePlaces (sight_in log (spare + 1) b) (sight_in (log ++ made ∷ []) spare c.promise.new.self))
+    MadeEvent (sight_in log (spare + 1) taken b) (sight_in (log ++ made ∷ []) spare taken c.promise.new.self) b.events (Expect x c.in-Added.replaced c.args.moment)
+    × SamePlaces (sight_in log (spare + 1) taken b) (sight_in (log ++ made ∷ []) spare taken c.promise.new.self))
     (c.expectation_at-e.ensures ∙ ap (λ (m : ℕ). expectation_at b.events m c.args.want c.args.moment) can.given)
-    (made_alone log spare b c.promise.new.self b.events made h refl c.promise.ensures.adds c.promise.ensures.holds)
+    (made_alone log spare taken b c.promise.new.self b.events made h refl c.promise.ensures.adds c.promise.ensures.holds)
 
 pub returns-in-Clash-clause-says : goal.returns-in-Clash-clause-says
-returns-in-Clash-clause-says c log spare h =
+returns-in-Clash-clause-says c log spare taken h =
     let b = c.args.self.now in
     let can : CanExpect b c.args.place c.held_id-id.result =
     can_expect c.entries_keep_their_helper.ensures c.requires.right.0 b c.as_slice.result.now c.as_slice-2.result.now c.args.place c.held_id-id.result c.in-Some.field-0
     c.requires.right.1 c.as_slice.ensures c.as_slice-2.ensures c.held_id-id.ensures c.in-Some.ensures.found c.requires.right.2 in
-    not_added log spare b c.args.place b.events c.held_id-id.result c.args.want c.args.moment c.expectation_at-e.result
+    not_added log spare taken b c.args.place b.events c.held_id-id.result c.args.want c.args.moment c.expectation_at-e.result
     (Clash c.in-Clash.id) h refl can c.expectation_at-e.ensures (sym c.outcome.ensures ∙ c.in-Clash.is)
 
 pub returns-in-Full-clause-says : goal.returns-in-Full-clause-says
-returns-in-Full-clause-says c log spare h =
+returns-in-Full-clause-says c log spare taken h =
     let b = c.args.self.now in
     let can : CanExpect b c.args.place c.held_id-id.result =
     can_expect c.entries_keep_their_helper.ensures c.requires.right.0 b c.as_slice.result.now c.as_slice-2.result.now c.args.place c.held_id-id.result c.in-Some.field-0
     c.requires.right.1 c.as_slice.ensures c.as_slice-2.ensures c.held_id-id.ensures c.in-Some.ensures.found c.requires.right.2 in
-    not_added log spare b c.args.place b.events c.held_id-id.result c.args.want c.args.moment c.expectation_at-e.result
+    not_added log spare taken b c.args.place b.events c.held_id-id.result c.args.want c.args.moment c.expectation_at-e.result
     Full h refl can c.expectation_at-e.ensures (sym c.outcome.ensures ∙ c.in-Full.is)

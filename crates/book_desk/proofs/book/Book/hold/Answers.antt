@@ -14,11 +14,11 @@ use Rattle.book_desk.proofs.Steps.{book_hold, live_in}
 use Rattle.book_desk.proofs.book.Book.hold.Goals as goal
 
 pub returns-in_default-clause-says : goal.returns-in_default-clause-says
-returns-in_default-clause-says c log spare h =
+returns-in_default-clause-says c log spare taken h =
     let b = c.args.self.now in
     let none : position (has_place c.args.place) b.records.items ≡ None =
     ap (position (has_place c.args.place)) (sym c.as_slice.ensures) ∙ sym c.place_index.ensures ∙ c.in_default.is in (
-      looked log spare b b b.events (λ s. is_unused c.args.place s ≡ true) h refl refl
+      looked log spare taken b b b.events (λ s. is_unused c.args.place s ≡ true) h refl refl
           (ap not (none_at (has_place c.args.place) b.records.items none)),
       record { held = refl; owed = refl },
     )
@@ -31,7 +31,7 @@ returns-clause-stays c log h =
     c.hold_record-subject.ensures.room)
 
 pub returns-clause-says : goal.returns-clause-says
-returns-clause-says c log spare h =
+returns-clause-says c log spare taken h =
     let b : Book = c.args.self.now in
     let new : Book = c.hold_record-subject.new.self in
     let subject : Record = c.hold_record-subject.result in
@@ -41,8 +41,8 @@ returns-clause-says c log spare h =
     let live : IsLiveIn c.args.place subject.id (state_in b) =
     live_in c.records_are_apart.ensures c.ids_name_records.ensures log b c.args.place c.in-Some.index subject h found
     c.hold_record-subject.ensures.subject in (
-      looked log spare b new b.events (IsLiveIn c.args.place subject.id) h refl (ap (λ (x : Book). x.sizes) rest) live,
-      subst (λ (p : ℕ). HoldsOneMore (sight_in log spare b) (sight_in log spare new) p (Some subject.id))
+      looked log spare taken b new b.events (IsLiveIn c.args.place subject.id) h refl (ap (λ (x : Book). x.sizes) rest) live,
+      subst (λ (p : ℕ). HoldsOneMore (sight_in log spare taken b) (sight_in log spare taken new) p (Some subject.id))
           (eqb-true subject.place c.args.place (passes_at (has_place c.args.place) b.records.items c.in-Some.index subject found
           c.hold_record-subject.ensures.subject))
           (record { held = c.hold_record-subject.ensures.holds; owed = ap (λ (x : Book). x.owed.items) rest }),

@@ -22,14 +22,14 @@ returns-clause-stays c log h =
     reason c.destroy.ensures.records c.destroy.ensures.holds c.destroy.ensures.expects
 
 pub returns-clause-says : goal.returns-clause-says
-returns-clause-says c log spare h =
+returns-clause-says c log spare taken h =
     let b = c.args.self.now in
     let its : IsEntryOf b c.args.place c.held_id-id.result c.at.result.now =
     entry_of b c.as_slice.result.now c.as_slice-2.result.now c.args.place c.held_id-id.result c.in-Some.index c.at.result.now
     c.as_slice.ensures c.as_slice-2.ensures c.held_id-id.ensures c.in-Some.ensures.found c.at.ensures in
     let reason : is_reason c.args.why c.at.result.now ≡ true = search rules in
     let e : Event = Destroy c.at.result.now.id c.args.why in
-    subst (λ (k : ℕ). Destroys k c.args.why (sight_in log (spare + 1) b) (sight_in (log ++ e ∷ []) spare c.destroy.new.self)
+    subst (λ (k : ℕ). Destroys k c.args.why (sight_in log (spare + 1) taken b) (sight_in (log ++ e ∷ []) spare taken c.destroy.new.self)
     b.events c.at.result.now) (its.named ∙ its.given)
-    (destroys c.states_stay.ensures c.records_are_apart.ensures c.ids_name_records.ensures log spare b c.destroy.new.self c.in-Some.index
+    (destroys c.states_stay.ensures c.records_are_apart.ensures c.ids_name_records.ensures log spare taken b c.destroy.new.self c.in-Some.index
     c.at.result.now c.args.why h c.destroy.ensures.adds c.at.ensures reason c.destroy.ensures.holds)

@@ -12,12 +12,12 @@ returns-clause-stays c log h =
     c.push.ensures.items c.push.ensures.room
 
 pub returns-clause-says : goal.returns-clause-says
-returns-clause-says c log spare h =
+returns-clause-says c log spare taken h =
     let b = c.args.self.now in
     let new = record b { free = c.push.new.self; owed = c.pay.new.owed } in
     record {
-      saw = saw log spare b new refl;
+      saw = saw log spare taken b new refl;
       held = refl;
       owed = c.pay.ensures.items;
-      alone = λ one. recycled log spare b new c.args.place h (returns-clause-stays c log h) c.requires.owed refl refl c.pay.ensures.items;
+      alone = λ one. recycled log spare taken b new c.args.place h (returns-clause-stays c log h) c.requires.owed refl refl c.pay.ensures.items;
     }

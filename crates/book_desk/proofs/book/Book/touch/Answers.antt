@@ -34,14 +34,14 @@ returns-in-Accept-clause-stays c log h =
     (sym c.step.ensures ∙ c.in-Accept.is) c.refresh.ensures.records c.refresh.ensures.holds c.refresh.ensures.expects
 
 pub returns-in-Accept-clause-says : goal.returns-in-Accept-clause-says
-returns-in-Accept-clause-says c log spare h =
+returns-in-Accept-clause-says c log spare taken h =
     let b = c.args.self.now in
     let its : IsEntryOf b c.args.place c.held_id-id.result c.at.result.now =
     entry_of b c.as_slice.result.now c.as_slice-2.result.now c.args.place c.held_id-id.result c.in-Some.index c.at.result.now
     c.as_slice.ensures c.as_slice-2.ensures c.held_id-id.ensures c.in-Some.ensures.found c.at.ensures in
     let e : Event = Touch c.at.result.now.id c.args.direction c.args.segment c.args.moment c.in-Accept.after in
     subst (λ (k : ℕ). Touches k c.args.direction c.args.segment c.args.moment
-    (sight_in log (spare + 1) b) (sight_in (log ++ e ∷ []) spare c.refresh.new.self) b.events c.at.result.now) (its.named ∙ its.given)
-    (touches c.states_stay.ensures c.records_are_apart.ensures c.ids_name_records.ensures log spare b c.refresh.new.self c.in-Some.index
+    (sight_in log (spare + 1) taken b) (sight_in (log ++ e ∷ []) spare taken c.refresh.new.self) b.events c.at.result.now) (its.named ∙ its.given)
+    (touches c.states_stay.ensures c.records_are_apart.ensures c.ids_name_records.ensures log spare taken b c.refresh.new.self c.in-Some.index
     c.at.result.now c.args.direction c.args.segment c.args.moment c.in-Accept.after h c.refresh.ensures.adds c.at.ensures
     (sym c.step.ensures ∙ c.in-Accept.is) c.refresh.ensures.holds)

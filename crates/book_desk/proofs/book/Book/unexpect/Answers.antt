@@ -11,6 +11,6 @@ returns-clause-stays c log h =
     c.end_expectation.ensures.expects
 
 pub returns-clause-says : goal.returns-clause-says
-returns-clause-says c log spare h =
-    made_alone log spare c.args.self.now c.end_expectation.new.self c.args.self.now.events (Unexpect c.args.id c.args.moment) h refl
+returns-clause-says c log spare taken h =
+    made_alone log spare taken c.args.self.now c.end_expectation.new.self c.args.self.now.events (Unexpect c.args.id c.args.moment) h refl
     c.end_expectation.ensures.adds c.end_expectation.ensures.holds

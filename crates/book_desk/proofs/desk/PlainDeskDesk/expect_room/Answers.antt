@@ -2,4 +2,4 @@ use Rattle.book_desk.proofs.Plain.{known}
 use Rattle.book_desk.proofs.desk.PlainDeskDesk.expect_room.Goals as goal
 
 pub returns-clause-knows : goal.returns-clause-knows
-returns-clause-knows c = rw (← c.self.view_is) (known _ _ _ c.self.invariant)
+returns-clause-knows c = rw (← c.self.view_is) (known _ _ _ _ c.self.invariant)

@@ -13,8 +13,8 @@ pub returns-clause-says : goal.returns-clause-says
 returns-clause-says g c =
     let d = c.self.inside in
     let same : IsNoted d.book d.notes d.notes d.spare d.spare None = record { items = refl; room = refl; less = refl } in
-    rw (← c.self.view_is) (plain_says (λ old new. HoldSays c.args.place old new c.hold.result) d.book c.hold.new.self d.notes d.notes d.spare d.spare None
+    rw (← c.self.view_is) (plain_says (λ old new. HoldSays c.args.place old new c.hold.result) d.book c.hold.new.self d.notes d.notes d.spare d.spare d.taken None
     c.self.invariant (invariant_of-self g c) same c.hold.ensures.says)
 
 pub returns-clause-knows : goal.returns-clause-knows
-returns-clause-knows g c = known _ _ _ (invariant_of-self g c)
+returns-clause-knows g c = known _ _ _ _ (invariant_of-self g c)

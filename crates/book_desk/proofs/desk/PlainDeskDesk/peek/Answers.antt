@@ -7,8 +7,8 @@ pub returns-clause-says : goal.returns-clause-says
 returns-clause-says g c =
     let d = c.self.inside in
     let same : IsNoted d.book d.notes d.notes d.spare d.spare None = record { items = refl; room = refl; less = refl } in
-    rw (← c.self.view_is) (plain_says (λ old new. PeekSays c.args.place old new c.peek.result) d.book d.book d.notes d.notes d.spare d.spare None
+    rw (← c.self.view_is) (plain_says (λ old new. PeekSays c.args.place old new c.peek.result) d.book d.book d.notes d.notes d.spare d.spare d.taken None
     c.self.invariant c.self.invariant same c.peek.ensures.says)
 
 pub returns-clause-knows : goal.returns-clause-knows
-returns-clause-knows g c = rw (← c.self.view_is) (known _ _ _ c.self.invariant)
+returns-clause-knows g c = rw (← c.self.view_is) (known _ _ _ _ c.self.invariant)

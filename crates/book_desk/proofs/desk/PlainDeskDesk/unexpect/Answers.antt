@@ -14,7 +14,7 @@ returns-clause-says g c =
     let noted : IsNoted d.book d.notes c.note.new.notes d.spare c.note.new.spare c.unexpect-outcome.result.1 =
     record { items = c.note.ensures.items; room = c.note.ensures.room; less = c.note.ensures.spare } in
     rw (← c.self.view_is) (plain_says (λ old new. UnexpectSays c.args.id c.args.moment old new c.unexpect-outcome.result.0) d.book c.unexpect-outcome.new.self
-    d.notes c.note.new.notes d.spare c.note.new.spare c.unexpect-outcome.result.1 c.self.invariant (invariant_of-self g c) noted c.unexpect-outcome.ensures.says)
+    d.notes c.note.new.notes d.spare c.note.new.spare d.taken c.unexpect-outcome.result.1 c.self.invariant (invariant_of-self g c) noted c.unexpect-outcome.ensures.says)
 
 pub returns-clause-knows : goal.returns-clause-knows
-returns-clause-knows g c = known _ _ _ (invariant_of-self g c)
+returns-clause-knows g c = known _ _ _ _ (invariant_of-self g c)

@@ -37,7 +37,7 @@ returns-clause-says g c =
     let new : Pass = record p { seat = c.end_turn.new.seat; notes = c.note.new.notes; spare = c.note.new.spare } in
     let a : IsAfter p c.take_turn-book.new.seat.me c.take_turn-book.result Same Same c.claim-outcome.result.1 c.note.new.spare new =
     record { change = refl; table = c.end_turn.ensures.table ∙ c.take_turn-book.ensures.table; ended = c.end_turn.ensures.ended; sizes = refl; notes = c.note.ensures.items; room = c.note.ensures.room; spare = refl } in
-    rw (← c.self.view_is) (claim_told p c.take_turn-book.new.seat.me c.take_turn-book.result c.claim-outcome.new.self Same c.claim-outcome.result.1 c.note.new.spare c.args.t.now c.args.moment c.claim-outcome.result.0 new t a c.claim-outcome.ensures.says)
+    rw (← c.self.view_is) (claim_told p c.take_turn-book.new.seat.me c.take_turn-book.result c.claim-outcome.new.self Same c.claim-outcome.result.1 c.note.new.spare c.args.t.now c.args.moment c.claim-outcome.result.0 new t a refl c.claim-outcome.ensures.says)
 
 pub returns-clause-knows : goal.returns-clause-knows
 returns-clause-knows g c = (invariant_of-self g c).1.knows

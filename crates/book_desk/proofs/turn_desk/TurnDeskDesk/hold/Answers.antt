@@ -38,7 +38,7 @@ returns-clause-says g c =
     let new : Pass = record p { seat = c.end_turn.new.seat } in
     let a : IsAfter p c.take_turn-book.new.seat.me c.take_turn-book.result (held_change c.args.place c.hold-outcome.result) c.held_change.result None p.spare new =
     record { change = c.held_change.ensures; table = c.end_turn.ensures.table ∙ c.take_turn-book.ensures.table; ended = c.end_turn.ensures.ended; sizes = refl; notes = refl; room = refl; spare = refl } in
-    rw (← c.self.view_is) (hold_told p c.take_turn-book.new.seat.me c.take_turn-book.result c.hold-outcome.new.self c.held_change.result c.args.place c.hold-outcome.result new t a c.hold-outcome.ensures.says)
+    rw (← c.self.view_is) (hold_told p c.take_turn-book.new.seat.me c.take_turn-book.result c.hold-outcome.new.self c.held_change.result c.args.place c.hold-outcome.result new t a refl c.hold-outcome.ensures.says)
 
 pub returns-clause-knows : goal.returns-clause-knows
 returns-clause-knows g c = (invariant_of-self g c).1.knows

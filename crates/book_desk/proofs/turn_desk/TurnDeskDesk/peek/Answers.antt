@@ -40,7 +40,7 @@ returns-clause-says g c =
     let new : Pass = record p { seat = c.end_turn.new.seat } in
     let a : IsAfter p c.take_turn-book.new.seat.me c.take_turn-book.result Same Same None p.spare new =
     record { change = refl; table = c.end_turn.ensures.table ∙ c.take_turn-book.ensures.table; ended = c.end_turn.ensures.ended; sizes = refl; notes = refl; room = refl; spare = refl } in
-    rw (← c.self.view_is) (peek_told p c.take_turn-book.new.seat.me c.take_turn-book.result Same c.args.place c.peek-outcome.result new t a c.peek-outcome.ensures.says (held_at_all c.args.place c.self.inside.pass.seat.me.0.held (ap (λ (s : Sight). is_held_for_entry c.args.place s.held) c.self.view_is ∙ c.requires)))
+    rw (← c.self.view_is) (peek_told p c.take_turn-book.new.seat.me c.take_turn-book.result Same c.args.place c.peek-outcome.result new t a refl c.peek-outcome.ensures.says (held_at_all c.args.place c.self.inside.pass.seat.me.0.held (ap (λ (s : Sight). is_held_for_entry c.args.place s.held) c.self.view_is ∙ c.requires)))
 
 pub returns-clause-knows : goal.returns-clause-knows
 returns-clause-knows g c = (invariant_of-self g c).1.knows

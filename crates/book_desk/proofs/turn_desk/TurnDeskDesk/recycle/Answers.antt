@@ -45,7 +45,7 @@ returns-clause-says g c =
     let new : Pass = record p { seat = c.end_turn.new.seat } in
     let a : IsAfter p c.take_turn-book.new.seat.me c.take_turn-book.result (Pays c.args.place) (Pays c.args.place) None p.spare new =
     record { change = refl; table = c.end_turn.ensures.table ∙ c.take_turn-book.ensures.table; ended = c.end_turn.ensures.ended; sizes = refl; notes = refl; room = refl; spare = refl } in
-    rw (← c.self.view_is) (recycle_told p c.take_turn-book.new.seat.me c.take_turn-book.result c.recycle.new.self (Pays c.args.place) c.args.place new t a c.recycle.ensures.says)
+    rw (← c.self.view_is) (recycle_told p c.take_turn-book.new.seat.me c.take_turn-book.result c.recycle.new.self (Pays c.args.place) c.args.place new t a refl c.recycle.ensures.says)
 
 pub returns-clause-knows : goal.returns-clause-knows
 returns-clause-knows g c = (invariant_of-self g c).1.knows

@@ -44,7 +44,7 @@ returns-clause-says g c =
     let new : Pass = record p { seat = c.end_turn.new.seat } in
     let a : IsAfter p c.take_turn-book.new.seat.me c.take_turn-book.result (released_change c.args.place c.release-outcome.result) c.released_change.result None p.spare new =
     record { change = c.released_change.ensures; table = c.end_turn.ensures.table ∙ c.take_turn-book.ensures.table; ended = c.end_turn.ensures.ended; sizes = refl; notes = refl; room = refl; spare = refl } in
-    rw (← c.self.view_is) (release_told p c.take_turn-book.new.seat.me c.take_turn-book.result c.release-outcome.new.self c.released_change.result c.args.place c.release-outcome.result new t a c.release-outcome.ensures.says (ap (λ (s : Sight). is_held c.args.place s.held) c.self.view_is ∙ c.requires))
+    rw (← c.self.view_is) (release_told p c.take_turn-book.new.seat.me c.take_turn-book.result c.release-outcome.new.self c.released_change.result c.args.place c.release-outcome.result new t a refl c.release-outcome.ensures.says (ap (λ (s : Sight). is_held c.args.place s.held) c.self.view_is ∙ c.requires))
 
 pub returns-clause-knows : goal.returns-clause-knows
 returns-clause-knows g c = (invariant_of-self g c).1.knows
