@@ -34,12 +34,12 @@ use Rattle.history_book.specs.declared.outcome.TouchOutcome.{TouchOutcome}
 use Rattle.history_book.specs.declared.outcome.TouchOutcome.TheVariants as touch
 use Rattle.history_book.specs.declared.record.Flow.{Flow}
 use Rattle.history_book.specs.declared.sizes.Sizes.{Sizes}
-use Rattle.history_book.specs.Desk.{ConfirmSays, Destroys, FindSays, HoldSays, IsRecord, PeekSays, ReleaseSays, SamePlaces, TakeSays, Takes, TouchSays, Touches}
+use Rattle.history_book.specs.Desk.{ConfirmSays, Destroys, FindSays, FindsFull, HoldSays, IsRecord, PeekSays, ReleaseSays, SamePlaces, Takes, TouchSays, Touches}
 use Rattle.history_book.specs.DeskExpectations.{ExpectSays, MakesExpect, expectation_at}
 use Rattle.history_book.specs.Entry.{confirmed_by, is_helped_entry, is_of_entry}
 use Rattle.history_book.specs.Held.{held_for, held_id, is_at, is_held, is_owed, without}
 use Rattle.history_book.specs.Point.{At, StartsWith}
-use Rattle.history_book.specs.Sight.{IsKnown, Sight}
+use Rattle.history_book.specs.Sight.{IsKnown, Sight, risen}
 use Rattle.history_book.specs.Record.{has_id}
 use Rattle.history_book.specs.History.{after, is_legal, is_legal_from}
 use Rattle.history_book.specs.Laws.{EntriesKeepTheirProtocol}
@@ -238,9 +238,9 @@ has_id_of id s r h = eqb-true r.id id (found_has (has_id id) s.records r h)
 accepted : (p q : Part) → Accept p ≡ Accept q → p ≡ q
 accepted p q e = cc
 
-same_pass : (old mid new : Sight) (notes items : List Note) (spare spare' b a : ℕ) → Went old mid b a → IsSamePass mid new
-    → IsSamePass (seen_by old notes spare) (seen_by new items spare')
-same_pass old mid new notes items spare spare' b a went pass = record {
+same_pass : (taken : ℕ) (old mid new : Sight) (notes items : List Note) (spare spare' b a : ℕ) → Went old mid b a → IsSamePass mid new
+    → IsSamePass (seen_by taken old notes spare) (seen_by taken new items spare')
+same_pass taken old mid new notes items spare spare' b a went pass = record {
   tracker = refl;
   sizes = ap (λ (z : Sizes). record z { passes = 2 }) (pass.sizes ∙ went.sizes);
   shares = refl;
@@ -248,38 +248,41 @@ same_pass old mid new notes items spare spare' b a went pass = record {
   gathered = refl;
 }
 
-pub saw_went : (old mid new : Sight) (notes : List Note) (spare b a : ℕ) → Went old mid b a → Saw mid new
-    → Saw (seen_by old notes spare) (seen_by new notes spare)
-saw_went old mid new notes spare b a went saw = record {
+pub saw_went : (taken : ℕ) (old mid new : Sight) (notes : List Note) (spare b a : ℕ) → Went old mid b a → Saw mid new
+    → Saw (seen_by taken old notes spare) (seen_by taken new notes spare)
+saw_went taken old mid new notes spare b a went saw = record {
   went = record {
     front = starts_trans new.front mid.front old.front saw.went.front went.front;
     own = sym (append-nil notes);
     spare = omega arith;
-    pass = same_pass old mid new notes notes spare spare b a went saw.went.pass;
+    pass = same_pass taken old mid new notes notes spare spare b a went saw.went.pass;
   };
   spare = refl;
+  taken = refl;
 }
 
-event_went : (old mid new : Sight) (notes items : List Note) (spare spare' b a n : ℕ) (e : Event) → Went old mid b a
+event_went : (taken : ℕ) (old mid new : Sight) (notes items : List Note) (spare spare' b a n : ℕ) (e : Event) → Went old mid b a
     → MadeEvent mid new n e → items ≡ notes ++ record { number = n; event = e } ∷ [] → spare ≡ spare' + 1
-    → MadeEvent (seen_by old notes spare) (seen_by new items spare') n e
-event_went old mid new notes items spare spare' b a n e went made pushed one = record {
+    → MadeEvent (seen_by taken old notes spare) (seen_by taken new items spare') n e
+event_went taken old mid new notes items spare spare' b a n e went made pushed one = record {
   went = record {
     front = starts_trans new.front mid.front old.front made.went.front went.front;
     own = pushed;
     spare = omega (arith, one);
-    pass = same_pass old mid new notes items spare spare' b a went made.went.pass;
+    pass = same_pass taken old mid new notes items spare spare' b a went made.went.pass;
   };
   spare = one;
   low = omega (arith, made.low, starts_longer mid.front old.front went.front);
   high = made.high;
   happened = made.happened;
+  taken = refl;
 }
 
-pub take_went : (old mid new : Sight) (notes : List Note) (spare b a : ℕ) (r : TakeOutcome) → Went old mid b a
-    → old.sizes.passes ≡ 1 → TakeSays mid new r → TakeSays (seen_by old notes spare) (seen_by new notes spare) r
-take_went old mid new notes spare b a (take.Taken place) went lone says = record {
-  saw = saw_went old mid new notes spare b a went says.saw;
+pub took_went : (taken : ℕ) (old mid new : Sight) (notes : List Note) (spare b a place : ℕ) → Went old mid b a → Takes mid new place
+    → Takes (seen_by taken old notes spare) (seen_by (risen taken) new notes spare) place
+took_went taken old mid new notes spare b a place went says = record {
+  saw = saw_went taken old mid (record new { taken = mid.taken }) notes spare b a went says.saw;
+  taken = refl;
   below = subst (λ (z : Sizes). place < z.entries) went.sizes says.below;
   unheld = ap (is_held place) (sym went.held) ∙ says.unheld;
   unowed = ap (is_owed place) (sym went.owed) ∙ says.unowed;
@@ -289,9 +292,12 @@ take_went old mid new notes spare b a (take.Taken place) went lone says = record
   };
   alone = λ one. absurd (omega (arith, one));
 }
-take_went old mid new notes spare b a (take.Full at) went lone says = record {
+
+pub full_went : (taken : ℕ) (old mid new : Sight) (notes : List Note) (spare b a at : ℕ) → Went old mid b a
+    → old.sizes.passes ≡ 1 → FindsFull mid new at → FindsFull (seen_by taken old notes spare) (seen_by taken new notes spare) at
+full_went taken old mid new notes spare b a at went lone says = record {
   looked = record {
-    saw = saw_went old mid new notes spare b a went says.looked.saw;
+    saw = saw_went taken old mid new notes spare b a went says.looked.saw;
     low = omega (arith, says.looked.low, starts_longer mid.front old.front went.front);
     fact = record {
       within = says.looked.fact.within;
@@ -309,10 +315,6 @@ take_went old mid new notes spare b a (take.Full at) went lone says = record {
   same = record { held = says.same.held ∙ went.held; owed = says.same.owed ∙ went.owed };
   alone = λ one place below. absurd (omega (arith, one));
 }
-
-pub take_saw : (mid new : Sight) (r : TakeOutcome) → TakeSays mid new r → Saw mid new
-take_saw mid new (take.Taken place) says = says.saw
-take_saw mid new (take.Full at) says = says.looked.saw
 
 -- which events may happen does not depend on the number of passes
 may_two : (z : Sizes) (k : ℕ) (s : State) (n : ℕ) (e : Event) → may_happen (record z { passes = k }) s n e ≡ may_happen z s n e
@@ -340,9 +342,9 @@ legal_seen z log legal = legal_two z 2 log ∙ legal
 
 -- What this pass knows.
 
-pub known_seen : (inner : Sight) (notes : List Note) (capacity spare others : ℕ) → IsBusy inner notes capacity spare others
-    → IsKnown (seen_by inner notes spare)
-known_seen inner notes capacity spare others b = record {
+pub known_seen : (taken : ℕ) (inner : Sight) (notes : List Note) (capacity spare others : ℕ) → IsBusy inner notes capacity spare others
+    → IsKnown (seen_by taken inner notes spare)
+known_seen taken inner notes capacity spare others b = record {
   legal = legal_seen inner.sizes inner.front b.known.legal;
   few = b.known.few;
   own = b.own;
@@ -383,6 +385,18 @@ busy_saw old new notes capacity spare a busy saw known = record {
   room = busy.room;
   few = busy.few;
   left = omega (arith, busy.left, saw.spare);
+}
+
+pub busy_took : (old new : Sight) (notes : List Note) (capacity spare a place : ℕ) → IsBusy old notes capacity spare a → Takes old new place
+    → IsKnown new → IsBusy new notes capacity spare a
+busy_took old new notes capacity spare a place busy takes known = record {
+  known = known;
+  lone = ap (λ (z : Sizes). z.passes) takes.saw.went.pass.sizes ∙ busy.lone;
+  own = λ i d h. get_grows new.front old.front _ _ takes.saw.went.front (busy.own i d h);
+  ordered = busy.ordered;
+  room = busy.room;
+  few = busy.few;
+  left = omega (arith, busy.left, takes.saw.spare);
 }
 
 pub busy_made : (old new : Sight) (notes : List Note) (capacity spare spare' a n : ℕ) (e : Event) → IsBusy old notes capacity spare a
@@ -431,34 +445,34 @@ pub kill_made : (id : ℕ) (w : Why) (mid new : Sight) (n : ℕ) (subject : Reco
 kill_made id w mid new n subject says =
     subst (λ i. MadeEvent mid new n (Destroy i w)) (sym (has_id_of id (after new.front n) subject says.found.fact)) says.made
 
-pub touched_went : (place : ℕ) (old mid new : Sight) (notes items : List Note) (spare spare' b a : ℕ) (d : Direction) (segment : Segment)
+pub touched_went : (taken : ℕ) (place : ℕ) (old mid new : Sight) (notes items : List Note) (spare spare' b a : ℕ) (d : Direction) (segment : Segment)
     (moment n : ℕ) (before : Record) (later : Part) → Went old mid b a
     → Touches (held_id place mid.held) d segment moment mid new n before → step_of before.part d segment moment ≡ Accept later
     → items ≡ notes ++ record { number = n; event = Touch before.id d segment moment later } ∷ [] → spare ≡ spare' + 1
-    → Touches (held_id place old.held) d segment moment (seen_by old notes spare) (seen_by new items spare') n before
-touched_went place old mid new notes items spare spare' b a d segment moment n before later went says step pushed one =
+    → Touches (held_id place old.held) d segment moment (seen_by taken old notes spare) (seen_by taken new items spare') n before
+touched_went taken place old mid new notes items spare spare' b a d segment moment n before later went says step pushed one =
     let named : before.id ≡ held_id place mid.held = has_id_of (held_id place mid.held) (after new.front n) before says.found.fact in
-    subst (λ i. Touches i d segment moment (seen_by old notes spare) (seen_by new items spare') n before)
+    subst (λ i. Touches i d segment moment (seen_by taken old notes spare) (seen_by taken new items spare') n before)
     (named ∙ ap (held_id place) went.held)
     (record {
       after = later;
-      made = event_went old mid new notes items spare spare' b a n (Touch before.id d segment moment later) went
+      made = event_went taken old mid new notes items spare spare' b a n (Touch before.id d segment moment later) went
           (touch_made (held_id place mid.held) d segment moment mid new n before later says step) pushed one;
       found = subst (λ i. At new.front n (IsRecord i before)) (sym named) says.found;
       step = step;
       same = record { held = says.same.held ∙ went.held; owed = says.same.owed ∙ went.owed };
     })
 
-pub killed_went : (place : ℕ) (old mid new : Sight) (notes items : List Note) (spare spare' b a : ℕ) (w : Why) (n : ℕ)
+pub killed_went : (taken : ℕ) (place : ℕ) (old mid new : Sight) (notes items : List Note) (spare spare' b a : ℕ) (w : Why) (n : ℕ)
     (subject : Record) → Went old mid b a → Destroys (held_id place mid.held) w mid new n subject
     → items ≡ notes ++ record { number = n; event = Destroy subject.id w } ∷ [] → spare ≡ spare' + 1
-    → Destroys (held_id place old.held) w (seen_by old notes spare) (seen_by new items spare') n subject
-killed_went place old mid new notes items spare spare' b a w n subject went says pushed one =
+    → Destroys (held_id place old.held) w (seen_by taken old notes spare) (seen_by taken new items spare') n subject
+killed_went taken place old mid new notes items spare spare' b a w n subject went says pushed one =
     let named : subject.id ≡ held_id place mid.held = has_id_of (held_id place mid.held) (after new.front n) subject says.found.fact in
-    subst (λ i. Destroys i w (seen_by old notes spare) (seen_by new items spare') n subject)
+    subst (λ i. Destroys i w (seen_by taken old notes spare) (seen_by taken new items spare') n subject)
     (named ∙ ap (held_id place) went.held)
     (record {
-      made = event_went old mid new notes items spare spare' b a n (Destroy subject.id w) went
+      made = event_went taken old mid new notes items spare spare' b a n (Destroy subject.id w) went
           (kill_made (held_id place mid.held) w mid new n subject says) pushed one;
       found = subst (λ i. At new.front n (IsRecord i subject)) (sym named) says.found;
       reason = says.reason;
@@ -466,12 +480,12 @@ killed_went place old mid new notes items spare spare' b a w n subject went says
     })
 
 -- an event of this pass after the other's turn
-pub made_went : (old mid new : Sight) (notes items : List Note) (spare spare' b a n : ℕ) (e : Event) → Went old mid b a
+pub made_went : (taken : ℕ) (old mid new : Sight) (notes items : List Note) (spare spare' b a n : ℕ) (e : Event) → Went old mid b a
     → MadeEvent mid new n e → SamePlaces mid new
     → items ≡ notes ++ record { number = n; event = e } ∷ [] → spare ≡ spare' + 1
-    → MadeEvent (seen_by old notes spare) (seen_by new items spare') n e × SamePlaces (seen_by old notes spare) (seen_by new items spare')
-made_went old mid new notes items spare spare' b a n e went event same pushed one = (
-  event_went old mid new notes items spare spare' b a n e went event pushed one,
+    → MadeEvent (seen_by taken old notes spare) (seen_by taken new items spare') n e × SamePlaces (seen_by taken old notes spare) (seen_by taken new items spare')
+made_went taken old mid new notes items spare spare' b a n e went event same pushed one = (
+  event_went taken old mid new notes items spare spare' b a n e went event pushed one,
   record { held = same.held ∙ went.held; owed = same.owed ∙ went.owed },
 )
 
@@ -496,17 +510,17 @@ pub expect_noted : (items notes : List Note) (id : ℕ) (noted e : Expectation) 
 expect_noted items notes id noted e replaced moment pushed same =
     pushed ∙ ap (λ (x : Expectation). notes ++ record { number = id; event = Expect x replaced moment } ∷ []) same
 
-pub expected_went : (place : ℕ) (want : Want) (moment : ℕ) (old mid seen new : Sight) (notes items : List Note) (spare spare' b a : ℕ)
+pub expected_went : (taken : ℕ) (place : ℕ) (want : Want) (moment : ℕ) (old mid seen new : Sight) (notes items : List Note) (spare spare' b a : ℕ)
     (subject : Record) (at id : ℕ) (replaced : Option ℕ) → Went old mid b a → IsKnown seen
     → PeekSays place mid seen (peek.Seen subject at) → ExpectSays place want moment seen new (expect.Expected id replaced)
     → items ≡ notes ++ record { number = id; event = Expect (expectation_at id subject.id want moment) replaced moment } ∷ []
     → spare ≡ spare' + 1
-    → MakesExpect (held_id place old.held) want moment (seen_by old notes spare) (seen_by new items spare') id replaced
-expected_went place want moment old mid seen new notes items spare spare' b a subject at id replaced went known read says pushed one =
+    → MakesExpect (held_id place old.held) want moment (seen_by taken old notes spare) (seen_by taken new items spare') id replaced
+expected_went taken place want moment old mid seen new notes items spare spare' b a subject at id replaced went known read says pushed one =
     let named : subject.id ≡ held_id place old.held =
     sym (read_id place mid seen subject at read) ∙ ap (held_id place) (read.1.held ∙ went.held) in
-    subst (λ m. MakesExpect m want moment (seen_by old notes spare) (seen_by new items spare') id replaced) named
-    (made_went old seen new notes items spare spare' b a id (Expect (expectation_at id subject.id want moment) replaced moment)
+    subst (λ m. MakesExpect m want moment (seen_by taken old notes spare) (seen_by taken new items spare') id replaced) named
+    (made_went taken old seen new notes items spare spare' b a id (Expect (expectation_at id subject.id want moment) replaced moment)
     (went_then old mid seen b a went read.0.saw read.1 known)
     (expect_made place want moment mid seen new subject at id replaced read says) says.1 pushed one)
 
@@ -546,7 +560,7 @@ release_saw place old new release.Kept says = says.saw
 release_saw place old new release.Last says = says.saw
 
 -- what this pass knows after such a call
-pub known_saw : (old new : Sight) (notes : List Note) (capacity spare a : ℕ) → IsBusy old notes capacity spare a → Saw old new
-    → IsKnown new → IsKnown (seen_by new notes spare)
-known_saw old new notes capacity spare a busy saw known =
-    known_seen new notes capacity spare a (busy_saw old new notes capacity spare a busy saw known)
+pub known_saw : (taken : ℕ) (old new : Sight) (notes : List Note) (capacity spare a : ℕ) → IsBusy old notes capacity spare a → Saw old new
+    → IsKnown new → IsKnown (seen_by taken new notes spare)
+known_saw taken old new notes capacity spare a busy saw known =
+    known_seen taken new notes capacity spare a (busy_saw old new notes capacity spare a busy saw known)

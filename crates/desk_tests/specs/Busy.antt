@@ -5,9 +5,9 @@ use Rattle.history_book.specs.declared.event.Note.{Note}
 use Rattle.history_book.specs.Point.{StartsWith}
 use Rattle.history_book.specs.Sight.{AreEventsOf, IsKnown, Sight}
 
--- what the pass knows that made these events alone: it has one of the two shares
-abbrev pub seen_by : Sight → List Note → ℕ → Sight
-seen_by inner notes spare = record {
+-- what the pass knows that made these events alone, and took a place so many times: it has one of the two shares
+abbrev pub seen_by : ℕ → Sight → List Note → ℕ → Sight
+seen_by taken inner notes spare = record {
   front = inner.front;
   own = notes;
   held = inner.held;
@@ -18,6 +18,7 @@ seen_by inner notes spare = record {
   shares = 1;
   returned = 0;
   gathered = [];
+  taken = taken;
 }
 
 -- the notes are events of the inner history in the order of their numbers, and there is room for further

@@ -32,6 +32,8 @@ struct BusyDesk {
     notes: Notes,
     /// For how many further own events there is room.
     spare: u64,
+    /// How many times this pass took a place.
+    taken: u64,
 }
 
 impl Model for BusyDesk {
@@ -40,7 +42,7 @@ impl Model for BusyDesk {
 
     ghost Value = { Sight };
 
-    ghost view = { λ b. seen_by b.stage.desk b.notes.items b.spare };
+    ghost view = { λ b. seen_by b.taken b.stage.desk b.notes.items b.spare };
 
     ghost invariant = { λ b. IsBusy b.stage.desk b.notes.items b.notes.room b.spare b.stage.others };
 }
@@ -59,6 +61,7 @@ impl BusyDesk {
             stage,
             notes,
             spare: 0,
+            taken: 0,
         })
     }
 }
@@ -123,7 +126,14 @@ impl Desk for BusyDesk {
 
     fn take<R: Wait>(&mut self, rt: &R) -> TakeOutcome {
         self.stage.other_begins(rt, Call::Take);
-        self.stage.desk.take(rt)
+        let outcome = self.stage.desk.take(rt);
+        match outcome {
+            TakeOutcome::Full { .. } => outcome,
+            TakeOutcome::Taken { .. } => {
+                self.taken = self.taken.saturating_add(1);
+                outcome
+            }
+        }
     }
 
     fn confirm<R: Wait>(&mut self, rt: &R, place: u32, flow: &Flow) -> ConfirmOutcome {

@@ -3,6 +3,6 @@ use Rattle.desk_tests.proofs.busy_desk.BusyDeskDesk.count.Goals as goal
 
 pub returns-clause-knows : goal.returns-clause-knows
 returns-clause-knows g c =
-    known_saw c.self.inside.stage.desk c.count.new.self c.self.inside.notes.items c.self.inside.notes.room c.self.inside.spare
+    known_saw c.self.inside.taken c.self.inside.stage.desk c.count.new.self c.self.inside.notes.items c.self.inside.notes.room c.self.inside.spare
     c.self.inside.stage.others c.self.invariant
     c.count.ensures.says.0.saw c.count.ensures.knows

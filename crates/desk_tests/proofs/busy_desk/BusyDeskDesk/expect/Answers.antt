@@ -9,7 +9,7 @@ use Rattle.desk_tests.proofs.busy_desk.BusyDeskDesk.expect.Goals as goal
 
 pub returns-in-Gone-clause-knows : goal.returns-in-Gone-clause-knows
 returns-in-Gone-clause-knows g c =
-    known_seen c.peek.new.self c.self.inside.notes.items c.self.inside.notes.room c.self.inside.spare c.other_meets.new.self.others
+    known_seen c.self.inside.taken c.peek.new.self c.self.inside.notes.items c.self.inside.notes.room c.self.inside.spare c.other_meets.new.self.others
     (busy_silent c.self.inside.stage.desk c.other_meets.new.self.desk c.peek.new.self c.self.inside.notes.items c.self.inside.notes.room c.self.inside.spare c.self.inside.stage.others c.other_meets.new.self.others c.self.invariant c.other_meets.ensures c.in-Gone.ensures.says.0.saw c.peek.ensures.knows)
 
 pub expect-outcome-requires-clause-helper : goal.expect-outcome-requires-clause-helper
@@ -32,7 +32,7 @@ invariant_of-self-in-Expected g c =
 
 pub returns-in-Expected-clause-knows : goal.returns-in-Expected-clause-knows
 returns-in-Expected-clause-knows g c =
-    known_seen c.expect-outcome.new.self c.push.new.self.items c.push.new.self.room (c.self.inside.spare - 1) c.other_meets.new.self.others
+    known_seen c.self.inside.taken c.expect-outcome.new.self c.push.new.self.items c.push.new.self.room (c.self.inside.spare - 1) c.other_meets.new.self.others
     (busy_pushed c.self.inside.stage.desk c.peek.new.self c.expect-outcome.new.self c.self.inside.notes.items c.push.new.self.items c.self.inside.notes.room c.push.new.self.room c.self.inside.spare (c.self.inside.spare - 1)
     c.self.inside.stage.others c.other_meets.new.self.others c.in-Expected.id
     (Expect (expectation_at c.in-Expected.id c.in-Seen.subject.id c.args.want c.args.moment) c.in-Expected.replaced c.args.moment) c.self.invariant (went_then c.self.inside.stage.desk c.other_meets.new.self.desk c.peek.new.self c.self.inside.stage.others c.other_meets.new.self.others c.other_meets.ensures
@@ -46,7 +46,7 @@ returns-in-Expected-clause-knows g c =
 pub returns-in-Expected-clause-says : goal.returns-in-Expected-clause-says
 returns-in-Expected-clause-says g c =
     rw (← c.self.view_is)
-    (expected_went c.args.place c.args.want c.args.moment c.self.inside.stage.desk c.other_meets.new.self.desk c.peek.new.self c.expect-outcome.new.self c.self.inside.notes.items c.push.new.self.items
+    (expected_went c.self.inside.taken c.args.place c.args.want c.args.moment c.self.inside.stage.desk c.other_meets.new.self.desk c.peek.new.self c.expect-outcome.new.self c.self.inside.notes.items c.push.new.self.items
     c.self.inside.spare (c.self.inside.spare - 1) c.self.inside.stage.others c.other_meets.new.self.others c.in-Seen.subject c.in-Seen.at c.in-Expected.id c.in-Expected.replaced
     c.other_meets.ensures c.peek.ensures.knows c.in-Seen.ensures.says c.in-Expected.ensures.says
     (expect_noted c.push.new.self.items c.self.inside.notes.items c.in-Expected.id c.expectation_at.result
@@ -61,7 +61,7 @@ invariant_of-self-in-MasterGone g c =
 
 pub returns-in-MasterGone-clause-knows : goal.returns-in-MasterGone-clause-knows
 returns-in-MasterGone-clause-knows g c =
-    known_seen c.expect-outcome.new.self c.self.inside.notes.items c.self.inside.notes.room c.self.inside.spare c.other_meets.new.self.others
+    known_seen c.self.inside.taken c.expect-outcome.new.self c.self.inside.notes.items c.self.inside.notes.room c.self.inside.spare c.other_meets.new.self.others
     (busy_silent c.self.inside.stage.desk c.peek.new.self c.expect-outcome.new.self c.self.inside.notes.items c.self.inside.notes.room c.self.inside.spare c.self.inside.stage.others c.other_meets.new.self.others c.self.invariant
     (went_then c.self.inside.stage.desk c.other_meets.new.self.desk c.peek.new.self c.self.inside.stage.others c.other_meets.new.self.others c.other_meets.ensures
     c.in-Seen.ensures.says.0.saw c.in-Seen.ensures.says.1 c.peek.ensures.knows) c.in-MasterGone.ensures.says.0.saw c.expect-outcome.ensures.knows)
@@ -74,7 +74,7 @@ invariant_of-self-in-Clash g c =
 
 pub returns-in-Clash-clause-knows : goal.returns-in-Clash-clause-knows
 returns-in-Clash-clause-knows g c =
-    known_seen c.expect-outcome.new.self c.self.inside.notes.items c.self.inside.notes.room c.self.inside.spare c.other_meets.new.self.others
+    known_seen c.self.inside.taken c.expect-outcome.new.self c.self.inside.notes.items c.self.inside.notes.room c.self.inside.spare c.other_meets.new.self.others
     (busy_silent c.self.inside.stage.desk c.peek.new.self c.expect-outcome.new.self c.self.inside.notes.items c.self.inside.notes.room c.self.inside.spare c.self.inside.stage.others c.other_meets.new.self.others c.self.invariant
     (went_then c.self.inside.stage.desk c.other_meets.new.self.desk c.peek.new.self c.self.inside.stage.others c.other_meets.new.self.others c.other_meets.ensures
     c.in-Seen.ensures.says.0.saw c.in-Seen.ensures.says.1 c.peek.ensures.knows) c.in-Clash.ensures.says.0.saw c.expect-outcome.ensures.knows)
@@ -87,7 +87,7 @@ invariant_of-self-in-ExpectFull g c =
 
 pub returns-in-ExpectFull-clause-knows : goal.returns-in-ExpectFull-clause-knows
 returns-in-ExpectFull-clause-knows g c =
-    known_seen c.expect-outcome.new.self c.self.inside.notes.items c.self.inside.notes.room c.self.inside.spare c.other_meets.new.self.others
+    known_seen c.self.inside.taken c.expect-outcome.new.self c.self.inside.notes.items c.self.inside.notes.room c.self.inside.spare c.other_meets.new.self.others
     (busy_silent c.self.inside.stage.desk c.peek.new.self c.expect-outcome.new.self c.self.inside.notes.items c.self.inside.notes.room c.self.inside.spare c.self.inside.stage.others c.other_meets.new.self.others c.self.invariant
     (went_then c.self.inside.stage.desk c.other_meets.new.self.desk c.peek.new.self c.self.inside.stage.others c.other_meets.new.self.others c.other_meets.ensures
     c.in-Seen.ensures.says.0.saw c.in-Seen.ensures.says.1 c.peek.ensures.knows) c.in-ExpectFull.ensures.says.0.saw c.expect-outcome.ensures.knows)

@@ -11,13 +11,13 @@ invariant_of-self g c =
 
 pub returns-in-Killed-clause-knows : goal.returns-in-Killed-clause-knows
 returns-in-Killed-clause-knows g c =
-    known_seen c.kill-outcome.new.self c.push.new.self.items c.push.new.self.room (c.self.inside.spare - 1) c.other_meets.new.self.others
+    known_seen c.self.inside.taken c.kill-outcome.new.self c.push.new.self.items c.push.new.self.room (c.self.inside.spare - 1) c.other_meets.new.self.others
     (busy_pushed c.self.inside.stage.desk c.other_meets.new.self.desk c.kill-outcome.new.self c.self.inside.notes.items c.push.new.self.items c.self.inside.notes.room c.push.new.self.room c.self.inside.spare (c.self.inside.spare - 1) c.self.inside.stage.others c.other_meets.new.self.others c.in-Killed.number (Destroy c.in-Killed.subject.id c.args.why) c.self.invariant c.other_meets.ensures (kill_made (held_id c.args.place c.other_meets.new.self.desk.held) c.args.why c.other_meets.new.self.desk c.kill-outcome.new.self c.in-Killed.number c.in-Killed.subject c.in-Killed.ensures.says) c.kill-outcome.ensures.knows c.push.ensures.items c.push.ensures.room (one_less c.args.self.now c.self.inside.spare (ap (λ (s : Sight). s.spare) c.self.view_is) c.requires.spare))
 
 pub returns-in-Killed-clause-says : goal.returns-in-Killed-clause-says
 returns-in-Killed-clause-says g c =
     rw (← c.self.view_is)
-    (killed_went c.args.place c.self.inside.stage.desk c.other_meets.new.self.desk c.kill-outcome.new.self c.self.inside.notes.items c.push.new.self.items c.self.inside.spare (c.self.inside.spare - 1) c.self.inside.stage.others c.other_meets.new.self.others c.args.why c.in-Killed.number c.in-Killed.subject c.other_meets.ensures c.in-Killed.ensures.says c.push.ensures.items (one_less c.args.self.now c.self.inside.spare (ap (λ (s : Sight). s.spare) c.self.view_is) c.requires.spare))
+    (killed_went c.self.inside.taken c.args.place c.self.inside.stage.desk c.other_meets.new.self.desk c.kill-outcome.new.self c.self.inside.notes.items c.push.new.self.items c.self.inside.spare (c.self.inside.spare - 1) c.self.inside.stage.others c.other_meets.new.self.others c.args.why c.in-Killed.number c.in-Killed.subject c.other_meets.ensures c.in-Killed.ensures.says c.push.ensures.items (one_less c.args.self.now c.self.inside.spare (ap (λ (s : Sight). s.spare) c.self.view_is) c.requires.spare))
 
 pub invariant_of-self-in-Gone : goal.invariant_of-self-in-Gone
 invariant_of-self-in-Gone g c =
@@ -25,7 +25,7 @@ invariant_of-self-in-Gone g c =
 
 pub returns-in-Gone-clause-knows : goal.returns-in-Gone-clause-knows
 returns-in-Gone-clause-knows g c =
-    known_seen c.kill-outcome.new.self c.self.inside.notes.items c.self.inside.notes.room c.self.inside.spare c.other_meets.new.self.others
+    known_seen c.self.inside.taken c.kill-outcome.new.self c.self.inside.notes.items c.self.inside.notes.room c.self.inside.spare c.other_meets.new.self.others
     (busy_silent c.self.inside.stage.desk c.other_meets.new.self.desk c.kill-outcome.new.self c.self.inside.notes.items c.self.inside.notes.room c.self.inside.spare c.self.inside.stage.others c.other_meets.new.self.others c.self.invariant c.other_meets.ensures c.in-Gone.ensures.says.0.saw c.kill-outcome.ensures.knows)
 
 pub invariant_of-self-in-Not : goal.invariant_of-self-in-Not
@@ -34,5 +34,5 @@ invariant_of-self-in-Not g c =
 
 pub returns-in-Not-clause-knows : goal.returns-in-Not-clause-knows
 returns-in-Not-clause-knows g c =
-    known_seen c.kill-outcome.new.self c.self.inside.notes.items c.self.inside.notes.room c.self.inside.spare c.other_meets.new.self.others
+    known_seen c.self.inside.taken c.kill-outcome.new.self c.self.inside.notes.items c.self.inside.notes.room c.self.inside.spare c.other_meets.new.self.others
     (busy_silent c.self.inside.stage.desk c.other_meets.new.self.desk c.kill-outcome.new.self c.self.inside.notes.items c.self.inside.notes.room c.self.inside.spare c.self.inside.stage.others c.other_meets.new.self.others c.self.invariant c.other_meets.ensures c.in-Not.ensures.says.0.saw c.kill-outcome.ensures.knows)
