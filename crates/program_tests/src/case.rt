@@ -131,7 +131,7 @@ fn fits(text: &[u8], expected: &Text<'_>) -> bool {
 }
 
 /// The words as the program takes them.
-fn words_of(alloc: Global, words: &[&str]) -> Result<Vec<String>, AllocError> {
+pub fn words_of(alloc: Global, words: &[&str]) -> Result<Vec<String>, AllocError> {
     let mut all = Vec::new(alloc);
     for word in words {
         all.push(String::from_str(alloc, word)?)?;
@@ -140,7 +140,7 @@ fn words_of(alloc: Global, words: &[&str]) -> Result<Vec<String>, AllocError> {
 }
 
 /// The files as the program takes them.
-fn files_of(
+pub fn files_of(
     alloc: Global,
     given: &[(&str, Content<'_>)],
     faults: &Faults,

@@ -8,6 +8,8 @@ mod case;
 #[cfg(test)]
 mod content;
 #[cfg(test)]
+mod in_turns;
+#[cfg(test)]
 mod late;
 #[cfg(test)]
 mod packet;
