@@ -8,7 +8,8 @@ tuples, one that an entry begins with, with the right deadline, state, master an
 claim is of what is live then. Never are more live than there may be. Each verdict is of its packet, in order, and says
 what its own events are; its points are in the history, do not fall in a thread, and stand behind the thread's own
 events; and the named entry is live there, and such as the verdict says. A packet has no event but those of its verdict.
-Each answer to a command is so between its points, with its rows as the entries were at theirs.
+Each answer to a command is so between its points, with its rows as the entries were at theirs; and no packet was
+answered at a point behind a command that stands behind `wait`.
 
 What it does not check: errors of ICMP, fragments and broken headers (there may be none in its captures); which of the free
 ports a rule takes; that an answer which may be given only in a race was given in one, but for the bounds that the
@@ -437,8 +438,9 @@ def row_of(entry, point, moment):
 class Script:
     """Reads the answers."""
 
-    def __init__(self, history):
+    def __init__(self, history, end_of_captures):
         self.history, self.mark, self.count = history, 0, len(history.kinds)
+        self.end_of_captures = end_of_captures
         moments = [packet.moment for capture in history.inputs.captures for packet in capture]
         self.moment = max(moments, default=0)
 
@@ -453,9 +455,8 @@ class Script:
         want(at == len(lines), "there are lines behind the last answer")
 
     def wait(self):
-        """All captures were replayed: their events have been seen."""
-        made = [numbers[-1] + 1 for (thread, _), numbers in self.history.made.items() if thread != "s"]
-        self.mark = max([self.mark] + made)
+        """All captures were replayed: each packet was answered, at a point that stands before this command."""
+        self.mark = max(self.mark, self.end_of_captures)
 
     def read_answer(self, index, command, lines, at):
         words = {
@@ -561,14 +562,17 @@ def check(report, inputs):
     events = [line.split(" ") for line in lines[1:at]]
     history.reasons = [words[4] if words[1] == "destroy" else None for words in events]
     history.subjects = [subject_of(number, words) for number, words in enumerate(events)]
+    end_of_captures = 0
     for thread, packets in enumerate(inputs.captures):
         want(lines[at : at + 1] == [f"thread {thread} packets {len(packets)}"], f"thread {thread} is not there")
         behind = at + 1 + len(packets)
         want(behind < len(lines), f"thread {thread} has too few verdicts")
-        Thread(history, thread).read(lines[at + 1 : behind])
+        reader = Thread(history, thread)
+        reader.read(lines[at + 1 : behind])
+        end_of_captures = max(end_of_captures, reader.mark)
         at = behind
     want(lines[at] == f"script {len(inputs.commands)}", "the script's part is another one")
-    Script(history).read(lines[at + 1 :])
+    Script(history, end_of_captures).read(lines[at + 1 :])
     return history
 
 

@@ -414,6 +414,8 @@ def damages():
                 ("2 NEW id=4 @5", "2 NEW id=4 @7"),
                 ("2 NEW id=4 @5", "2 FULL @5"),
                 ("2 INVALID new @4", "2 INVALID new @2"),
+                # Behind `wait` the list looked at point 5: no packet was answered behind that.
+                ("2 INVALID new @4", "2 INVALID new @6"),
                 ("2 INVALID new @4", "2 IGNORED id=0 @4"),
                 ("thread 1 packets 3", "thread 1 packets 2"),
                 ("0 list 3 @5 @5", "0 list 3 @4 @5"),

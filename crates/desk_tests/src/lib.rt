@@ -10,3 +10,4 @@ mod one_entry;
 mod packets;
 #[cfg(test)]
 mod turn_desks;
+pub mod turn_replay;

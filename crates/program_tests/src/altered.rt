@@ -175,7 +175,7 @@ fn report_changed(alloc: Global, report: &Report, change: Change) -> Result<Repo
 
 /// Whether a report is as it has to be.
 fn is_right(alloc: Global, report: &Report) -> Result<bool, NoMemory> {
-    Ok(is_history(alloc, report, PLACES)? && are_spans(report))
+    Ok(is_history(alloc, report, PLACES)? && are_spans(report, None))
 }
 
 /// Asserts that this report is right as it is, and refused with each change.

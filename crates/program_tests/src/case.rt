@@ -2,6 +2,7 @@
 
 use crate::content::{Content, bytes_of};
 use crate::reported::{are_spans, is_history};
+use crate::wait::wait_in;
 use ct_io::{Gate, MemFiles, MemSink, NoGate};
 use history_book::report::Report;
 use replay_top::top;
@@ -130,7 +131,7 @@ fn fits(text: &[u8], expected: &Text<'_>) -> bool {
 }
 
 /// The words as the program takes them.
-fn words_of(alloc: Global, words: &[&str]) -> Result<Vec<String>, AllocError> {
+pub fn words_of(alloc: Global, words: &[&str]) -> Result<Vec<String>, AllocError> {
     let mut all = Vec::new(alloc);
     for word in words {
         all.push(String::from_str(alloc, word)?)?;
@@ -139,7 +140,7 @@ fn words_of(alloc: Global, words: &[&str]) -> Result<Vec<String>, AllocError> {
 }
 
 /// The files as the program takes them.
-fn files_of(
+pub fn files_of(
     alloc: Global,
     given: &[(&str, Content<'_>)],
     faults: &Faults,
@@ -219,6 +220,17 @@ fn places_of(words: &[&str]) -> u32 {
     places
 }
 
+/// How many commands stand in front of the line `wait` of the run's script, if there is one. No other file has such a line.
+fn wait_of(alloc: Global, case: &Case<'_>) -> Result<Option<usize>, AllocError> {
+    for (_, content) in case.files {
+        let bytes = bytes_of(alloc, content)?;
+        if let Some(wait) = wait_in(bytes.as_slice()) {
+            return Ok(Some(wait));
+        }
+    }
+    Ok(None)
+}
+
 /// Asserts that a run whose threads pass this gate leaves what it is to leave, and that its report, where there is one, has
 /// a legal history with the spans and points that it is to have.
 pub fn holds_through<R: Threads + Wait + Sync + AllocGlobal + Abort, G: Gate + Sync>(
@@ -237,7 +249,8 @@ pub fn holds_through<R: Threads + Wait + Sync + AllocGlobal + Abort, G: Gate + S
             is_history(rt.alloc(), report, places)?,
             "history of run {number}"
         );
-        assert!(rt; are_spans(report), "spans and points of run {number}");
+        let wait = wait_of(rt.alloc(), case)?;
+        assert!(rt; are_spans(report, wait), "spans and points of run {number}");
     }
     assert!(rt; fits(left.out.bytes(), &case.out), "out of run {number}");
     assert!(rt; fits(left.err.bytes(), &case.err), "err of run {number}");

@@ -8,8 +8,14 @@ mod case;
 #[cfg(test)]
 mod content;
 #[cfg(test)]
+mod in_turns;
+#[cfg(test)]
+mod late;
+#[cfg(test)]
 mod packet;
 #[cfg(test)]
 mod reported;
 #[cfg(test)]
 mod runs;
+#[cfg(test)]
+mod wait;

@@ -184,21 +184,37 @@ fn way_of(items: &[Numbered], thread: usize) -> Way<'_> {
     }
 }
 
-/// Whether the thread made just the events of these verdicts, in their order, and no point is older than what it had seen.
-fn are_verdicts(items: &[Numbered], thread: usize, verdicts: &[Verdict]) -> bool {
+/// The mark of a thread that made just the events of these verdicts, in their order, and of which no point is older than
+/// what it had seen. None where that is not so.
+fn mark_behind(items: &[Numbered], thread: usize, verdicts: &[Verdict]) -> Option<u64> {
     let mut way = way_of(items, thread);
     for (index, verdict) in verdicts.iter().enumerate() {
         if !way.has_verdict(index, verdict) {
-            return false;
+            return None;
         }
     }
-    way.next().is_none()
+    if way.next().is_some() {
+        return None;
+    }
+    Some(way.mark)
 }
 
-/// The same of the script, whose thread stands behind those of the captures.
-fn are_answers(items: &[Numbered], thread: usize, answers: &[Answer]) -> bool {
-    let mut way = way_of(items, thread);
+/// The script: its thread stands behind those of the captures. So many of its commands stand in front of `wait`, and those
+/// behind it have seen all up to this point.
+#[derive(Clone, Copy)]
+struct Waiting {
+    thread: usize,
+    wait: Option<usize>,
+    end: u64,
+}
+
+/// The same of the script.
+fn are_answers(items: &[Numbered], script: Waiting, answers: &[Answer]) -> bool {
+    let mut way = way_of(items, script.thread);
     for (index, answer) in answers.iter().enumerate() {
+        if script.wait == Some(index) {
+            way.mark = way.mark.max(script.end);
+        }
         if !way.has_answer(index, answer) {
             return false;
         }
@@ -216,17 +232,25 @@ fn are_of_threads(items: &[Numbered], captures: usize) -> bool {
     true
 }
 
-/// Whether the spans and points of all threads are as they have to be.
-pub fn are_spans(report: &Report) -> bool {
+/// Whether the spans and points of all threads are as they have to be, where so many commands of the script stand in front
+/// of its line `wait`, if it has one: no packet was answered behind the first command behind that.
+pub fn are_spans(report: &Report, wait: Option<usize>) -> bool {
     let items = report.history.as_slice();
     let threads = report.threads.as_slice();
     if !are_of_threads(items, threads.len()) {
         return false;
     }
+    let mut end = 0;
     for (thread, verdicts) in threads.iter().enumerate() {
-        if !are_verdicts(items, thread, verdicts.as_slice()) {
-            return false;
+        match mark_behind(items, thread, verdicts.as_slice()) {
+            None => return false,
+            Some(mark) => end = mark.max(end),
         }
     }
-    are_answers(items, threads.len(), report.answers.as_slice())
+    let script = Waiting {
+        thread: threads.len(),
+        wait,
+        end,
+    };
+    are_answers(items, script, report.answers.as_slice())
 }

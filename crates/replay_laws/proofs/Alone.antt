@@ -82,7 +82,7 @@ module _ (tracker : TrackerSetup) (frames : List Given) (wait : ℕ) (report : R
   script_made = notes_of (made_by 1 report.history.items)
 
   abbrev script : ScriptRun
-  script = run_of (alone frames wait) report.history.items
+  script = run_of (alone frames wait) report.history.items report.threads.items
 
   pub answers_none : report.answers.items ≡ []
   answers_none = no_answers script script_made at_start report.answers.items formed.answers

@@ -23,3 +23,4 @@ pub mod Stepping
 pub mod TwoReports
 pub mod Unplaced
 pub mod Within
+pub mod Waiting

@@ -1,2 +1,4 @@
 pub mod Reaction
 pub mod OneAnswer
+pub mod Waiting
+pub mod Late

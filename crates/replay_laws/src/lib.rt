@@ -5,6 +5,8 @@
 
 ghost use Rattle.replay_laws.specs.OneAnswer.{FewFramesAreNeverNearlyFull, OneCaptureOneText, OnePacketOneAnswer};
 ghost use Rattle.replay_laws.specs.OneAnswer.{OnePassIsNeverNearlyFull, OneThreadFollows, SameReportsPrintTheSame};
+ghost use Rattle.replay_laws.specs.Late.{LateAnswersAreRefused};
+ghost use Rattle.replay_laws.specs.Waiting.{WaitDividesPackets};
 
 use ftp_helper::named_ends_are_unique;
 use history_book::laws::{
@@ -62,3 +64,15 @@ pub fn one_capture_one_text()
     one_packet_one_answer();
     same_reports_print_the_same();
 }
+
+/// Every packet was answered before the commands behind `wait`.
+#[tactic(auto, using(crate::proofs::Waiting::wait_divides))]
+pub fn wait_divides_packets()
+    ensures { WaitDividesPackets }
+{}
+
+/// Two reports in which a packet was answered as a flush behind `wait` left the table are not well formed.
+#[tactic(auto, using(crate::proofs::Waiting::late_answers))]
+pub fn late_answers_are_refused()
+    ensures { LateAnswersAreRefused }
+{}

@@ -22,12 +22,13 @@ use Rattle.capture_list.specs.declared.Capture.{Capture}
 use Rattle.replay_runs.specs.declared.desks.Joined.{Joined}
 use Rattle.replay_runs.specs.declared.jobs.Job.{Job}
 use Rattle.replay_runs.specs.declared.shared.Shared.{Shared}
-use Rattle.replay_runs.specs.Internal.Answered.{Answered, past_answers, run_seen}
+use Rattle.replay_runs.specs.Internal.Answered.{Answered, past_answers}
 use Rattle.replay_runs.specs.Internal.Jobs.{AllRan, AreFurther, HasJoined, HasSplit, IsFurther, IsSet, items_of}
 use Rattle.replay_runs.specs.Internal.Replayed.{given_frames, Replayed, tracker_with}
 use Rattle.replay_runs.specs.Internal.Stopped.{Stopped}
-use Rattle.replay_runs.specs.Internal.Together.{AreThreads, HasRun, IsThread}
-use Rattle.replay_runs.specs.Report.{AnswersFit, at_start, Progress, VerdictsFit}
+use Rattle.replay_runs.specs.Internal.Together.{HasRun}
+use Rattle.replay_runs.specs.Report.{AnswersFit, at_start, past_verdicts, Progress, VerdictsFit}
+use Rattle.replay_runs.specs.Run.{AreThreads, IsThread, run_seen}
 use Rattle.replay_runs.proofs.Each.{each_weaker}
 use Rattle.replay_runs.proofs.Marks.{NumbersBelow, own_within}
 use Rattle.replay_runs.proofs.Replays.{notes_still_fit}
@@ -87,9 +88,9 @@ module _ {D : Type 0} (sight : D → Sight) (still : VerdictsStillFit) (setup : 
             further.sized
             (notes_still_fit still (tracker_with setup (sight o.desk)) front (sight n.desk).front starts replayed.own at_start (given_frames c)
             n.verdicts.items replayed.fit)));
-        below = subst (λ xs. NumbersBelow (length front) xs) (sym is_notes)
-            (each_weaker (λ (x : Note). x.number < length (sight n.desk).front) (λ (x : Note). x.number < length front)
-            (λ x h. omega (arith, h, long)) (sight n.desk).own (own_within (sight n.desk) replayed.known));
+        mark = subst (λ (ws : Roomed Verdict). (past_verdicts at_start notes ws.items).mark ≤ length front) (sym is_verdicts)
+            (subst (λ xs. (past_verdicts at_start xs n.verdicts.items).mark ≤ length front) (sym own ∙ sym is_notes)
+            (omega (arith, replayed.mark, long)));
         ordered = rw is_notes replayed.known.ordered;
       }
 
@@ -163,6 +164,7 @@ module _ {D G : Type 0} (sight : D → Sight) (still : VerdictsStillFit) (answer
     shares = 1;
     returned = length captures;
     gathered = all_notes joined.lists.items;
+    taken = new.taken;
   }
   kept_is = λ i. record {
     front = new.front;
@@ -177,6 +179,7 @@ module _ {D G : Type 0} (sight : D → Sight) (still : VerdictsStillFit) (answer
     gathered = (ap (λ (s : Sight). s.gathered) has_joined.kept
         ∙ ap (λ xs. xs ++ all_notes joined.lists.items)
         (answered.went.pass.gathered ∙ ap (λ (s : Sight). s.gathered) has_split.kept ∙ fresh.gathered)) i;
+    taken = new.taken;
   }
     where
       returned_is : new.returned ≡ length captures

@@ -15,8 +15,8 @@ use Rattle.capture_list.specs.declared.Capture.{Capture}
 use Rattle.capture_list.specs.Frames.{frames_in}
 use Rattle.replay_runs.specs.Internal.Jobs.{CanBeReplayed}
 use Rattle.replay_runs.specs.Internal.Replayed.{given_frames}
-use Rattle.replay_runs.specs.Internal.Together.{AreThreads}
 use Rattle.replay_runs.specs.Report.{at_start, latest, latest_of, past_packet, Progress, TrackerSetup, VerdictsFit}
+use Rattle.replay_runs.specs.Run.{AreThreads}
 
 -- there is one verdict for each packet
 one_each : (tracker : TrackerSetup) (log : List Event) (mine : List Note) (now : Progress) (ps : List Given) (vs : List Verdict)
@@ -37,23 +37,18 @@ module _ (tracker : TrackerSetup) (log : List Event) (end : ℕ) where
   one_thread_each (gs ∷ gss) (w ∷ vss) [] threads = absurd threads
   one_thread_each (gs ∷ gss) (w ∷ vss) (l ∷ lists) (thread, threads) = ap suc (one_thread_each gss vss lists threads)
 
-  -- no list has more verdicts than its capture has frames
-  pub verdicts_few : (n : ℕ) (captures : List Capture) (vss : List (Roomed Verdict)) (lists : List (Roomed Note))
-      → AreThreads tracker log end (map given_frames captures) vss lists → frames_in captures < n
+  -- no list has more verdicts than its capture has packets
+  pub verdicts_few : (n : ℕ) (gss : List (List Given)) (vss : List (Roomed Verdict)) (lists : List (Roomed Note))
+      → AreThreads tracker log end gss vss lists → All (λ (gs : List Given). length gs < n) gss
       → All (λ (vs : Roomed Verdict). length vs.items < n) vss
   verdicts_few n [] [] lists threads few k d within = absurd (omega (arith, within))
   verdicts_few n [] (w ∷ vss) lists threads few k d within = absurd threads
-  verdicts_few n (c ∷ captures) [] lists threads few k d within = absurd threads
-  verdicts_few n (c ∷ captures) (w ∷ vss) [] threads few k d within = absurd threads
-  verdicts_few n (c ∷ captures) (w ∷ vss) (l ∷ lists) (thread, threads) few zero d within =
-      omega (
-        arith,
-        few,
-        one_each tracker log l.items at_start (given_frames c) w.items thread.fit,
-        length-map c.frames.items (given_of c.bytes.items),
-      )
-  verdicts_few n (c ∷ captures) (w ∷ vss) (l ∷ lists) (thread, threads) few (suc k) d within =
-      verdicts_few n captures vss lists threads (omega (arith, few)) k d (omega (arith, within))
+  verdicts_few n (gs ∷ gss) [] lists threads few k d within = absurd threads
+  verdicts_few n (gs ∷ gss) (w ∷ vss) [] threads few k d within = absurd threads
+  verdicts_few n (gs ∷ gss) (w ∷ vss) (l ∷ lists) (thread, threads) few zero d within =
+      omega (arith, few 0 gs (omega arith), one_each tracker log l.items at_start gs w.items thread.fit)
+  verdicts_few n (gs ∷ gss) (w ∷ vss) (l ∷ lists) (thread, threads) few (suc k) d within =
+      verdicts_few n gss vss lists threads (λ i e below. few (suc i) e (omega (arith, below))) k d (omega (arith, within))
 
 -- the frames of a capture are no later than this
 latest_within : (bytes : List ℕ) (frames : List Frame) (moment : ℕ) → moment ≤ 10 ^ 16 → AreTimely frames
@@ -86,3 +81,11 @@ can_replay (c ∷ captures) inside timely few zero d within = record {
 can_replay (c ∷ captures) inside timely few (suc k) d within =
     can_replay captures (λ i e below. inside (suc i) e (omega (arith, below))) (λ i e below. timely (suc i) e (omega (arith, below)))
     (omega (arith, few)) k d (omega (arith, within))
+
+-- none of them gives more packets than a report has room for
+pub given_few : (captures : List Capture) → All CanBeReplayed captures → All (λ (gs : List Given). length gs < 2 ^ 32) (map given_frames captures)
+given_few [] can k d within = absurd (omega (arith, within))
+given_few (c ∷ captures) can zero d within =
+    omega (arith, (can 0 c (omega arith)).few, length-map c.frames.items (given_of c.bytes.items))
+given_few (c ∷ captures) can (suc k) d within =
+    given_few captures (λ i e below. can (suc i) e (omega (arith, below))) k d (omega (arith, within))

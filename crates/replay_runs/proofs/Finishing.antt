@@ -1,7 +1,7 @@
 -- What was done when the commands behind `wait` were performed too.
 use Rattle.std.proofs.Common.{◌≡◌, ℕ, ◌+◌, ◌^◌, ◌≤◌, List, [], ◌∷◌, ◌++◌, length, map, take, drop, min, sym, ap, subst, ◌∙◌, arith, length-drop, length-take}
 use Rattle.std.specs.Prelude.{All}
-use Rattle.std.proofs.lemmas.List.{take-append-drop}
+use Rattle.std.proofs.lemmas.List.{length-map, take-append-drop}
 use Rattle.std.proofs.lemmas.List.Elements.{All-drop, All-same, All-take}
 use Rattle.room_list.specs.Roomed.{Roomed}
 use Rattle.conntrack_cmd.specs.declared.command.Command.{Command}
@@ -22,13 +22,14 @@ use Rattle.packet_path.specs.Packet.{Given}
 use Rattle.capture_list.specs.declared.Capture.{Capture}
 use Rattle.replay_runs.specs.declared.desks.Joined.{Joined}
 use Rattle.replay_runs.specs.declared.shared.Shared.{Shared}
-use Rattle.replay_runs.specs.Internal.Answered.{Answered, CanPerform, past_answers, run_seen}
+use Rattle.replay_runs.specs.Internal.Answered.{Answered, CanPerform, past_answers}
 use Rattle.replay_runs.specs.Internal.Jobs.{CanBeReplayed}
 use Rattle.replay_runs.specs.Internal.Replayed.{given_frames}
-use Rattle.replay_runs.specs.Internal.Together.{AreThreads, HasRun, IsRun}
+use Rattle.replay_runs.specs.Internal.Together.{HasRun}
 use Rattle.replay_runs.specs.Replaying.{work_of}
 use Rattle.replay_runs.specs.Report.{AnswersFit, at_start, latest_of, Progress, TrackerSetup}
-use Rattle.replay_runs.proofs.Bounds.{latest_of_within}
+use Rattle.replay_runs.specs.Run.{AreThreads, IsRun, run_seen}
+use Rattle.replay_runs.proofs.Bounds.{given_few, latest_of_within}
 use Rattle.replay_runs.proofs.Replays.{notes_still_fit}
 use Rattle.replay_runs.proofs.Scripts.{answers_behind, answers_stay, first_past, from_first, index_past, one_answer_each, same_past}
 
@@ -44,7 +45,7 @@ threads_still still tracker longer log starts end (gs ∷ gss) (w ∷ vss) [] th
 threads_still still tracker longer log starts end (gs ∷ gss) (w ∷ vss) (l ∷ lists) (thread, threads) = (
   record {
     fit = notes_still_fit still tracker longer log starts l.items at_start gs w.items thread.fit;
-    below = thread.below;
+    mark = thread.mark;
     ordered = thread.ordered;
   },
   threads_still still tracker longer log starts end gss vss lists threads,
@@ -114,9 +115,15 @@ module _ {G : Type 0} (still : VerdictsStillFit) (answers_still : AnswersStillFi
 
   -- all of the work was done
   pub run_done : shared.moment ≡ latest_of 0 (map given_frames captures) → old.sizes.passes ≡ length captures + 1
+      → length captures ≤ 63 → All CanBeReplayed captures → length script.commands.items ≤ 256
       → IsRun (record { setup = shared.setup.now; sizes = old.sizes }) (work_of captures script) old.tracker
-      (record { spot = new; joined = joined; answers = all })
-  run_done moment passes = record {
+      (record { desk = new; joined = joined; answers = all })
+  run_done moment passes threads can short = record {
+    few = record {
+      captures = omega (arith, threads, length-map captures given_frames);
+      packets = given_few captures can;
+      commands = omega (arith, short);
+    };
     tracked = answered.went.pass.tracker ∙ ap (λ (s : Sight). s.tracker) run.kept;
     sized = answered.went.pass.sizes ∙ ap (λ (s : Sight). s.sizes) run.kept;
     empty = record { held = answered.held; owed = answered.owed };

@@ -3,6 +3,7 @@ pub mod Bounds
 pub mod Counting
 pub mod Each
 pub mod Finishing
+pub mod Ending
 pub mod FitsNamed
 pub mod Halves
 pub mod Interleaved

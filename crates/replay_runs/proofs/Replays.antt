@@ -18,8 +18,8 @@ use Rattle.packet_path.specs.Handled.{Handled}
 use Rattle.packet_path.specs.Laws.{LowerMarksFit, VerdictsStillFit}
 use Rattle.packet_path.specs.Packet.{Given, given_of}
 use Rattle.packet_path.specs.Verdict.{FitsFrame}
-use Rattle.replay_runs.specs.Internal.Replayed.{past_verdicts, Replayed, tracker_with}
-use Rattle.replay_runs.specs.Report.{at_start, past_packet, Progress, TrackerSetup, VerdictFits, VerdictsFit}
+use Rattle.replay_runs.specs.Internal.Replayed.{Replayed, tracker_with}
+use Rattle.replay_runs.specs.Report.{at_start, past_packet, past_verdicts, Progress, TrackerSetup, VerdictFits, VerdictsFit}
 use Rattle.replay_runs.proofs.Marks.{mark_at-le, mark_past-le, own_below}
 
 -- so many of the packets were handled
@@ -233,6 +233,7 @@ replayed_all setup packets index old new verdicts done all = record {
   few = omega (arith, done.few, all);
   fit = subst (λ ps. VerdictsFit (tracker_with setup old) new.front done.own at_start ps verdicts.items)
       (ap (λ n. take n packets) all ∙ take-length packets) done.fit;
+  mark = done.mark;
   held = done.held;
   owed = done.owed;
   known = done.known;

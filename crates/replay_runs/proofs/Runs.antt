@@ -1,57 +1,38 @@
--- A whole run, in the words of what was given.
-use Rattle.std.proofs.Common.{◌≡◌, ℕ, ◌^◌, ◌<◌, ◌≤◌, List, length, map, subst, arith}
+-- A whole run has no more threads, verdicts and answers than a report has room for.
+use Rattle.std.proofs.Common.{◌^◌, ◌<◌, List, length, arith}
 use Rattle.std.specs.Prelude.{All}
-use Rattle.std.proofs.lemmas.List.{length-map}
 use Rattle.room_list.specs.Roomed.{Roomed}
-use Rattle.conntrack_cmd.specs.declared.read.Script.{Script}
-use Rattle.history_book.specs.declared.sizes.Sizes.{Sizes}
 use Rattle.history_book.specs.declared.verdict.Verdict.{Verdict}
-use Rattle.packet_path.specs.declared.setup.Setup.{Setup}
-use Rattle.capture_list.specs.declared.Capture.{Capture}
-use Rattle.capture_list.specs.Frames.{frames_in}
-use Rattle.replay_runs.specs.Internal.Answered.{run_seen}
-use Rattle.replay_runs.specs.Internal.Replayed.{given_frames}
-use Rattle.replay_runs.specs.Internal.Together.{IsRun, Remains}
-use Rattle.replay_runs.specs.Replaying.{work_of}
+use Rattle.history_book.specs.declared.report.Closed.{Closed}
+use Rattle.replay_runs.specs.declared.replay.Outcome.{Outcome}
 use Rattle.replay_runs.specs.Report.{at_start, latest_of}
+use Rattle.replay_runs.specs.Run.{CanReport, run_seen}
 use Rattle.replay_runs.proofs.Bounds.{one_thread_each, verdicts_few}
 use Rattle.replay_runs.proofs.Scripts.{one_answer_each}
 
--- the run of a list's items, by a tracker that was taken up, is that of the list and the tracker
-pub run_given : (setup : Setup) (given sizes : Sizes) (items captures : List Capture) (script : Script) (tracker numbers : List ℕ) (outcome : Remains)
-    → given ≡ sizes → items ≡ captures → tracker ≡ numbers
-    → IsRun (record { setup = setup; sizes = given }) (work_of items script) tracker outcome
-    → IsRun (record { setup = setup; sizes = sizes }) (work_of captures script) numbers outcome
-run_given setup given sizes items captures script tracker numbers outcome sized same tracked run =
-    subst (λ (z : Sizes). IsRun (record { setup = setup; sizes = z }) (work_of captures script) numbers outcome) sized
-    (subst (λ (cs : List Capture). IsRun (record { setup = setup; sizes = given }) (work_of cs script) numbers outcome) same
-    (subst (λ (ns : List ℕ). IsRun (record { setup = setup; sizes = given }) (work_of items script) ns outcome) tracked run))
-
-module _ (setup : Setup) (sizes : Sizes) (captures : List Capture) (script : Script) (numbers : List ℕ) (outcome : Remains)
-    (run : IsRun (record { setup = setup; sizes = sizes }) (work_of captures script) numbers outcome) where
+module _ (outcome : Outcome) (closed : Closed) (can : CanReport outcome closed) where
   -- there are as many threads as captures
-  pub threads_few : length captures ≤ 63 → length outcome.joined.threads.items < 2 ^ 32
-  threads_few few =
+  pub threads_few : length outcome.joined.threads.items < 2 ^ 32
+  threads_few =
       omega (
         arith,
-        few,
-        length-map captures given_frames,
-        one_thread_each (record { setup = setup; sizes = sizes }) outcome.spot.front run.end (map given_frames captures)
-            outcome.joined.threads.items outcome.joined.lists.items run.threads,
+        can.ended.run.few.captures,
+        one_thread_each can.tracker can.ended.desk.front can.ended.run.end can.work.captures outcome.joined.threads.items
+            outcome.joined.lists.items can.ended.run.threads,
       )
 
-  -- no more verdicts of one than frames
-  pub each_few : frames_in captures ≤ 4194304 → All (λ (vs : Roomed Verdict). length vs.items < 2 ^ 32) outcome.joined.threads.items
-  each_few few =
-      verdicts_few (record { setup = setup; sizes = sizes }) outcome.spot.front run.end (2 ^ 32) captures outcome.joined.threads.items
-      outcome.joined.lists.items run.threads (omega (arith, few))
+  -- no more verdicts of one than packets
+  pub each_few : All (λ (vs : Roomed Verdict). length vs.items < 2 ^ 32) outcome.joined.threads.items
+  each_few =
+      verdicts_few can.tracker can.ended.desk.front can.ended.run.end (2 ^ 32) can.work.captures outcome.joined.threads.items
+      outcome.joined.lists.items can.ended.run.threads can.ended.run.few.packets
 
   -- and as many answers as commands
-  pub answers_few : length script.commands.items ≤ 256 → length outcome.answers.items < 2 ^ 32
-  answers_few few =
+  pub answers_few : length outcome.answers.items < 2 ^ 32
+  answers_few =
       omega (
         arith,
-        few,
-        one_answer_each (run_seen outcome.spot (latest_of 0 (map given_frames captures)) script.wait 0) outcome.spot.own at_start
-            script.commands.items outcome.answers.items (run.fit 0 (omega arith)),
+        can.ended.run.few.commands,
+        one_answer_each (run_seen can.ended.desk (latest_of 0 can.work.captures) can.work.wait 0) can.ended.desk.own at_start
+            can.work.commands outcome.answers.items (can.ended.run.fit 0 (omega arith)),
       )

@@ -17,7 +17,8 @@ use Rattle.history_book.specs.Point.{StartsWith}
 use Rattle.history_book.specs.Sight.{IsKnown, Sight}
 use Rattle.history_book.specs.SightLaws.{GoingOnAddsUp}
 use Rattle.history_book.specs.WentOn.{WentOn}
-use Rattle.replay_runs.specs.Internal.Answered.{Answered, EndsInTime, past_answers, run_seen}
+use Rattle.replay_runs.specs.Internal.Answered.{Answered, EndsInTime, past_answers}
+use Rattle.replay_runs.specs.Run.{run_seen}
 use Rattle.replay_runs.specs.Report.{AnswerFits, AnswersFit, mark_before, past_command, Progress, ScriptRun}
 use Rattle.replay_runs.proofs.Marks.{mark_past-le, own_below}
 

@@ -16,8 +16,8 @@ use Rattle.history_book.specs.Numbered.{events_of, notes_of}
 use Rattle.packet_path.specs.Packet.{Given}
 use Rattle.packet_path.specs.Laws.{VerdictsStillFit}
 use Rattle.history_book.specs.Point.{StartsWith}
-use Rattle.replay_runs.specs.Internal.Together.{AreThreads}
-use Rattle.replay_runs.specs.Report.{AreNamedFrom, AreNamedInEach, at_start, captures_end, made_by, ThreadsFit, TrackerSetup, VerdictsFit}
+use Rattle.replay_runs.specs.Report.{AreNamedFrom, AreNamedInEach, at_start, captures_end, made_by, past_verdicts, ThreadsFit, TrackerSetup, VerdictsFit}
+use Rattle.replay_runs.specs.Run.{AreThreads}
 use Rattle.replay_runs.proofs.Counting.{either}
 use Rattle.replay_runs.proofs.Each.{each_append, each_passed, each_weaker}
 use Rattle.replay_runs.proofs.Interleaved.{rising, RisesFrom}
@@ -26,13 +26,14 @@ use Rattle.replay_runs.proofs.Marks.{mark_past-le, NumbersBelow}
 use Rattle.replay_runs.proofs.FitsNamed.{shares_named, verdicts_cover}
 use Rattle.replay_runs.proofs.Names.{all_named, name_of, named, named_in, named_in_notes}
 
--- each list has the events of a thread's verdicts, with numbers below m that rise, and the last has the script's, which rise
+-- each list has the events of a thread's verdicts, behind which its mark lies in m, with numbers that rise; and the last has
+-- the script's, which rise
 pub data ListsFit (tracker : TrackerSetup) (log : List Event) (m : ℕ) (script : List Note)
     : List (List Given) → List (Roomed Verdict) → List (Roomed Note) → Type 0 where
   last : (l : Roomed Note) → l.items ≡ script → RisesFrom 0 l.items → ListsFit tracker log m script [] [] (l ∷ [])
   more : (gs : List Given) (gss : List (List Given)) (vs : Roomed Verdict) (vss : List (Roomed Verdict))
       (l : Roomed Note) (lists : List (Roomed Note))
-      → VerdictsFit tracker log l.items at_start gs vs.items → NumbersBelow m l.items → RisesFrom 0 l.items
+      → VerdictsFit tracker log l.items at_start gs vs.items → (past_verdicts at_start l.items vs.items).mark ≤ m → RisesFrom 0 l.items
       → ListsFit tracker log m script gss vss lists
       → ListsFit tracker log m script (gs ∷ gss) (vs ∷ vss) (l ∷ lists)
 
@@ -70,7 +71,7 @@ lists_fit still tracker longer log starts m script ordered (gs ∷ gss) (w ∷ v
 lists_fit still tracker longer log starts m script ordered (gs ∷ gss) (w ∷ vss) (l ∷ lists) (thread, threads) =
     more gs gss w vss l (lists ++ script ∷ [])
     (notes_still_fit still tracker longer log starts l.items at_start gs w.items thread.fit)
-    thread.below (rising_all l.items thread.ordered)
+    thread.mark (rising_all l.items thread.ordered)
     (lists_fit still tracker longer log starts m script ordered gss vss lists threads)
 
 module _ (tracker : TrackerSetup) (log : List Event) (m : ℕ) (script : List Note) where
@@ -80,7 +81,7 @@ module _ (tracker : TrackerSetup) (log : List Event) (m : ℕ) (script : List No
       → CoverEach lists (spans_of vss answers)
   lists_covered (last l same rises) answers covers =
       (subst (λ xs. CoverFrom 0 (length xs) (spans_of_answers answers)) (sym same) covers, tt)
-  lists_covered (more gs gss vs vss l lists fit below rises later) answers covers = (
+  lists_covered (more gs gss vs vss l lists fit mark rises later) answers covers = (
     verdicts_cover tracker log l.items at_start (length l.items) gs vs.items fit (omega arith),
     lists_covered later answers covers,
   )
@@ -89,7 +90,7 @@ module _ (tracker : TrackerSetup) (log : List Event) (m : ℕ) (script : List No
   pub lists_count : {gss : List (List Given)} {vss : List (Roomed Verdict)} {lists : List (Roomed Note)}
       → ListsFit tracker log m script gss vss lists → length lists ≡ length vss + 1
   lists_count (last l same rises) = refl
-  lists_count (more gs gss vs vss l lists fit below rises later) = omega (arith, lists_count later)
+  lists_count (more gs gss vs vss l lists fit mark rises later) = omega (arith, lists_count later)
 
 -- a thread's events are those that it made
 made_by_self : (thread : ℕ) (events : List Numbered) → AllByRecursion (λ (n : Numbered). n.thread ≡ thread) events
@@ -186,7 +187,7 @@ module _ (tracker : TrackerSetup) (log : List Event) (m : ℕ) (script : List No
       let here : thread ≡ end = omega (arith, at) in
       subst (λ (k : ℕ). made_by end (all_named k (l ∷ []) (spans_of [] answers)) ≡ named_in end 0 script (spans_of_answers answers)) (sym here)
       (made_by_first end l.items (spans_of_answers answers) [] tt ∙ ap (λ xs. named_in end 0 xs (spans_of_answers answers)) same)
-  script_made (more gs gss vs vss l lists fit below rises later) answers thread end at =
+  script_made (more gs gss vs vss l lists fit mark rises later) answers thread end at =
       made_by_later end thread l.items (spans_of_verdicts vs.items) (all_named (thread + 1) lists (spans_of vss answers))
       (omega (arith, at))
       ∙ script_made later answers (thread + 1) end (omega (arith, at))
@@ -198,26 +199,11 @@ module _ (tracker : TrackerSetup) (log : List Event) (m : ℕ) (script : List No
   threads_within (last l same rises) answers thread end at =
       each_append (λ (n : Numbered). n.thread ≤ end) (named_in thread 0 l.items (spans_of_answers answers)) []
       (each_of_thread (λ (n : Numbered). n.thread ≤ end) thread (λ n k. omega (arith, at)) l.items (spans_of_answers answers)) tt
-  threads_within (more gs gss vs vss l lists fit below rises later) answers thread end at =
+  threads_within (more gs gss vs vss l lists fit mark rises later) answers thread end at =
       each_append (λ (n : Numbered). n.thread ≤ end) (named_in thread 0 l.items (spans_of_verdicts vs.items))
       (all_named (thread + 1) lists (spans_of vss answers))
       (each_of_thread (λ (n : Numbered). n.thread ≤ end) thread (λ n k. omega (arith, at)) l.items (spans_of_verdicts vs.items))
       (threads_within later answers (thread + 1) end (omega (arith, at)))
-
-  -- the threads before the script's made their events before m
-  pub events_before : {gss : List (List Given)} {vss : List (Roomed Verdict)} {lists : List (Roomed Note)}
-      → ListsFit tracker log m script gss vss lists → (answers : List Answer) (thread end : ℕ) → end ≡ thread + length gss
-      → AllByRecursion (λ (n : Numbered). nat_lt n.thread end ≡ true → n.number < m) (all_named thread lists (spans_of vss answers))
-  events_before (last l same rises) answers thread end at =
-      each_append (λ (n : Numbered). nat_lt n.thread end ≡ true → n.number < m) (named_in thread 0 l.items (spans_of_answers answers)) []
-      (each_of_thread (λ (n : Numbered). nat_lt n.thread end ≡ true → n.number < m) thread
-      (λ n k e. absurd (omega (arith, at, ltb-true thread end e))) l.items (spans_of_answers answers)) tt
-  events_before (more gs gss vs vss l lists fit below rises later) answers thread end at =
-      each_append (λ (n : Numbered). nat_lt n.thread end ≡ true → n.number < m) (named_in thread 0 l.items (spans_of_verdicts vs.items))
-      (all_named (thread + 1) lists (spans_of vss answers))
-      (each_named_in (λ (n : Numbered). nat_lt n.thread end ≡ true → n.number < m) thread 0 l.items (spans_of_verdicts vs.items)
-      (each_weaker (λ (n : Note). n.number < m) (λ (n : Note). (k : ℕ) → nat_lt thread end ≡ true → n.number < m) (λ n h k e. h) l.items below))
-      (events_before later answers (thread + 1) end (omega (arith, at)))
 
   -- what each thread made of the lists rises
   pub made_rises : {gss : List (List Given)} {vss : List (Roomed Verdict)} {lists : List (Roomed Note)}
@@ -225,23 +211,11 @@ module _ (tracker : TrackerSetup) (log : List Event) (m : ℕ) (script : List No
       → RisesFrom 0 (notes_of (made_by t (all_named thread lists (spans_of vss answers))))
   made_rises (last l same rises) answers (covers, tt) t thread =
       one_rises t thread l.items (spans_of_answers answers) [] covers rises tt (λ other. tt)
-  made_rises (more gs gss vs vss l lists fit below rises later) answers (covers, after) t thread =
+  made_rises (more gs gss vs vss l lists fit mark rises later) answers (covers, after) t thread =
       let rest : List Numbered = all_named (thread + 1) lists (spans_of vss answers) in
       one_rises t thread l.items (spans_of_verdicts vs.items) rest covers rises
       (others_later thread (thread + 1) lists (spans_of vss answers) (omega arith))
       (λ other. made_rises later answers after t (thread + 1))
-
--- the captures end no later than m, where their events have numbers below it
-pub ends_within : (m end : ℕ) (history : List Numbered)
-    → AllByRecursion (λ (n : Numbered). nat_lt n.thread end ≡ true → n.number < m) history → captures_end end history ≤ m
-ends_within m end history before =
-    let events : List Numbered = filter (λ (n : Numbered). nat_lt n.thread end) history in
-    mark_past-le m 0 (notes_of events) (omega arith)
-    (below_notes events (each_passed (λ (n : Numbered). nat_lt n.thread end) (λ (n : Numbered). n.number < m) history before))
-  where
-    below_notes : (xs : List Numbered) → AllByRecursion (λ (n : Numbered). n.number < m) xs → NumbersBelow m (notes_of xs)
-    below_notes [] h = tt
-    below_notes (x ∷ xs) (h, hs) = (h, below_notes xs hs)
 
 -- the events of each thread name the packets and the commands that made them
 pub each_named_from : (history : List Numbered) (thread : ℕ) (lists : List (Roomed Note)) (sss : List (List EventSpan)) → CoverEach lists sss
@@ -265,7 +239,7 @@ module _ (tracker : TrackerSetup) (m : ℕ) (script : List Note) (history : List
       → ((t : ℕ) → thread ≤ t → made_by t history ≡ made_by t (all_named thread lists (spans_of vss answers)))
       → ThreadsFit tracker history thread gss vss
   threads_fit (last l same rises) answers thread made = tt
-  threads_fit (more gs gss vs vss l lists fit below rises later) answers thread made =
+  threads_fit (more gs gss vs vss l lists fit mark rises later) answers thread made =
       let ss : List EventSpan = spans_of_verdicts vs.items in
       let rest : List Numbered = all_named (thread + 1) lists (spans_of vss answers) in
       let own : made_by thread history ≡ named_in thread 0 l.items ss =
@@ -278,3 +252,25 @@ module _ (tracker : TrackerSetup) (m : ℕ) (script : List Note) (history : List
         threads_fit later answers (thread + 1)
             (λ t from. made t (omega (arith, from)) ∙ made_by_later t thread l.items ss rest (omega (arith, from))),
       )
+
+  -- and the captures end no later than m
+  pub ends_within : {gss : List (List Given)} {vss : List (Roomed Verdict)} {lists : List (Roomed Note)}
+      → ListsFit tracker (events_of history) m script gss vss lists → (answers : List Answer) (thread : ℕ)
+      → ((t : ℕ) → thread ≤ t → made_by t history ≡ made_by t (all_named thread lists (spans_of vss answers)))
+      → captures_end history thread vss ≤ m
+  ends_within (last l same rises) answers thread made = omega arith
+  ends_within (more gs gss vs vss l lists fit mark rises later) answers thread made =
+      let ss : List EventSpan = spans_of_verdicts vs.items in
+      let rest : List Numbered = all_named (thread + 1) lists (spans_of vss answers) in
+      let own : made_by thread history ≡ named_in thread 0 l.items ss =
+      made thread (omega arith)
+      ∙ made_by_first thread l.items ss rest (others_later thread (thread + 1) lists (spans_of vss answers) (omega arith)) in
+      let covers : CoverFrom 0 (length l.items) ss =
+      verdicts_cover tracker (events_of history) l.items at_start (length l.items) gs vs.items fit (omega arith) in
+      let here : (past_verdicts at_start (notes_of (made_by thread history)) vs.items).mark ≤ m =
+      subst (λ xs. (past_verdicts at_start xs vs.items).mark ≤ m)
+      (sym (ap notes_of own ∙ named_in_notes thread 0 0 (length l.items) l.items ss covers (omega arith))) mark in
+      let after : captures_end history (thread + 1) vss ≤ m =
+      ends_within later answers (thread + 1)
+      (λ t from. made t (omega (arith, from)) ∙ made_by_later t thread l.items ss rest (omega (arith, from))) in
+      omega (arith, here, after)

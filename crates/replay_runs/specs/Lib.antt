@@ -1,3 +1,5 @@
 pub mod Internal
 pub mod Replaying
 pub mod Report
+pub mod Run
+pub mod Laws

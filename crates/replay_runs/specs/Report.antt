@@ -1,5 +1,5 @@
 -- When a report of a tracker is well formed for what the tracker was given to do.
-use Rattle.std.specs.Prelude.{if◌then◌else◌, ◌≡◌, ℕ, ◌+◌, ◌≤◌, true, ◌==◌, nat_lt, max, List, [], ◌∷◌, length, take, drop, filter}
+use Rattle.std.specs.Prelude.{if◌then◌else◌, ◌≡◌, ℕ, ◌+◌, ◌≤◌, true, ◌==◌, max, List, [], ◌∷◌, length, take, drop, filter}
 use Rattle.std.specs.List.{AllByRecursion}
 use Rattle.room_list.specs.Roomed.{Roomed}
 use Rattle.conntrack_cmd.specs.Answer.{FitsCommand}
@@ -11,7 +11,7 @@ use Rattle.history_book.specs.declared.event.Numbered.{Numbered}
 use Rattle.history_book.specs.declared.report.Report.{Report}
 use Rattle.history_book.specs.declared.verdict.Verdict.{Verdict}
 use Rattle.history_book.specs.History.{after, is_legal}
-use Rattle.history_book.specs.Mark.{mark_after_command, mark_after_packet, mark_past}
+use Rattle.history_book.specs.Mark.{mark_after_command, mark_after_packet}
 use Rattle.history_book.specs.Merge.{EventSpan, spans_of}
 use Rattle.history_book.specs.Numbered.{events_of, IsNumberedFrom, notes_of}
 use Rattle.history_book.specs.declared.sizes.Sizes.{Sizes}
@@ -56,6 +56,11 @@ pub record VerdictFits (tracker : TrackerSetup) (log : List Event) (mine : List 
   pub within : verdict.made ≤ length mine
   pub fits : FitsFrame tracker.setup tracker.sizes log now.mark given (take verdict.made mine) verdict.class
 
+-- how far a thread has come behind these verdicts, whose packets made the next of its events
+abbrev pub past_verdicts : Progress → List Note → List Verdict → Progress
+past_verdicts now mine [] = now
+past_verdicts now mine (v ∷ vs) = past_verdicts (past_packet now mine v) (drop v.made mine) vs
+
 -- one verdict for each packet, in order; together they made all of these events
 abbrev pub VerdictsFit : TrackerSetup → List Event → List Note → Progress → List Given → List Verdict → Type 0
 VerdictsFit tracker log mine now [] [] = mine ≡ []
@@ -99,20 +104,23 @@ abbrev pub latest_of : ℕ → List (List Given) → ℕ
 latest_of moment [] = moment
 latest_of moment (gs ∷ gss) = latest_of (latest moment gs) gss
 
--- the point just after the last event of the captures: of the threads before the script's
-abbrev pub captures_end : ℕ → List Numbered → ℕ
-captures_end script_thread history =
-    mark_past 0 (notes_of (filter (λ (n : Numbered). nat_lt n.thread script_thread) history))
+-- the greatest mark that a capture's thread has behind its last packet, of these threads from this number on: no event of
+-- theirs is behind that point, and no verdict of theirs was given at a later one
+abbrev pub captures_end : List Numbered → ℕ → List (Roomed Verdict) → ℕ
+captures_end history thread [] = 0
+captures_end history thread (vs ∷ vss) =
+    max (past_verdicts at_start (notes_of (made_by thread history)) vs.items).mark (captures_end history (thread + 1) vss)
 
 -- the run of a script: the history, the script's moment, how many commands stand before `wait`, and the end of the
--- captures, of which those behind it have seen every event
+-- captures, behind which those stand that come after it
 pub record ScriptRun : Type 0 where
   pub log : List Event
   pub moment : ℕ
   pub wait : ℕ
   pub end_of_captures : ℕ
 
--- the script's mark before its next command
+-- the script's mark before its next command: before the first one behind `wait` it rises to the end of the captures, so
+-- that all packets were answered before
 abbrev pub mark_before : ScriptRun → Progress → ℕ
 mark_before run now = if now.index == run.wait then max now.mark run.end_of_captures else now.mark
 
@@ -140,13 +148,13 @@ AnswersFit run mine now (c ∷ cs) [] = ⊥
 AnswersFit run mine now (c ∷ cs) (a ∷ rest) =
     AnswerFits run mine now c a × AnswersFit run (drop a.made mine) (past_command run now mine a) cs rest
 
--- the run of the script of this work, with this history
-abbrev pub run_of : Work → List Numbered → ScriptRun
-run_of work history = record {
+-- the run of the script of this work, with this history and these verdicts of the captures
+abbrev pub run_of : Work → List Numbered → List (Roomed Verdict) → ScriptRun
+run_of work history verdicts = record {
   log = events_of history;
   moment = latest_of 0 work.captures;
   wait = work.wait;
-  end_of_captures = captures_end (length work.captures) history;
+  end_of_captures = captures_end history 0 verdicts;
 }
 
 -- The history is numbered from 0 and legal. Each of its events is a capture's or the script's, which has the next number
@@ -158,6 +166,6 @@ pub record IsWellFormed (tracker : TrackerSetup) (work : Work) (report : Report)
   pub owned : AllByRecursion (λ (n : Numbered). n.thread ≤ length work.captures) report.history.items
   pub named : AreNamedInEach 0 report.history.items (spans_of report.threads.items report.answers.items)
   pub verdicts : ThreadsFit tracker report.history.items 0 work.captures report.threads.items
-  pub answers : AnswersFit (run_of work report.history.items) (notes_of (made_by (length work.captures) report.history.items)) at_start
+  pub answers : AnswersFit (run_of work report.history.items report.threads.items) (notes_of (made_by (length work.captures) report.history.items)) at_start
       work.commands report.answers.items
   pub live : report.live ≡ length (after (events_of report.history.items) (length report.history.items)).records

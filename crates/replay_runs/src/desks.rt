@@ -4,13 +4,11 @@ ghost use Rattle.std.specs.Prelude.{◌≡◌, ◌+◌, ◌≤◌, [], All, leng
 ghost use Rattle.history_book.specs.Places.{HoldsNothing};
 ghost use Rattle.history_book.specs.Sight.{IsKnown};
 ghost use Rattle.replay_runs.specs.Internal.Jobs.{AreFurther, CanBeReplayed, HasJoined, HasSplit};
-ghost use Rattle.shared_desk.specs.Sights.{sight_of};
 
 use crate::jobs::Job;
 use capture_list::Capture;
-use ct_io::Gate;
+use history_book::many_threads::SharedDesk;
 use history_book::report::{Notes, ThreadVerdicts, Verdicts};
-use shared_desk::clerk::Clerk;
 use std::alloc::Global;
 use tuple_core::NoMemory;
 
@@ -22,16 +20,16 @@ pub struct Joined {
 }
 
 /// A thread for each capture, with a share of this desk's; the desk keeps one.
-pub fn split_off<'t, G: Gate>(
+pub fn split_off<D: SharedDesk>(
     alloc: Global,
-    desk: &mut Clerk<'t, G>,
+    desk: &mut D,
     captures: &[Capture],
-) -> Result<Vec<Job<Clerk<'t, G>>>, NoMemory>
+) -> Result<Vec<Job<D>>, NoMemory>
     requires captures { All CanBeReplayed captures.now }
-    requires shares { (sight_of desk.old).shares ≡ length captures.now + 1 }
+    requires shares { (D.sight desk.old).shares ≡ length captures.now + 1 }
     requires few { length captures.now ≤ 63 }
-    requires knows { IsKnown (sight_of desk.old) }
-    ensures { IfOk result (λ jobs. HasSplit sight_of captures.now (sight_of desk.old) (sight_of desk.new) jobs.items) }
+    requires knows { IsKnown (D.sight desk.old) }
+    ensures { IfOk result (λ jobs. HasSplit D.sight captures.now (D.sight desk.old) (D.sight desk.new) jobs.items) }
 {
     let mut jobs = Vec::with_capacity(alloc, captures.len())?;
     'captures: for (worker, capture) in captures.iter().enumerate() {
@@ -46,15 +44,15 @@ pub fn split_off<'t, G: Gate>(
 }
 
 /// Joins the desks of threads that have ended into this one.
-pub fn join_in<'t, G: Gate>(
+pub fn join_in<D: SharedDesk>(
     alloc: Global,
-    desk: &mut Clerk<'t, G>,
-    jobs: Vec<Job<Clerk<'t, G>>>,
+    desk: &mut D,
+    jobs: Vec<Job<D>>,
 ) -> Result<Joined, NoMemory>
-    requires further { AreFurther sight_of (sight_of desk.old).tracker (sight_of desk.old).sizes jobs.items }
-    requires empty { HoldsNothing (sight_of desk.old) }
-    requires knows { IsKnown (sight_of desk.old) }
-    ensures { IfOk result (λ joined. HasJoined sight_of jobs.entry.items (sight_of desk.old) (sight_of desk.new) joined.lists.items joined.threads.items) }
+    requires further { AreFurther D.sight (D.sight desk.old).tracker (D.sight desk.old).sizes jobs.items }
+    requires empty { HoldsNothing (D.sight desk.old) }
+    requires knows { IsKnown (D.sight desk.old) }
+    ensures { IfOk result (λ joined. HasJoined D.sight jobs.items (D.sight desk.old) (D.sight desk.new) joined.lists.items joined.threads.items) }
 {
     // One more than there are desks, for the events of this one.
     let mut lists = Vec::with_capacity(alloc, jobs.len() + 1)?;

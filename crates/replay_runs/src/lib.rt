@@ -5,6 +5,7 @@ mod beside;
 mod captures;
 mod desks;
 mod jobs;
+pub mod laws;
 pub mod replay;
 mod script_run;
 mod shared;

@@ -18,12 +18,12 @@ ghost use Rattle.run_inputs.specs.Files.{files_named, files_of};
 
 use crate::ending::{Ending, Run, refusal_for};
 use crate::error_line::{name_among, tell_not_written, tell_refusal};
+use crate::replay::replay;
 use crate::sizes::sizes_of;
 use command_words::{Asked, read_words};
 use ct_io::{Files, Gate, Sink};
 use history_book::report::Report;
 use packet_path::setup::{Ports, Setup};
-use replay_runs::replay::replay;
 use report_text::page::LONGEST_LINE;
 use report_text::summary::write_summary;
 use report_text::write::{WriteFault, write_report};

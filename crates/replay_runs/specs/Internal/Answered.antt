@@ -8,6 +8,7 @@ use Rattle.history_book.specs.Places.{HoldsNothing}
 use Rattle.history_book.specs.Sight.{IsKnown, Sight}
 use Rattle.history_book.specs.WentOn.{WentOn}
 use Rattle.replay_runs.specs.Report.{AnswersFit, past_command, Progress, ScriptRun}
+use Rattle.replay_runs.specs.Run.{run_seen}
 
 -- commands can be performed at this moment by a desk that keeps no place, and the last of whose own events are so many of
 -- the script's
@@ -24,10 +25,6 @@ pub record CanPerform (commands : List Command) (moment first : ℕ) (s : Sight)
 abbrev pub past_answers : ScriptRun → Progress → List Note → List Answer → Progress
 past_answers run now mine [] = now
 past_answers run now mine (a ∷ rest) = past_answers run (past_command run now mine a) (drop a.made mine) rest
-
--- the run of a script as far as a desk sees it, with `wait` before the command of this index, and the end of the captures
-abbrev pub run_seen : Sight → (moment wait end : ℕ) → ScriptRun
-run_seen s moment wait end = record { log = s.front; moment = moment; wait = wait; end_of_captures = end }
 
 -- where `wait` stands before one of so many commands from this index on, the captures end within a front of this length
 abbrev pub EndsInTime : (wait end index count seen : ℕ) → Type 0

@@ -1,5 +1,5 @@
 -- What a desk and its verdicts are, once the frames of a capture were handled.
-use Rattle.std.specs.Prelude.{◌≡◌, ◌*◌, ◌≤◌, List, [], ◌∷◌, length, map, drop}
+use Rattle.std.specs.Prelude.{◌≡◌, ◌*◌, ◌≤◌, List, [], length, map}
 use Rattle.history_book.specs.declared.event.Note.{Note}
 use Rattle.history_book.specs.declared.verdict.Verdict.{Verdict}
 use Rattle.history_book.specs.Sight.{IsKnown, Sight}
@@ -7,7 +7,7 @@ use Rattle.history_book.specs.WentOn.{WentOn}
 use Rattle.packet_path.specs.Packet.{Given, given_of}
 use Rattle.packet_path.specs.declared.setup.Setup.{Setup}
 use Rattle.capture_list.specs.declared.Capture.{Capture}
-use Rattle.replay_runs.specs.Report.{at_start, past_packet, Progress, TrackerSetup, VerdictsFit}
+use Rattle.replay_runs.specs.Report.{at_start, past_verdicts, TrackerSetup, VerdictsFit}
 
 -- what was given of the frames of a capture
 abbrev pub given_frames : Capture → List Given
@@ -17,18 +17,14 @@ given_frames c = map (given_of c.bytes.items) c.frames.items
 abbrev pub tracker_with : Setup → Sight → TrackerSetup
 tracker_with setup s = record { setup = setup; sizes = s.sizes }
 
--- how far a thread has come behind these verdicts, whose packets made these events
-abbrev pub past_verdicts : Progress → List Note → List Verdict → Progress
-past_verdicts now mine [] = now
-past_verdicts now mine (v ∷ vs) = past_verdicts (past_packet now mine v) (drop v.made mine) vs
-
 -- The desk went on by the events of the verdicts, at most eight for each packet, and the verdicts fit the packets on the
--- new front, as those of a thread of their own. No place is held or owed.
+-- new front, as those of a thread of their own; its mark behind them lies in that. No place is held or owed.
 pub record Replayed (setup : Setup) (given : List Given) (old new : Sight) (verdicts : List Verdict) : Type 0 where
   pub own : List Note
   pub went : WentOn old new own
   pub few : length own ≤ 8 * length given
   pub fit : VerdictsFit (tracker_with setup old) new.front own at_start given verdicts
+  pub mark : (past_verdicts at_start own verdicts).mark ≤ length new.front
   pub held : new.held ≡ []
   pub owed : new.owed ≡ []
   pub known : IsKnown new

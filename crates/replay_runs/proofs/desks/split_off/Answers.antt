@@ -1,11 +1,10 @@
 use Rattle.std.proofs.Common.{arith, ◌∙◌}
-use Rattle.shared_desk.specs.Sights.{sight_of}
 use Rattle.replay_runs.proofs.Splitting.{splitting_next}
 use Rattle.replay_runs.proofs.desks.split_off.Goals as goal
 
 pub captures-preserved : goal.captures-preserved
 captures-preserved g c = record {
-  split = splitting_next sight_of c.args.captures.now c.captures-2.worker (sight_of c.args.desk.now) (sight_of c.captures-2.desk) (sight_of c.split.new.self) c.split.result
+  split = splitting_next g.D.Desk.sight c.args.captures.now c.captures-2.worker (g.D.Desk.sight c.args.desk.now) (g.D.Desk.sight c.captures-2.desk) (g.D.Desk.sight c.split.new.self) c.split.result
       c.captures-2.jobs.items c.push_reserved.new.self.items c.index-captures-worker.result c.in_ok-verdicts.verdicts
       c.captures-2.invariant.split c.split.ensures.splits c.split.ensures.knows c.split.ensures.further_knows
       (omega (arith, c.captures-test.true)) c.index-captures-worker.is c.requires.captures c.in_ok-verdicts.ensures.empty
