@@ -146,8 +146,8 @@ fn translate_by<R: Wait, D: Desk>(rt: &R, desk: &mut D, rule: &Rule, t: &Tuple) 
     }
 }
 
-/// Finds the reply tuple of a new flow by the first rule that is for it. Makes no event, and leaves the places
-/// that the desk holds and owes as they were.
+/// Finds the reply tuple of a new flow by the first rule that is for it. Makes no event, takes no place, and leaves
+/// the places that the desk holds and owes as they were.
 pub fn translate<R: Wait, D: Desk>(
     rt: &R,
     desk: &mut D,

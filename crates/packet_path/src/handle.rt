@@ -173,9 +173,9 @@ fn handle_packet<R: Wait, D: Desk>(
 }
 
 /// Handles one frame of a file with these bytes, with a desk that holds and owes nothing, and says what
-/// became of it. New flows are translated by the rules of the setup. Takes its memory first: `NoMemory`
-/// comes only where the desk had room for fewer than eight events, and then none was made, and the desk is
-/// as it was.
+/// became of it. New flows are translated by the rules of the setup, and only a packet that begins one
+/// takes a place of the pool. Takes its memory first: `NoMemory` comes only where the desk had room for
+/// fewer than eight events, and then none was made, and the desk is as it was.
 pub fn handle<R: Wait, D: Desk>(
     rt: &R,
     desk: &mut D,
