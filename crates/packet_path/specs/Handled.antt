@@ -13,7 +13,7 @@ use Rattle.packet_path.specs.Verdict.{FitsFrame}
 
 -- Of a tracker that is set up so: the desk went on by the events of the verdict, at most eight, and the verdict fits the
 -- frame on the new front: nothing of it is older than what the desk had seen, nor later than what it sees now. No place is
--- held or owed, and none was taken but by a packet that began a flow or met one, which took one.
+-- held or owed. None was taken but for a packet that begins a flow, and for that one.
 pub record Handled (setup : Setup) (given : Given) (old new : Sight) (verdict : Verdict) : Type 0 where
   pub own : List Note
   pub went : WentOn old new own
