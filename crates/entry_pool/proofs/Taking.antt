@@ -1,13 +1,15 @@
 -- What a pass knows after it took a place, found none, or made one free again.
-use Rattle.std.specs.Prelude.{◌==◌, ◌&&◌, ◌||◌, not, drop, if◌then◌else◌}
+use Rattle.std.specs.Prelude.{◌==◌, ◌&&◌, ◌||◌, ◌*◌, nat_le, not, drop, if◌then◌else◌}
 use Rattle.std.specs.List.{list_any}
 use Rattle.std.proofs.Common.{◌≡◌, ◌≢◌, ℕ, ◌+◌, ◌<◌, ◌≤◌, Bool, true, false, Option, Some, None, List, [], ◌∷◌, ◌++◌, length, refl, sym, ap, subst, ◌∙◌, ⊎_elim, arith, append-nil, append_assoc}
-use Rattle.std.proofs.lemmas.Bool.{cases_Bool, cases_eq, cases_lt, eq-eqb}
+use Rattle.std.proofs.lemmas.Bool.{and_from, and_left, and_right, cases_Bool, cases_eq, cases_lt, eq-eqb, eqb-true, le-leb, lt-leb, ne_eqb, or_parts}
+use Rattle.history_book.specs.declared.sizes.Sizes.{Sizes}
+use Rattle.track_rule.specs.ChangesOnly.{places_taken}
 use Rattle.room_list.specs.Roomed.{Roomed}
 use Rattle.track_rule.specs.Free.{is_among, known_free, taken_out, unlisted}
 use Rattle.track_rule.specs.History.{events_in, records_after}
 use Rattle.track_rule.specs.Layout.{phase_word, refs_word}
-use Rattle.track_rule.specs.Links.{RaisesNone}
+use Rattle.track_rule.specs.Links.{RaisesNone, kind_of}
 use Rattle.track_rule.specs.Passes.{AreFronts}
 use Rattle.track_rule.specs.PhaseSteps.{phase_stored}
 use Rattle.track_rule.specs.Phases.{of_place}
@@ -354,6 +356,39 @@ module _ (v u : PassSight) (list : Roomed ℕ) (h : HasList v u list) where
           unused = h.right.unused place (omega (arith, owed_some));
         }
 
+-- one phase became OWNED
+owned_once : (z : Sizes) (place : ℕ) (rs : List Reading) → changes (λ word. not (word == 1 || word == refs_word z place)) rs ≡ false
+    → places_taken z (rs ++ stored (phase_word z place) 1 ∷ []) ≡ 1
+owned_once z place [] none =
+    ap (λ (b : Bool). bit (true && (b && 1 == 1)) + 0)
+    (and_from (nat_le (3 + 2 * z.buckets) (phase_word z place)) (kind_of z (phase_word z place) == 1) (le-leb (3 + 2 * z.buckets) (phase_word z place) (omega arith))
+    (eq-eqb (kind_of z (phase_word z place)) 1 (omega arith)))
+owned_once z place (r ∷ rs) none =
+    let p = or_parts (r.own && not (r.word == 1 || r.word == refs_word z place)) (changes (λ word. not (word == 1 || word == refs_word z place)) rs) none in
+    omega (arith, ap bit (no_phase r.own r.word r.value p.0), owned_once z place rs p.1)
+  where
+    is_phase : ℕ → ℕ → Bool
+    is_phase word value = (nat_le (3 + 2 * z.buckets) word && kind_of z word == 1) && value == 1
+
+    turn_is_none : (value : ℕ) → is_phase 1 value ≡ false
+    turn_is_none value =
+        and_left (nat_le (3 + 2 * z.buckets) 1 && kind_of z 1 == 1) (value == 1)
+        (and_left (nat_le (3 + 2 * z.buckets) 1) (kind_of z 1 == 1) (lt-leb (3 + 2 * z.buckets) 1 (omega arith)))
+
+    refs_are_none : (value : ℕ) → is_phase (refs_word z place) value ≡ false
+    refs_are_none value =
+        and_left (nat_le (3 + 2 * z.buckets) (refs_word z place) && kind_of z (refs_word z place) == 1) (value == 1)
+        (and_right (nat_le (3 + 2 * z.buckets) (refs_word z place)) (kind_of z (refs_word z place) == 1) (ne_eqb (kind_of z (refs_word z place)) 1 (λ e. omega (arith, e))))
+
+    by_test : (t u : Bool) (word value : ℕ) → (t ≡ true → word ≡ 1) → (u ≡ true → word ≡ refs_word z place) → not (t || u) ≡ false → is_phase word value ≡ false
+    by_test true u word value turn refs e = ap (λ (n : ℕ). is_phase n value) (turn refl) ∙ turn_is_none value
+    by_test false true word value turn refs e = ap (λ (n : ℕ). is_phase n value) (refs refl) ∙ refs_are_none value
+    by_test false false word value turn refs e = cc
+
+    no_phase : (own : Bool) (word value : ℕ) → (own && not (word == 1 || word == refs_word z place)) ≡ false → (own && is_phase word value) ≡ false
+    no_phase true word value e = by_test (word == 1) (word == refs_word z place) word value (λ k. eqb-true word 1 k) (λ k. eqb-true word (refs_word z place) k) e
+    no_phase false word value e = refl
+
 -- the phase was stored after the first reference was made
 pub taken_is : (place : ℕ) (v u w : PassSight) → HasOpened place v u → w ≡ record u { view = phase_stored place 1 u.view } → HasTaken place v w
 taken_is place v u w o e =
@@ -387,6 +422,7 @@ taken_is place v u w o e =
           ∙ ap (is_stored (phase_word (sizes_of v) place) 1) (sym (append-nil (added v.view u.view ++ stored (phase_word (sizes_of v) place) 1 ∷ [])))
           ∙ any_at (λ (y : Reading). y.word == phase_word (sizes_of v) place && y.value == 1 && y.own) (added v.view u.view)
           (stored (phase_word (sizes_of v) place) 1) [] (word_there (phase_word (sizes_of v) place));
+      once = ap (places_taken (sizes_of v)) more ∙ owned_once (sizes_of v) place (added v.view u.view) o.own;
       own = ap (list_any others) more
           ∙ any_more others (added v.view u.view) (stored (phase_word (sizes_of v) place) 1)
           (any_less (λ r. r.own && not (r.word == 1 || r.word == refs_word (sizes_of v) place)) others

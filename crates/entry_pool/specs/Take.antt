@@ -3,6 +3,7 @@ use Rattle.std.specs.Prelude.{◌≡◌, ℕ, ◌+◌, ◌-◌, ◌*◌, ◌<◌
 use Rattle.std.specs.List.{list_any}
 use Rattle.history_book.specs.declared.outcome.TakeOutcome.{TakeOutcome}
 use Rattle.history_book.specs.declared.outcome.TakeOutcome.TheVariants.{Taken, Full}
+use Rattle.track_rule.specs.ChangesOnly.{places_taken}
 use Rattle.track_rule.specs.Free.{taken_out, unlisted}
 use Rattle.track_rule.specs.History.{events_in, records_after}
 use Rattle.track_rule.specs.Layout.{phase_word, refs_word}
@@ -41,11 +42,12 @@ pub record HasOpened (place : ℕ) (v w : PassSight) : Type 0 where
   pub has : HasPlace place v.view.places.owned v w
   pub own : changes (λ word. not (word == 1 || word == refs_word (sizes_of v) place)) (added v.view w.view) ≡ false
 
--- Its phase is OWNED besides, as a reading of the call shows, and the pass owns it. The pass changed no word itself but these
--- three.
+-- Its phase is OWNED besides, as a reading of the call shows, and the pass owns it. The pass made one phase OWNED in the call,
+-- and changed no word itself but these three.
 pub record HasTaken (place : ℕ) (v w : PassSight) : Type 0 where
   pub has : HasPlace place (place ∷ v.view.places.owned) v w
   pub phase : is_stored (phase_word (sizes_of v) place) phase_owned (added v.view w.view) ≡ true
+  pub once : places_taken (sizes_of v) (added v.view w.view) ≡ 1
   pub own : changes (λ word. not (word == 1 || word == refs_word (sizes_of v) place || word == phase_word (sizes_of v) place)) (added v.view w.view) ≡ false
 
 -- a reading of the history word that says so many events, under the turn of the free list, which was empty
