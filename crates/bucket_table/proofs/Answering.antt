@@ -19,12 +19,13 @@ use Rattle.track_rule.specs.Steps.{AreAll, keep}
 use Rattle.track_rule.specs.Sums.{times}
 use Rattle.track_rule.specs.declared.view.Purpose.TheVariants.{For}
 use Rattle.track_rule.specs.declared.view.Reading.{Reading}
-use Rattle.bucket_table.specs.Finding.{FindOnceSays, FindsEntry, HasEntry, HasMoved, HoldMoved, IsNewlyOwed, MeetSays, TestMoved, Tests, direction_by, is_of_test, owed_more, movement}
+use Rattle.bucket_table.specs.Finding.{FindOnceSays, FindsEntry, HasEntry, HasMoved, HoldMoved, IsLastGiven, IsNewlyOwed, MeetSays, TestMoved, Tests, direction_by, is_of_test, owed_more, movement}
 use Rattle.bucket_table.specs.Following.{HasMet, HasSeen, IsLink, IsMoved, OnlyReads, bucket_in, direction_at_side, direction_of, met_with, walk_to}
 use Rattle.bucket_table.specs.declared.finding.FindOnce.{FindOnce}
 use Rattle.bucket_table.specs.declared.finding.FindOnce.TheVariants.{Found, Absent, Moved}
 use Rattle.bucket_table.specs.declared.lookup.Goal.{Goal}
 use Rattle.bucket_table.proofs.Following.{added_is, gave_two, many_of, read_on, stands_now, word_low}
+use Rattle.bucket_table.proofs.Meeting.{last_before, last_behind}
 use Rattle.bucket_table.proofs.Reading.{changes_append}
 use Rattle.bucket_table.proofs.Testing.{below_is}
 
@@ -274,6 +275,9 @@ module _ (t : Tuple) (g : Goal) (place : ℕ) (met : Direction) (v u : PassSight
             ∙ changes_append (λ k. not (k == refs_word (sizes_of v) place)) (added v.view u.view ++ m.tests.more) (found (gen_word (sizes_of v) g.bucket) now ∷ [])
             (after_own place v u m.between link.reads m.tests) refl;
         owes = owes_before o m.owes;
+        last = subst (λ (rs : List Reading). IsLastGiven o (sizes_of v) rs) (sym all)
+            (last_before o (sizes_of v) (added v.view u.view ++ m.tests.more) (found (gen_word (sizes_of v) g.bucket) now ∷ [])
+            (last_behind o (sizes_of v) (added v.view u.view) m.tests.more (subst (λ (z : Sizes). IsLastGiven o z m.tests.more) same_sizes m.last)));
         cause = inl (record {
           word_is = here ∙ ap (gen_word (sizes_of v)) bucket;
           mine = mine;
@@ -307,6 +311,7 @@ module _ (t : Tuple) (g : Goal) (place : ℕ) (met : Direction) (v u : PassSight
         tested = place;
         own = ap (changes (λ k. not (k == refs_word (sizes_of v) place))) (after_added place v u w link.reads m.tests) ∙ after_own place v u w link.reads m.tests;
         owes = tt;
+        last = tt;
         cause = inr (record {
           place = place;
           below = low_place;
@@ -339,6 +344,7 @@ walk_moved t word was now v w m = record {
   tested = 0;
   own = changes_none (λ k. not (k == refs_word (sizes_of v) 0)) (added v.view w.view) m.reads.own;
   owes = tt;
+  last = tt;
   cause = inl (record { word_is = m.word_is; mine = m.mine; cause = m.cause });
   many = m.many;
 }

@@ -1,4 +1,5 @@
 pub mod Reading
+pub mod Changing
 pub mod Looking
 pub mod Searching
 pub mod Following
@@ -8,6 +9,7 @@ pub mod Pairs
 pub mod Seeking
 pub mod Locking
 pub mod Placing
+pub mod Chaining
 pub mod Testing
 pub mod Showing
 pub mod Directing

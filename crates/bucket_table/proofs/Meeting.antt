@@ -1,8 +1,10 @@
 -- A place is tested, and given up where no entry with the tuple is live there.
 use Rattle.std.proofs.Common.{◌≡◌, ℕ, ◌+◌, ◌%◌, ◌<◌, ◌≤◌, Bool, true, false, Option, Some, None, List, [], ◌∷◌, ◌++◌, length, refl, sym, ap, subst, ◌∙◌, arith, ⊎_elim, inl, inr}
-use Rattle.std.specs.Prelude.{◌==◌, ◌&&◌, ◌||◌, not, if◌then◌else◌, filter, nat_le, nat_lt}
+use Rattle.std.specs.Prelude.{◌==◌, ◌&&◌, ◌||◌, ◌*◌, not, if◌then◌else◌, filter, nat_le, nat_lt}
 use Rattle.std.specs.List.{list_all, list_any, slice_get}
-use Rattle.std.proofs.lemmas.Bool.{and_from, and_parts, and_right, cases_Bool, cond_both, eq-eqb, eqb-false, eqb-true, false≢true, ne_eqb, or_parts, or_right}
+use Rattle.std.proofs.lemmas.Bool.{and_from, and_parts, and_right, cases_Bool, cond_both, eq-eqb, eqb-false, eqb-true, false≢true, le-leb, ne_eqb, or_parts, or_right}
+use Rattle.std.proofs.lemmas.List.Folds.{list_any-append}
+use Rattle.track_rule.specs.ChangesOnly.{has_change, is_last_given}
 use Rattle.tuple_core.specs.declared.Direction.{Direction}
 use Rattle.history_book.specs.Desk.{IsLiveIn}
 use Rattle.history_book.specs.declared.event.Event.{Event}
@@ -13,7 +15,7 @@ use Rattle.track_rule.specs.Free.{is_among, unlisted}
 use Rattle.track_rule.specs.History.{state_after}
 use Rattle.track_rule.specs.KeptWords.{is_kept_for, link_of}
 use Rattle.track_rule.specs.Layout.{gen_word, place_of, refs_word}
-use Rattle.track_rule.specs.Links.{is_up}
+use Rattle.track_rule.specs.Links.{is_up, kind_of}
 use Rattle.track_rule.specs.PhaseSteps.{holds_open}
 use Rattle.track_rule.specs.Readings.{Gave, added, found, noted, stored}
 use Rattle.track_rule.specs.Records.{is_hand_of}
@@ -28,7 +30,7 @@ use Rattle.track_rule.specs.declared.view.Places.{Places}
 use Rattle.track_rule.specs.declared.view.Purpose.TheVariants.{For, Testing}
 use Rattle.track_rule.specs.declared.view.Reading.{Reading}
 use Rattle.track_rule.specs.declared.view.View.{View}
-use Rattle.bucket_table.specs.Finding.{AgainSays, CanGiveUp, CanTest, GivesUp, HasEntry, IsDirected, IsElse, IsNewlyOwed, IsTesting, LosesEntry, MeetSays, ReadsAgain, ShowsLive, ShowsNone, TestMoved, TestSays, Tests, has_hook, is_of_test, others_of, owed_more, movement}
+use Rattle.bucket_table.specs.Finding.{AgainSays, CanGiveUp, CanTest, GivesUp, HasEntry, IsDirected, IsElse, IsLastGiven, IsNewlyOwed, IsTesting, LosesEntry, MeetSays, ReadsAgain, ShowsLive, ShowsNone, TestMoved, TestSays, Tests, has_hook, is_of_test, others_of, owed_more, movement}
 use Rattle.bucket_table.specs.Following.{HasPassed}
 use Rattle.bucket_table.specs.declared.finding.FindOnce.{FindOnce}
 use Rattle.bucket_table.specs.declared.finding.FindOnce.TheVariants.{Found, Absent, Moved}
@@ -73,6 +75,23 @@ entry_else g link place id at v u w s d = record {
 
 pub entry_none : (g : Goal) (link place : ℕ) (v w : PassSight) → ShowsNone place v w → LosesEntry g link place v w
 entry_none g link place v w s = record { tests = s.tests; still = s.still; lost = λ here h. s.lost g link here h }
+
+-- WHAT BECAME 0
+
+or_true : (b : Bool) → (b || true) ≡ true
+or_true true = refl
+or_true false = refl
+
+-- before other readings, and behind them
+pub last_before : (o : Option ℕ) (z : Sizes) (xs ys : List Reading) → IsLastGiven o z xs → IsLastGiven o z (xs ++ ys)
+last_before None z xs ys e = tt
+last_before (Some p) z xs ys e =
+    list_any-append (λ (r : Reading). r.own && is_last_given z r) xs ys ∙ ap (λ (b : Bool). b || has_change is_last_given z ys) e
+
+pub last_behind : (o : Option ℕ) (z : Sizes) (xs ys : List Reading) → IsLastGiven o z ys → IsLastGiven o z (xs ++ ys)
+last_behind None z xs ys e = tt
+last_behind (Some p) z xs ys e =
+    list_any-append (λ (r : Reading). r.own && is_last_given z r) xs ys ∙ ap (λ (b : Bool). has_change is_last_given z xs || b) e ∙ or_true (has_change is_last_given z xs)
 
 -- GIVING UP
 
@@ -170,15 +189,20 @@ module _ (place : ℕ) (v : PassSight) (can : CanGiveUp place v) where
     held = ap (λ (x : PassSight). x.view.places.held) k.same ∙ given_held;
     owed_is = ap (λ (x : PassSight). x.view.places.owed) k.same;
     owes = tt;
+    last = tt;
     walk = ap (λ (x : PassSight). x.view.walk) k.same;
   }
 
   pub gives_none : (w : PassSight) → KeepsNone place v w → GivesUp (Some place) place v w
+  unfolding gives_test
   gives_none w k = record {
     tests = gives_test w 0 (place ∷ v.view.places.owed) k.same;
     held = ap (λ (x : PassSight). x.view.places.held) k.same ∙ given_held;
     owed_is = ap (λ (x : PassSight). x.view.places.owed) k.same;
     owes = (can.below, k.owed, omega (arith, k.held, its_times));
+    last = ap (λ (b : Bool). (true && (b && 0 == 0)) || false)
+        (and_from (nat_le (3 + 2 * (sizes_of v).buckets) (refs_word (sizes_of v) place)) (kind_of (sizes_of v) (refs_word (sizes_of v) place) == 0)
+        (le-leb (3 + 2 * (sizes_of v).buckets) (refs_word (sizes_of v) place) (omega arith)) (eq-eqb (kind_of (sizes_of v) (refs_word (sizes_of v) place)) 0 (omega arith)));
     walk = ap (λ (x : PassSight). x.view.walk) k.same;
   }
 
@@ -225,6 +249,7 @@ module _ (g : Goal) (place : ℕ) (met : Direction) (v u : PassSight) (can : Can
   }
 
   pub test_moved : (r : FindOnce) (o : Option ℕ) (b w : PassSight) → GivesUp o place u b → AgainSays r g o b w → TestSays r g place met v w
+  unfolding tests_on
   test_moved (Found p id direction at) o b w gives again = absurd again
   test_moved (Absent at) o b w gives again = absurd again
   test_moved (Moved word was now q) o b w gives again =
@@ -234,6 +259,8 @@ module _ (g : Goal) (place : ℕ) (met : Direction) (v u : PassSight) (can : Can
         held = gives.held ∙ same_others;
         owed_is = gives.owed_is ∙ ap (owed_more o) loses.still.owed;
         owes = owes_from o _ _ _ _ _ _ (ap (λ (x : PassSight). (sizes_of x).entries) loses.tests.same) loses.still.owed same_others gives.owes;
+        last = last_behind o (sizes_of v) loses.tests.more gives.tests.more
+            (subst (λ (x : PassSight). IsLastGiven o (sizes_of x) gives.tests.more) loses.tests.same gives.last);
         lost = λ here h.
             let before = loses.lost here h in
             record { note = before.note; walk = gives.walk ∙ before.walk; its = before.its; passed = before.passed };
@@ -304,6 +331,7 @@ module _ (place : ℕ) (v u : PassSight) (can : CanTest v) (below : place < (siz
   }
 
   pub met_held : (g : Goal) (met : Direction) (w : PassSight) (r : FindOnce) → TestSays r g place met u w → MeetSays r g place met v w
+  unfolding tests_on hold_tests
   met_held g met w (Found p id direction at) t = (
     t.0,
     holds.owed,
@@ -327,6 +355,8 @@ module _ (place : ℕ) (v u : PassSight) (can : CanTest v) (below : place < (siz
     held = t.held ∙ ap others_of its_held;
     owed_is = t.owed_is ∙ ap (λ (x : Places). owed_more o x.owed) its_places;
     owes = owes_from o _ _ _ _ _ _ (ap (λ (x : PassSight). (sizes_of x).entries) holds.same) (ap (λ (x : Places). x.owed) its_places) (ap others_of its_held) t.owes;
+    last = last_behind o (sizes_of v) hold_tests.more t.tests.more
+        (subst (λ (x : PassSight). IsLastGiven o (sizes_of x) t.tests.more) holds.same t.last);
     lost = λ here h. t.lost here (record { note = h.note; walk = ap (λ (x : PassSight). x.view.walk) holds.same ∙ h.walk; is = h.is });
     reads = t.reads;
   })
@@ -360,6 +390,7 @@ met_zero g place met v u w (Moved word was now o) zero again = inl (
       held = ap (λ (x : PassSight). x.view.places.held) zero.only.same;
       owed_is = ap (λ (x : PassSight). x.view.places.owed) zero.only.same;
       owes = tt;
+      last = tt;
       lost = λ here h.
           note_lost g (link_of met place) place true v.view u.view (ap (λ (x : PassSight). x.view.walk) zero.only.same) h refl here;
       reads = again.1;

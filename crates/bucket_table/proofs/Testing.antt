@@ -74,7 +74,7 @@ module _ (place : ℕ) (v u : PassSight) (t : Tests place v u) where
       }
 
   -- one test after another
-  pub tests_on : (w : PassSight) → Tests place u w → Tests place v w
+  unfoldable pub tests_on : (w : PassSight) → Tests place u w → Tests place v w
   tests_on w s = record {
     more = t.more ++ s.more;
     same = s.same

@@ -8,6 +8,7 @@ use Rattle.tuple_core.specs.declared.Tuple.{Tuple}
 use Rattle.history_book.specs.Desk.{IsLiveIn}
 use Rattle.history_book.specs.declared.record.Record.{Record}
 use Rattle.history_book.specs.declared.sizes.Sizes.{Sizes}
+use Rattle.track_rule.specs.ChangesOnly.{has_change, is_last_given}
 use Rattle.track_rule.specs.Chains.{pair_of, shuts_of}
 use Rattle.track_rule.specs.Free.{is_among}
 use Rattle.track_rule.specs.History.{state_after}
@@ -94,6 +95,11 @@ abbrev pub IsNewlyOwed : Option ℕ → ℕ → List ℕ → List Keep → Type 
 IsNewlyOwed None entries owed held = Unit {0}
 IsNewlyOwed (Some place) entries owed held = (place < entries) × (times place owed ≡ 0) × (held_times place held ≡ 0)
 
+-- where a place is owed now, some references became 0 by the pass
+abbrev pub IsLastGiven : Option ℕ → Sizes → List Reading → Type 0
+IsLastGiven None z readings = Unit {0}
+IsLastGiven (Some place) z readings = has_change is_last_given z readings ≡ true
+
 -- The generation of the tuple's bucket was odd, though this pass has not shut it, or gave these two different values.
 pub record IsBucketMoved (t : Tuple) (word was now : ℕ) (v w : PassSight) : Type 0 where
   pub word_is : word ≡ gen_word (sizes_of v) (bucket_in (sizes_of v) t)
@@ -124,6 +130,7 @@ pub record HasMoved (t : Tuple) (word was now : ℕ) (owed : Option ℕ) (v w : 
   pub tested : ℕ
   pub own : changes (λ word. not (word == refs_word (sizes_of v) tested)) (added v.view w.view) ≡ false
   pub owes : IsNewlyOwed owed (sizes_of v).entries v.view.places.owed v.view.places.held
+  pub last : IsLastGiven owed (sizes_of v) (added v.view w.view)
   pub cause : IsBucketMoved t word was now v w ⊎ AreRefsMoved word was now v w
   pub many : 1 < (sizes_of v).passes
 
@@ -250,6 +257,7 @@ pub record GivesUp (owed : Option ℕ) (place : ℕ) (v w : PassSight) : Type 0 
   pub held : w.view.places.held ≡ others_of v.view.places.held
   pub owed_is : w.view.places.owed ≡ owed_more owed v.view.places.owed
   pub owes : IsNewlyOwed owed (sizes_of v).entries v.view.places.owed (others_of v.view.places.held)
+  pub last : IsLastGiven owed (sizes_of v) tests.more
   pub walk : w.view.walk ≡ v.view.walk
 
 -- The generation was loaded again. Where it had passed it is another one; in a table of one pass it is that which the pass read last.
@@ -277,6 +285,7 @@ pub record TestMoved (g : Goal) (link place : ℕ) (m : Movement) (others : List
   pub held : between.view.places.held ≡ others
   pub owed_is : between.view.places.owed ≡ owed_more m.owed v.view.places.owed
   pub owes : IsNewlyOwed m.owed (sizes_of v).entries v.view.places.owed others
+  pub last : IsLastGiven m.owed (sizes_of v) tests.more
   pub lost : place_of link ≡ place → HasMet g link v.view → HasPassed g between.view
   pub reads : ReadsAgain g m.word m.was m.now between w
 

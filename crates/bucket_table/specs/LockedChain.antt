@@ -8,6 +8,7 @@ use Rattle.tuple_core.specs.declared.Tuple.{Tuple}
 use Rattle.history_book.specs.declared.sizes.Sizes.{Sizes}
 use Rattle.track_rule.specs.BucketSteps.{IsChainOf, IsShutAt, end_word, first_of, has_link, put_in, taken_from}
 use Rattle.track_rule.specs.Chains.{bucket_of, chain_in}
+use Rattle.track_rule.specs.ChangesOnly.{either, is_head_of, is_next_of, is_some_next}
 use Rattle.track_rule.specs.Layout.{place_of, side_of}
 use Rattle.track_rule.specs.Links.{hook_of, is_link_word, last_link}
 use Rattle.track_rule.specs.Readings.{added, changes}
@@ -15,6 +16,7 @@ use Rattle.track_rule.specs.Sights.{PassSight, sizes_of}
 use Rattle.track_rule.specs.declared.view.Entry.{Entry}
 use Rattle.track_rule.specs.declared.view.Hook.{Hook}
 use Rattle.track_rule.specs.declared.view.HeldBuckets.{HeldBuckets}
+use Rattle.track_rule.specs.declared.view.Reading.{Reading}
 use Rattle.track_rule.specs.declared.view.View.{View}
 use Rattle.bucket_table.specs.Following.{has_words}
 use Rattle.bucket_table.specs.GoesOn.{ReadingsStand}
@@ -35,6 +37,16 @@ pub record ChangesBuckets (buckets : HeldBuckets) (v w : PassSight) : Type 0 whe
   pub same : w ≡ record v { view = record v.view { buckets = buckets; walk = w.view.walk; readings = w.view.readings } }
   pub stand : ReadingsStand v w
   pub own : changes (λ word. not (is_link_word (sizes_of v) word)) (added v.view w.view) ≡ false
+
+-- the heads of two buckets, and the next links of a place, or of any
+abbrev pub heads_of : ℕ → ℕ → Sizes → Reading → Bool
+heads_of a b = either (is_head_of a) (is_head_of b)
+
+abbrev pub link_words : ℕ → ℕ → ℕ → Sizes → Reading → Bool
+link_words a b place = either (heads_of a b) (is_next_of place)
+
+abbrev pub unlink_words : ℕ → ℕ → Sizes → Reading → Bool
+unlink_words a b = either (heads_of a b) is_some_next
 
 -- the first link of this direction in the chain that has the two words
 abbrev pub link_with : ℕ → ℕ → ℕ → List Entry → Option ℕ

@@ -5,6 +5,7 @@ ghost use Rattle.std.specs.Prelude.{◌≡◌, ◌<◌};
 ghost use Rattle.bucket_table.specs.Finding.{AgainSays, CanGiveUp, CanTest, DirectionSays, EntrySays, FindOnceSays, GivesUp, IsTesting, MeetSays, ShowsSays, TestSays};
 ghost use Rattle.bucket_table.specs.Following.{bucket_in};
 ghost use Rattle.history_book.specs.Sizes.{AreWithinLimits};
+ghost use Rattle.track_rule.specs.ChangesOnly.{ChangesWords, is_some_refs, no_word};
 ghost use Rattle.track_rule.specs.KeptWords.{link_of};
 ghost use Rattle.track_rule.specs.Chains.{shuts_of};
 ghost use Rattle.track_rule.specs.Sights.{sizes_of};
@@ -75,7 +76,8 @@ fn link_of(direction: Direction, place: u32) -> u64
 pub fn live_at(pass: &mut Pass, place: u32) -> Option<Shown>
     requires place { place < (sizes_of pass.old).entries }
     requires testing { IsTesting place Testing pass.old }
-    ensures { ShowsSays result place pass.old pass.new }
+    ensures shows { ShowsSays result place pass.old pass.new }
+    ensures words { ChangesWords no_word pass.old.view pass.new.view }
 {
     let phase = pass.phase_load(place);
     if phase < LIVE {
@@ -222,7 +224,8 @@ fn meet(pass: &mut Pass, sizes: &Sizes, goal: &Goal, place: u32, met: Direction)
 pub fn find_once(pass: &mut Pass, t: &Tuple) -> FindOnce
     requires mine { shuts_of (bucket_in (sizes_of pass.old) t.now) pass.old.view ≡ 0 }
     requires can { CanTest pass.old }
-    ensures { FindOnceSays result t.now pass.old pass.new }
+    ensures says { FindOnceSays result t.now pass.old pass.new }
+    ensures words { ChangesWords is_some_refs pass.old.view pass.new.view }
 {
     match follow(pass, t) {
         Followed::Link {

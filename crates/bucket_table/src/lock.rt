@@ -4,6 +4,7 @@ ghost use Rattle.std.specs.Prelude.{◌≡◌, ◌<◌};
 ghost use Rattle.bucket_table.specs.Locks.{AreOpen, AreShut, AreWhole, Locks, LocksTwo, UnlocksTwo, buckets_of};
 ghost use Rattle.bucket_table.specs.Trying.{TriesLock};
 ghost use Rattle.track_rule.specs.declared.view.Middle.TheVariants.{Calm};
+ghost use Rattle.track_rule.specs.ChangesOnly.{ChangesWords, either, is_gen_of};
 ghost use Rattle.track_rule.specs.Chains.{shuts_of};
 ghost use Rattle.track_rule.specs.Sights.{sizes_of};
 
@@ -67,6 +68,7 @@ pub fn lock_two<R: Wait>(rt: &R, pass: &mut Pass, a: u32, b: u32) -> Locked
     requires open { AreOpen (buckets_of a b) pass.old.view }
     ensures buckets { result ≡ buckets_of a b }
     ensures locks { LocksTwo result pass.old pass.new }
+    ensures words { ChangesWords (either (is_gen_of result.lower) (is_gen_of result.upper)) pass.old.view pass.new.view }
 {
     let lower = a.min(b);
     let upper = a.max(b);
@@ -84,7 +86,8 @@ pub fn unlock_two(pass: &mut Pass, locked: Locked)
     requires shut { AreShut locked pass.old.view }
     requires whole { AreWhole (sizes_of pass.old) locked pass.old.view }
     requires calm { pass.old.view.commit.middle ≡ Calm }
-    ensures { UnlocksTwo locked pass.old pass.new }
+    ensures unlocks { UnlocksTwo locked pass.old pass.new }
+    ensures words { ChangesWords (either (is_gen_of locked.lower) (is_gen_of locked.upper)) pass.old.view pass.new.view }
 {
     let Locked { lower, upper } = locked;
     if upper == lower {

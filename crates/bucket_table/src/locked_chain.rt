@@ -3,9 +3,10 @@
 ghost use Rattle.std.specs.Prelude.{◌≡◌, ℕ, ◌+◌, ◌-◌, ◌*◌, ◌<◌, ◌≤◌, ◌==◌, ◌&&◌, true, if◌then◌else◌};
 ghost use Rattle.history_book.specs.Sizes.{AreWithinLimits};
 ghost use Rattle.bucket_table.specs.Following.{bucket_in};
-ghost use Rattle.bucket_table.specs.LockedChain.{ChangesBuckets, IsReady, IsThere, IsTuple, OnlyLoads, found_in, has_bucket, hook_bucket, link_with, linked_buckets, original_link, place_in, reply_link, unlinked_buckets};
+ghost use Rattle.bucket_table.specs.LockedChain.{ChangesBuckets, IsReady, IsThere, IsTuple, OnlyLoads, found_in, has_bucket, hook_bucket, link_with, link_words, linked_buckets, original_link, place_in, reply_link, unlink_words, unlinked_buckets};
 ghost use Rattle.bucket_table.specs.Locks.{AreShut};
 ghost use Rattle.track_rule.specs.BucketSteps.{put_in, taken_from};
+ghost use Rattle.track_rule.specs.ChangesOnly.{ChangesWords, either, is_head_of, is_next_of, is_some_next, no_word};
 ghost use Rattle.track_rule.specs.Chains.{chain_in, shuts_of};
 ghost use Rattle.track_rule.specs.Free.{is_among};
 ghost use Rattle.track_rule.specs.Layout.{place_of, side_of};
@@ -53,7 +54,8 @@ fn put_link(pass: &mut Pass, sizes: &Sizes, bucket: u32, link: u64)
     requires owned { is_among (place_of link) pass.old.view.places.owned ≡ true }
     requires before { side_of link ≡ 1 → is_down (link - 1) pass.old.view.buckets.hooks ≡ true }
     requires alone { (p : ℕ) → is_up p pass.old.view.buckets.hooks ≡ true → p ≡ place_of link }
-    ensures { ChangesBuckets (put_in bucket link pass.old.view.buckets) pass.old pass.new }
+    ensures puts { ChangesBuckets (put_in bucket link pass.old.view.buckets) pass.old pass.new }
+    ensures words { ChangesWords (either (is_head_of bucket) (is_next_of (place_of link))) pass.old.view pass.new.view }
 {
     let head = head_word(sizes, bucket);
     let first = pass.link_load(head);
@@ -71,7 +73,8 @@ fn take_link(pass: &mut Pass, sizes: &Sizes, bucket: u32, link: u64)
     requires mine { 0 < shuts_of bucket pass.old.view }
     requires up { is_raised link pass.old.view.buckets.hooks ≡ true }
     requires placed { hook_bucket (sizes_of pass.old) link pass.old.view.buckets.hooks ≡ bucket }
-    ensures { ChangesBuckets (taken_from bucket link pass.old.view.buckets) pass.old pass.new }
+    ensures takes { ChangesBuckets (taken_from bucket link pass.old.view.buckets) pass.old pass.new }
+    ensures words { ChangesWords (either (is_head_of bucket) is_some_next) pass.old.view pass.new.view }
 {
     let mut word = head_word(sizes, bucket);
     let mut at = pass.link_load(word);
@@ -96,7 +99,10 @@ pub fn link(pass: &mut Pass, locked: &Locked, place: u32)
     requires alone { (p : ℕ) → is_up p pass.old.view.buckets.hooks ≡ true → p ≡ place }
     requires original_ready { IsReady (sizes_of pass.old) locked.now (original_link place) pass.old.view.buckets.hooks }
     requires reply_ready { IsReady (sizes_of pass.old) locked.now (reply_link place) pass.old.view.buckets.hooks }
-    ensures { ChangesBuckets (linked_buckets (sizes_of pass.old) place pass.old.view.buckets) pass.old pass.new }
+    ensures links { ChangesBuckets (linked_buckets (sizes_of pass.old) place pass.old.view.buckets) pass.old pass.new }
+    ensures words { ChangesWords
+      (link_words (hook_bucket (sizes_of pass.old) (original_link place) pass.old.view.buckets.hooks) (hook_bucket (sizes_of pass.old) (reply_link place) pass.old.view.buckets.hooks) place)
+      pass.old.view pass.new.view }
 {
     let _ = locked;
     let sizes = pass.sizes();
@@ -116,7 +122,10 @@ pub fn unlink(pass: &mut Pass, locked: &Locked, place: u32)
     requires reply { is_raised (reply_link place) pass.old.view.buckets.hooks ≡ true }
     requires original_ready { IsReady (sizes_of pass.old) locked.now (original_link place) pass.old.view.buckets.hooks }
     requires reply_ready { IsReady (sizes_of pass.old) locked.now (reply_link place) pass.old.view.buckets.hooks }
-    ensures { ChangesBuckets (unlinked_buckets (sizes_of pass.old) place pass.old.view.buckets) pass.old pass.new }
+    ensures unlinks { ChangesBuckets (unlinked_buckets (sizes_of pass.old) place pass.old.view.buckets) pass.old pass.new }
+    ensures words { ChangesWords
+      (unlink_words (hook_bucket (sizes_of pass.old) (original_link place) pass.old.view.buckets.hooks) (hook_bucket (sizes_of pass.old) (reply_link place) pass.old.view.buckets.hooks))
+      pass.old.view pass.new.view }
 {
     let _ = locked;
     let sizes = pass.sizes();
@@ -164,6 +173,7 @@ pub fn walk(pass: &mut Pass, locked: &Locked, t: &Tuple) -> Option<(u32, Directi
     requires shut { AreShut locked.now pass.old.view }
     requires bucket { has_bucket locked.now (bucket_in (sizes_of pass.old) t.now) ≡ true }
     ensures loads { OnlyLoads pass.old pass.new }
+    ensures words { ChangesWords no_word pass.old.view pass.new.view }
     ensures finds { result ≡ found_in (address_word t.now) (flow_word t.now) (chain_in (bucket_in (sizes_of pass.old) t.now) pass.old.view.buckets.shut) }
 {
     let _ = locked;
@@ -202,6 +212,7 @@ pub fn walk_reply(pass: &mut Pass, locked: &Locked, t: &Tuple) -> Option<u32>
     requires shut { AreShut locked.now pass.old.view }
     requires bucket { has_bucket locked.now (bucket_in (sizes_of pass.old) t.now) ≡ true }
     ensures loads { OnlyLoads pass.old pass.new }
+    ensures words { ChangesWords no_word pass.old.view pass.new.view }
     ensures finds { result ≡ place_in (link_with 1 (address_word t.now) (flow_word t.now) (chain_in (bucket_in (sizes_of pass.old) t.now) pass.old.view.buckets.shut)) }
 {
     let _ = locked;

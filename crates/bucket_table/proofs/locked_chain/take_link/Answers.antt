@@ -4,6 +4,7 @@ use Rattle.track_rule.specs.Layout.{next_word}
 use Rattle.track_rule.specs.Links.{is_link_word, is_raised}
 use Rattle.track_rule.specs.Sights.{sizes_of}
 use Rattle.bucket_table.specs.LockedChain.{IsSeeking}
+use Rattle.bucket_table.proofs.Chaining.{take_words}
 use Rattle.bucket_table.proofs.Passing.{load_only, loads_join, seek_on, seek_some, seek_start, take_done, take_may}
 use Rattle.bucket_table.proofs.locked_chain.take_link.Goals as goal
 
@@ -48,8 +49,8 @@ link_store-requires-clause-may c =
     (ap (λ x. is_raised c.args.link x.view.buckets.hooks) c.links.invariant.loads.same ∙ c.requires.up)
     (c.next_word.ensures.word ∙ ap (λ (z : Sizes). next_word z c.args.link) (c.requires.sizes ∙ sym same)) c.link_load-next.ensures.loads c.link_load-next.ensures.kept).0
 
-pub returns : goal.returns
-returns c =
+pub returns-clause-takes : goal.returns-clause-takes
+returns-clause-takes c =
     let same : sizes_of c.links.pass ≡ sizes_of c.args.pass.now = ap sizes_of c.links.invariant.loads.same in
     take_done c.args.bucket c.args.link c.links.word c.link_load-next.result c.next_word.result c.args.pass.now c.links.pass c.link_load-next.new.self c.link_store.new.self
     (ap (λ (z : Sizes). is_link_word z c.links.word) (sym c.requires.sizes) ∙ c.links.invariant.word) c.links.invariant.loads c.link_load-next.ensures.loads c.link_load-next.ensures.kept
@@ -60,3 +61,9 @@ returns c =
     (c.next_word.ensures.word ∙ ap (λ (z : Sizes). next_word z c.args.link) (c.requires.sizes ∙ sym same)) c.link_load-next.ensures.loads c.link_load-next.ensures.kept).1
     c.link_store.new.self.view c.link_store.ensures.strings)
     c.link_store.ensures.kept
+
+pub returns-clause-words : goal.returns-clause-words
+returns-clause-words c =
+    take_words c.args.bucket c.links.word c.link_load-next.result c.next_word.result c.links.invariant.seeks.passed c.args.pass.now c.links.pass
+    c.link_load-next.new.self c.link_store.new.self c.links.invariant.loads c.requires.bucket c.links.invariant.seeks.word_is c.link_load-next.ensures.loads
+    c.link_store.ensures.strings

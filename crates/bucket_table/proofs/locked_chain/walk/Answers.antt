@@ -9,6 +9,9 @@ use Rattle.track_rule.specs.Layout.{next_word, place_of, side_of}
 use Rattle.track_rule.specs.Sights.{sizes_of}
 use Rattle.bucket_table.specs.Following.{bucket_in}
 use Rattle.bucket_table.specs.LockedChain.{IsWalking, found_in}
+use Rattle.track_rule.specs.ChangesOnly.{no_word}
+use Rattle.bucket_table.proofs.Changing.{joined}
+use Rattle.bucket_table.proofs.Chaining.{only_words}
 use Rattle.bucket_table.proofs.Pairs.{bucket_shut, walk_end, walk_finds, walk_found, walk_on, walk_some, walk_start}
 use Rattle.bucket_table.proofs.Passing.{load_only, loads_join}
 use Rattle.bucket_table.proofs.locked_chain.walk.Goals as goal
@@ -111,3 +114,14 @@ returns-clause-finds c =
     ∙ sym (walk_end c.bucket_of-bucket.result (get_or c.words-goal.result 0 0) (get_or c.words-goal.result 1 0) c.links.link c.links.left c.links.reply
     c.links.pass c.links.invariant.walks c.links-test.false)
     ∙ finds
+
+pub returns-then-is_answer-clause-words : goal.returns-then-is_answer-clause-words
+returns-then-is_answer-clause-words c =
+    joined no_word c.args.pass.now.view c.links.pass.view c.has_words-has.new.pass.view (only_words no_word c.args.pass.now c.links.pass c.links.invariant.loads)
+    (only_words no_word c.links.pass c.has_words-has.new.pass c.has_words-has.ensures.loads)
+
+pub returns-then-reply-eq0-clause-words : goal.returns-then-reply-eq0-clause-words
+returns-then-reply-eq0-clause-words c = only_words no_word c.args.pass.now c.links.pass c.links.invariant.loads
+
+pub returns-clause-words : goal.returns-clause-words
+returns-clause-words c = only_words no_word c.args.pass.now c.links.pass c.links.invariant.loads

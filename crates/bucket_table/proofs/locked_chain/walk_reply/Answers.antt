@@ -6,6 +6,9 @@ use Rattle.track_rule.specs.Layout.{next_word}
 use Rattle.track_rule.specs.Sights.{PassSight, sizes_of}
 use Rattle.bucket_table.specs.Following.{bucket_in}
 use Rattle.bucket_table.specs.LockedChain.{link_with, place_in}
+use Rattle.track_rule.specs.ChangesOnly.{no_word}
+use Rattle.bucket_table.proofs.Changing.{joined}
+use Rattle.bucket_table.proofs.Chaining.{only_words}
 use Rattle.bucket_table.proofs.Pairs.{bucket_shut}
 use Rattle.bucket_table.proofs.Passing.{load_only, loads_join}
 use Rattle.bucket_table.proofs.Seeking.{look_end, look_found, look_on, look_some, look_start}
@@ -80,3 +83,11 @@ returns-clause-finds c =
     ap place_in (sym (look_end c.bucket_of-bucket.result 1 (get_or c.words-goal.result 0 0) (get_or c.words-goal.result 1 0) c.seek.link c.seek.left c.seek.pass
     c.seek.invariant.looks c.seek-test.false))
     ∙ (λ i. place_in (link_with 1 (first i) (second i) (chain_in (bucket i) (ap (λ (k : PassSight). k.view.buckets.shut) c.seek.invariant.loads.same i))))
+
+pub returns-then-is_reply-clause-words : goal.returns-then-is_reply-clause-words
+returns-then-is_reply-clause-words c =
+    joined no_word c.args.pass.now.view c.seek.pass.view c.has_words-has.new.pass.view (only_words no_word c.args.pass.now c.seek.pass c.seek.invariant.loads)
+    (only_words no_word c.seek.pass c.has_words-has.new.pass c.has_words-has.ensures.loads)
+
+pub returns-clause-words : goal.returns-clause-words
+returns-clause-words c = only_words no_word c.args.pass.now c.seek.pass c.seek.invariant.loads
