@@ -5,9 +5,7 @@ use Rattle.std.proofs.lemmas.Bool.{and_from, eq-eqb, eqb-true, false≢true, le-
 use Rattle.history_book.specs.declared.sizes.Sizes.{Sizes}
 use Rattle.track_rule.specs.BucketSteps.{LoadsLink, Strings, end_word}
 use Rattle.track_rule.specs.ChangesOnly.{ChangesWords, either, is_gen_of, is_head_of, is_next_of, is_of_kind, is_some_next, is_some_refs, no_word}
-use Rattle.track_rule.specs.Layout.{gen_word, head_word, next_word, phase_word, place_of, refs_word}
-use Rattle.track_rule.specs.PhaseSteps.{LoadsPhase}
-use Rattle.track_rule.specs.Steps.{Looks, found_history}
+use Rattle.track_rule.specs.Layout.{gen_word, head_word, next_word, place_of, refs_word}
 use Rattle.tuple_core.specs.declared.Tuple.{Tuple}
 use Rattle.bucket_table.specs.Finding.{FindOnceSays}
 use Rattle.bucket_table.specs.declared.finding.FindOnce.{FindOnce}
@@ -21,7 +19,7 @@ use Rattle.track_rule.specs.declared.view.View.{View}
 use Rattle.bucket_table.specs.GoesOn.{ReadingsStand}
 use Rattle.bucket_table.specs.LockedChain.{OnlyLoads, heads_of, link_words, unlink_words}
 use Rattle.bucket_table.specs.Locks.{Buckets, is_else}
-use Rattle.bucket_table.proofs.Changing.{by_loads, by_own, by_reading, in_either, in_one, in_other, joined, weaker, word_is}
+use Rattle.track_rule.proofs.Changing.{by_loads, by_own, by_reading, in_either, in_one, in_other, joined, weaker, word_is}
 
 -- one load
 pub load_words : (f : Sizes → Reading → Bool) (word n : ℕ) (v w : View) → LoadsLink word v n w → ChangesWords f v w
@@ -153,14 +151,6 @@ one_lock_words lower upper v w low sizes stand own =
     (and_from (nat_lt lower (sizes_of v).buckets) (r.word == gen_word (sizes_of v) lower) (lt-ltb lower (sizes_of v).buckets low) (word_is (gen_word (sizes_of v) lower) r.word e)))
 
 -- LOOKING
-
-pub phase_words : (f : Sizes → Reading → Bool) (place n : ℕ) (v w : View) → LoadsPhase place v n w → ChangesWords f v w
-phase_words f place n v w loads =
-    by_reading f (found (phase_word v.passes.sizes place) n) v w (ap (λ (x : View). x.passes.sizes) loads.view) (ap (λ (x : View). x.readings) loads.view) refl
-
-pub look_words : (f : Sizes → Reading → Bool) (word : ℕ) (v w : View) → Looks v word w → ChangesWords f v w
-look_words f word v w looks =
-    by_reading f (found_history word v) v w (ap (λ (x : View). x.passes.sizes) looks.same) (ap (λ (x : View). x.readings) looks.same) refl
 
 refs_some : (z : Sizes) (place : ℕ) (r : Reading) → not (r.word == refs_word z place) ≡ false → is_some_refs z r ≡ true
 refs_some z place r e =

@@ -1,5 +1,4 @@
 pub mod Reading
-pub mod Changing
 pub mod Looking
 pub mod Searching
 pub mod Following

@@ -2,16 +2,19 @@
 use Rattle.std.specs.Prelude.{◌==◌, ◌&&◌, ◌||◌, ◌*◌, nat_le, not, drop, if◌then◌else◌}
 use Rattle.std.specs.List.{list_any}
 use Rattle.std.proofs.Common.{◌≡◌, ◌≢◌, ℕ, ◌+◌, ◌<◌, ◌≤◌, Bool, true, false, Option, Some, None, List, [], ◌∷◌, ◌++◌, length, refl, sym, ap, subst, ◌∙◌, ⊎_elim, arith, append-nil, append_assoc}
-use Rattle.std.proofs.lemmas.Bool.{and_from, and_left, and_right, cases_Bool, cases_eq, cases_lt, eq-eqb, eqb-true, le-leb, lt-leb, ne_eqb, or_parts}
+use Rattle.std.proofs.lemmas.Bool.{and_from, and_left, and_right, cases_Bool, cases_eq, cases_lt, eq-eqb, eqb-true, le-leb, lt-leb, ne_eqb, or_left, or_parts}
 use Rattle.history_book.specs.declared.sizes.Sizes.{Sizes}
-use Rattle.track_rule.specs.ChangesOnly.{places_taken}
+use Rattle.track_rule.proofs.Changing.{by_own, by_pass, joined, word_is}
+use Rattle.track_rule.specs.ChangesOnly.{ChangesWords, is_free_turn, is_phase_of, is_refs_of, places_taken}
+use Rattle.entry_pool.specs.GoesOn.{ReadingsStand}
+use Rattle.history_book.specs.declared.outcome.TakeOutcome.TheVariants as outcome
 use Rattle.room_list.specs.Roomed.{Roomed}
 use Rattle.track_rule.specs.Free.{is_among, known_free, taken_out, unlisted}
 use Rattle.track_rule.specs.History.{events_in, records_after}
 use Rattle.track_rule.specs.Layout.{phase_word, refs_word}
 use Rattle.track_rule.specs.Links.{RaisesNone, kind_of}
 use Rattle.track_rule.specs.Passes.{AreFronts}
-use Rattle.track_rule.specs.PhaseSteps.{phase_stored}
+use Rattle.track_rule.specs.PhaseSteps.{phase_free, phase_owned, phase_stored}
 use Rattle.track_rule.specs.Phases.{of_place}
 use Rattle.track_rule.specs.Readings.{added, changes, is_stored, stored}
 use Rattle.track_rule.specs.Sights.{PassSight, sizes_of}
@@ -32,7 +35,7 @@ use Rattle.track_rule.specs.declared.view.Reading.{Reading}
 use Rattle.track_rule.specs.declared.view.Seen.{Seen}
 use Rattle.track_rule.specs.declared.view.View.{View}
 use Rattle.track_rule.specs.declared.view.Walk.{Walk}
-use Rattle.entry_pool.specs.Take.{HasOpened, HasTaken, IsFull, IsGivenBack, Recycles, says_empty}
+use Rattle.entry_pool.specs.Take.{HasOpened, HasTaken, IsFull, IsGivenBack, Recycles, recycle_words, says_empty, take_words}
 use Rattle.entry_pool.specs.Turn.{HasList}
 use Rattle.entry_pool.proofs.Hooks.{up_new}
 use Rattle.entry_pool.proofs.Lists.{among_push, none_of, other_bit, other_taken, same_bit, same_taken, some_of, times_push, total_none, total_some, unlisted_in, unlisted_none, unlisted_out, unlisted_push, unlisted_same}
@@ -497,3 +500,47 @@ recycled_is place v u w e g =
         ap (λ (b : Bool). (true && not ((n == 1) || b)) || changes (λ word. not (word == 1 || word == n)) rs) (eq-eqb n n refl)
         ∙ ap (λ (b : Bool). b || changes (λ word. not (word == 1 || word == n)) rs) (none_then (n == 1))
         ∙ any_less not_turn (λ r. r.own && not (r.word == 1 || r.word == n)) (λ y e. less y.own (y.word == 1) (y.word == n) e) rs none
+
+-- THE WORDS
+
+turn_only : (f : Sizes → Reading → Bool) (v w : PassSight) → sizes_of w ≡ sizes_of v → ReadingsStand v w → changes (λ word. not (word == 1)) (added v.view w.view) ≡ false
+    → ((r : Reading) → is_free_turn (sizes_of v) r ≡ true → f (sizes_of v) r ≡ true) → ChangesWords f v.view w.view
+turn_only f v w sizes stand own inside = by_own (λ word. not (word == 1)) f v.view w.view sizes stand own (λ r e. inside r (word_is 1 r.word e))
+
+pub full_words : (at : ℕ) (v w : PassSight) → IsFull at v w → ChangesWords is_free_turn v.view w.view
+full_words at v w f = turn_only is_free_turn v w (ap sizes_of f.same) f.stand f.own (λ r e. e)
+
+pub taken_words : (place : ℕ) (v u w : PassSight) → HasOpened place v u → w ≡ record u { view = phase_stored place 1 u.view }
+    → ChangesWords (take_words (outcome.Taken place)) v.view w.view
+taken_words place v u w o e =
+    joined (take_words (outcome.Taken place)) v.view u.view w.view
+    (by_own (λ word. not (word == 1 || word == refs_word (sizes_of v) place)) (take_words (outcome.Taken place)) v.view u.view (ap sizes_of o.has.same) o.has.stand o.own
+    (λ r h. two (r.word == 1) (r.word == refs_word (sizes_of v) place) (is_phase_of place phase_owned (sizes_of v) r) h))
+    (by_pass (take_words (outcome.Taken place)) (stored (phase_word (sizes_of u) place) 1) u w _ e refl refl
+    (last (phase_word (sizes_of u) place == 1) (phase_word (sizes_of u) place == refs_word (sizes_of u) place) (phase_word (sizes_of u) place == phase_word (sizes_of u) place)
+    (eq-eqb (phase_word (sizes_of u) place) (phase_word (sizes_of u) place) refl)))
+  where
+    two : (a b c : Bool) → not (a || b) ≡ false → (a || (b || c)) ≡ true
+    two true b c h = refl
+    two false true c h = refl
+    two false false c h = cc
+
+    last : (a b c : Bool) → c ≡ true → (a || (b || (c && true))) ≡ true
+    last true b c h = refl
+    last false true c h = refl
+    last false false true h = refl
+    last false false false h = h
+
+pub recycled_words : (place : ℕ) (v u w : PassSight) → u ≡ record v { view = phase_stored place 0 v.view } → IsGivenBack place u w
+    → ChangesWords (recycle_words place) v.view w.view
+recycled_words place v u w e g =
+    joined (recycle_words place) v.view u.view w.view
+    (by_pass (recycle_words place) (stored (phase_word (sizes_of v) place) 0) v u _ e refl refl
+    (last (phase_word (sizes_of v) place == 1) (phase_word (sizes_of v) place == phase_word (sizes_of v) place)
+    (eq-eqb (phase_word (sizes_of v) place) (phase_word (sizes_of v) place) refl)))
+    (turn_only (recycle_words place) u w (ap sizes_of g.same) g.stand g.own (λ r h. or_left (is_free_turn (sizes_of u) r) (is_phase_of place phase_free (sizes_of u) r) h))
+  where
+    last : (a c : Bool) → c ≡ true → (a || (c && true)) ≡ true
+    last true c h = refl
+    last false true h = refl
+    last false false h = h

@@ -3,7 +3,8 @@ use Rattle.std.specs.Prelude.{◌≡◌, ℕ, ◌+◌, ◌-◌, ◌*◌, ◌<◌
 use Rattle.std.specs.List.{list_any}
 use Rattle.history_book.specs.declared.outcome.TakeOutcome.{TakeOutcome}
 use Rattle.history_book.specs.declared.outcome.TakeOutcome.TheVariants.{Taken, Full}
-use Rattle.track_rule.specs.ChangesOnly.{places_taken}
+use Rattle.history_book.specs.declared.sizes.Sizes.{Sizes}
+use Rattle.track_rule.specs.ChangesOnly.{either, is_free_turn, is_phase_of, is_refs_of, places_taken}
 use Rattle.track_rule.specs.Free.{taken_out, unlisted}
 use Rattle.track_rule.specs.History.{events_in, records_after}
 use Rattle.track_rule.specs.Layout.{phase_word, refs_word}
@@ -49,6 +50,15 @@ pub record HasTaken (place : ℕ) (v w : PassSight) : Type 0 where
   pub phase : is_stored (phase_word (sizes_of v) place) phase_owned (added v.view w.view) ≡ true
   pub once : places_taken (sizes_of v) (added v.view w.view) ≡ 1
   pub own : changes (λ word. not (word == 1 || word == refs_word (sizes_of v) place || word == phase_word (sizes_of v) place)) (added v.view w.view) ≡ false
+
+-- Taking changes the turn of the free list, and where a place was taken its references, and its phase, which became OWNED; making a
+-- place free again changes its phase, which became FREE, and the turn.
+abbrev pub take_words : TakeOutcome → Sizes → Reading → Bool
+take_words (Taken place) = either is_free_turn (either (is_refs_of place) (is_phase_of place phase_owned))
+take_words (Full at) = is_free_turn
+
+abbrev pub recycle_words : ℕ → Sizes → Reading → Bool
+recycle_words place = either is_free_turn (is_phase_of place phase_free)
 
 -- a reading of the history word that says so many events, under the turn of the free list, which was empty
 abbrev pub says_empty : ℕ → Reading → Bool

@@ -1,7 +1,8 @@
 //! Places for new entries.
 
 ghost use Rattle.std.specs.Prelude.{◌≡◌, ◌+◌, ◌≤◌, true, None, length};
-ghost use Rattle.entry_pool.specs.Take.{IsBelow, IsGivenBack, OpenSays, Recycles, TakeSays};
+ghost use Rattle.entry_pool.specs.Take.{IsBelow, IsGivenBack, OpenSays, Recycles, TakeSays, recycle_words, take_words};
+ghost use Rattle.track_rule.specs.ChangesOnly.{ChangesWords};
 ghost use Rattle.track_rule.specs.Free.{is_among};
 ghost use Rattle.track_rule.specs.History.{events_in};
 ghost use Rattle.track_rule.specs.Sights.{sizes_of};
@@ -46,6 +47,7 @@ pub fn take<R: Wait>(rt: &R, pass: &mut Pass) -> TakeOutcome
     requires calm { pass.old.view.free ≡ None }
     requires few { length pass.old.view.places.held + length pass.old.view.places.owed ≤ 3 }
     ensures says { TakeSays result pass.old pass.new }
+    ensures words { ChangesWords (take_words result) pass.old.view pass.new.view }
     ensures below { IsBelow (sizes_of pass.old).entries result }
 {
     match open_place(rt, pass) {
@@ -73,7 +75,8 @@ fn give_place<R: Wait>(rt: &R, pass: &mut Pass, place: u32)
 pub fn recycle<R: Wait>(rt: &R, pass: &mut Pass, place: u32)
     requires calm { pass.old.view.free ≡ None }
     requires owed { is_among place pass.old.view.places.owed ≡ true }
-    ensures { Recycles place pass.old pass.new }
+    ensures recycles { Recycles place pass.old pass.new }
+    ensures words { ChangesWords (recycle_words place) pass.old.view pass.new.view }
 {
     pass.phase_store(place, FREE);
     give_place(rt, pass, place);

@@ -1,4 +1,5 @@
 -- A clerk that touched the entry for which it holds a place.
+use Rattle.shared_desk.proofs.Known.{counted}
 use Rattle.std.specs.Prelude.{◌^◌}
 use Rattle.std.proofs.Common.{◌≡◌, ℕ, ◌-◌, ◌≤◌, true, Option, Some, None, List, [], ◌∷◌, ◌++◌, length, map, refl, sym, ap, subst, ◌∙◌, arith, length-append}
 use Rattle.room_list.specs.Roomed.{Roomed}
@@ -23,7 +24,7 @@ use Rattle.shared_desk.specs.Touching.{Gives, IsLeft, IsNotLive, IsTouched, Note
 use Rattle.shared_desk.specs.declared.touching.Packet.{Packet}
 use Rattle.shared_desk.proofs.Noted.{known_made, looks_left, made_here, noted_one, rest_left, so_before}
 use Rattle.shared_desk.proofs.Peeking.{kept}
-use Rattle.shared_desk.proofs.Resting.{clerk_at, idle_still}
+use Rattle.shared_desk.proofs.Resting.{clerk_at, idle_still, then_of}
 
 module _ (v : PassSight) (notes : Roomed Note) (spare place : ℕ) (p : Packet) (h : IsAtRest v notes spare)
     (held : is_held_for_entry place (map hold_of v.view.places.held) ≡ true) (room : 1 ≤ spare) where
@@ -51,14 +52,14 @@ module _ (v : PassSight) (notes : Roomed Note) (spare place : ℕ) (p : Packet) 
           settled = h.settled;
           own = ap (λ ns. ns ++ m ∷ []) h.own ∙ sym own ∙ ap (λ (k : PassSight). k.view.seen.own) t.same;
           room = omega (arith, h.room, room, length-append notes.items (m ∷ []));
-          knows = known_made (sight_of (clerk_at v spare)) (touch_of p t.id t.after) number (spare - 1) t.log h.knows t.all.front t.number_is t.legal
-              (omega (arith, t.all.few, t.all.passes)) (omega (arith, room, h.knows.spared)) t.all.alone;
+          knows = counted _ _ (known_made (sight_of (clerk_at v spare)) (touch_of p t.id t.after) number (spare - 1) t.log h.knows t.all.front t.number_is t.legal
+              (omega (arith, t.all.few, t.all.passes)) (omega (arith, room, h.knows.spared)) t.all.alone);
         })
 
-    says_touched : StatesStay → TouchSays place p.direction p.segment p.moment (sight_of (clerk_at v spare)) (sight_of (clerk_at w (spare - 1))) (touch.Touched number q)
+    says_touched : StatesStay → TouchSays place p.direction p.segment p.moment (sight_of (clerk_at v spare)) (then_of v (clerk_at w (spare - 1))) (touch.Touched number q)
     says_touched stay =
-        subst (λ k. TouchSays place p.direction p.segment p.moment (sight_of (clerk_at v spare)) (sight_of (clerk_at k (spare - 1))) (touch.Touched number q)) (sym t.same)
-        (subst (λ (i : ℕ). TouchSays place p.direction p.segment p.moment (sight_of (clerk_at v spare)) (sight_of (clerk_at (record v {
+        subst (λ k. TouchSays place p.direction p.segment p.moment (sight_of (clerk_at v spare)) (then_of v (clerk_at k (spare - 1))) (touch.Touched number q)) (sym t.same)
+        (subst (λ (i : ℕ). TouchSays place p.direction p.segment p.moment (sight_of (clerk_at v spare)) (then_of v (clerk_at (record v {
           view = record v.view {
             seen = record v.view.seen {
               front = t.log ++ touch_of p i t.after ∷ [];
@@ -99,16 +100,16 @@ module _ (v : PassSight) (notes : Roomed Note) (spare place : ℕ) (p : Packet) 
   rest_touching (touch.Gone at) w made t is = pass_left at IsNotLive w t made is
 
   left_says : (o : Outcome) (at : ℕ) (w : PassSight) → IsLeft place at (Gives p o) v w → (made : Option Note) → Notes made v.view.seen.own w.view.seen.own
-      → Leaves (held_id place (map hold_of v.view.places.held)) p.direction p.segment p.moment o (sight_of (clerk_at v spare)) (sight_of (clerk_at w (room_after made spare))) at
+      → Leaves (held_id place (map hold_of v.view.places.held)) p.direction p.segment p.moment o (sight_of (clerk_at v spare)) (then_of v (clerk_at w (room_after made spare))) at
   left_says o at w l made is =
       looks_left v notes spare place h held at (Gives p o) w l made is
       (StepGives (held_id place (map hold_of v.view.places.held)) p.direction p.segment p.moment o) (λ fact. fact)
 
   pub says_touching : StatesStay → (o : TouchOutcome) (w : PassSight) (made : Option Note) → Touches place p o v w → Notes made v.view.seen.own w.view.seen.own
-      → TouchSays place p.direction p.segment p.moment (sight_of (clerk_at v spare)) (sight_of (clerk_at w (room_after made spare))) o
+      → TouchSays place p.direction p.segment p.moment (sight_of (clerk_at v spare)) (then_of v (clerk_at w (room_after made spare))) o
   says_touching stay (touch.Touched number q) w made t is =
       let one = noted_one made v.view.seen.own w.view.seen.own (record { number = number; event = touch_of p t.id t.after }) is (ap (λ (k : PassSight). k.view.seen.own) t.same) in
-      subst (λ (m : Option Note). TouchSays place p.direction p.segment p.moment (sight_of (clerk_at v spare)) (sight_of (clerk_at w (room_after m spare))) (touch.Touched number q))
+      subst (λ (m : Option Note). TouchSays place p.direction p.segment p.moment (sight_of (clerk_at v spare)) (then_of v (clerk_at w (room_after m spare))) (touch.Touched number q))
       (sym one.1) (says_touched number q w t stay)
   says_touching stay (touch.Ignored at) w made t is = left_says outcome.Ignore at w t made is
   says_touching stay (touch.Invalid at) w made t is = left_says outcome.Invalid at w t made is

@@ -22,7 +22,7 @@ use Rattle.shared_desk.specs.Sights.{sight_of}
 use Rattle.shared_desk.specs.Touching.{Notes}
 use Rattle.shared_desk.proofs.Noted.{looks_unmade, rest_made, rest_unmade, says_made}
 use Rattle.shared_desk.proofs.Peeking.{looks_at, rest_looking}
-use Rattle.shared_desk.proofs.Resting.{clerk_at}
+use Rattle.shared_desk.proofs.Resting.{clerk_at, then_of}
 
 module _ (v : PassSight) (notes : Roomed Note) (spare : ℕ) (h : IsAtRest v notes spare) where
   pub can_take : CanTakeExpects v
@@ -36,7 +36,7 @@ module _ (v : PassSight) (notes : Roomed Note) (spare : ℕ) (h : IsAtRest v not
     pub rest_listed : IsAtRest w notes spare
     rest_listed = rest_looking v notes spare h w l.same l.all
 
-    pub lists_says : ListsExpected listed (sight_of (clerk_at v spare)) (sight_of (clerk_at w spare)) at
+    pub lists_says : ListsExpected listed (sight_of (clerk_at v spare)) (then_of v (clerk_at w spare)) at
     lists_says = looks_at v notes spare h w l.same l.all at (λ s. listed ≡ s.expects) l.point l.is
 
   module _ (room : 1 ≤ spare) (w : PassSight) (made : Option Note) (is : Notes made v.view.seen.own w.view.seen.own) where
@@ -46,7 +46,7 @@ module _ (v : PassSight) (notes : Roomed Note) (spare : ℕ) (h : IsAtRest v not
     rest_claiming t moment (claim.Unclaimed at) c = rest_unmade v notes spare h w c.same c.all made is
 
     pub says_claiming : (t : Tuple) (moment : ℕ) (o : ClaimOutcome) → Claims t moment o v w
-        → ClaimSays t moment (sight_of (clerk_at v spare)) (sight_of (clerk_at w (room_after made spare))) o
+        → ClaimSays t moment (sight_of (clerk_at v spare)) (then_of v (clerk_at w (room_after made spare))) o
     says_claiming t moment (claim.Claimed number expectation master) c =
         says_made v notes spare h room number (Claim expectation master t moment) w c made is
     says_claiming t moment (claim.Unclaimed at) c =
@@ -58,7 +58,7 @@ module _ (v : PassSight) (notes : Roomed Note) (spare : ℕ) (h : IsAtRest v not
     rest_unexpecting id moment (unexpect.Not deadline at) u = rest_unmade v notes spare h w u.0.same u.0.all made is
 
     pub says_unexpecting : (id moment : ℕ) (o : UnexpectOutcome) → Unexpects id moment o v w
-        → UnexpectSays id moment (sight_of (clerk_at v spare)) (sight_of (clerk_at w (room_after made spare))) o
+        → UnexpectSays id moment (sight_of (clerk_at v spare)) (then_of v (clerk_at w (room_after made spare))) o
     says_unexpecting id moment (unexpect.Removed number) u = says_made v notes spare h room number (Unexpect id moment) w u made is
     says_unexpecting id moment (unexpect.Gone at) u =
         looks_unmade v notes spare h w u.same u.all made is at (λ s. find (has_id id) s.expects ≡ None) u.point u.is

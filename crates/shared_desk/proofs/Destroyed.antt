@@ -1,4 +1,5 @@
 -- A clerk that destroyed the entry for which it holds a place.
+use Rattle.shared_desk.proofs.Known.{counted}
 use Rattle.std.specs.Prelude.{◌&&◌, ◌^◌}
 use Rattle.std.proofs.Common.{◌≡◌, ℕ, ◌-◌, ◌<◌, ◌≤◌, true, false, Option, None, List, [], ◌∷◌, ◌++◌, map, refl, sym, ap, subst, ◌∙◌, arith, ⊎_elim, length-append}
 use Rattle.std.proofs.lemmas.Bool.{and_parts, cases_Bool, false≢true, or_cases}
@@ -33,7 +34,7 @@ use Rattle.shared_desk.proofs.Entered.{none_taken}
 use Rattle.shared_desk.proofs.Making.{none_any}
 use Rattle.shared_desk.proofs.Noted.{known_made, looks_left, made_here, noted_one, rest_left, so_before}
 use Rattle.shared_desk.proofs.Peeking.{kept}
-use Rattle.shared_desk.proofs.Resting.{clerk_at, idle_still}
+use Rattle.shared_desk.proofs.Resting.{clerk_at, idle_still, then_of}
 
 -- a place that is held for an id is held
 kept_times : (place id : ℕ) (ks : List Keep) → is_kept_for place id ks ≡ true → 0 < held_times place ks
@@ -133,11 +134,11 @@ module _ (v : PassSight) (notes : Roomed Note) (spare place : ℕ) (why : Why) (
           settled = settled_still v.view.places w.view.places.ended v.view.buckets.hooks h.settled;
           own = ap (λ ns. ns ++ m ∷ []) h.own ∙ sym own ∙ ap (λ (k : PassSight). k.view.seen.own) t.same;
           room = omega (arith, h.room, room, length-append notes.items (m ∷ []));
-          knows = known_made (sight_of (clerk_at v spare)) (destroy_of q why) number (spare - 1) t.ended.log h.knows t.ended.all.front t.ended.number_is t.ended.legal
-              (omega (arith, t.ended.all.few, t.ended.all.passes)) (omega (arith, room, h.knows.spared)) t.ended.all.alone;
+          knows = counted _ _ (known_made (sight_of (clerk_at v spare)) (destroy_of q why) number (spare - 1) t.ended.log h.knows t.ended.all.front t.ended.number_is t.ended.legal
+              (omega (arith, t.ended.all.few, t.ended.all.passes)) (omega (arith, room, h.knows.spared)) t.ended.all.alone);
         })
 
-    destroys : StatesStay → Destroys q.id why (sight_of (clerk_at v spare)) (sight_of (clerk_at after (spare - 1))) number q
+    destroys : StatesStay → Destroys q.id why (sight_of (clerk_at v spare)) (then_of v (clerk_at after (spare - 1))) number q
     destroys stay = record {
       made = made_here (sight_of (clerk_at v spare)) (map hold_of v.view.places.held) (destroy_of q why) number t.ended.log t.ended.all.front t.ended.number_is room;
       found = so_before stay t.ended.log (destroy_of q why) number (IsRecord q.id q) t.ended.number_is t.ended.found;
@@ -145,10 +146,10 @@ module _ (v : PassSight) (notes : Roomed Note) (spare place : ℕ) (why : Why) (
       same = record { held = refl; owed = refl };
     }
 
-    says_killed : StatesStay → KillSays place why (sight_of (clerk_at v spare)) (sight_of (clerk_at w (spare - 1))) (kill.Killed number q)
+    says_killed : StatesStay → KillSays place why (sight_of (clerk_at v spare)) (then_of v (clerk_at w (spare - 1))) (kill.Killed number q)
     says_killed stay =
-        subst (λ k. KillSays place why (sight_of (clerk_at v spare)) (sight_of (clerk_at k (spare - 1))) (kill.Killed number q)) (sym t.same)
-        (subst (λ (i : ℕ). Destroys i why (sight_of (clerk_at v spare)) (sight_of (clerk_at after (spare - 1))) number q) (sym its_id) (destroys stay))
+        subst (λ k. KillSays place why (sight_of (clerk_at v spare)) (then_of v (clerk_at k (spare - 1))) (kill.Killed number q)) (sym t.same)
+        (subst (λ (i : ℕ). Destroys i why (sight_of (clerk_at v spare)) (then_of v (clerk_at after (spare - 1))) number q) (sym its_id) (destroys stay))
 
   pub rest_killing : (o : KillOutcome) (w : PassSight) (made : Option Note) → Kills place why o v w → Notes made v.view.seen.own w.view.seen.own
       → IsAtRest w (with_note made notes) (room_after made spare)
@@ -159,10 +160,10 @@ module _ (v : PassSight) (notes : Roomed Note) (spare place : ℕ) (why : Why) (
   rest_killing (kill.Not q at) w made t is = rest_left v notes spare place h held at (IsAsFound q) w t.left made is
 
   pub says_killing : StatesStay → (o : KillOutcome) (w : PassSight) (made : Option Note) → Kills place why o v w → Notes made v.view.seen.own w.view.seen.own
-      → KillSays place why (sight_of (clerk_at v spare)) (sight_of (clerk_at w (room_after made spare))) o
+      → KillSays place why (sight_of (clerk_at v spare)) (then_of v (clerk_at w (room_after made spare))) o
   says_killing stay (kill.Killed number q) w made t is =
       let one = noted_one made v.view.seen.own w.view.seen.own (record { number = number; event = destroy_of q why }) is (ap (λ (k : PassSight). k.view.seen.own) t.same) in
-      subst (λ (m : Option Note). KillSays place why (sight_of (clerk_at v spare)) (sight_of (clerk_at w (room_after m spare))) (kill.Killed number q))
+      subst (λ (m : Option Note). KillSays place why (sight_of (clerk_at v spare)) (then_of v (clerk_at w (room_after m spare))) (kill.Killed number q))
       (sym one.1) (says_killed number q w t stay)
   says_killing stay (kill.Gone at) w made t is =
       looks_left v notes spare place h held at IsNotLive w t made is (λ s. record_of (held_id place (map hold_of v.view.places.held)) s ≡ None) (λ fact. fact)

@@ -124,13 +124,13 @@ module _ (place : ℕ) (r : Record) (why : Why) (locked : Buckets) (v : PassSigh
       here : (x : ℕ) → (x == x) ≡ true
       here x = eq-eqb x x refl
 
-      original_pair : pair_at (original_link place) w.view.buckets.hooks ≡ pair_of r.original
+      pub original_pair : pair_at (original_link place) w.view.buckets.hooks ≡ pair_of r.original
       original_pair =
           ap (pair_at (original_link place)) hooks_are
           ∙ ap (λ (b : Bool). (if b then loose_hook (original_link place) r.original else hook_of (original_link place) (loose_hook (reply_link place) r.reply ∷ v.view.buckets.hooks)).pair)
           (here (original_link place))
 
-      reply_pair : pair_at (reply_link place) w.view.buckets.hooks ≡ pair_of r.reply
+      pub reply_pair : pair_at (reply_link place) w.view.buckets.hooks ≡ pair_of r.reply
       reply_pair =
           ap (pair_at (reply_link place)) hooks_are
           ∙ ap (λ (b : Bool). (if b then loose_hook (original_link place) r.original else hook_of (reply_link place) (loose_hook (reply_link place) r.reply ∷ v.view.buckets.hooks)).pair) apart

@@ -1,4 +1,8 @@
 -- A clerk that looked once for what is live under a tuple.
+use Rattle.history_book.specs.Desk.{FindSays}
+use Rattle.history_book.specs.Sight.{Sight}
+use Rattle.history_book.specs.declared.outcome.FindOutcome.TheVariants as find
+use Rattle.shared_desk.specs.Sights.{taken_by}
 use Rattle.std.specs.Prelude.{◌==◌}
 use Rattle.std.proofs.Common.{◌≡◌, ℕ, ◌+◌, ◌≤◌, true, Option, Some, None, List, [], ◌++◌, length, map, refl, sym, ap, subst, ◌∙◌, arith, ⊎_elim, length-append, append-nil}
 use Rattle.std.proofs.lemmas.Bool.{or_right}
@@ -24,17 +28,15 @@ use Rattle.track_rule.specs.declared.view.Places.{Places}
 use Rattle.bucket_table.specs.Finding.{CanTest, HasMoved, IsNewlyOwed, owed_more}
 use Rattle.bucket_table.specs.declared.finding.FindOnce.{FindOnce}
 use Rattle.bucket_table.specs.declared.finding.FindOnce.TheVariants.{Found, Absent, Moved}
-use Rattle.shared_desk.specs.Changed.{ChangesNone, is_gen_or_turn, is_no_refs}
 use Rattle.shared_desk.specs.FindsOnce.{FindOnceSays, WasMoved}
 use Rattle.shared_desk.specs.Lookups.{FindsLive, FindsNobody, LooksOnce}
 use Rattle.shared_desk.specs.Rest.{AreSettled, IsAtRest, IsPrepared}
 use Rattle.shared_desk.specs.Sights.{hold_of, sight_of}
 use Rattle.shared_desk.proofs.Committing.{taken_held}
 use Rattle.shared_desk.proofs.HoldingRest.{all_agreed, settled_held}
-use Rattle.shared_desk.proofs.Known.{known_held, known_later, known_owing}
+use Rattle.shared_desk.proofs.Known.{known_held, known_later, known_owing, counted}
 use Rattle.shared_desk.proofs.Lists.{none_of, some_of}
-use Rattle.shared_desk.proofs.Readings.{none_is_no_turn, refs_is_no_turn, refs_is_refs}
-use Rattle.shared_desk.proofs.Resting.{clerk_at, holds_held, idle_still, saw_more, settled_closed}
+use Rattle.shared_desk.proofs.Resting.{clerk_at, holds_held, idle_still, saw_more, settled_closed, then_of, now_of}
 use Rattle.shared_desk.proofs.Taking.{rest_looked, saw_looked}
 
 -- a place more is owed
@@ -78,15 +80,15 @@ module _ (v : PassSight) (notes : Roomed Note) (spare : ℕ) (h : IsAtRest v not
           settled = settled_held place id v.view.places v.view.buckets.hooks h.settled f.untaken;
           own = h.own;
           room = h.room;
-          knows = known_held (record (sight_of (clerk_at v spare)) { front = w.view.seen.front }) place id (known_seen w.view.seen.front f.all) f.below
+          knows = counted _ _ (known_held (record (sight_of (clerk_at v spare)) { front = w.view.seen.front }) place id (known_seen w.view.seen.front f.all) f.below
               (record { subject = f.was.subject; event = f.was.event; placed = f.was.its_place })
-              (all_agreed place id v.view.places.held h.settled.purposes f.untaken f.agreed) (none_of (λ p. p == place) v.view.places.owed f.owed) few;
+              (all_agreed place id v.view.places.held h.settled.purposes f.untaken f.agreed) (none_of (λ p. p == place) v.view.places.owed f.owed) few);
         })
 
-    found_looked : Looked (sight_of (clerk_at v spare)) (sight_of (clerk_at w spare)) at (IsLiveUnder t place id d)
+    found_looked : Looked (sight_of (clerk_at v spare)) (then_of v (clerk_at w spare)) at (IsLiveUnder t place id d)
     found_looked = record {
-      saw = subst (λ p. Saw (sight_of (clerk_at v spare)) (sight_of (clerk_at p spare))) (sym f.same)
-          (saw_more (sight_of (clerk_at v spare)) _ f.all.front refl refl (record { tracker = refl; sizes = refl; shares = refl; returned = refl; gathered = refl }));
+      saw = subst (λ p. Saw (sight_of (clerk_at v spare)) (then_of v (clerk_at p spare))) (sym f.same)
+          (saw_more (sight_of (clerk_at v spare)) _ f.all.front refl refl refl (record { tracker = refl; sizes = refl; shares = refl; returned = refl; gathered = refl }));
       low = omega (arith, f.point, ap length f.all.front.1, length-append v.view.seen.front f.all.front.0);
       fact = record {
         within = omega (arith, f.point);
@@ -94,7 +96,7 @@ module _ (v : PassSight) (notes : Roomed Note) (spare : ℕ) (h : IsAtRest v not
       };
     }
 
-    found_holds : HoldsOneMore (sight_of (clerk_at v spare)) (sight_of (clerk_at w spare)) place (Some id)
+    found_holds : HoldsOneMore (sight_of (clerk_at v spare)) (then_of v (clerk_at w spare)) place (Some id)
     found_holds = record {
       held = ap (λ (p : PassSight). map hold_of p.view.places.held) f.same;
       owed = ap (λ (p : PassSight). p.view.places.owed) f.same;
@@ -102,7 +104,7 @@ module _ (v : PassSight) (notes : Roomed Note) (spare : ℕ) (h : IsAtRest v not
 
   -- NOBODY
   nobody_looked : (t : Tuple) (at : ℕ) (w : PassSight) → FindsNobody t at v w
-      → Looked (sight_of (clerk_at v spare)) (sight_of (clerk_at w spare)) at (λ s. live_under t s ≡ None) × SamePlaces (sight_of (clerk_at v spare)) (sight_of (clerk_at w spare))
+      → Looked (sight_of (clerk_at v spare)) (then_of v (clerk_at w spare)) at (λ s. live_under t s ≡ None) × SamePlaces (sight_of (clerk_at v spare)) (then_of v (clerk_at w spare))
   nobody_looked t at w f = (
     record {
       saw = saw_looked v notes spare h w.view.seen.front w.view.walk w.view.readings w f.same f.all;
@@ -143,16 +145,17 @@ module _ (v : PassSight) (notes : Roomed Note) (spare : ℕ) (h : IsAtRest v not
           settled = settled_owing o v.view.places v.view.buckets.hooks h.settled;
           own = h.own;
           room = h.room;
-          knows = knows_owing o m.owes;
+          knows = counted _ _ (knows_owing o m.owes);
         })
 
-    was_moved : WasMoved t word was now o (clerk_at v spare) (clerk_at w spare)
-    was_moved = record {
-      saw = subst (λ p. Saw (sight_of (clerk_at v spare)) (sight_of (clerk_at p spare))) (sym m.same)
-          (saw_more (sight_of (clerk_at v spare)) _ starts refl refl (record { tracker = refl; sizes = refl; shares = refl; returned = refl; gathered = refl }));
+    was_moved : taken_by w ≡ taken_by v → WasMoved t word was now o (clerk_at v spare) (clerk_at w spare)
+    was_moved still = record {
+      saw = now_of (λ (s : Sight). Saw (sight_of (clerk_at v spare)) s) v (clerk_at w spare) still (subst (λ p. Saw (sight_of (clerk_at v spare)) (then_of v (clerk_at p spare))) (sym m.same)
+          (saw_more (sight_of (clerk_at v spare)) _ starts refl refl refl (record { tracker = refl; sizes = refl; shares = refl; returned = refl; gathered = refl })));
       held = ap (λ (p : PassSight). map hold_of p.view.places.held) m.same;
       owed_is = ap (λ (p : PassSight). p.view.places.owed) m.same;
       cause = m.cause;
+      last = m.last;
       many = m.many;
     }
 
@@ -162,22 +165,10 @@ module _ (v : PassSight) (notes : Roomed Note) (spare : ℕ) (h : IsAtRest v not
   rest_once (Absent at) t w f = rest_looked v notes spare h w.view.seen.front w.view.walk w.view.readings w f.same f.all
   rest_once (Moved word was now o) t w f = rest_moved t word was now o w f
 
-  pub says_once : (r : FindOnce) (t : Tuple) (w : PassSight) → LooksOnce r t v w → FindOnceSays r t (clerk_at v spare) (clerk_at w spare)
-  says_once (Found place id d at) t w f = (found_looked t place id at d w f, found_holds t place id at d w f)
-  says_once (Absent at) t w f = nobody_looked t at w f
-  says_once (Moved word was now o) t w f = was_moved t word was now o w f
-
-  pub own_once : (r : FindOnce) (t : Tuple) (w : PassSight) → LooksOnce r t v w → ChangesNone (is_gen_or_turn (sizes_of v)) (clerk_at v spare) (clerk_at w spare)
-  own_once (Found place id d at) t w f = refs_is_no_turn (sizes_of v) place (added v.view w.view) f.own
-  own_once (Absent at) t w f = none_is_no_turn (is_gen_or_turn (sizes_of v)) (added v.view w.view) f.own
-  own_once (Moved word was now o) t w f = refs_is_no_turn (sizes_of v) f.tested (added v.view w.view) f.own
-
-  pub refs_once : (r : FindOnce) (t : Tuple) (w : PassSight) → LooksOnce r t v w → ChangesNone (is_no_refs (sizes_of v)) (clerk_at v spare) (clerk_at w spare)
-  refs_once (Found place id d at) t w f = refs_is_refs (sizes_of v) place (added v.view w.view) f.own
-  refs_once (Absent at) t w f = none_is_no_turn (is_no_refs (sizes_of v)) (added v.view w.view) f.own
-  refs_once (Moved word was now o) t w f = refs_is_refs (sizes_of v) f.tested (added v.view w.view) f.own
-
-  pub stand_once : (r : FindOnce) (t : Tuple) (w : PassSight) → LooksOnce r t v w → w.view.readings ≡ v.view.readings ++ added v.view w.view
-  stand_once (Found place id d at) t w f = f.stand
-  stand_once (Absent at) t w f = f.stand
-  stand_once (Moved word was now o) t w f = f.stand
+  pub says_once : (r : FindOnce) (t : Tuple) (w : PassSight) → LooksOnce r t v w → taken_by w ≡ taken_by v → FindOnceSays r t (clerk_at v spare) (clerk_at w spare)
+  says_once (Found place id d at) t w f still =
+      now_of (λ (s : Sight). FindSays t (sight_of (clerk_at v spare)) s (find.Found place id d at)) v (clerk_at w spare) still
+      (found_looked t place id at d w f, found_holds t place id at d w f)
+  says_once (Absent at) t w f still =
+      now_of (λ (s : Sight). FindSays t (sight_of (clerk_at v spare)) s (find.Absent at)) v (clerk_at w spare) still (nobody_looked t at w f)
+  says_once (Moved word was now o) t w f still = was_moved t word was now o w f still

@@ -24,14 +24,17 @@ use Rattle.track_rule.specs.Sums.{bit, times, total}
 use Rattle.entry_pool.specs.Hold as pool
 use Rattle.entry_pool.specs.Hold.{KeepsNone, KeepsSome}
 use Rattle.entry_pool.specs.Take.{Recycles}
-use Rattle.shared_desk.specs.Changed.{ChangesNone, is_gen_or_turn}
 use Rattle.shared_desk.specs.Rest.{IsAtRest}
 use Rattle.shared_desk.specs.Sights.{hold_of, sight_of}
-use Rattle.shared_desk.proofs.Known.{known_kept, known_owes, known_paid}
+use Rattle.shared_desk.proofs.Known.{known_kept, known_owes, known_paid, counted}
 use Rattle.shared_desk.proofs.Lists.{none_of, total_less}
 use Rattle.shared_desk.proofs.Places.{held_below, in_use, is_unused_after, owed_unheld, same_events, taken_out_once}
-use Rattle.shared_desk.proofs.Readings.{stored_refs}
-use Rattle.shared_desk.proofs.Resting.{clerk_at, holds_held, holds_without, idle_still, paid_taken_out, saw_none}
+use Rattle.track_rule.specs.ChangesOnly.{ChangesWords, is_refs_of}
+use Rattle.track_rule.specs.Layout.{refs_word}
+use Rattle.track_rule.specs.Readings.{stored}
+use Rattle.track_rule.proofs.Changing.{by_pass}
+use Rattle.shared_desk.proofs.Wording.{refs_in}
+use Rattle.shared_desk.proofs.Resting.{clerk_at, holds_held, holds_without, idle_still, paid_taken_out, saw_none, then_of}
 use Rattle.shared_desk.proofs.Settled.{settled_recycled, settled_released}
 
 -- what the only pass counts
@@ -69,14 +72,14 @@ module _ (place : ℕ) (v : PassSight) (notes : Roomed Note) (spare : ℕ) (h : 
               (subst (λ (p : PassSight). RaisesNone v.view.buckets.hooks p.view.buckets.hooks) k.same k.down);
           own = h.own;
           room = h.room;
-          knows = subst (λ hs. IsKnown (record (sight_of (clerk_at v spare)) { held = hs })) (sym (holds_without place v.view.places.held))
-              (known_kept (sight_of (clerk_at v spare)) place h.knows held_too);
+          knows = counted _ _ (subst (λ hs. IsKnown (record (sight_of (clerk_at v spare)) { held = hs })) (sym (holds_without place v.view.places.held))
+              (known_kept (sight_of (clerk_at v spare)) place h.knows held_too));
         })
 
-    keeps_place : (w : PassSight) → KeepsSome place v w → KeepsPlace place (sight_of (clerk_at v spare)) (sight_of (clerk_at w spare))
+    keeps_place : (w : PassSight) → KeepsSome place v w → KeepsPlace place (sight_of (clerk_at v spare)) (then_of v (clerk_at w spare))
     keeps_place w k =
-        subst (λ p. KeepsPlace place (sight_of (clerk_at v spare)) (sight_of (clerk_at p spare))) (sym k.same) (record {
-          saw = saw_none (sight_of (clerk_at v spare)) _ refl refl refl
+        subst (λ p. KeepsPlace place (sight_of (clerk_at v spare)) (then_of v (clerk_at p spare))) (sym k.same) (record {
+          saw = saw_none (sight_of (clerk_at v spare)) _ refl refl refl refl
               (record { tracker = refl; sizes = refl; shares = refl; returned = refl; gathered = refl });
           held = holds_without place v.view.places.held;
           owed = refl;
@@ -100,17 +103,17 @@ module _ (place : ℕ) (v : PassSight) (notes : Roomed Note) (spare : ℕ) (h : 
                 (subst (λ (p : PassSight). RaisesNone v.view.buckets.hooks p.view.buckets.hooks) k.same k.down);
             own = h.own;
             room = h.room;
-            knows = subst (λ hs. IsKnown (record (sight_of (clerk_at v spare)) { held = hs; owed = place ∷ v.view.places.owed }))
+            knows = counted _ _ (subst (λ hs. IsKnown (record (sight_of (clerk_at v spare)) { held = hs; owed = place ∷ v.view.places.owed }))
                 (sym (holds_without place v.view.places.held))
                 (known_owes (sight_of (clerk_at v spare)) place h.knows held_too
                 (sym (ap (is_hold place) (holds_without place v.view.places.held)) ∙ gone)
-                (held_below (sight_of (clerk_at v spare)) place h.knows held_too) (none_of (λ p. p == place) v.view.places.owed k.owed));
+                (held_below (sight_of (clerk_at v spare)) place h.knows held_too) (none_of (λ p. p == place) v.view.places.owed k.owed)));
           })
 
-      owes_place : OwesPlace place (sight_of (clerk_at v spare)) (sight_of (clerk_at w spare))
+      owes_place : OwesPlace place (sight_of (clerk_at v spare)) (then_of v (clerk_at w spare))
       owes_place =
-          subst (λ p. OwesPlace place (sight_of (clerk_at v spare)) (sight_of (clerk_at p spare))) (sym k.same) (record {
-            saw = saw_none (sight_of (clerk_at v spare)) _ refl refl refl
+          subst (λ p. OwesPlace place (sight_of (clerk_at v spare)) (then_of v (clerk_at p spare))) (sym k.same) (record {
+            saw = saw_none (sight_of (clerk_at v spare)) _ refl refl refl refl
                 (record { tracker = refl; sizes = refl; shares = refl; returned = refl; gathered = refl });
             held = holds_without place v.view.places.held;
             owed = refl;
@@ -124,16 +127,15 @@ module _ (place : ℕ) (v : PassSight) (notes : Roomed Note) (spare : ℕ) (h : 
     rest_released Last w says = rest_owes w says
 
     pub release_says : (outcome : ReleaseOutcome) (w : PassSight) → pool.ReleaseSays outcome place v w
-        → desk.ReleaseSays place (sight_of (clerk_at v spare)) (sight_of (clerk_at w spare)) outcome
+        → desk.ReleaseSays place (sight_of (clerk_at v spare)) (then_of v (clerk_at w spare)) outcome
     release_says Kept w says = keeps_place w says
     release_says Last w says = owes_place w says
 
-    pub release_own : (outcome : ReleaseOutcome) (w : PassSight) → pool.ReleaseSays outcome place v w
-        → ChangesNone (is_gen_or_turn (sizes_of v)) (clerk_at v spare) (clerk_at w spare)
+    pub release_own : (outcome : ReleaseOutcome) (w : PassSight) → pool.ReleaseSays outcome place v w → ChangesWords (is_refs_of place) v.view w.view
     release_own Kept w says =
-        stored_refs (sizes_of v) place says.left v.view.readings w.view.readings (ap (λ (p : PassSight). p.view.readings) says.same)
+        by_pass (is_refs_of place) (stored (refs_word (sizes_of v) place) says.left) v w _ says.same refl refl (refs_in (sizes_of v) place says.left)
     release_own Last w says =
-        stored_refs (sizes_of v) place 0 v.view.readings w.view.readings (ap (λ (p : PassSight). p.view.readings) says.same)
+        by_pass (is_refs_of place) (stored (refs_word (sizes_of v) place) 0) v w _ says.same refl refl (refs_in (sizes_of v) place 0)
 
   -- a place was made free
   module _ (w : PassSight) (r : Recycles place v w) (owed : is_owed place v.view.places.owed ≡ true) where
@@ -144,14 +146,14 @@ module _ (place : ℕ) (v : PassSight) (notes : Roomed Note) (spare : ℕ) (h : 
           settled = settled_recycled place v.view.places v.view.buckets.hooks h.settled;
           own = h.own;
           room = h.room;
-          knows = subst (λ (ps : List ℕ). IsKnown (record (sight_of (clerk_at v spare)) { owed = ps })) (sym (paid_taken_out place v.view.places.owed))
-              (known_paid (sight_of (clerk_at v spare)) place h.knows owed);
+          knows = counted _ _ (subst (λ (ps : List ℕ). IsKnown (record (sight_of (clerk_at v spare)) { owed = ps })) (sym (paid_taken_out place v.view.places.owed))
+              (known_paid (sight_of (clerk_at v spare)) place h.knows owed));
         })
 
-    pub recycle_says : RecycleSays place (sight_of (clerk_at v spare)) (sight_of (clerk_at w spare))
+    pub recycle_says : RecycleSays place (sight_of (clerk_at v spare)) (then_of v (clerk_at w spare))
     recycle_says =
-        subst (λ p. RecycleSays place (sight_of (clerk_at v spare)) (sight_of (clerk_at p spare))) (sym r.same) (record {
-          saw = saw_none (sight_of (clerk_at v spare)) _ refl refl refl
+        subst (λ p. RecycleSays place (sight_of (clerk_at v spare)) (then_of v (clerk_at p spare))) (sym r.same) (record {
+          saw = saw_none (sight_of (clerk_at v spare)) _ refl refl refl refl
               (record { tracker = refl; sizes = refl; shares = refl; returned = refl; gathered = refl });
           held = refl;
           owed = paid_taken_out place v.view.places.owed;

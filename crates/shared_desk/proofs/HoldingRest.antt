@@ -26,11 +26,11 @@ use Rattle.track_rule.specs.declared.view.Purpose.TheVariants.{Taken, Testing, S
 use Rattle.shared_desk.specs.Holding.{CanHold, Holds, IsHeldFor}
 use Rattle.shared_desk.specs.Rest.{AreSettled, IsAtRest, IsPrepared, IsSettled}
 use Rattle.shared_desk.specs.Sights.{hold_of, sight_of}
-use Rattle.shared_desk.proofs.Known.{known_held, known_later}
+use Rattle.shared_desk.proofs.Known.{known_held, known_later, counted}
 use Rattle.shared_desk.proofs.Lists.{none_of, other_bit}
 use Rattle.shared_desk.proofs.Taking.{rest_looked, saw_looked}
 use Rattle.shared_desk.proofs.Places.{is_unused_after}
-use Rattle.shared_desk.proofs.Resting.{clerk_at, idle_still, saw_more, settled_closed}
+use Rattle.shared_desk.proofs.Resting.{clerk_at, idle_still, saw_more, settled_closed, then_of}
 
 -- one reference more, for an entry, to a place that was not taken
 module _ (place id : ℕ) (places : Places) (hooks : List Hook) (h : AreSettled places hooks) (untaken : is_taken place places.held ≡ false) where
@@ -139,17 +139,17 @@ module _ (v : PassSight) (notes : Roomed Note) (spare place : ℕ) (h : IsAtRest
           settled = settled_held place id v.view.places v.view.buckets.hooks h.settled o.untaken;
           own = h.own;
           room = h.room;
-          knows = known_held (record (sight_of (clerk_at v spare)) { front = w.view.seen.front }) place id later below
+          knows = counted _ _ (known_held (record (sight_of (clerk_at v spare)) { front = w.view.seen.front }) place id later below
               (record { subject = o.was.subject; event = o.was.event; placed = o.was.its_place })
               (all_agreed place id v.view.places.held h.settled.purposes o.untaken o.agreed)
-              (none_of (λ p. p == place) v.view.places.owed o.unowed) room;
+              (none_of (λ p. p == place) v.view.places.owed o.unowed) room);
         })
 
-    says_held : HoldSays place (sight_of (clerk_at v spare)) (sight_of (clerk_at w spare)) (Held id at)
+    says_held : HoldSays place (sight_of (clerk_at v spare)) (then_of v (clerk_at w spare)) (Held id at)
     says_held = (
       record {
-        saw = subst (λ (p : PassSight). Saw (sight_of (clerk_at v spare)) (sight_of (clerk_at p spare))) (sym whole)
-            (saw_more (sight_of (clerk_at v spare)) _ o.all.front refl refl
+        saw = subst (λ (p : PassSight). Saw (sight_of (clerk_at v spare)) (then_of v (clerk_at p spare))) (sym whole)
+            (saw_more (sight_of (clerk_at v spare)) _ o.all.front refl refl refl
             (record { tracker = refl; sizes = refl; shares = refl; returned = refl; gathered = refl }));
         low = omega (arith, o.point, ap length o.all.front.1, length-append v.view.seen.front o.all.front.0);
         fact = record {
@@ -168,7 +168,7 @@ module _ (v : PassSight) (notes : Roomed Note) (spare place : ℕ) (h : IsAtRest
   rest_holding (Held id at) w s = rest_held id at w s
   rest_holding (Empty at) w s = rest_looked v notes spare h w.view.seen.front w.view.walk w.view.readings w s.looks.same s.all
 
-  pub says_holding : (o : HoldOutcome) (w : PassSight) → Holds place o v w → HoldSays place (sight_of (clerk_at v spare)) (sight_of (clerk_at w spare)) o
+  pub says_holding : (o : HoldOutcome) (w : PassSight) → Holds place o v w → HoldSays place (sight_of (clerk_at v spare)) (then_of v (clerk_at w spare)) o
   says_holding (Held id at) w s = says_held id at w s
   says_holding (Empty at) w s = (
     record {

@@ -1,4 +1,8 @@
 -- The first clerk of a tracker, one that took in another one, and the end.
+use Rattle.track_rule.specs.ChangesOnly.{no_word}
+use Rattle.track_rule.proofs.Changing.{by_pass}
+use Rattle.shared_desk.proofs.Counting.{no_none, still_taken}
+use Rattle.shared_desk.specs.Sights.{taken_by}
 use Rattle.std.specs.List.{count_by, slice_get}
 use Rattle.std.specs.Prelude.{◌==◌}
 use Rattle.std.proofs.Common.{◌≡◌, ℕ, Bool, ◌+◌, ◌<◌, ◌≤◌, true, false, Some, List, [], ◌∷◌, ◌++◌, length, map, refl, sym, ap, subst, ◌∙◌, arith, ⊎_elim}
@@ -32,7 +36,7 @@ use Rattle.track_rule.specs.Sums.{bit, total}
 use Rattle.bucket_table.specs.Finding.{has_hook}
 use Rattle.shared_desk.specs.Rest.{IsAtRest}
 use Rattle.shared_desk.specs.Sights.{hold_of, sight_of}
-use Rattle.shared_desk.proofs.Known.{known_fresh, known_joined}
+use Rattle.shared_desk.proofs.Known.{known_fresh, known_joined, counted}
 use Rattle.shared_desk.proofs.Lists.{nothing_among}
 use Rattle.shared_desk.proofs.Places.{same_events}
 use Rattle.shared_desk.proofs.Resting.{clerk_at, idle_still}
@@ -59,7 +63,7 @@ rest_first z board p notes limits f none =
       };
       own = none;
       room = omega (arith, ap length none);
-      knows = known_fresh (sight_of (clerk_at (record { table = p.table; view = first_view z; slots = [] }) 0)) (legal_none z) (omega arith) refl refl refl refl refl limits.some_passes (omega arith) (λ one. refl);
+      knows = counted _ _ (known_fresh (sight_of (clerk_at (record { table = p.table; view = first_view z; slots = [] }) 0)) (legal_none z) (omega arith) refl refl refl refl refl limits.some_passes (omega arith) (λ one. refl));
     })
   where
     whole : p ≡ record { table = p.table; view = first_view z; slots = [] }
@@ -125,16 +129,19 @@ module _ (v o : PassSight) (notes others : Roomed Note) (spare more : ℕ) (h : 
         settled = h.settled;
         own = h.own;
         room = h.room;
-        knows = known_joined (sight_of (clerk_at v spare)) (sight_of (clerk_at o more)) w.view.seen.front h.knows l.knows seen.all.front seen.all.told.0
-            seen.all.legal (omega (arith, seen.all.few, seen.all.passes)) (omega (arith, seen.all.shares)) seen.all.alone;
+        knows = counted _ _ (known_joined (sight_of (clerk_at v spare)) (sight_of (clerk_at o more)) w.view.seen.front h.knows l.knows seen.all.front seen.all.told.0
+            seen.all.legal (omega (arith, seen.all.few, seen.all.passes)) (omega (arith, seen.all.shares)) seen.all.alone);
       })
+
+  still : taken_by w ≡ taken_by v
+  still = still_taken no_word v w no_none (by_pass no_word (found_history word (joined v.view o.view)) v w _ whole refl refl refl)
 
   pub clerks_joined : Joins (sight_of (clerk_at v spare)) (sight_of (clerk_at o more)) (sight_of (clerk_at w spare)) others.items
   clerks_joined = record {
     front = seen.all.front;
     other_front = seen.all.told.0;
     given = l.own;
-    kept = ap (λ p. sight_of (clerk_at p spare)) whole;
+    kept = λ i. record (sight_of (clerk_at (whole i) spare)) { taken = still i };
   }
 
 -- a number is that of the note

@@ -25,6 +25,27 @@ pub entry_later : (log front : List Event) (place : ℕ) (id : Option ℕ) → S
 entry_later log front place None starts h = tt
 entry_later log front place (Some id) starts h = record { subject = h.subject; event = event_later log front id _ starts h.event; placed = h.placed }
 
+-- it took another number of places
+pub counted : (s : Sight) (n : ℕ) → IsKnown s → IsKnown (record s { taken = n })
+counted s n k = record {
+  legal = k.legal;
+  few = k.few;
+  own = k.own;
+  ordered = k.ordered;
+  held = k.held;
+  agreed = k.agreed;
+  owed = k.owed;
+  unowed = k.unowed;
+  once = k.once;
+  places = k.places;
+  spared = k.spared;
+  shared = k.shared;
+  passes = k.passes;
+  gathered = k.gathered;
+  gathered_few = k.gathered_few;
+  alone = k.alone;
+}
+
 -- it has seen more
 pub known_later : (s : Sight) (log : List Event) → IsKnown s → StartsWith log s.front → is_legal s.sizes log ≡ true → length log < 2 ^ 40
     → (s.sizes.passes ≡ 1 → s.own ≡ notes_from 0 log) → IsKnown (record s { front = log })

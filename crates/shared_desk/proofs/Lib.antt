@@ -1,4 +1,6 @@
 pub mod Lists
+pub mod Wording
+pub mod Counting
 pub mod Settled
 pub mod Known
 pub mod Readings
@@ -44,4 +46,3 @@ pub mod HoldingRest
 pub mod Living
 pub mod Lookups
 pub mod FoundOnce
-pub mod LookedAgain

@@ -39,13 +39,13 @@ use Rattle.shared_desk.specs.Tuples.{standing}
 use Rattle.shared_desk.proofs.Committing.{taken_held}
 use Rattle.shared_desk.proofs.Entered.{holds_for, known_confirmed, none_taken, taken_back}
 use Rattle.shared_desk.proofs.Hooks.{same_any, same_count, same_up}
-use Rattle.shared_desk.proofs.Known.{known_later}
+use Rattle.shared_desk.proofs.Known.{known_later, counted}
 use Rattle.shared_desk.proofs.Linking.{dropped_count, none_up}
 use Rattle.shared_desk.proofs.Lists.{among_gone, among_others, same_bit}
 use Rattle.shared_desk.proofs.Noted.{made_here}
 use Rattle.shared_desk.proofs.Opening.{dropped_down}
 use Rattle.shared_desk.proofs.Places.{held_below}
-use Rattle.shared_desk.proofs.Resting.{clerk_at, idle_still, saw_more, settled_closed}
+use Rattle.shared_desk.proofs.Resting.{clerk_at, idle_still, saw_more, settled_closed, then_of}
 
 -- HOOKS
 
@@ -274,19 +274,19 @@ module _ (v : PassSight) (notes : Roomed Note) (spare place : ℕ) (flow : Flow)
           settled = settled_confirmed place id v.view.places v.view.buckets.hooks w.view.buckets.hooks h.settled took c.stands;
           own = ap (λ ns. ns ++ record { number = id; event = event.Confirm (record_for flow id place) } ∷ []) h.own;
           room = omega (arith, h.room, room, length-append notes.items (record { number = id; event = event.Confirm (record_for flow id place) } ∷ []));
-          knows = subst (λ hs. IsKnown (record (sight_of (clerk_at v spare)) {
+          knows = counted _ _ (subst (λ hs. IsKnown (record (sight_of (clerk_at v spare)) {
             front = c.log ++ event.Confirm (record_for flow id place) ∷ [];
             own = v.view.seen.own ++ record { number = id; event = event.Confirm (record_for flow id place) } ∷ [];
             held = hs;
             spare = spare - 1;
           })) (sym (holds_for place id v.view.places.held (h.settled.taken place took).once took))
               (known_confirmed (sight_of (clerk_at v spare)) flow place id (spare - 1) c.log h.knows c.all.front c.number c.legal (omega (arith, c.all.few, c.all.passes))
-              (omega (arith, room, h.knows.spared)) c.all.alone);
+              (omega (arith, room, h.knows.spared)) c.all.alone));
         })
 
-    pub says_entered : ConfirmSays place flow (sight_of (clerk_at v spare)) (sight_of (clerk_at w (spare - 1))) (Confirmed id)
+    pub says_entered : ConfirmSays place flow (sight_of (clerk_at v spare)) (then_of v (clerk_at w (spare - 1))) (Confirmed id)
     says_entered =
-        subst (λ p. ConfirmSays place flow (sight_of (clerk_at v spare)) (sight_of (clerk_at p (spare - 1))) (Confirmed id)) (sym c.same) (record {
+        subst (λ p. ConfirmSays place flow (sight_of (clerk_at v spare)) (then_of v (clerk_at p (spare - 1))) (Confirmed id)) (sym c.same) (record {
           made = made_here (sight_of (clerk_at v spare)) (map hold_of (held_for place id v.view.places.held)) (event.Confirm (record_for flow id place)) id c.log c.all.front c.number room;
           held = holds_for place id v.view.places.held (h.settled.taken place took).once took;
           owed = refl;
@@ -301,15 +301,15 @@ module _ (v : PassSight) (notes : Roomed Note) (spare place : ℕ) (flow : Flow)
           settled = settled_again v.view.places v.view.buckets.hooks w.view.buckets.hooks h.settled c.stands;
           own = h.own;
           room = h.room;
-          knows = known_later (sight_of (clerk_at v spare)) w.view.seen.front h.knows c.all.front c.all.legal
-              (omega (arith, c.all.few, c.all.passes)) c.all.alone;
+          knows = counted _ _ (known_later (sight_of (clerk_at v spare)) w.view.seen.front h.knows c.all.front c.all.legal
+              (omega (arith, c.all.few, c.all.passes)) c.all.alone);
         })
 
-    pub says_blocked : ConfirmSays place flow (sight_of (clerk_at v spare)) (sight_of (clerk_at w spare)) (Clash id direction both at)
+    pub says_blocked : ConfirmSays place flow (sight_of (clerk_at v spare)) (then_of v (clerk_at w spare)) (Clash id direction both at)
     says_blocked = (
       record {
-        saw = subst (λ p. Saw (sight_of (clerk_at v spare)) (sight_of (clerk_at p spare))) (sym c.same)
-            (saw_more (sight_of (clerk_at v spare)) _ c.all.front refl refl
+        saw = subst (λ p. Saw (sight_of (clerk_at v spare)) (then_of v (clerk_at p spare))) (sym c.same)
+            (saw_more (sight_of (clerk_at v spare)) _ c.all.front refl refl refl
             (record { tracker = refl; sizes = refl; shares = refl; returned = refl; gathered = refl }));
         low = omega (arith, c.point, ap length c.all.front.1, length-append v.view.seen.front c.all.front.0);
         fact = record {
@@ -332,8 +332,8 @@ module _ (v : PassSight) (notes : Roomed Note) (spare place : ℕ) (flow : Flow)
       subst (IsAtRest w notes') (sym is') (subst (λ ns. IsAtRest w ns spare) (sym is) (rest_blocked id direction both at w c))
 
   pub says_confirming : (o : ConfirmOutcome) (w : PassSight) (spare' : ℕ) → ConfirmsFlow place flow o v w → 1 ≤ spare → spare' ≡ room_for o spare
-      → ConfirmSays place flow (sight_of (clerk_at v spare)) (sight_of (clerk_at w spare')) o
+      → ConfirmSays place flow (sight_of (clerk_at v spare)) (then_of v (clerk_at w spare')) o
   says_confirming (Confirmed id) w spare' c room is =
-      subst (λ n. ConfirmSays place flow (sight_of (clerk_at v spare)) (sight_of (clerk_at w n)) (Confirmed id)) (sym is) (says_entered id w c room)
+      subst (λ n. ConfirmSays place flow (sight_of (clerk_at v spare)) (then_of v (clerk_at w n)) (Confirmed id)) (sym is) (says_entered id w c room)
   says_confirming (Clash id direction both at) w spare' c room is =
-      subst (λ n. ConfirmSays place flow (sight_of (clerk_at v spare)) (sight_of (clerk_at w n)) (Clash id direction both at)) (sym is) (says_blocked id direction both at w c)
+      subst (λ n. ConfirmSays place flow (sight_of (clerk_at v spare)) (then_of v (clerk_at w n)) (Clash id direction both at)) (sym is) (says_blocked id direction both at w c)

@@ -25,9 +25,9 @@ use Rattle.shared_desk.specs.Rest.{IsAtRest}
 use Rattle.shared_desk.specs.Sights.{hold_of, sight_of}
 use Rattle.shared_desk.specs.Touching.{IsLeft, Notes}
 use Rattle.shared_desk.proofs.Entered.{get_last, notes_push, pairs_push}
-use Rattle.shared_desk.proofs.Known.{entry_later, events_later}
+use Rattle.shared_desk.proofs.Known.{entry_later, events_later, counted}
 use Rattle.shared_desk.proofs.Peeking.{kept, looks_at, rest_looking}
-use Rattle.shared_desk.proofs.Resting.{clerk_at, idle_still}
+use Rattle.shared_desk.proofs.Resting.{clerk_at, idle_still, then_of}
 
 -- the desk has made one event more, and holds what it held
 pub known_made : (s : Sight) (e : Event) (number spare : ℕ) (log : List Event) → IsKnown s → StartsWith log s.front → number ≡ length log
@@ -84,6 +84,7 @@ made_here s held e number log starts is room = record {
   low = omega (arith, is, ap length starts.1, length-append s.front starts.0);
   high = omega (arith, is, length-append log (e ∷ []));
   happened = ap (λ (n : ℕ). slice_get (log ++ e ∷ []) n) is ∙ get_last log e;
+  taken = refl;
 }
 
 -- what was so before it is so at its number
@@ -107,20 +108,20 @@ module _ (v : PassSight) (notes : Roomed Note) (spare : ℕ) (h : IsAtRest v not
         settled = h.settled;
         own = ap (λ ns. ns ++ n ∷ []) h.own ∙ sym own ∙ ap (λ (k : PassSight). k.view.seen.own) m.same;
         room = omega (arith, h.room, room, length-append notes.items (n ∷ []));
-        knows = known_made (sight_of (clerk_at v spare)) e number (spare - 1) m.log h.knows m.all.front m.number_is m.legal
-            (omega (arith, m.all.few, m.all.passes)) (omega (arith, room, h.knows.spared)) m.all.alone;
+        knows = counted _ _ (known_made (sight_of (clerk_at v spare)) e number (spare - 1) m.log h.knows m.all.front m.number_is m.legal
+            (omega (arith, m.all.few, m.all.passes)) (omega (arith, room, h.knows.spared)) m.all.alone);
       })
 
   pub rest_made : IsAtRest w (with_note made notes) (room_after made spare)
   rest_made = subst (λ (o : Option Note). IsAtRest w (with_note o notes) (room_after o spare)) (sym one.1) (rest_one one.0 one.2)
 
-  pub says_made : MadeEvent (sight_of (clerk_at v spare)) (sight_of (clerk_at w (room_after made spare))) number e
-      × SamePlaces (sight_of (clerk_at v spare)) (sight_of (clerk_at w (room_after made spare)))
+  pub says_made : MadeEvent (sight_of (clerk_at v spare)) (then_of v (clerk_at w (room_after made spare))) number e
+      × SamePlaces (sight_of (clerk_at v spare)) (then_of v (clerk_at w (room_after made spare)))
   says_made =
-      subst (λ (o : Option Note). MadeEvent (sight_of (clerk_at v spare)) (sight_of (clerk_at w (room_after o spare))) number e
-      × SamePlaces (sight_of (clerk_at v spare)) (sight_of (clerk_at w (room_after o spare)))) (sym one.1)
-      (subst (λ k. MadeEvent (sight_of (clerk_at v spare)) (sight_of (clerk_at k (spare - 1))) number e
-      × SamePlaces (sight_of (clerk_at v spare)) (sight_of (clerk_at k (spare - 1)))) (sym m.same)
+      subst (λ (o : Option Note). MadeEvent (sight_of (clerk_at v spare)) (then_of v (clerk_at w (room_after o spare))) number e
+      × SamePlaces (sight_of (clerk_at v spare)) (then_of v (clerk_at w (room_after o spare)))) (sym one.1)
+      (subst (λ k. MadeEvent (sight_of (clerk_at v spare)) (then_of v (clerk_at k (spare - 1))) number e
+      × SamePlaces (sight_of (clerk_at v spare)) (then_of v (clerk_at k (spare - 1)))) (sym m.same)
       (made_here (sight_of (clerk_at v spare)) (map hold_of v.view.places.held) e number m.log m.all.front m.number_is room, record { held = refl; owed = refl }))
 
 -- it made none, and looked
@@ -135,11 +136,11 @@ module _ (v : PassSight) (notes : Roomed Note) (spare : ℕ) (h : IsAtRest v not
       subst (λ (m : Option Note). IsAtRest w (with_note m notes) (room_after m spare)) (sym none_made) (rest_looking v notes spare h w same all)
 
   pub looks_unmade : (at : ℕ) (F : State → Type 0) → at ≡ length w.view.seen.front → F (state_after w.view.seen.front)
-      → Looked (sight_of (clerk_at v spare)) (sight_of (clerk_at w (room_after made spare))) at F
-      × SamePlaces (sight_of (clerk_at v spare)) (sight_of (clerk_at w (room_after made spare)))
+      → Looked (sight_of (clerk_at v spare)) (then_of v (clerk_at w (room_after made spare))) at F
+      × SamePlaces (sight_of (clerk_at v spare)) (then_of v (clerk_at w (room_after made spare)))
   looks_unmade at F point fact =
-      subst (λ (m : Option Note). Looked (sight_of (clerk_at v spare)) (sight_of (clerk_at w (room_after m spare))) at F
-      × SamePlaces (sight_of (clerk_at v spare)) (sight_of (clerk_at w (room_after m spare)))) (sym none_made)
+      subst (λ (m : Option Note). Looked (sight_of (clerk_at v spare)) (then_of v (clerk_at w (room_after m spare))) at F
+      × SamePlaces (sight_of (clerk_at v spare)) (then_of v (clerk_at w (room_after m spare)))) (sym none_made)
       (looks_at v notes spare h w same all at F point fact)
 
 -- the entry for which it holds a place was left as it is
@@ -150,8 +151,8 @@ module _ (v : PassSight) (notes : Roomed Note) (spare place : ℕ) (h : IsAtRest
   rest_left = rest_unmade v notes spare h w l.same l.all made is
 
   pub looks_left : (G : State → Type 0) → (F (held_id place (map hold_of v.view.places.held)) w.view.seen.front → G (state_after w.view.seen.front))
-      → Looked (sight_of (clerk_at v spare)) (sight_of (clerk_at w (room_after made spare))) at G
-      × SamePlaces (sight_of (clerk_at v spare)) (sight_of (clerk_at w (room_after made spare)))
+      → Looked (sight_of (clerk_at v spare)) (then_of v (clerk_at w (room_after made spare))) at G
+      × SamePlaces (sight_of (clerk_at v spare)) (then_of v (clerk_at w (room_after made spare)))
   looks_left G from =
       looks_unmade v notes spare h w l.same l.all made is at G l.point
       (from (l.is (held_id place (map hold_of v.view.places.held)) (kept v notes spare place h held)))

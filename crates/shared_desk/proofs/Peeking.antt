@@ -24,7 +24,7 @@ use Rattle.shared_desk.specs.Looking.{IsFreeFor, Peeks}
 use Rattle.shared_desk.specs.Rest.{IsAtRest, IsSettled}
 use Rattle.shared_desk.specs.Sights.{hold_of, sight_of}
 use Rattle.shared_desk.proofs.Places.{held_below}
-use Rattle.shared_desk.proofs.Resting.{clerk_at, settled_closed}
+use Rattle.shared_desk.proofs.Resting.{clerk_at, settled_closed, then_of}
 use Rattle.shared_desk.proofs.Taking.{rest_looked, saw_looked}
 use Rattle.history_book.specs.WentOn.{Looked}
 use Rattle.track_rule.specs.History.{state_after}
@@ -93,7 +93,7 @@ module _ (v : PassSight) (notes : Roomed Note) (spare : ℕ) (h : IsAtRest v not
 
   -- at a point after all that it has seen
   pub looks_at : (at : ℕ) (F : State → Type 0) → at ≡ length w.view.seen.front → F (state_after w.view.seen.front)
-      → Looked (sight_of (clerk_at v spare)) (sight_of (clerk_at w spare)) at F × SamePlaces (sight_of (clerk_at v spare)) (sight_of (clerk_at w spare))
+      → Looked (sight_of (clerk_at v spare)) (then_of v (clerk_at w spare)) at F × SamePlaces (sight_of (clerk_at v spare)) (then_of v (clerk_at w spare))
   looks_at at F point fact = (
     record {
       saw = saw_looked v notes spare h w.view.seen.front w.view.walk w.view.readings w same all;
@@ -128,7 +128,7 @@ module _ (v : PassSight) (notes : Roomed Note) (spare place : ℕ) (h : IsAtRest
   pub rest_peeked : (o : PeekOutcome) (w : PassSight) → Peeks place o v w → IsAtRest w notes spare
   rest_peeked o w p = rest_looking v notes spare h w p.same p.all
 
-  pub says_peeked : (o : PeekOutcome) (w : PassSight) → Peeks place o v w → PeekSays place (sight_of (clerk_at v spare)) (sight_of (clerk_at w spare)) o
+  pub says_peeked : (o : PeekOutcome) (w : PassSight) → Peeks place o v w → PeekSays place (sight_of (clerk_at v spare)) (then_of v (clerk_at w spare)) o
   says_peeked (Seen subject at) w p =
       let is = p.is (held_id place (map hold_of v.view.places.held)) kept in
       looks_at v notes spare h w p.same p.all at (IsRecord (held_id place (map hold_of v.view.places.held)) subject) is.0 is.1

@@ -24,7 +24,7 @@ use Rattle.shared_desk.specs.Sights.{hold_of, sight_of}
 use Rattle.shared_desk.specs.Touching.{IsLeft, IsNotLive, Notes}
 use Rattle.shared_desk.proofs.Noted.{looks_left, rest_left, rest_made, says_made}
 use Rattle.shared_desk.proofs.Peeking.{kept}
-use Rattle.shared_desk.proofs.Resting.{clerk_at}
+use Rattle.shared_desk.proofs.Resting.{clerk_at, then_of}
 
 module _ (v : PassSight) (notes : Roomed Note) (spare place : ℕ) (h : IsAtRest v notes spare)
     (held : is_held_for_entry place (map hold_of v.view.places.held) ≡ true) (room : 1 ≤ spare) where
@@ -49,18 +49,18 @@ module _ (v : PassSight) (notes : Roomed Note) (spare place : ℕ) (h : IsAtRest
         rest_left v notes spare place h held at (IsRefused (sizes_of v).expectations at want moment add.Full) w l made is
 
     refused_says : (o : AddOutcome) (at : ℕ) → IsLeft place at (IsRefused (sizes_of v).expectations at want moment o) v w
-        → AddsNothing (held_id place (map hold_of v.view.places.held)) want moment o (sight_of (clerk_at v spare)) (sight_of (clerk_at w (room_after made spare))) at
+        → AddsNothing (held_id place (map hold_of v.view.places.held)) want moment o (sight_of (clerk_at v spare)) (then_of v (clerk_at w (room_after made spare))) at
     refused_says o at l =
-        subst (λ (z : Sizes). Looked (sight_of (clerk_at v spare)) (sight_of (clerk_at w (room_after made spare))) at
+        subst (λ (z : Sizes). Looked (sight_of (clerk_at v spare)) (then_of v (clerk_at w (room_after made spare))) at
         (AddGives z.expectations at (held_id place (map hold_of v.view.places.held)) want moment o)
-        × SamePlaces (sight_of (clerk_at v spare)) (sight_of (clerk_at w (room_after made spare)))) (sym (ap sizes_of l.same))
+        × SamePlaces (sight_of (clerk_at v spare)) (then_of v (clerk_at w (room_after made spare)))) (sym (ap sizes_of l.same))
         (looks_left v notes spare place h held at (IsRefused (sizes_of v).expectations at want moment o) w l made is
         (AddGives (sizes_of v).expectations at (held_id place (map hold_of v.view.places.held)) want moment o) (λ fact. fact))
 
     pub says_expecting : (o : ExpectOutcome) → Expects place want moment o v w
-        → ExpectSays place want moment (sight_of (clerk_at v spare)) (sight_of (clerk_at w (room_after made spare))) o
+        → ExpectSays place want moment (sight_of (clerk_at v spare)) (then_of v (clerk_at w (room_after made spare))) o
     says_expecting (expect.Expected id replaced) e =
-        subst (λ (master : ℕ). MakesExpect master want moment (sight_of (clerk_at v spare)) (sight_of (clerk_at w (room_after made spare))) id replaced)
+        subst (λ (master : ℕ). MakesExpect master want moment (sight_of (clerk_at v spare)) (then_of v (clerk_at w (room_after made spare))) id replaced)
         (sym (e.its (held_id place (map hold_of v.view.places.held)) (kept v notes spare place h held)))
         (says_made v notes spare h room id (Expect (expectation_at id e.master want moment) replaced moment) w e.made made is)
     says_expecting (expect.MasterGone at) l =

@@ -1,7 +1,7 @@
 -- A clerk at rest, and what a desk knows of it.
 use Rattle.std.specs.List.{AllByRecursion}
 use Rattle.std.specs.Prelude.{◌==◌, ◌||◌, if◌then◌else◌}
-use Rattle.std.proofs.Common.{◌≡◌, ℕ, false, List, [], ◌∷◌, map, refl, sym, ap, ◌∙◌, arith, append-nil}
+use Rattle.std.proofs.Common.{◌≡◌, ℕ, false, List, [], ◌∷◌, map, refl, sym, ap, ◌∙◌, arith, append-nil, subst}
 use Rattle.std.proofs.lemmas.Bool.{cond_both, or_from}
 use Rattle.history_book.specs.Held.{is_held as is_hold, paid, without as without_hold}
 use Rattle.history_book.specs.Point.{StartsWith}
@@ -15,7 +15,7 @@ use Rattle.track_rule.specs.PhaseSteps.{holds_open, is_open}
 use Rattle.track_rule.specs.References.{is_held, without}
 use Rattle.track_rule.specs.Sights.{PassSight}
 use Rattle.shared_desk.specs.Rest.{IsIdle, IsSettled}
-use Rattle.shared_desk.specs.Sights.{ClerkSight, hold_of}
+use Rattle.shared_desk.specs.Sights.{ClerkSight, hold_of, sight_of, taken_by}
 
 -- a clerk at rest looks what stands at no place
 pub settled_closed : (held : List Keep) → AllByRecursion (λ (k : Keep). IsSettled k.purpose) held → holds_open held ≡ false
@@ -31,6 +31,14 @@ settled_closed (k ∷ ks) s = or_from (is_open k.purpose) (holds_open ks) (not_o
 -- a clerk by its parts
 abbrev pub clerk_at : PassSight → ℕ → ClerkSight
 clerk_at p spare = record { pass = p; spare = spare }
+
+-- as a desk, but that it took no place since
+abbrev pub then_of : PassSight → ClerkSight → Sight
+then_of v c = record (sight_of c) { taken = taken_by v }
+
+-- where it took none, that is the desk
+pub now_of : (P : Sight → Type 0) (v : PassSight) (c : ClerkSight) → taken_by c.pass ≡ taken_by v → P (then_of v c) → P (sight_of c)
+now_of P v c still h = subst (λ (n : ℕ). P (record (sight_of c) { taken = n })) (sym still) h
 
 -- references as a desk sees them
 pub holds_without : (place : ℕ) (held : List Keep) → map hold_of (without place held) ≡ without_hold place (map hold_of held)
@@ -64,12 +72,13 @@ idle_still p q h slots free commit expected shut carried = record {
 }
 
 -- the desk made no event
-pub saw_more : (a b : Sight) → StartsWith b.front a.front → b.own ≡ a.own → b.spare ≡ a.spare → IsSamePass a b → Saw a b
-saw_more a b front own spare pass = record {
+pub saw_more : (a b : Sight) → StartsWith b.front a.front → b.own ≡ a.own → b.spare ≡ a.spare → b.taken ≡ a.taken → IsSamePass a b → Saw a b
+saw_more a b front own spare taken pass = record {
   went = record { front = front; own = own ∙ sym (append-nil a.own); spare = omega (arith, spare); pass = pass };
   spare = spare;
+  taken = taken;
 }
 
 -- and saw no further one
-pub saw_none : (a b : Sight) → b.front ≡ a.front → b.own ≡ a.own → b.spare ≡ a.spare → IsSamePass a b → Saw a b
-saw_none a b front own spare pass = saw_more a b ([], front ∙ sym (append-nil a.front)) own spare pass
+pub saw_none : (a b : Sight) → b.front ≡ a.front → b.own ≡ a.own → b.spare ≡ a.spare → b.taken ≡ a.taken → IsSamePass a b → Saw a b
+saw_none a b front own spare taken pass = saw_more a b ([], front ∙ sym (append-nil a.front)) own spare taken pass

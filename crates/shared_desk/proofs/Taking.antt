@@ -1,4 +1,8 @@
 -- A clerk that took a place, or found none, or looked.
+use Rattle.history_book.specs.Sight.{Sight}
+use Rattle.track_rule.specs.ChangesOnly.{ChangesWords, is_free_turn, places_taken}
+use Rattle.entry_pool.specs.Take.{take_words}
+use Rattle.shared_desk.proofs.Counting.{no_free_turn, still_taken, taken_append}
 use Rattle.std.specs.Prelude.{◌==◌}
 use Rattle.std.proofs.Common.{◌≡◌, ℕ, ◌+◌, ◌<◌, ◌≤◌, false, Option, List, [], ◌∷◌, ◌++◌, length, map, refl, sym, ap, subst, ◌∙◌, arith, length-append}
 use Rattle.std.proofs.lemmas.List.{length-map}
@@ -25,11 +29,10 @@ use Rattle.entry_pool.specs.Take.{HasTaken, IsBelow, IsFull}
 use Rattle.shared_desk.specs.Calls.{FindsNone, ShowsNone}
 use Rattle.shared_desk.specs.Rest.{IsAtRest}
 use Rattle.shared_desk.specs.Sights.{hold_of, sight_of}
-use Rattle.shared_desk.proofs.Known.{known_later, known_taken}
+use Rattle.shared_desk.proofs.Known.{known_later, known_taken, counted}
 use Rattle.shared_desk.proofs.Lists.{none_of}
 use Rattle.shared_desk.proofs.Places.{in_use, is_unused_after}
-use Rattle.shared_desk.proofs.Readings.{turn_is_no_refs}
-use Rattle.shared_desk.proofs.Resting.{clerk_at, holds_held, idle_still, saw_more, saw_none}
+use Rattle.shared_desk.proofs.Resting.{clerk_at, holds_held, idle_still, saw_more, saw_none, then_of, now_of}
 use Rattle.shared_desk.proofs.Settled.{settled_taken}
 
 module _ (v : PassSight) (notes : Roomed Note) (spare : ℕ) (h : IsAtRest v notes spare) where
@@ -46,16 +49,16 @@ module _ (v : PassSight) (notes : Roomed Note) (spare : ℕ) (h : IsAtRest v not
         settled = h.settled;
         own = h.own;
         room = h.room;
-        knows = known_later (sight_of (clerk_at v spare)) log h.knows all.front all.legal
-            (omega (arith, all.few, all.passes)) all.alone;
+        knows = counted _ _ (known_later (sight_of (clerk_at v spare)) log h.knows all.front all.legal
+            (omega (arith, all.few, all.passes)) all.alone);
       })
 
   pub saw_looked : (log : List Event) (walk : Option Walk) (rs : List Reading) (w : PassSight)
       → w ≡ record v { view = record v.view { seen = record v.view.seen { front = log }; walk = walk; readings = rs } } → AreAll v.view log
-      → Saw (sight_of (clerk_at v spare)) (sight_of (clerk_at w spare))
+      → Saw (sight_of (clerk_at v spare)) (then_of v (clerk_at w spare))
   saw_looked log walk rs w same all =
-      subst (λ p. Saw (sight_of (clerk_at v spare)) (sight_of (clerk_at p spare))) (sym same)
-      (saw_more (sight_of (clerk_at v spare)) _ all.front refl refl
+      subst (λ p. Saw (sight_of (clerk_at v spare)) (then_of v (clerk_at p spare))) (sym same)
+      (saw_more (sight_of (clerk_at v spare)) _ all.front refl refl refl
       (record { tracker = refl; sizes = refl; shares = refl; returned = refl; gathered = refl }))
 
   -- it loaded the history word
@@ -68,7 +71,7 @@ module _ (v : PassSight) (notes : Roomed Note) (spare : ℕ) (h : IsAtRest v not
         rest_looked w.view.seen.front (at_point (length w.view.seen.front) v.view.walk) (v.view.readings ++ found_history word v.view ∷ []) w loaded l.all
 
     pub count_says : (count : LiveCount) → count.live ≡ live_in word → count.at ≡ events_in word
-        → CountSays (sight_of (clerk_at v spare)) (sight_of (clerk_at w spare)) count
+        → CountSays (sight_of (clerk_at v spare)) (then_of v (clerk_at w spare)) count
     count_says count live at = (
       record {
         saw = saw_looked w.view.seen.front (at_point (length w.view.seen.front) v.view.walk) (v.view.readings ++ found_history word v.view ∷ []) w loaded l.all;
@@ -103,14 +106,15 @@ module _ (v : PassSight) (notes : Roomed Note) (spare : ℕ) (h : IsAtRest v not
           settled = settled_taken place v.view.places v.view.buckets.hooks w.view.buckets.hooks h.settled t.has.held t.has.hooks t.has.down;
           own = h.own;
           room = h.room;
-          knows = known_taken (sight_of (clerk_at v spare)) place h.knows below unheld unowed few;
+          knows = counted _ _ (known_taken (sight_of (clerk_at v spare)) place h.knows below unheld unowed few);
         })
 
     takes : Takes (sight_of (clerk_at v spare)) (sight_of (clerk_at w spare)) place
     takes =
         subst (λ p. Takes (sight_of (clerk_at v spare)) (sight_of (clerk_at p spare)) place) (sym t.has.same) (record {
-          saw = saw_none (sight_of (clerk_at v spare)) _ refl refl refl
+          saw = saw_none (sight_of (clerk_at v spare)) _ refl refl refl refl
               (record { tracker = refl; sizes = refl; shares = refl; returned = refl; gathered = refl });
+          taken = omega (arith, ap (places_taken (sizes_of v)) t.has.stand ∙ taken_append (sizes_of v) v.view.readings (added v.view w.view), t.once);
           below = below;
           unheld = unheld;
           unowed = unowed;
@@ -119,7 +123,7 @@ module _ (v : PassSight) (notes : Roomed Note) (spare : ℕ) (h : IsAtRest v not
         })
 
   -- none was free
-  finds_full : (at : ℕ) (w : PassSight) → IsFull at v w → FindsFull (sight_of (clerk_at v spare)) (sight_of (clerk_at w spare)) at
+  finds_full : (at : ℕ) (w : PassSight) → IsFull at v w → FindsFull (sight_of (clerk_at v spare)) (then_of v (clerk_at w spare)) at
   finds_full at w f = record {
     looked = record {
       saw = saw_looked w.view.seen.front w.view.walk w.view.readings w f.same f.all;
@@ -145,7 +149,7 @@ module _ (v : PassSight) (notes : Roomed Note) (spare : ℕ) (h : IsAtRest v not
   }
 
   finds_none : (at : ℕ) (w : PassSight) → IsFull at v w → FindsNone at (clerk_at v spare) (clerk_at w spare)
-  finds_none at w f = record { empty = f.empty; own = turn_is_no_refs (sizes_of v) (added v.view w.view) f.own }
+  finds_none at w f = f.empty
 
   -- whichever it was
   pub rest_taking : (outcome : TakeOutcome) (w : PassSight) → pool.TakeSays outcome v w → IsBelow (sizes_of v).entries outcome
@@ -154,10 +158,11 @@ module _ (v : PassSight) (notes : Roomed Note) (spare : ℕ) (h : IsAtRest v not
   rest_taking (Full at) w says below few = rest_looked w.view.seen.front w.view.walk w.view.readings w says.same says.all
 
   pub take_says : (outcome : TakeOutcome) (w : PassSight) → pool.TakeSays outcome v w → IsBelow (sizes_of v).entries outcome
-      → length (map hold_of v.view.places.held) + length v.view.places.owed ≤ 3
+      → length (map hold_of v.view.places.held) + length v.view.places.owed ≤ 3 → ChangesWords (take_words outcome) v.view w.view
       → TakeSays (sight_of (clerk_at v spare)) (sight_of (clerk_at w spare)) outcome
-  take_says (Taken place) w says below few = takes place w says below few
-  take_says (Full at) w says below few = finds_full at w says
+  take_says (Taken place) w says below few words = takes place w says below few
+  take_says (Full at) w says below few words =
+      now_of (λ (s : Sight). TakeSays (sight_of (clerk_at v spare)) s (Full at)) v (clerk_at w spare) (still_taken is_free_turn v w no_free_turn words) (finds_full at w says)
 
   pub shows_none : (outcome : TakeOutcome) (w : PassSight) → pool.TakeSays outcome v w → ShowsNone outcome (clerk_at v spare) (clerk_at w spare)
   shows_none (Taken place) w says = tt

@@ -1,22 +1,31 @@
 -- Which words the tests of changed words name.
-use Rattle.std.specs.Prelude.{◌≡◌, ℕ, ◌<◌, true, false}
+use Rattle.std.specs.Prelude.{◌≡◌, ℕ, ◌+◌, ◌*◌, ◌<◌, true, false}
 use Rattle.history_book.specs.declared.sizes.Sizes.{Sizes}
-use Rattle.track_rule.specs.Layout.{gen_word, phase_word, refs_word, turn_word}
-use Rattle.shared_desk.specs.Changed.{is_gen_or_turn, is_refs}
+use Rattle.track_rule.specs.ChangesOnly.{is_some_next, is_some_phase, is_some_refs, is_tuple_of, is_turn_of}
+use Rattle.track_rule.specs.Layout.{first_word, next_word, phase_word, place_of, refs_word, second_word}
+use Rattle.track_rule.specs.Readings.{stored}
+use Rattle.track_rule.specs.declared.view.Reading.{Reading}
 
--- the generation of a bucket, and the turn of a record, are named
-abbrev pub GenerationsAreNamed : Type 0
-GenerationsAreNamed = (z : Sizes) (bucket : ℕ) → bucket < z.buckets → is_gen_or_turn z (gen_word z bucket) ≡ true
+-- the references, the phase and the next links of a place are such words
+pub record PlaceIsNamed (z : Sizes) (place value : ℕ) : Type 0 where
+  pub refs : is_some_refs z (stored (refs_word z place) value) ≡ true
+  pub phase : is_some_phase value z (stored (phase_word z place) value) ≡ true
 
-abbrev pub TurnsAreNamed : Type 0
-TurnsAreNamed = (z : Sizes) (place : ℕ) → place < z.entries → is_gen_or_turn z (turn_word z place) ≡ true
+abbrev pub PlacesAreNamed : Type 0
+PlacesAreNamed = (z : Sizes) (place value : ℕ) → PlaceIsNamed z place value
 
--- the history word, and the references and the phase of a place, are not
+-- such words name no history word, no turn, no generation and no head
+pub record IsNoPlaceWord (z : Sizes) (r : Reading) : Type 0 where
+  pub refs : is_some_refs z r ≡ false
+  pub phase : (value : ℕ) → is_some_phase value z r ≡ false
+  pub next : is_some_next z r ≡ false
+
+abbrev pub LowWordsAreNot : Type 0
+LowWordsAreNot = (z : Sizes) (r : Reading) → r.word < 3 + 2 * z.buckets → IsNoPlaceWord z r
+
+-- nor the turn of a record, or a tuple
 abbrev pub OthersAreNot : Type 0
-OthersAreNot =
-    (z : Sizes) (place : ℕ)
-    → (is_gen_or_turn z 0 ≡ false) × (is_gen_or_turn z (refs_word z place) ≡ false) × (is_gen_or_turn z (phase_word z place) ≡ false)
+OthersAreNot = (z : Sizes) (place : ℕ) (r : Reading) → is_turn_of place z r ≡ true → IsNoPlaceWord z r
 
--- the references of a place are references
-abbrev pub ReferencesAreNamed : Type 0
-ReferencesAreNamed = (z : Sizes) (place : ℕ) → place < z.entries → is_refs z (refs_word z place) ≡ true
+abbrev pub TuplesAreNot : Type 0
+TuplesAreNot = (z : Sizes) (place : ℕ) (r : Reading) → is_tuple_of place z r ≡ true → IsNoPlaceWord z r

@@ -1,5 +1,5 @@
 -- What contracts see of a clerk, of what was left of one, and of a tracker.
-use Rattle.std.specs.Prelude.{ℕ, Option, Some, None, List, ◌∷◌, map}
+use Rattle.std.specs.Prelude.{ℕ, ◌-◌, ◌^◌, min, Option, Some, None, List, ◌∷◌, map}
 use Rattle.atomic_table.specs.Seated.{TableId}
 use Rattle.history_book.specs.declared.desk.Hold.{Hold}
 use Rattle.history_book.specs.declared.sizes.Sizes.{Sizes}
@@ -7,6 +7,7 @@ use Rattle.history_book.specs.Sight.{Sight}
 use Rattle.track_rule.specs.declared.view.Keep.{Keep}
 use Rattle.track_rule.specs.declared.view.Purpose.{Purpose}
 use Rattle.track_rule.specs.declared.view.Purpose.TheVariants.{Taken, Testing, Shown, For}
+use Rattle.track_rule.specs.ChangesOnly.{places_taken}
 use Rattle.track_rule.specs.Sights.{BoardSight, PassSight, sizes_of}
 
 -- its pass, and for how many further events of its own it has room
@@ -35,6 +36,10 @@ entry_for (For id) = Some id
 abbrev pub hold_of : Keep → Hold
 hold_of k = record { place = k.place; id = entry_for k.purpose }
 
+-- how often the pass took a place: how often it made a phase OWNED, counted in 64 bits
+abbrev pub taken_by : PassSight → ℕ
+taken_by p = min (places_taken (sizes_of p) p.view.readings) (2 ^ 64 - 1)
+
 -- what the clerk knows as a desk
 abbrev pub sight_of : ClerkSight → Sight
 sight_of c = record {
@@ -48,4 +53,5 @@ sight_of c = record {
   shares = c.pass.view.passes.shares;
   returned = c.pass.view.passes.returned;
   gathered = c.pass.view.seen.gathered;
+  taken = taken_by c.pass;
 }

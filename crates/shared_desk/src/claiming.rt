@@ -1,6 +1,8 @@
 //! Expectations end by the packets that match them, or in time, and are listed.
 
 ghost use Rattle.std.specs.Prelude.{◌≡◌, ◌<◌, ◌≤◌, ◌^◌, length};
+ghost use Rattle.track_rule.specs.ChangesOnly.{ChangesWords, is_expect_turn, is_history, where_so};
+ghost use Rattle.shared_desk.specs.Changed.{claim_words, is_claimed, is_removed, unexpect_words};
 ghost use Rattle.shared_desk.specs.Claiming.{Claims, HasLooked, Unexpects};
 ghost use Rattle.shared_desk.specs.ExpectTurn.{CanTakeExpects, aside};
 ghost use Rattle.shared_desk.specs.Touching.{Notes};
@@ -28,6 +30,7 @@ fn claim_first(
     requires knows { CanGiveExpected pass.old.view table.old }
     requires few { length pass.old.view.seen.own < 2 ^ 30 }
     ensures claims { Claims t.now moment result.0 (aside pass.old) (aside pass.new) }
+    ensures words { ChangesWords (where_so (is_claimed result.0) is_history) pass.old.view pass.new.view }
     ensures knows { CanGiveExpected pass.new.view table.new }
     ensures noted { Notes result.1 pass.old.view.seen.own pass.new.view.seen.own }
 {
@@ -61,6 +64,7 @@ pub fn claim<R: Wait>(
     requires free { CanTakeExpects pass.old }
     requires few { length pass.old.view.seen.own < 2 ^ 30 }
     ensures claims { Claims t.now moment result.0 pass.old pass.new }
+    ensures words { ChangesWords (claim_words result.0) pass.old.view pass.new.view }
     ensures noted { Notes result.1 pass.old.view.seen.own pass.new.view.seen.own }
 {
     let mut table = take_expects(rt, pass);
@@ -79,6 +83,7 @@ fn unexpect_one(
     requires knows { CanGiveExpected pass.old.view table.old }
     requires few { length pass.old.view.seen.own < 2 ^ 30 }
     ensures unexpects { Unexpects id moment result.0 (aside pass.old) (aside pass.new) }
+    ensures words { ChangesWords (where_so (is_removed result.0) is_history) pass.old.view pass.new.view }
     ensures knows { CanGiveExpected pass.new.view table.new }
     ensures noted { Notes result.1 pass.old.view.seen.own pass.new.view.seen.own }
 {
@@ -113,6 +118,7 @@ pub fn unexpect<R: Wait>(
     requires free { CanTakeExpects pass.old }
     requires few { length pass.old.view.seen.own < 2 ^ 30 }
     ensures unexpects { Unexpects id moment result.0 pass.old pass.new }
+    ensures words { ChangesWords (unexpect_words result.0) pass.old.view pass.new.view }
     ensures noted { Notes result.1 pass.old.view.seen.own pass.new.view.seen.own }
 {
     let mut table = take_expects(rt, pass);
@@ -126,6 +132,7 @@ pub fn list_expects<R: Wait>(rt: &R, pass: &mut Pass, listed: &mut Expectations)
     requires free { CanTakeExpects pass.old }
     requires room { (sizes_of pass.old).expectations ≤ listed.old.room }
     ensures lists { HasLooked result (λ s. listed.new.items ≡ s.expects) pass.old pass.new }
+    ensures words { ChangesWords is_expect_turn pass.old.view pass.new.view }
     ensures room { listed.new.room ≡ listed.old.room }
 {
     let table = take_expects(rt, pass);

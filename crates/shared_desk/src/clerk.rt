@@ -1,7 +1,6 @@
 //! One thread's handle on a tracker, with those of its calls that are not a desk's. The others stand in `desk.rt`.
 
 ghost use Rattle.std.specs.Prelude.{◌≡◌, ◌+◌, ◌≤◌, true, length};
-ghost use Rattle.entry_pool.specs.GoesOn.{ReadingsStand};
 ghost use Rattle.history_book.specs.Desk.{CountSays, ReleaseSays};
 ghost use Rattle.history_book.specs.Held.{is_held};
 ghost use Rattle.history_book.specs.Join.{CanJoin, Joins};
@@ -9,11 +8,10 @@ ghost use Rattle.history_book.specs.Leave.{IsLeftOf};
 ghost use Rattle.history_book.specs.Places.{HoldsNothing};
 ghost use Rattle.history_book.specs.Sight.{IsKnown};
 ghost use Rattle.history_book.specs.Split.{CanSplit, Splits};
-ghost use Rattle.shared_desk.specs.Changed.{ChangesNone, is_gen_or_turn, is_no_refs};
+ghost use Rattle.track_rule.specs.ChangesOnly.{ChangesWords, is_refs_of, is_some_refs, no_word};
 ghost use Rattle.shared_desk.specs.FindsOnce.{FindOnceSays};
 ghost use Rattle.shared_desk.specs.Sights.{sight_of};
 ghost use Rattle.track_rule.specs.History.{events_in, live_in};
-ghost use Rattle.track_rule.specs.Sights.{sizes_of};
 
 use crate::lookup::find_once;
 use crate::tracker::Spot;
@@ -119,8 +117,7 @@ impl<'t, G: Gate> Clerk<'t, G> {
     /// Counts the live entries, by one load of the history word.
     pub fn count_now(&mut self) -> LiveCount
         ensures says { CountSays (sight_of self.old) (sight_of self.new) result }
-        ensures own { ChangesNone (is_gen_or_turn (sizes_of self.old.pass)) self.old self.new }
-        ensures stand { ReadingsStand self.old.pass self.new.pass }
+        ensures own { ChangesWords no_word self.old.pass.view self.new.pass.view }
         ensures knows { IsKnown (sight_of self.new) }
     {
         let word = self.pass.history_load();
@@ -134,9 +131,7 @@ impl<'t, G: Gate> Clerk<'t, G> {
     pub fn find_once(&mut self, t: &Tuple) -> FindOnce
         requires { length (sight_of self.old).held + length (sight_of self.old).owed ≤ 3 }
         ensures says { FindOnceSays result t.now self.old self.new }
-        ensures own { ChangesNone (is_gen_or_turn (sizes_of self.old.pass)) self.old self.new }
-        ensures refs { ChangesNone (is_no_refs (sizes_of self.old.pass)) self.old self.new }
-        ensures stand { ReadingsStand self.old.pass self.new.pass }
+        ensures own { ChangesWords is_some_refs self.old.pass.view self.new.pass.view }
         ensures knows { IsKnown (sight_of self.new) }
     {
         find_once(&mut self.pass, t)
@@ -146,8 +141,7 @@ impl<'t, G: Gate> Clerk<'t, G> {
     pub fn release_now(&mut self, place: u32) -> ReleaseOutcome
         requires { is_held place (sight_of self.old).held ≡ true }
         ensures says { ReleaseSays place (sight_of self.old) (sight_of self.new) result }
-        ensures own { ChangesNone (is_gen_or_turn (sizes_of self.old.pass)) self.old self.new }
-        ensures stand { ReadingsStand self.old.pass self.new.pass }
+        ensures own { ChangesWords (is_refs_of place) self.old.pass.view self.new.pass.view }
         ensures knows { IsKnown (sight_of self.new) }
     {
         release(&mut self.pass, place)

@@ -2,6 +2,8 @@
 
 ghost use Rattle.std.specs.Prelude.{◌≡◌, ◌<◌, true, None, []};
 ghost use Rattle.history_book.specs.Entry.{record_for};
+ghost use Rattle.track_rule.specs.ChangesOnly.{ChangesWords, is_refs_of, is_turn_of};
+ghost use Rattle.shared_desk.specs.Changed.{commit_words};
 ghost use Rattle.shared_desk.specs.Commit.{AddsReference, CanCommit, Commits, HasTurn};
 ghost use Rattle.track_rule.specs.Sights.{sizes_of};
 ghost use Rattle.track_rule.specs.Steps.{is_second};
@@ -43,7 +45,8 @@ pub fn take_turn<R: Wait>(rt: &R, pass: &mut Pass, place: u32)
     requires expected { pass.old.view.expected ≡ None }
     requires free { pass.old.view.free ≡ None }
     requires shut { pass.old.view.buckets.shut ≡ [] }
-    ensures { HasTurn place pass.old pass.new }
+    ensures has { HasTurn place pass.old pass.new }
+    ensures words { ChangesWords (is_turn_of place) pass.old.view pass.new.view }
 {
     'turns: for _ in rt.forever() {
         if pass.turn_take(place) {
@@ -58,7 +61,8 @@ pub fn take_turn<R: Wait>(rt: &R, pass: &mut Pass, place: u32)
 fn add_reference<R: Wait>(rt: &R, pass: &mut Pass, place: u32)
     requires place { place < (sizes_of pass.old).entries }
     requires second { is_second place pass.old.view ≡ true }
-    ensures { AddsReference place pass.old pass.new }
+    ensures adds { AddsReference place pass.old pass.new }
+    ensures words { ChangesWords (is_refs_of place) pass.old.view pass.new.view }
 {
     let mut seen = pass.ref_load(place);
     'tries: for _ in rt.forever() {
@@ -73,7 +77,8 @@ fn add_reference<R: Wait>(rt: &R, pass: &mut Pass, place: u32)
 /// Makes the flow an entry, in a place whose two links are in no chain, while both buckets are locked. Gives its id.
 pub fn commit<R: Wait>(rt: &R, pass: &mut Pass, locked: &Locked, place: u32, flow: &Flow) -> u64
     requires { CanCommit place flow.now locked.now pass.old }
-    ensures { Commits place flow.now result pass.old pass.new }
+    ensures commits { Commits place flow.now result pass.old pass.new }
+    ensures words { ChangesWords (commit_words place flow.now) pass.old.view pass.new.view }
 {
     link(pass, locked, place);
     add_reference(rt, pass, place);

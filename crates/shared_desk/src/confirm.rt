@@ -2,6 +2,8 @@
 //! the flow becomes an entry.
 
 ghost use Rattle.std.specs.Prelude.{◌≡◌, true, None, []};
+ghost use Rattle.track_rule.specs.ChangesOnly.{ChangesWords, either};
+ghost use Rattle.shared_desk.specs.Changed.{commit_words, confirm_words, enter_words, flow_gens};
 ghost use Rattle.shared_desk.specs.Commit.{CanCommit};
 ghost use Rattle.shared_desk.specs.Confirm.{Answers, CanConfirmFlow, CanEnter, ConfirmsFlow, EntersAndOpens, IsLocked, LocksFlow, BlocksAndOpens};
 ghost use Rattle.shared_desk.specs.Rival.{IsBlocked};
@@ -20,7 +22,8 @@ use tuple_core::bucket_of;
 /// Waits for the buckets of both tuples of a flow, and locks them.
 pub fn lock_flow<R: Wait>(rt: &R, pass: &mut Pass, flow: &Flow) -> Locked
     requires { pass.old.view.buckets.shut ≡ [] }
-    ensures { LocksFlow flow.now result pass.old pass.new }
+    ensures locks { LocksFlow flow.now result pass.old pass.new }
+    ensures words { ChangesWords (flow_gens flow.now) pass.old.view pass.new.view }
 {
     let sizes = pass.sizes();
     let original = bucket_of(&flow.original, sizes.seed, sizes.buckets);
@@ -38,7 +41,8 @@ fn blocked(
 ) -> ConfirmOutcome
     requires locked { IsLocked flow.now locked pass.old }
     requires blocked { IsBlocked place flow.now rival.now pass.old }
-    ensures { BlocksAndOpens place flow.now result pass.old pass.new }
+    ensures blocks { BlocksAndOpens place flow.now result pass.old pass.new }
+    ensures words { ChangesWords (flow_gens flow.now) pass.old.view pass.new.view }
 {
     let answer = clash(pass, place, flow, rival);
     unlock_two(pass, locked);
@@ -50,7 +54,8 @@ fn enter<R: Wait>(rt: &R, pass: &mut Pass, locked: Locked, place: u32, flow: &Fl
     requires locked { IsLocked flow.now locked pass.old }
     requires can { CanCommit place flow.now locked pass.old }
     requires free { pass.old.view.free ≡ None }
-    ensures { EntersAndOpens place flow.now result pass.old pass.new }
+    ensures enters { EntersAndOpens place flow.now result pass.old pass.new }
+    ensures words { ChangesWords (either (flow_gens flow.now) (commit_words place flow.now)) pass.old.view pass.new.view }
 {
     let id = commit(rt, pass, &locked, place, flow);
     unlock_two(pass, locked);
@@ -68,7 +73,8 @@ fn confirm_locked<R: Wait, G: Gate>(
     flow: &Flow,
 ) -> ConfirmOutcome
     requires { CanEnter place flow.now pass.old }
-    ensures { Answers place flow.now result pass.old pass.new }
+    ensures answers { Answers place flow.now result pass.old pass.new }
+    ensures words { ChangesWords (enter_words flow.now place result) pass.old.view pass.new.view }
 {
     let locked = lock_flow(rt, pass, flow);
     match find_rival(pass, &locked, flow) {
@@ -92,7 +98,8 @@ pub fn confirm<R: Wait, G: Gate>(
     flow: &Flow,
 ) -> ConfirmOutcome
     requires { CanConfirmFlow place flow.now pass.old }
-    ensures { ConfirmsFlow place flow.now result pass.old pass.new }
+    ensures confirms { ConfirmsFlow place flow.now result pass.old pass.new }
+    ensures words { ChangesWords (confirm_words flow.now place result) pass.old.view pass.new.view }
 {
     store_tuples(pass, place, flow);
     take_turn(rt, pass, place);

@@ -1,15 +1,18 @@
 //! A clerk as a desk.
 
 ghost use Rattle.std.specs.Prelude.{◌≡◌, ◌+◌, ◌<◌, ◌≤◌, ◌^◌, true, length, OnOk, OnErr};
-ghost use Rattle.entry_pool.specs.GoesOn.{ReadingsStand};
-ghost use Rattle.history_book.specs.Desk.{CountSays, FindSays, IsReady, RecycleSays, ReleaseSays, TakeSays};
-ghost use Rattle.history_book.specs.Held.{is_held, is_owed};
+ghost use Rattle.entry_pool.specs.Take.{recycle_words, take_words};
+ghost use Rattle.history_book.specs.Desk.{ConfirmSays, CountSays, FindSays, HoldSays, IsReady, KillSays, PeekSays, RecycleSays, ReleaseSays, TakeSays, TouchSays};
+ghost use Rattle.history_book.specs.DeskExpectations.{ClaimSays, ExpectSays, ListsExpected, UnexpectSays};
+ghost use Rattle.history_book.specs.Entry.{is_flow_of_one_protocol, is_helped_entry, is_of_entry, suits_entry};
+ghost use Rattle.history_book.specs.Legality.{reason_moment_of};
+ghost use Rattle.history_book.specs.Held.{held_id, is_held, is_held_for_entry, is_owed, is_taken};
 ghost use Rattle.history_book.specs.Sight.{IsKnown};
 ghost use Rattle.shared_desk.specs.Calls.{ShowsNone};
-ghost use Rattle.shared_desk.specs.Changed.{ChangesNone, is_gen_or_other_turn, is_gen_or_turn};
+ghost use Rattle.shared_desk.specs.Changed.{claim_words, confirm_words, expect_words, find_words, hold_words, kill_words, touch_words, unexpect_words};
+ghost use Rattle.track_rule.specs.ChangesOnly.{ChangesAndFrees, ChangesWords, is_expect_turn, is_refs_of, is_turn_of, no_word};
 ghost use Rattle.shared_desk.specs.FindsOnce.{LookSays};
 ghost use Rattle.shared_desk.specs.Sights.{sight_of};
-ghost use Rattle.track_rule.specs.Sights.{sizes_of};
 
 use crate::claiming::{claim, list_expects, unexpect};
 use crate::clerk::Clerk;
@@ -26,12 +29,13 @@ use expect_table::expectation::Want;
 use history_book::desk::Desk;
 use history_book::event::Why;
 use history_book::laws::states_stay;
+use history_book::many_threads::SharedDesk;
 use history_book::outcome::{
     ClaimOutcome, ConfirmOutcome, ExpectOutcome, FindOutcome, HoldOutcome, KillOutcome, LiveCount,
     PeekOutcome, ReleaseOutcome, TakeOutcome, TouchOutcome, UnexpectOutcome,
 };
 use history_book::record::Flow;
-use history_book::report::Expectations;
+use history_book::report::{Expectations, Notes};
 use history_book::sight_laws::seeing_adds_up;
 use std::sync::Wait;
 use std::thread;
@@ -43,8 +47,7 @@ impl<'t, G: Gate> Clerk<'t, G> {
     fn look<R: Wait>(&mut self, rt: &R, t: &Tuple) -> Option<FindOutcome>
         requires { length (sight_of self.old).held + length (sight_of self.old).owed ≤ 3 }
         ensures says { LookSays result t.now (sight_of self.old) (sight_of self.new) }
-        ensures own { ChangesNone (is_gen_or_other_turn (sizes_of self.old.pass)) self.old self.new }
-        ensures stand { ReadingsStand self.old.pass self.new.pass }
+        ensures own { ChangesAndFrees find_words self.old.pass.view self.new.pass.view }
         ensures knows { IsKnown (sight_of self.new) }
     {
         seeing_adds_up();
@@ -108,8 +111,7 @@ impl<'t, G: Gate> Desk for Clerk<'t, G> {
     fn find<R: Wait>(&mut self, rt: &R, t: &Tuple) -> FindOutcome
         requires { length (sight_of self.old).held + length (sight_of self.old).owed ≤ 3 }
         ensures says { FindSays t.now (sight_of self.old) (sight_of self.new) result }
-        ensures own { ChangesNone (is_gen_or_other_turn (sizes_of self.old.pass)) self.old self.new }
-        ensures stand { ReadingsStand self.old.pass self.new.pass }
+        ensures own { ChangesAndFrees find_words self.old.pass.view self.new.pass.view }
         ensures knows { IsKnown (sight_of self.new) }
     {
         seeing_adds_up();
@@ -125,8 +127,7 @@ impl<'t, G: Gate> Desk for Clerk<'t, G> {
     /// Counts the live entries, without waiting.
     fn count<R: Wait>(&mut self, _rt: &R) -> LiveCount
         ensures says { CountSays (sight_of self.old) (sight_of self.new) result }
-        ensures own { ChangesNone (is_gen_or_turn (sizes_of self.old.pass)) self.old self.new }
-        ensures stand { ReadingsStand self.old.pass self.new.pass }
+        ensures own { ChangesWords no_word self.old.pass.view self.new.pass.view }
         ensures knows { IsKnown (sight_of self.new) }
     {
         self.count_now()
@@ -137,7 +138,7 @@ impl<'t, G: Gate> Desk for Clerk<'t, G> {
         requires { length (sight_of self.old).held + length (sight_of self.old).owed ≤ 3 }
         ensures says { TakeSays (sight_of self.old) (sight_of self.new) result }
         ensures shows { ShowsNone result self.old self.new }
-        ensures stand { ReadingsStand self.old.pass self.new.pass }
+        ensures own { ChangesWords (take_words result) self.old.pass.view self.new.pass.view }
         ensures knows { IsKnown (sight_of self.new) }
     {
         take(rt, &mut self.pass)
@@ -145,7 +146,14 @@ impl<'t, G: Gate> Desk for Clerk<'t, G> {
 
     /// Confirms a new entry in a place that was taken for it. It may wait for the locks of two buckets. While both are locked and no
     /// clash was found it passes the gate, before the entry is made.
-    fn confirm<R: Wait>(&mut self, rt: &R, place: u32, flow: &Flow) -> ConfirmOutcome {
+    fn confirm<R: Wait>(&mut self, rt: &R, place: u32, flow: &Flow) -> ConfirmOutcome
+        requires taken { is_taken place (sight_of self.old).held ≡ true }
+        requires protocol { is_flow_of_one_protocol flow.now ≡ true }
+        requires spare { 1 ≤ (sight_of self.old).spare }
+        ensures says { ConfirmSays place flow.now (sight_of self.old) (sight_of self.new) result }
+        ensures own { ChangesWords (confirm_words flow.now place result) self.old.pass.view self.new.pass.view }
+        ensures knows { IsKnown (sight_of self.new) }
+    {
         let outcome = confirm(rt, &mut self.pass, self.gate, self.worker, place, flow);
         note_confirm(&mut self.notes, &mut self.spare, place, flow, &outcome);
         outcome
@@ -160,7 +168,17 @@ impl<'t, G: Gate> Desk for Clerk<'t, G> {
         direction: Direction,
         segment: Segment,
         moment: u64,
-    ) -> TouchOutcome {
+    ) -> TouchOutcome
+        requires held { is_held_for_entry place (sight_of self.old).held ≡ true }
+        requires protocol { is_of_entry segment (held_id place (sight_of self.old).held)
+            (sight_of self.old).front ≡ true }
+        requires timely { moment ≤ 10 ^ 16 }
+        requires spare { 1 ≤ (sight_of self.old).spare }
+        ensures says { TouchSays place direction segment moment
+            (sight_of self.old) (sight_of self.new) result }
+        ensures own { ChangesWords (touch_words place result) self.old.pass.view self.new.pass.view }
+        ensures knows { IsKnown (sight_of self.new) }
+    {
         states_stay();
         let packet = Packet {
             direction,
@@ -173,13 +191,27 @@ impl<'t, G: Gate> Desk for Clerk<'t, G> {
     }
 
     /// Reads the entry for which a place is held. It may wait for the turn of the place's record.
-    fn peek<R: Wait>(&mut self, rt: &R, place: u32) -> PeekOutcome {
+    fn peek<R: Wait>(&mut self, rt: &R, place: u32) -> PeekOutcome
+        requires { is_held_for_entry place (sight_of self.old).held ≡ true }
+        ensures says { PeekSays place (sight_of self.old) (sight_of self.new) result }
+        ensures own { ChangesWords (is_turn_of place) self.old.pass.view self.new.pass.view }
+        ensures knows { IsKnown (sight_of self.new) }
+    {
         peek(rt, &mut self.pass, place)
     }
 
     /// Destroys the entry for which a place is held, where the reason holds of it. It may wait for the turn of the place's record, then
     /// for that of the expectations, where the entry has the helper, and then for the locks of two buckets.
-    fn kill<R: Wait>(&mut self, rt: &R, place: u32, why: Why) -> KillOutcome {
+    fn kill<R: Wait>(&mut self, rt: &R, place: u32, why: Why) -> KillOutcome
+        requires held { is_held_for_entry place (sight_of self.old).held ≡ true }
+        requires protocol { suits_entry why (held_id place (sight_of self.old).held)
+            (sight_of self.old).front ≡ true }
+        requires timely { reason_moment_of why ≤ 10 ^ 16 }
+        requires spare { 1 ≤ (sight_of self.old).spare }
+        ensures says { KillSays place why (sight_of self.old) (sight_of self.new) result }
+        ensures own { ChangesWords (kill_words place result) self.old.pass.view self.new.pass.view }
+        ensures knows { IsKnown (sight_of self.new) }
+    {
         states_stay();
         let (outcome, note) = kill(rt, &mut self.pass, place, why);
         note_event(&mut self.notes, &mut self.spare, note);
@@ -188,7 +220,16 @@ impl<'t, G: Gate> Desk for Clerk<'t, G> {
 
     /// Makes the entry for which a place is held, which has the helper, expect a connection, from a moment in microseconds on and for
     /// 300 s. It may wait for the turn of the place's record, and for that of the expectations.
-    fn expect<R: Wait>(&mut self, rt: &R, place: u32, want: Want, moment: u64) -> ExpectOutcome {
+    fn expect<R: Wait>(&mut self, rt: &R, place: u32, want: Want, moment: u64) -> ExpectOutcome
+        requires held { is_held_for_entry place (sight_of self.old).held ≡ true }
+        requires helper { is_helped_entry (held_id place (sight_of self.old).held)
+            (sight_of self.old).front ≡ true }
+        requires timely { moment ≤ 10 ^ 16 }
+        requires spare { 1 ≤ (sight_of self.old).spare }
+        ensures says { ExpectSays place want moment (sight_of self.old) (sight_of self.new) result }
+        ensures own { ChangesWords (expect_words place result) self.old.pass.view self.new.pass.view }
+        ensures knows { IsKnown (sight_of self.new) }
+    {
         let (outcome, note) = expect(rt, &mut self.pass, place, want, moment);
         note_event(&mut self.notes, &mut self.spare, note);
         outcome
@@ -196,7 +237,12 @@ impl<'t, G: Gate> Desk for Clerk<'t, G> {
 
     /// Ends the first expectation that a packet with this tuple matches at a moment in microseconds. It may wait for the turn of the
     /// expectations.
-    fn claim<R: Wait>(&mut self, rt: &R, t: &Tuple, moment: u64) -> ClaimOutcome {
+    fn claim<R: Wait>(&mut self, rt: &R, t: &Tuple, moment: u64) -> ClaimOutcome
+        requires { 1 ≤ (sight_of self.old).spare }
+        ensures says { ClaimSays t.now moment (sight_of self.old) (sight_of self.new) result }
+        ensures own { ChangesWords (claim_words result) self.old.pass.view self.new.pass.view }
+        ensures knows { IsKnown (sight_of self.new) }
+    {
         let (outcome, note) = claim(rt, &mut self.pass, t, moment);
         note_event(&mut self.notes, &mut self.spare, note);
         outcome
@@ -204,7 +250,12 @@ impl<'t, G: Gate> Desk for Clerk<'t, G> {
 
     /// Ends the expectation of this id, where it is due no longer at a moment in microseconds. It may wait for the turn of the
     /// expectations.
-    fn unexpect<R: Wait>(&mut self, rt: &R, id: u64, moment: u64) -> UnexpectOutcome {
+    fn unexpect<R: Wait>(&mut self, rt: &R, id: u64, moment: u64) -> UnexpectOutcome
+        requires { 1 ≤ (sight_of self.old).spare }
+        ensures says { UnexpectSays id moment (sight_of self.old) (sight_of self.new) result }
+        ensures own { ChangesWords (unexpect_words result) self.old.pass.view self.new.pass.view }
+        ensures knows { IsKnown (sight_of self.new) }
+    {
         let (outcome, note) = unexpect(rt, &mut self.pass, id, moment);
         note_event(&mut self.notes, &mut self.spare, note);
         outcome
@@ -212,13 +263,25 @@ impl<'t, G: Gate> Desk for Clerk<'t, G> {
 
     /// Lists the expectations in order of id, in place of what the list has, and answers their point. It may wait for the turn of the
     /// expectations.
-    fn expects<R: Wait>(&mut self, rt: &R, listed: &mut Expectations) -> u64 {
+    fn expects<R: Wait>(&mut self, rt: &R, listed: &mut Expectations) -> u64
+        requires { (sight_of self.old).sizes.expectations ≤ listed.old.room }
+        ensures says { ListsExpected listed.new.items (sight_of self.old) (sight_of self.new) result }
+        ensures room { listed.new.room ≡ listed.old.room }
+        ensures own { ChangesWords is_expect_turn self.old.pass.view self.new.pass.view }
+        ensures knows { IsKnown (sight_of self.new) }
+    {
         list_expects(rt, &mut self.pass, listed)
     }
 
     /// Holds a place for the entry that is live in it, if one is. It may wait for the turn of the place's record, and for that of the
     /// free list.
-    fn hold<R: Wait>(&mut self, rt: &R, place: u32) -> HoldOutcome {
+    fn hold<R: Wait>(&mut self, rt: &R, place: u32) -> HoldOutcome
+        requires below { place < (sight_of self.old).sizes.entries }
+        requires room { length (sight_of self.old).held + length (sight_of self.old).owed ≤ 3 }
+        ensures says { HoldSays place (sight_of self.old) (sight_of self.new) result }
+        ensures own { ChangesAndFrees (hold_words place) self.old.pass.view self.new.pass.view }
+        ensures knows { IsKnown (sight_of self.new) }
+    {
         hold(rt, &mut self.pass, place)
     }
 
@@ -226,8 +289,7 @@ impl<'t, G: Gate> Desk for Clerk<'t, G> {
     fn release<R: Wait>(&mut self, _rt: &R, place: u32) -> ReleaseOutcome
         requires { is_held place (sight_of self.old).held ≡ true }
         ensures says { ReleaseSays place (sight_of self.old) (sight_of self.new) result }
-        ensures own { ChangesNone (is_gen_or_turn (sizes_of self.old.pass)) self.old self.new }
-        ensures stand { ReadingsStand self.old.pass self.new.pass }
+        ensures own { ChangesWords (is_refs_of place) self.old.pass.view self.new.pass.view }
         ensures knows { IsKnown (sight_of self.new) }
     {
         self.release_now(place)
@@ -237,10 +299,19 @@ impl<'t, G: Gate> Desk for Clerk<'t, G> {
     fn recycle<R: Wait>(&mut self, rt: &R, place: u32)
         requires { is_owed place (sight_of self.old).owed ≡ true }
         ensures says { RecycleSays place (sight_of self.old) (sight_of self.new) }
-        ensures own { ChangesNone (is_gen_or_other_turn (sizes_of self.old.pass)) self.old self.new }
-        ensures stand { ReadingsStand self.old.pass self.new.pass }
+        ensures own { ChangesWords (recycle_words place) self.old.pass.view self.new.pass.view }
         ensures knows { IsKnown (sight_of self.new) }
     {
         recycle(rt, &mut self.pass, place);
+    }
+}
+
+impl<'t, G: Gate> SharedDesk for Clerk<'t, G> {
+    fn split(&mut self, worker: u32, shares: u32) -> Self {
+        self.split(worker, shares)
+    }
+
+    fn join(&mut self, other: Self) -> Notes {
+        self.join(other)
     }
 }

@@ -1,6 +1,8 @@
 //! The entry for which a place is held: it is read, touched, or destroyed, under the turn of the place's record.
 
 ghost use Rattle.std.specs.Prelude.{◌≡◌};
+ghost use Rattle.track_rule.specs.ChangesOnly.{ChangesWords, is_history, is_turn_of, no_word, where_so};
+ghost use Rattle.shared_desk.specs.Changed.{is_touched, kill_words, killed_words, touch_words};
 ghost use Rattle.shared_desk.specs.Killing.{Kills, KillsUnder, SuitsKill};
 ghost use Rattle.shared_desk.specs.Looking.{HasRecord, IsFreeFor, Peeks};
 ghost use Rattle.shared_desk.specs.Touching.{Notes, SuitsEntry, touch_note, Touches, TouchesUnder};
@@ -30,7 +32,8 @@ pub fn record_out(pass: &mut Pass, place: u32) -> Option<Record>
 /// Reads the entry for which a place is held, under the turn of the place's record.
 fn read_record(pass: &mut Pass, place: u32) -> PeekOutcome
     requires { HasRecord place pass.old }
-    ensures { Peeks place result pass.old pass.new }
+    ensures peeks { Peeks place result pass.old pass.new }
+    ensures words { ChangesWords no_word pass.old.view pass.new.view }
 {
     let phase = pass.phase_load(place);
     let at = events_in(pass.history_load());
@@ -46,7 +49,8 @@ fn read_record(pass: &mut Pass, place: u32) -> PeekOutcome
 /// Waits for the turn of a place's record, and reads the entry for which the place is held.
 pub fn peek<R: Wait>(rt: &R, pass: &mut Pass, place: u32) -> PeekOutcome
     requires { IsFreeFor place pass.old }
-    ensures { Peeks place result pass.old pass.new }
+    ensures peeks { Peeks place result pass.old pass.new }
+    ensures words { ChangesWords (is_turn_of place) pass.old.view pass.new.view }
 {
     take_turn(rt, pass, place);
     let outcome = read_record(pass, place);
@@ -59,6 +63,7 @@ fn touch_record(pass: &mut Pass, place: u32, packet: &Packet) -> (TouchOutcome, 
     requires has { HasRecord place pass.old }
     requires suits { SuitsEntry place packet.now pass.old }
     ensures touches { TouchesUnder place packet.now result.0 pass.old pass.new }
+    ensures words { ChangesWords (where_so (is_touched result.0) is_history) pass.old.view pass.new.view }
     ensures noted { Notes (touch_note packet.now result.1) pass.old.view.seen.own pass.new.view.seen.own }
 {
     entries_keep_their_protocol();
@@ -83,6 +88,7 @@ pub fn touch<R: Wait>(
     requires free { IsFreeFor place pass.old }
     requires suits { SuitsEntry place packet.now pass.old }
     ensures touches { Touches place packet.now result.0 pass.old pass.new }
+    ensures words { ChangesWords (touch_words place result.0) pass.old.view pass.new.view }
     ensures noted { Notes (touch_note packet.now result.1) pass.old.view.seen.own pass.new.view.seen.own }
 {
     take_turn(rt, pass, place);
@@ -101,6 +107,7 @@ fn kill_record<R: Wait>(
     requires has { HasRecord place pass.old }
     requires suits { SuitsKill place why pass.old }
     ensures kills { KillsUnder place why result.0 pass.old pass.new }
+    ensures words { ChangesWords (killed_words place result.0) pass.old.view pass.new.view }
     ensures noted { Notes result.1 pass.old.view.seen.own pass.new.view.seen.own }
 {
     let phase = pass.phase_load(place);
@@ -119,6 +126,7 @@ pub fn kill<R: Wait>(rt: &R, pass: &mut Pass, place: u32, why: Why) -> (KillOutc
     requires free { IsFreeFor place pass.old }
     requires suits { SuitsKill place why pass.old }
     ensures kills { Kills place why result.0 pass.old pass.new }
+    ensures words { ChangesWords (kill_words place result.0) pass.old.view pass.new.view }
     ensures noted { Notes result.1 pass.old.view.seen.own pass.new.view.seen.own }
 {
     take_turn(rt, pass, place);

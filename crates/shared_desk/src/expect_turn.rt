@@ -1,6 +1,7 @@
 //! The turn of the expectations, with their table in the hands of the pass.
 
 ghost use Rattle.std.specs.Prelude.{◌≡◌, None};
+ghost use Rattle.track_rule.specs.ChangesOnly.{ChangesWords, is_expect_turn};
 ghost use Rattle.shared_desk.specs.ExpectTurn.{CanTakeExpects, HasExpectTurn, HasExpects};
 ghost use Rattle.track_rule.specs.declared.view.Middle.TheVariants.{Calm};
 ghost use Rattle.track_rule.specs.ExpectTurns.{CanGiveExpected, before_expects, gave_expected};
@@ -13,7 +14,8 @@ use track_rule::pass::Pass;
 /// Waits for the turn of the expectations, and takes it.
 fn take_turn<R: Wait>(rt: &R, pass: &mut Pass)
     requires { CanTakeExpects pass.old }
-    ensures { HasExpectTurn pass.old pass.new }
+    ensures has { HasExpectTurn pass.old pass.new }
+    ensures words { ChangesWords is_expect_turn pass.old.view pass.new.view }
 {
     'turns: for _ in rt.forever() {
         if pass.expects_take() {
@@ -27,7 +29,8 @@ fn take_turn<R: Wait>(rt: &R, pass: &mut Pass)
 /// Waits for the turn of the expectations, and takes it and their table.
 pub fn take_expects<R: Wait>(rt: &R, pass: &mut Pass) -> ExpectTable
     requires { CanTakeExpects pass.old }
-    ensures { HasExpects result pass.old pass.new }
+    ensures has { HasExpects result pass.old pass.new }
+    ensures words { ChangesWords is_expect_turn pass.old.view pass.new.view }
 {
     take_turn(rt, pass);
     match pass.expects_swap(None) {

@@ -2,6 +2,8 @@
 //! expectations.
 
 ghost use Rattle.std.specs.Prelude.{◌≡◌, ◌<◌, ◌^◌, None, [], length};
+ghost use Rattle.track_rule.specs.ChangesOnly.{ChangesWords, either, is_expect_turn, is_history, where_so};
+ghost use Rattle.shared_desk.specs.Changed.{expect_words, is_expected};
 ghost use Rattle.shared_desk.specs.ExpectTurn.{aside};
 ghost use Rattle.shared_desk.specs.Expecting.{Adds, Expects, IsOfMaster, SuitsExpect};
 ghost use Rattle.shared_desk.specs.Looking.{HasRecord, IsFreeFor};
@@ -34,6 +36,7 @@ fn add_expectation(
     requires master { IsOfMaster e.now moment pass.old }
     requires few { length pass.old.view.seen.own < 2 ^ 30 }
     ensures adds { Adds e.now moment table.old result.0 (aside pass.old) (aside pass.new) }
+    ensures words { ChangesWords (where_so (is_expected result.0) is_history) pass.old.view pass.new.view }
     ensures knows { CanGiveExpected pass.new.view table.new }
     ensures noted { Notes result.1 pass.old.view.seen.own pass.new.view.seen.own }
 {
@@ -75,6 +78,7 @@ fn expect_known(
     requires suits { SuitsExpect place moment pass.old }
     requires knows { CanGiveExpected pass.old.view table.old }
     ensures expects { Expects place want moment result.0 (aside pass.old) (aside pass.new) }
+    ensures words { ChangesWords (where_so (is_expected result.0) is_history) pass.old.view pass.new.view }
     ensures knows { CanGiveExpected pass.new.view table.new }
     ensures noted { Notes result.1 pass.old.view.seen.own pass.new.view.seen.own }
 {
@@ -107,6 +111,7 @@ fn expect_record<R: Wait>(
     requires expected { pass.old.view.expected ≡ None }
     requires shut { pass.old.view.buckets.shut ≡ [] }
     ensures expects { Expects place want moment result.0 pass.old pass.new }
+    ensures words { ChangesWords (either is_expect_turn (where_so (is_expected result.0) is_history)) pass.old.view pass.new.view }
     ensures noted { Notes result.1 pass.old.view.seen.own pass.new.view.seen.own }
 {
     let mut table = take_expects(rt, pass);
@@ -127,6 +132,7 @@ pub fn expect<R: Wait>(
     requires free { IsFreeFor place pass.old }
     requires suits { SuitsExpect place moment pass.old }
     ensures expects { Expects place want moment result.0 pass.old pass.new }
+    ensures words { ChangesWords (expect_words place result.0) pass.old.view pass.new.view }
     ensures noted { Notes result.1 pass.old.view.seen.own pass.new.view.seen.own }
 {
     take_turn(rt, pass, place);

@@ -1,6 +1,8 @@
 //! Holding a place for the entry that is live in it.
 
 ghost use Rattle.std.specs.Prelude.{◌≡◌, ◌∷◌};
+ghost use Rattle.track_rule.specs.ChangesOnly.{ChangesAndFrees, ChangesWords, is_turn_of, no_word};
+ghost use Rattle.shared_desk.specs.Changed.{give_words, hold_words};
 ghost use Rattle.shared_desk.specs.Holding.{CanHold, Finds, HasNewest, HasSome, Holds, Names, OnlyLooks, Tries, but_newest};
 ghost use Rattle.shared_desk.specs.Looking.{HasRecord};
 ghost use Rattle.track_rule.specs.declared.view.Purpose.TheVariants.{Testing};
@@ -18,7 +20,8 @@ use track_rule::pass::Pass;
 /// Looks which entry is live in the place to which the pass has just got a reference, and holds it for that.
 fn name_entry(pass: &mut Pass, place: u32) -> Option<HoldOutcome>
     requires { HasNewest place Testing pass.old }
-    ensures { Names place result pass.old pass.new }
+    ensures names { Names place result pass.old pass.new }
+    ensures words { ChangesWords no_word pass.old.view pass.new.view }
 {
     match live_at(pass, place) {
         Some(shown) => Some(HoldOutcome::Held {
@@ -32,7 +35,8 @@ fn name_entry(pass: &mut Pass, place: u32) -> Option<HoldOutcome>
 /// Gives the newest reference back, and makes the place free where that was the last one.
 fn give_back<R: Wait>(rt: &R, pass: &mut Pass, place: u32)
     requires { HasSome place pass.old }
-    ensures { OnlyLooks (but_newest pass.old) pass.new }
+    ensures looks { OnlyLooks (but_newest pass.old) pass.new }
+    ensures words { ChangesAndFrees (give_words place) pass.old.view pass.new.view }
 {
     match release(pass, place) {
         ReleaseOutcome::Kept => {}
@@ -43,7 +47,8 @@ fn give_back<R: Wait>(rt: &R, pass: &mut Pass, place: u32)
 /// Looks under the turn of a place's record whether no live entry has the place. Gives the point, or none where one may have it.
 fn look_empty(pass: &mut Pass, place: u32) -> Option<u64>
     requires { HasRecord place pass.old }
-    ensures { Finds place result pass.old pass.new }
+    ensures finds { Finds place result pass.old pass.new }
+    ensures words { ChangesWords no_word pass.old.view pass.new.view }
 {
     let phase = pass.phase_load(place);
     if phase >= LIVE {
@@ -56,7 +61,8 @@ fn look_empty(pass: &mut Pass, place: u32) -> Option<u64>
 /// Waits for the turn of a place's record, and looks whether no live entry has the place.
 fn find_empty<R: Wait>(rt: &R, pass: &mut Pass, place: u32) -> Option<HoldOutcome>
     requires { CanHold place pass.old }
-    ensures { Tries place result pass.old pass.new }
+    ensures tries { Tries place result pass.old pass.new }
+    ensures words { ChangesWords (is_turn_of place) pass.old.view pass.new.view }
 {
     take_turn(rt, pass, place);
     let point = look_empty(pass, place);
@@ -71,7 +77,8 @@ fn find_empty<R: Wait>(rt: &R, pass: &mut Pass, place: u32) -> Option<HoldOutcom
 /// looks whether no live entry has the place.
 fn keep_live<R: Wait>(rt: &R, pass: &mut Pass, place: u32) -> Option<HoldOutcome>
     requires { HasNewest place Testing pass.old }
-    ensures { Tries place result (but_newest pass.old) pass.new }
+    ensures tries { Tries place result (but_newest pass.old) pass.new }
+    ensures words { ChangesAndFrees (hold_words place) pass.old.view pass.new.view }
 {
     match name_entry(pass, place) {
         Some(held) => Some(held),
@@ -85,7 +92,8 @@ fn keep_live<R: Wait>(rt: &R, pass: &mut Pass, place: u32) -> Option<HoldOutcome
 /// Tries once to hold a place for the entry that is live in it, or to see that none is.
 fn try_once<R: Wait>(rt: &R, pass: &mut Pass, place: u32) -> Option<HoldOutcome>
     requires { CanHold place pass.old }
-    ensures { Tries place result pass.old pass.new }
+    ensures tries { Tries place result pass.old pass.new }
+    ensures words { ChangesAndFrees (hold_words place) pass.old.view pass.new.view }
 {
     match try_hold(pass, place) {
         TryHold::Held => keep_live(rt, pass, place),
@@ -98,7 +106,8 @@ fn try_once<R: Wait>(rt: &R, pass: &mut Pass, place: u32) -> Option<HoldOutcome>
 /// list.
 pub fn hold<R: Wait>(rt: &R, pass: &mut Pass, place: u32) -> HoldOutcome
     requires { CanHold place pass.old }
-    ensures { Holds place result pass.old pass.new }
+    ensures holds { Holds place result pass.old pass.new }
+    ensures words { ChangesAndFrees (hold_words place) pass.old.view pass.new.view }
 {
     'tries: for _ in rt.forever() {
         if let Some(outcome) = try_once(rt, pass, place) {

@@ -2,6 +2,8 @@
 
 ghost use Rattle.std.specs.Prelude.{◌≡◌, ◌≤◌, ◌^◌, true, []};
 ghost use Rattle.history_book.specs.Legality.{is_reason, reason_moment_of};
+ghost use Rattle.track_rule.specs.ChangesOnly.{ChangesWords, either, is_expect_turn, where_so};
+ghost use Rattle.shared_desk.specs.Changed.{destroy_words, end_words, killed_words};
 ghost use Rattle.shared_desk.specs.Confirm.{IsLocked};
 ghost use Rattle.shared_desk.specs.ExpectTurn.{CanTakeExpects};
 ghost use Rattle.shared_desk.specs.Killing.{Destroys, EndsEntry, Judges, KnowsRecord, flow_of};
@@ -48,7 +50,8 @@ fn destroy(pass: &mut Pass, locked: &Locked, place: u32, subject: &Record, why: 
     requires reason { is_reason why subject.now ≡ true }
     requires locked { IsLocked (flow_of subject.now) locked.now pass.old }
     requires helped { HasItsTurn subject.now pass.old.view.expected }
-    ensures { Destroys place subject.now why result pass.old pass.new }
+    ensures destroys { Destroys place subject.now why result pass.old pass.new }
+    ensures words { ChangesWords (destroy_words place subject.now) pass.old.view pass.new.view }
 {
     records_are_of_one_protocol();
     pass.phase_dead(place);
@@ -67,7 +70,8 @@ fn end_entry<R: Wait>(rt: &R, pass: &mut Pass, place: u32, subject: &Record, why
     requires reason { is_reason why subject.now ≡ true }
     requires shut { pass.old.view.buckets.shut ≡ [] }
     requires helped { HasItsTurn subject.now pass.old.view.expected }
-    ensures { EndsEntry place subject.now why result pass.old pass.new }
+    ensures ends { EndsEntry place subject.now why result pass.old pass.new }
+    ensures words { ChangesWords (end_words place subject.now) pass.old.view pass.new.view }
 {
     let flow = flow_of(subject);
     let locked = lock_flow(rt, pass, &flow);
@@ -89,7 +93,8 @@ fn end_with_expected<R: Wait>(
     requires knows { KnowsRecord place subject.now pass.old }
     requires reason { is_reason why subject.now ≡ true }
     requires free { CanTakeExpects pass.old }
-    ensures { EndsEntry place subject.now why result pass.old pass.new }
+    ensures ends { EndsEntry place subject.now why result pass.old pass.new }
+    ensures words { ChangesWords (either (where_so subject.now.helper is_expect_turn) (end_words place subject.now)) pass.old.view pass.new.view }
 {
     if !subject.helper {
         return end_entry(rt, pass, place, subject, why);
@@ -114,6 +119,7 @@ pub fn judge<R: Wait>(
     requires timely { reason_moment_of why ≤ 10 ^ 16 }
     requires free { CanTakeExpects pass.old }
     ensures judges { Judges place subject.now why at result.0 pass.old pass.new }
+    ensures words { ChangesWords (killed_words place result.0) pass.old.view pass.new.view }
     ensures noted { Notes result.1 pass.old.view.seen.own pass.new.view.seen.own }
 {
     let subject = *subject;

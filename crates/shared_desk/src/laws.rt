@@ -1,11 +1,11 @@
 //! What the definitions of changed words say: each law is the contract of a function that does nothing.
 
-ghost use Rattle.shared_desk.specs.Laws.{GenerationsAreNamed, OthersAreNot, ReferencesAreNamed, TurnsAreNamed};
+ghost use Rattle.shared_desk.specs.Laws.{LowWordsAreNot, OthersAreNot, PlacesAreNamed, TuplesAreNot};
 
-/// Which words are generations or turns, and which are references.
+/// Which words are references and phases, and which are not.
 pub fn words_are_told_apart()
-    ensures generations { GenerationsAreNamed }
-    ensures turns { TurnsAreNamed }
-    ensures others { OthersAreNot }
-    ensures references { ReferencesAreNamed }
+    ensures places { PlacesAreNamed }
+    ensures low { LowWordsAreNot }
+    ensures turns { OthersAreNot }
+    ensures tuples { TuplesAreNot }
 {}

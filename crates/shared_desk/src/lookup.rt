@@ -2,6 +2,7 @@
 
 ghost use Rattle.std.specs.Prelude.{◌≡◌, []};
 ghost use Rattle.bucket_table.specs.Finding.{CanTest};
+ghost use Rattle.track_rule.specs.ChangesOnly.{ChangesWords, is_some_refs};
 ghost use Rattle.shared_desk.specs.Lookups.{LooksOnce};
 
 use crate::clerk::events_in;
@@ -18,7 +19,8 @@ use tuple_core::{Tuple, is_valid, words_determine_the_tuple};
 pub fn find_once(pass: &mut Pass, t: &Tuple) -> FindOnce
     requires shut { pass.old.view.buckets.shut ≡ [] }
     requires can { CanTest pass.old }
-    ensures { LooksOnce result t.now pass.old pass.new }
+    ensures says { LooksOnce result t.now pass.old pass.new }
+    ensures words { ChangesWords is_some_refs pass.old.view pass.new.view }
 {
     words_determine_the_tuple();
     same_tuple_is_equality();

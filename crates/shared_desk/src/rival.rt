@@ -4,6 +4,7 @@ ghost use Rattle.std.specs.Prelude.{◌≡◌, true};
 ghost use Rattle.bucket_table.specs.Following.{bucket_in};
 ghost use Rattle.bucket_table.specs.LockedChain.{OnlyLoads, has_bucket};
 ghost use Rattle.bucket_table.specs.Locks.{AreShut};
+ghost use Rattle.track_rule.specs.ChangesOnly.{ChangesWords, no_word};
 ghost use Rattle.shared_desk.specs.Rival.{Clashes, IsBlocked, has_both, rival_in};
 ghost use Rattle.track_rule.specs.Sights.{sizes_of};
 
@@ -45,6 +46,7 @@ pub fn find_rival(pass: &mut Pass, locked: &Locked, flow: &Flow) -> Option<Rival
     requires original { has_bucket locked.now (bucket_in (sizes_of pass.old) flow.now.original) ≡ true }
     requires reply { has_bucket locked.now (bucket_in (sizes_of pass.old) flow.now.reply) ≡ true }
     ensures loads { OnlyLoads pass.old pass.new }
+    ensures words { ChangesWords no_word pass.old.view pass.new.view }
     ensures finds { result ≡ rival_in flow.now (sizes_of pass.old) pass.old.view.buckets.shut }
 {
     if let Some((place, direction)) = walk(pass, locked, &flow.original) {
@@ -69,7 +71,8 @@ pub fn find_rival(pass: &mut Pass, locked: &Locked, flow: &Flow) -> Option<Rival
 /// Answers that this entry stands in the way of the flow, for which the place was taken.
 pub fn clash(pass: &mut Pass, place: u32, flow: &Flow, rival: &Rival) -> ConfirmOutcome
     requires { IsBlocked place flow.now rival.now pass.old }
-    ensures { Clashes place flow.now result pass.old pass.new }
+    ensures clashes { Clashes place flow.now result pass.old pass.new }
+    ensures words { ChangesWords no_word pass.old.view pass.new.view }
 {
     let _ = place;
     let _ = flow;

@@ -4,6 +4,8 @@ ghost use Rattle.std.specs.Prelude.{◌≡◌, ◌<◌, ◌≤◌, ◌^◌, true
 ghost use Rattle.proto_rules.specs.Protocol.{is_of_protocol};
 ghost use Rattle.proto_rules.specs.Step.{step_of};
 ghost use Rattle.proto_rules.specs.declared.Outcome.TheVariants as outcome;
+ghost use Rattle.track_rule.specs.ChangesOnly.{ChangesWords, is_history, where_so};
+ghost use Rattle.shared_desk.specs.Changed.{is_touched};
 ghost use Rattle.shared_desk.specs.Touching.{GoesOn, KnowsEntry, Notes, StepsRecord, touch_note, touch_of};
 
 use history_book::event::Event;
@@ -62,6 +64,7 @@ fn go_on(
     requires step { step_of before.now.part packet.now.direction packet.now.segment packet.now.moment ≡ outcome.Accept after }
     requires few { length pass.old.view.seen.own < 2 ^ 30 }
     ensures goes { GoesOn place id before.now packet.now after result.number pass.old pass.new }
+    ensures words { ChangesWords is_history pass.old.view pass.new.view }
     ensures noted { Notes (touch_note packet.now (Some result)) pass.old.view.seen.own pass.new.view.seen.own }
 {
     same_part_is_equality();
@@ -84,6 +87,7 @@ pub fn step_record(
     requires timely { packet.now.moment ≤ 10 ^ 16 }
     requires few { length pass.old.view.seen.own < 2 ^ 30 }
     ensures steps { StepsRecord place id before.now packet.now at result.0 pass.old pass.new }
+    ensures words { ChangesWords (where_so (is_touched result.0) is_history) pass.old.view pass.new.view }
     ensures noted { Notes (touch_note packet.now result.1) pass.old.view.seen.own pass.new.view.seen.own }
 {
     let outcome = match step(

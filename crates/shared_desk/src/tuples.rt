@@ -2,6 +2,7 @@
 
 ghost use Rattle.std.specs.Prelude.{◌≡◌, ◌<◌, ◌≤◌, true, false};
 ghost use Rattle.history_book.specs.Sizes.{AreWithinLimits};
+ghost use Rattle.track_rule.specs.ChangesOnly.{ChangesWords, is_tuple_of};
 ghost use Rattle.shared_desk.specs.Tuples.{IsFresh, StoresTuple, StoresTuples};
 ghost use Rattle.track_rule.specs.Free.{is_among};
 ghost use Rattle.track_rule.specs.Layout.{place_of};
@@ -23,7 +24,8 @@ fn store_tuple(pass: &mut Pass, sizes: &Sizes, link: u64, t: &Tuple)
     requires there { 0 < hooks_of link pass.old.view.buckets.hooks }
     requires low { is_up (place_of link) pass.old.view.buckets.hooks ≡ false }
     requires owned { is_among (place_of link) pass.old.view.places.owned ≡ true }
-    ensures { StoresTuple link t.now pass.old pass.new }
+    ensures stores { StoresTuple link t.now pass.old pass.new }
+    ensures words { ChangesWords (is_tuple_of (place_of link)) pass.old.view pass.new.view }
 {
     let [first, second] = words(t);
     pass.tuple_store(first_word(sizes, link), first);
@@ -33,7 +35,8 @@ fn store_tuple(pass: &mut Pass, sizes: &Sizes, link: u64, t: &Tuple)
 /// Stores both tuples of a flow in the place that was taken for it.
 pub fn store_tuples(pass: &mut Pass, place: u32, flow: &Flow)
     requires { IsFresh place pass.old }
-    ensures { StoresTuples place flow.now pass.old pass.new }
+    ensures stores { StoresTuples place flow.now pass.old pass.new }
+    ensures words { ChangesWords (is_tuple_of place) pass.old.view pass.new.view }
 {
     let sizes = pass.sizes();
     store_tuple(pass, &sizes, 1 + 2 * place as u64, &flow.original);

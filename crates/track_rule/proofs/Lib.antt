@@ -1,3 +1,4 @@
+pub mod Changing
 pub mod Sums
 pub mod Carried
 pub mod Frames

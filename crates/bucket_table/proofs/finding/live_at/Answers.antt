@@ -1,7 +1,6 @@
 use Rattle.std.proofs.Common.{refl}
 use Rattle.track_rule.specs.ChangesOnly.{no_word}
-use Rattle.bucket_table.proofs.Changing.{joined}
-use Rattle.bucket_table.proofs.Chaining.{look_words, phase_words}
+use Rattle.track_rule.proofs.Changing.{joined, look_words, phase_words}
 use Rattle.bucket_table.proofs.Showing.{shows_live, shows_no_more, shows_none}
 use Rattle.bucket_table.proofs.finding.live_at.Goals as goal
 

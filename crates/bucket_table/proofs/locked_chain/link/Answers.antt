@@ -11,7 +11,7 @@ use Rattle.track_rule.specs.declared.view.Hook.{Hook}
 use Rattle.bucket_table.specs.LockedChain.{hook_bucket, original_link, reply_link}
 use Rattle.track_rule.specs.ChangesOnly.{ChangesWords}
 use Rattle.bucket_table.specs.LockedChain.{link_words}
-use Rattle.bucket_table.proofs.Changing.{joined}
+use Rattle.track_rule.proofs.Changing.{joined}
 use Rattle.bucket_table.proofs.Chaining.{only_words, put_one, put_other}
 use Rattle.bucket_table.proofs.Pairs.{bucket_shut, put_keeps, second_of}
 use Rattle.bucket_table.proofs.Passing.{changes_join, loads_join}

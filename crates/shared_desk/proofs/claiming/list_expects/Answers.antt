@@ -10,5 +10,5 @@ returns-clause-lists g c =
     let looked : HasLooked c.events_in-at.result (λ (s : State). c.list.new.listed.items ≡ s.expects) (aside c.take_expects-table.new.pass) (aside c.history_load.new.self) =
     search rules in
     looked_given c.take_expects-table.result c.args.pass.now c.take_expects-table.new.pass c.history_load.new.self c.give_expects.new.pass
-    c.requires.free.expected c.take_expects-table.ensures c.give_expects.ensures
+    c.requires.free.expected c.take_expects-table.ensures.has c.give_expects.ensures
     c.events_in-at.result (λ (s : State). c.list.new.listed.items ≡ s.expects) looked

@@ -1,3 +1,4 @@
+use Rattle.track_rule.specs.ChangesOnly.{ChangesWords, no_word}
 use Rattle.std.proofs.Common.{◌≡◌}
 use Rattle.shared_desk.proofs.expect_turn.take_turn.Given as goal
 
@@ -6,4 +7,5 @@ invariant-turns g l = record {
   next : (goal.iterator-turns g).can_next l.iterator';
   finite : (goal.iterator-turns g).is_finite l.iterator';
   same : l.pass ≡ record l.initial.pass { view = record l.initial.pass.view { readings = l.pass.view.readings } };
+  words : ChangesWords no_word l.initial.pass.view l.pass.view;
 }

@@ -3,8 +3,8 @@ use Rattle.shared_desk.proofs.Lookups.{looks_invalid, looks_valid}
 use Rattle.shared_desk.proofs.Under.{AreLaws}
 use Rattle.shared_desk.proofs.lookup.find_once.Goals as goal
 
-pub returns-then-is_valid : goal.returns-then-is_valid
-returns-then-is_valid c =
+pub returns-then-is_valid-clause-says : goal.returns-then-is_valid-clause-says
+returns-then-is_valid-clause-says c =
     let laws : AreLaws = record {
       words = c.words_determine_the_tuple.ensures;
       same = c.same_tuple_is_equality.ensures;
@@ -12,10 +12,10 @@ returns-then-is_valid c =
       one = c.records_are_of_one_protocol.ensures;
     } in
     looks_valid laws c.live_records_are_confirmed.ensures c.args.t.now (sym c.is_valid.ensures ∙ c.if-is_valid.true) c.find_once.result c.args.pass.now c.find_once.new.pass
-    c.find_once.ensures
+    c.find_once.ensures.says
 
-pub returns : goal.returns
-returns c =
+pub returns-clause-says : goal.returns-clause-says
+returns-clause-says c =
     let laws : AreLaws = record {
       words = c.words_determine_the_tuple.ensures;
       same = c.same_tuple_is_equality.ensures;

@@ -1,3 +1,5 @@
+use Rattle.track_rule.proofs.Changing.{joined, look_words, phase_words}
+use Rattle.track_rule.specs.ChangesOnly.{no_word}
 use Rattle.std.proofs.Common.{◌<◌, arith, subst, sym}
 use Rattle.history_book.specs.Laws.{RecordsAreApart, RecordsAreOfOneProtocol}
 use Rattle.history_book.specs.StateLaws.{SameTupleIsEquality}
@@ -26,10 +28,16 @@ overflow_sub-result c =
           c.requires r c.history_load.result c.history_load.ensures.looks c.phase_load-phase.ensures.loads,
     )
 
-pub returns : goal.returns
-returns c =
+pub returns-clause-clashes : goal.returns-clause-clashes
+returns-clause-clashes c =
     blocks c.args.flow.now c.args.place c.phase_load-phase.result c.history_load.result c.events_in-at.result c.args.rival.now c.args.pass.now c.history_load.new.self c.phase_load-phase.new.self c.requires
     (the_rival c.args.flow.now c.args.place c.args.rival.now c.args.pass.now c.history_load.result c.history_load.new.self c.requires c.history_load.ensures.looks
     (laws c.words_determine_the_tuple.ensures c.same_tuple_is_equality.ensures c.records_are_apart.ensures c.records_are_of_one_protocol.ensures))
     (laws c.words_determine_the_tuple.ensures c.same_tuple_is_equality.ensures c.records_are_apart.ensures c.records_are_of_one_protocol.ensures)
     c.history_load.ensures.looks c.history_load.ensures.kept c.phase_load-phase.ensures.loads c.phase_load-phase.ensures.kept c.events_in-at.ensures
+
+pub returns-clause-words : goal.returns-clause-words
+returns-clause-words c =
+    joined no_word c.args.pass.now.view c.history_load.new.self.view c.phase_load-phase.new.self.view
+    (look_words no_word c.history_load.result c.args.pass.now.view c.history_load.new.self.view c.history_load.ensures.looks)
+    (phase_words no_word c.args.rival.now.place c.phase_load-phase.result c.history_load.new.self.view c.phase_load-phase.new.self.view c.phase_load-phase.ensures.loads)

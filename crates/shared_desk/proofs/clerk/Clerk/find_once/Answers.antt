@@ -1,6 +1,8 @@
+use Rattle.track_rule.specs.ChangesOnly.{is_some_refs}
+use Rattle.shared_desk.proofs.Counting.{no_some_refs, still_taken}
 use Rattle.std.proofs.Common.{◌+◌, ◌≤◌, length, subst, sym}
 use Rattle.shared_desk.specs.Sights.{ClerkSight, sight_of}
-use Rattle.shared_desk.proofs.FoundOnce.{can_test, own_once, refs_once, rest_once, says_once, stand_once}
+use Rattle.shared_desk.proofs.FoundOnce.{can_test, rest_once, says_once}
 use Rattle.shared_desk.proofs.clerk.Clerk.find_once.Goals as goal
 
 pub find_once-requires-clause-can : goal.find_once-requires-clause-can
@@ -12,31 +14,19 @@ pub invariant_of-self : goal.invariant_of-self
 invariant_of-self g c =
     rest_once c.self.inside.pass c.self.inside.notes c.self.inside.spare c.self.invariant
     (subst (λ (s : ClerkSight). length (sight_of s).held + length (sight_of s).owed ≤ 3) (sym c.self.view_is) c.requires)
-    c.find_once.result c.args.t.now c.find_once.new.pass c.find_once.ensures
+    c.find_once.result c.args.t.now c.find_once.new.pass c.find_once.ensures.says
 
 pub returns-clause-says : goal.returns-clause-says
 returns-clause-says g c =
     rw (← c.self.view_is) (says_once c.self.inside.pass c.self.inside.notes c.self.inside.spare c.self.invariant
     (subst (λ (s : ClerkSight). length (sight_of s).held + length (sight_of s).owed ≤ 3) (sym c.self.view_is) c.requires)
-    c.find_once.result c.args.t.now c.find_once.new.pass c.find_once.ensures)
+    c.find_once.result c.args.t.now c.find_once.new.pass c.find_once.ensures.says
+    (still_taken is_some_refs c.self.inside.pass c.find_once.new.pass no_some_refs c.find_once.ensures.words))
 
-pub returns-clause-own : goal.returns-clause-own
-returns-clause-own g c =
-    rw (← c.self.view_is) (own_once c.self.inside.pass c.self.inside.notes c.self.inside.spare c.self.invariant
-    (subst (λ (s : ClerkSight). length (sight_of s).held + length (sight_of s).owed ≤ 3) (sym c.self.view_is) c.requires)
-    c.find_once.result c.args.t.now c.find_once.new.pass c.find_once.ensures)
 
-pub returns-clause-refs : goal.returns-clause-refs
-returns-clause-refs g c =
-    rw (← c.self.view_is) (refs_once c.self.inside.pass c.self.inside.notes c.self.inside.spare c.self.invariant
-    (subst (λ (s : ClerkSight). length (sight_of s).held + length (sight_of s).owed ≤ 3) (sym c.self.view_is) c.requires)
-    c.find_once.result c.args.t.now c.find_once.new.pass c.find_once.ensures)
-
-pub returns-clause-stand : goal.returns-clause-stand
-returns-clause-stand g c =
-    rw (← c.self.view_is) (stand_once c.self.inside.pass c.self.inside.notes c.self.inside.spare c.self.invariant
-    (subst (λ (s : ClerkSight). length (sight_of s).held + length (sight_of s).owed ≤ 3) (sym c.self.view_is) c.requires)
-    c.find_once.result c.args.t.now c.find_once.new.pass c.find_once.ensures)
 
 pub returns-clause-knows : goal.returns-clause-knows
 returns-clause-knows g c = (invariant_of-self g c).knows
+
+pub returns-clause-own : goal.returns-clause-own
+returns-clause-own g c = rw (← c.self.view_is) c.find_once.ensures.words

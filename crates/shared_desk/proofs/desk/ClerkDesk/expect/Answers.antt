@@ -1,3 +1,9 @@
+use Rattle.shared_desk.proofs.Counting.{no_expect, still_taken}
+use Rattle.history_book.specs.DeskExpectations.{ExpectSays}
+use Rattle.shared_desk.specs.Changed.{expect_words}
+use Rattle.shared_desk.specs.Noting.{room_after}
+use Rattle.history_book.specs.Sight.{Sight}
+use Rattle.shared_desk.proofs.Resting.{clerk_at, now_of}
 use Rattle.std.proofs.Common.{◌≤◌, ap, subst, sym, ◌∙◌}
 use Rattle.history_book.specs.Entry.{is_helped_entry}
 use Rattle.history_book.specs.Held.{held_id, is_held_for_entry}
@@ -28,10 +34,15 @@ invariant_of-self g c =
 
 pub returns-clause-says : goal.returns-clause-says
 returns-clause-says g c =
-    rw (← c.self.view_is) (rw (c.note_event.ensures.spare) (says_expecting c.self.inside.pass c.self.inside.notes c.self.inside.spare c.args.place c.self.invariant
+    rw (← c.self.view_is) (rw (c.note_event.ensures.spare) (now_of (λ (s : Sight). ExpectSays c.args.place c.args.want c.args.moment (sight_of (clerk_at c.self.inside.pass c.self.inside.spare)) s c.expect-outcome.result.0) c.self.inside.pass (clerk_at c.expect-outcome.new.pass (room_after c.expect-outcome.result.1 c.self.inside.spare))
+    (still_taken (expect_words c.args.place c.expect-outcome.result.0) c.self.inside.pass c.expect-outcome.new.pass (no_expect c.args.place c.expect-outcome.result.0) c.expect-outcome.ensures.words)
+    (says_expecting c.self.inside.pass c.self.inside.notes c.self.inside.spare c.args.place c.self.invariant
     (ap (λ (s : ClerkSight). is_held_for_entry c.args.place (sight_of s).held) c.self.view_is ∙ c.requires.held)
     (subst (λ (s : ClerkSight). 1 ≤ s.spare) (sym c.self.view_is) c.requires.spare) c.args.want c.args.moment
-    c.expect-outcome.new.pass c.expect-outcome.result.1 c.expect-outcome.ensures.noted c.expect-outcome.result.0 c.expect-outcome.ensures.expects))
+    c.expect-outcome.new.pass c.expect-outcome.result.1 c.expect-outcome.ensures.noted c.expect-outcome.result.0 c.expect-outcome.ensures.expects)))
 
 pub returns-clause-knows : goal.returns-clause-knows
 returns-clause-knows g c = (invariant_of-self g c).knows
+
+pub returns-clause-own : goal.returns-clause-own
+returns-clause-own g c = rw (← c.self.view_is) c.expect-outcome.ensures.words

@@ -1,9 +1,8 @@
 use Rattle.history_book.specs.Desk.{SamePlaces}
 use Rattle.history_book.specs.WentOn.{Saw}
-use Rattle.entry_pool.specs.GoesOn.{ReadingsStand}
-use Rattle.shared_desk.specs.Changed.{ChangesNone, is_gen_or_other_turn}
+use Rattle.track_rule.specs.ChangesOnly.{ChangesAndFrees}
+use Rattle.shared_desk.specs.Changed.{find_words}
 use Rattle.shared_desk.specs.Sights.{sight_of}
-use Rattle.track_rule.specs.Sights.{sizes_of}
 use Rattle.shared_desk.proofs.desk.ClerkDesk.find.Given as goal
 
 abbrev pub invariant-looks : goal.invariant-looks
@@ -12,6 +11,5 @@ invariant-looks g l = record {
   finite : (goal.iterator-looks g).is_finite l.iterator';
   saw : Saw (sight_of l.initial.self) (sight_of l.self);
   same : SamePlaces (sight_of l.initial.self) (sight_of l.self);
-  own : ChangesNone (is_gen_or_other_turn (sizes_of l.initial.self.pass)) l.initial.self l.self;
-  stand : ReadingsStand l.initial.self.pass l.self.pass;
+  own : ChangesAndFrees find_words l.initial.self.pass.view l.self.pass.view;
 }

@@ -1,3 +1,9 @@
+use Rattle.shared_desk.proofs.Counting.{no_kill, still_taken}
+use Rattle.history_book.specs.Desk.{KillSays}
+use Rattle.shared_desk.specs.Changed.{kill_words}
+use Rattle.shared_desk.specs.Noting.{room_after}
+use Rattle.history_book.specs.Sight.{Sight}
+use Rattle.shared_desk.proofs.Resting.{clerk_at, now_of}
 use Rattle.std.proofs.Common.{◌≤◌, ap, subst, sym, ◌∙◌}
 use Rattle.history_book.specs.Held.{is_held_for_entry}
 use Rattle.shared_desk.specs.Sights.{ClerkSight, sight_of}
@@ -27,11 +33,16 @@ invariant_of-self g c =
 
 pub returns-clause-says : goal.returns-clause-says
 returns-clause-says g c =
-    rw (← c.self.view_is) (rw (c.note_event.ensures.spare) (says_killing c.self.inside.pass c.self.inside.notes c.self.inside.spare c.args.place
+    rw (← c.self.view_is) (rw (c.note_event.ensures.spare) (now_of (λ (s : Sight). KillSays c.args.place c.args.why (sight_of (clerk_at c.self.inside.pass c.self.inside.spare)) s c.kill-outcome.result.0) c.self.inside.pass (clerk_at c.kill-outcome.new.pass (room_after c.kill-outcome.result.1 c.self.inside.spare))
+    (still_taken (kill_words c.args.place c.kill-outcome.result.0) c.self.inside.pass c.kill-outcome.new.pass (no_kill c.args.place c.kill-outcome.result.0) c.kill-outcome.ensures.words)
+    (says_killing c.self.inside.pass c.self.inside.notes c.self.inside.spare c.args.place
     c.args.why c.self.invariant
     (ap (λ (s : ClerkSight). is_held_for_entry c.args.place (sight_of s).held) c.self.view_is ∙ c.requires.held)
     (subst (λ (s : ClerkSight). 1 ≤ s.spare) (sym c.self.view_is) c.requires.spare) c.states_stay.ensures
-    c.kill-outcome.result.0 c.kill-outcome.new.pass c.kill-outcome.result.1 c.kill-outcome.ensures.kills c.kill-outcome.ensures.noted))
+    c.kill-outcome.result.0 c.kill-outcome.new.pass c.kill-outcome.result.1 c.kill-outcome.ensures.kills c.kill-outcome.ensures.noted)))
 
 pub returns-clause-knows : goal.returns-clause-knows
 returns-clause-knows g c = (invariant_of-self g c).knows
+
+pub returns-clause-own : goal.returns-clause-own
+returns-clause-own g c = rw (← c.self.view_is) c.kill-outcome.ensures.words

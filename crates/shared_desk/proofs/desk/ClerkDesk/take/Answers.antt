@@ -11,7 +11,7 @@ invariant_of-self g c =
 pub returns-clause-says : goal.returns-clause-says
 returns-clause-says g c =
     rw (← c.self.view_is) (take_says c.self.inside.pass c.self.inside.notes c.self.inside.spare c.self.invariant c.take.result c.take.new.pass c.take.ensures.says c.take.ensures.below
-    (subst (λ (s : ClerkSight). length (sight_of s).held + length (sight_of s).owed ≤ 3) (sym c.self.view_is) c.requires))
+    (subst (λ (s : ClerkSight). length (sight_of s).held + length (sight_of s).owed ≤ 3) (sym c.self.view_is) c.requires) c.take.ensures.words)
 
 pub returns-clause-shows : goal.returns-clause-shows
 returns-clause-shows g c =
@@ -19,3 +19,6 @@ returns-clause-shows g c =
 
 pub returns-clause-knows : goal.returns-clause-knows
 returns-clause-knows g c = (invariant_of-self g c).knows
+
+pub returns-clause-own : goal.returns-clause-own
+returns-clause-own g c = rw (← c.self.view_is) c.take.ensures.words
