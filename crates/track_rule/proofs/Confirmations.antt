@@ -21,7 +21,7 @@ use Rattle.track_rule.specs.Rule.{Holds, IsKept}
 use Rattle.track_rule.proofs.Born.{born_kept}
 use Rattle.track_rule.proofs.Named.{born_ledger}
 use Rattle.track_rule.proofs.Confirms.{lawful, place_below, place_unused, state_on}
-use Rattle.track_rule.proofs.Loads.{all_events, word_events}
+use Rattle.track_rule.proofs.Loads.{all_events, number_of}
 
 pub confirming : (slots id : ℕ) (v : View) (c : List (ℕ × Slot)) (r : Record) → 0 < v.passes.shares → CanConfirm r v → StatesFollow → LegalHistoriesGoOn
     → LiveRecordsAreConfirmed → UnusedPlacesAreRoom
@@ -53,7 +53,7 @@ confirming slots id v c r has_some can follow go_on low room s (l, h) long at ra
         record {
           log = l.log;
           all = all;
-          word_is = h.history.word;
+          told = h.history.word;
           view = refl;
           legal = go_on z l.log (Confirm (born (length l.log) r)) h.history.legal (lawful l s id v r h at has_some can);
         },
@@ -93,8 +93,7 @@ has_added None s me me' word n can told is = absurd can
 has_added (Some r) s me me' word n can told is = record {
   log = told.0.log;
   all = told.0.all;
-  number = is ∙ ap events_in told.0.word_is
-      ∙ word_events (length told.0.log) (length (records_after told.0.log)) (omega (arith, told.0.all.few, told.0.all.passes));
+  told = number_of me.0 word n told.0.log told.0.all told.0.told is;
   view = told.0.view;
   legal = told.0.legal;
 }

@@ -11,12 +11,12 @@ use Rattle.track_rule.specs.declared.slot.Slot.{Slot}
 use Rattle.track_rule.specs.declared.view.Middle.{Middle}
 use Rattle.track_rule.specs.declared.view.Middle.TheVariants.{Calm, Born, Dying}
 use Rattle.track_rule.specs.declared.view.View.{View}
-use Rattle.track_rule.specs.History.{events_in, packed, records_after}
-use Rattle.track_rule.specs.KillSteps.{CanDestroy, DestroyStep, Destroying, Destroys, HasDestroy, HasDestroyed, MayDestroy, OfDying, destroyed, with_destroy, without_its}
+use Rattle.track_rule.specs.History.{events_in, IsNumber, IsWord, packed, records_after}
+use Rattle.track_rule.specs.KillSteps.{CanDestroy, DestroyStep, Destroying, HasDestroyed, MakesDestroy, MayDestroy, OfDying, destroyed, with_destroy, without_its}
 use Rattle.track_rule.specs.Rule.{Holds, IsKept}
 use Rattle.track_rule.specs.Slots.{expected_number, free_number, hand_number}
 use Rattle.track_rule.proofs.Ending.{end_legal, ended_kept, ended_ledger, ended_packed, known_before}
-use Rattle.track_rule.proofs.Loads.{all_events, word_events}
+use Rattle.track_rule.proofs.Loads.{all_events, number_of}
 use Rattle.track_rule.proofs.Seats.{StaysAt, same_at}
 
 -- what is added: one event, and one live record less
@@ -43,10 +43,10 @@ ending slots id v c d r has_some dying may follow go_on low helped s (l, h) long
         })) (sym next) (ended_kept l s id v d r h at has_some dying may follow go_on low helped),
       ),
       (
-        subst (OfDying (Destroys d v (slice_index s.words 0) (destroyed l.log d r v))) (sym dying) (record {
+        subst (OfDying (MakesDestroy d v (IsWord (slice_index s.words 0)) (destroyed l.log d r v))) (sym dying) (record {
           log = l.log;
           all = all;
-          word_is = h.history.word;
+          told = h.history.word;
           view = refl;
           legal = end_legal l s id v d r h at has_some dying may follow go_on low helped;
           before = known_before l s id v d r h at has_some dying may follow go_on low helped;
@@ -78,7 +78,7 @@ pub stays_destroyed : (o : Option Destroying) (s : Step Slot) (me me' : Me Slot 
 stays_destroyed None s me me' n can told = absurd can
 stays_destroyed (Some d) s me me' n can told = (by_middle me.0.commit.middle told.0, told.1)
   where
-    by_middle : (m : Middle) → OfDying (Destroys d me.0 n me'.0) m → StaysAt me.0 me'.0
+    by_middle : (m : Middle) → OfDying (MakesDestroy d me.0 (IsWord n) me'.0) m → StaysAt me.0 me'.0
     by_middle Calm k = absurd k
     by_middle (Born r) k = absurd k
     by_middle (Dying r) k =
@@ -94,13 +94,13 @@ pub has_destroyed : (o : Option Destroying) (s : Step Slot) (me me' : Me Slot Vi
 has_destroyed None s me me' word n can told is = absurd can
 has_destroyed (Some d) s me me' word n can told is = by_middle me.0.commit.middle told.0
   where
-    by_middle : (m : Middle) → OfDying (Destroys d me.0 word me'.0) m → OfDying (HasDestroy d me.0 n me'.0) m
+    by_middle : (m : Middle) → OfDying (MakesDestroy d me.0 (IsWord word) me'.0) m → OfDying (MakesDestroy d me.0 (IsNumber n) me'.0) m
     by_middle Calm k = absurd k
     by_middle (Born r) k = absurd k
     by_middle (Dying r) k = record {
       log = k.log;
       all = k.all;
-      number = is ∙ ap events_in k.word_is ∙ word_events (length k.log) (length (records_after k.log)) (omega (arith, k.all.few, k.all.passes));
+      told = number_of me.0 word n k.log k.all k.told is;
       view = k.view;
       legal = k.legal;
       before = k.before;

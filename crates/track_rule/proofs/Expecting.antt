@@ -27,8 +27,8 @@ use Rattle.track_rule.specs.declared.view.View.{View}
 use Rattle.track_rule.specs.Chains.{links_in}
 use Rattle.track_rule.specs.Commits.{AreCommits, IsCommitting, IsMiddle, IsMiddleOf}
 use Rattle.track_rule.specs.Expected.{AreExpected, expected_turn, has_expected}
-use Rattle.track_rule.specs.ExpectSteps.{CanChange, CanClaim, CanExpect, CanUnexpect, ChangeStep, Changes, HasChanged, HasClaimed, HasExpected, HasUnexpected, KnowsLive, MayExpect, claim_in, expect_in, expectation_as, expects_after, known_expected, made_expected, numbered, unexpect_in}
-use Rattle.track_rule.specs.History.{events_in, packed, records_after, state_after}
+use Rattle.track_rule.specs.ExpectSteps.{CanChange, CanClaim, CanExpect, CanUnexpect, ChangeStep, HasClaimed, HasExpected, HasUnexpected, KnowsLive, MakesChange, MayExpect, claim_in, expect_in, expectation_as, expects_after, known_expected, made_expected, numbered, unexpect_in}
+use Rattle.track_rule.specs.History.{events_in, IsNumber, IsWord, packed, records_after, state_after}
 use Rattle.track_rule.specs.Phases.{of_both, of_place}
 use Rattle.track_rule.specs.Readings.{stored}
 use Rattle.track_rule.specs.Records.{AreRecords, IsHand, has_hand, record_in}
@@ -38,7 +38,7 @@ use Rattle.track_rule.specs.Sums.{total}
 use Rattle.track_rule.proofs.Confirms.{state_on}
 use Rattle.track_rule.proofs.EventSteps.{SameRecords, event_kept}
 use Rattle.track_rule.proofs.HistoryWord.{word_other, word_phase, word_turn}
-use Rattle.track_rule.proofs.Loads.{all_events, word_events}
+use Rattle.track_rule.proofs.Loads.{all_events, number_of}
 use Rattle.track_rule.proofs.Seats.{StaysAt, same_at}
 use Rattle.track_rule.proofs.Sums.{each_other, each_put, total_same, total_term, total_two}
 use Rattle.track_rule.proofs.Touching.{knows_live}
@@ -215,7 +215,7 @@ changing slots id v c e has_some can follow go_on s (l, h) long at range =
         record {
           log = l.log;
           all = all;
-          word_is = h.history.word;
+          told = h.history.word;
           view = refl;
           legal = change_legal l s id v e h at has_some can follow go_on;
           expects = was_expected l s id v e h at has_some can follow go_on;
@@ -226,7 +226,7 @@ changing slots id v c e has_some can follow go_on s (l, h) long at range =
     )
 
 -- the same shares, turns and places
-pub stays_changed : (e : Event) (me me' : Me Slot View) (n : ℕ) → CanChange e me.0 → Changes e me.0 n me'.0 × (me'.1 ≡ me.1) → StaysAt me.0 me'.0 × (me'.1 ≡ me.1)
+pub stays_changed : (e : Event) (me me' : Me Slot View) (n : ℕ) → CanChange e me.0 → MakesChange e me.0 (IsWord n) me'.0 × (me'.1 ≡ me.1) → StaysAt me.0 me'.0 × (me'.1 ≡ me.1)
 stays_changed e me me' n can told = (
   same_at me.0 me'.0 _ told.0.view (record {
     passes = refl;
@@ -237,12 +237,11 @@ stays_changed e me me' n can told = (
 )
 
 -- what the call tells
-pub has_changed : (e : Event) (v w : View) (word n : ℕ) → Changes e v word w → n ≡ events_in word → HasChanged e v n w
+pub has_changed : (e : Event) (v w : View) (word n : ℕ) → MakesChange e v (IsWord word) w → n ≡ events_in word → MakesChange e v (IsNumber n) w
 has_changed e v w word n told is = record {
   log = told.log;
   all = told.all;
-  number = is ∙ ap events_in told.word_is
-      ∙ word_events (length told.log) (length (records_after told.log)) (omega (arith, told.all.few, told.all.passes));
+  told = number_of v word n told.log told.all told.told is;
   view = told.view;
   legal = told.legal;
   expects = told.expects;
@@ -273,14 +272,14 @@ can_expect (Expect e replaced moment) v can = record {
 can_expect (Claim expectation master tuple moment) v can = absurd can
 can_expect (Unexpect expectation moment) v can = absurd can
 
-pub expect_made : (e : Event) (v : View) (n : ℕ) (w : View) → CanExpect (expect_in e) v → HasChanged e v n w → HasExpected (expect_in e) v n w
+pub expect_made : (e : Event) (v : View) (n : ℕ) (w : View) → CanExpect (expect_in e) v → MakesChange e v (IsNumber n) w → HasExpected (expect_in e) v n w
 expect_made (Confirm r) v n w can h = absurd can
 expect_made (Touch id direction segment moment after) v n w can h = absurd can
 expect_made (Destroy id why) v n w can h = absurd can
 expect_made (Expect e replaced moment) v n w can h = record {
   log = h.log;
   all = h.all;
-  number = h.number;
+  number = h.told;
   view = h.view;
   legal = h.legal;
   expects = h.expects;
@@ -304,7 +303,7 @@ can_claim (Claim expectation master tuple moment) v can = record {
 }
 can_claim (Unexpect expectation moment) v can = absurd can
 
-pub claim_made : (e : Event) (v : View) (n : ℕ) (w : View) → CanClaim (claim_in e) v → HasChanged e v n w → HasClaimed (claim_in e) v n w
+pub claim_made : (e : Event) (v : View) (n : ℕ) (w : View) → CanClaim (claim_in e) v → MakesChange e v (IsNumber n) w → HasClaimed (claim_in e) v n w
 claim_made (Confirm r) v n w can h = absurd can
 claim_made (Touch id direction segment moment after) v n w can h = absurd can
 claim_made (Destroy id why) v n w can h = absurd can
@@ -312,7 +311,7 @@ claim_made (Expect e replaced moment) v n w can h = absurd can
 claim_made (Claim expectation master tuple moment) v n w can h = record {
   log = h.log;
   all = h.all;
-  number = h.number;
+  number = h.told;
   view = h.view;
   legal = h.legal;
   expects = h.expects;
@@ -334,7 +333,7 @@ can_unexpect (Unexpect expectation moment) v can = record {
   may = λ n s expects lives. ap (λ (list : List Expectation). may_unexpect (find (expected.has_id expectation) list) moment) expects ∙ can.may;
 }
 
-pub unexpect_made : (e : Event) (v : View) (n : ℕ) (w : View) → CanUnexpect (unexpect_in e) v → HasChanged e v n w → HasUnexpected (unexpect_in e) v n w
+pub unexpect_made : (e : Event) (v : View) (n : ℕ) (w : View) → CanUnexpect (unexpect_in e) v → MakesChange e v (IsNumber n) w → HasUnexpected (unexpect_in e) v n w
 unexpect_made (Confirm r) v n w can h = absurd can
 unexpect_made (Touch id direction segment moment after) v n w can h = absurd can
 unexpect_made (Destroy id why) v n w can h = absurd can
@@ -343,7 +342,7 @@ unexpect_made (Claim expectation master tuple moment) v n w can h = absurd can
 unexpect_made (Unexpect expectation moment) v n w can h = record {
   log = h.log;
   all = h.all;
-  number = h.number;
+  number = h.told;
   view = h.view;
   legal = h.legal;
   expects = h.expects;

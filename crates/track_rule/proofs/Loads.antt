@@ -21,7 +21,7 @@ use Rattle.track_rule.specs.declared.view.Places.{Places}
 use Rattle.track_rule.specs.declared.view.View.{View}
 use Rattle.track_rule.specs.declared.view.Walk.{Walk}
 use Rattle.track_rule.specs.Walks.{IsWalk}
-use Rattle.track_rule.specs.History.{events_in, live_in, records_after}
+use Rattle.track_rule.specs.History.{events_in, IsNumber, IsWord, live_in, records_after}
 use Rattle.track_rule.specs.Layout.{phase_at, refs_word}
 use Rattle.track_rule.specs.Passes.{ArePasses, HasNothing, IsPass, IsSpent, made_weight, shares_of}
 use Rattle.track_rule.specs.Phases.{middle_of, middle_weight, of_place, table_keeps}
@@ -94,6 +94,11 @@ module _ (z : Sizes) (log : List Event) (vs : List View) (h : ArePasses z log vs
 -- the parts of the word
 pub word_events : (e r : ℕ) → e < 2 ^ 40 → (e + 2 ^ 40 * r) % 2 ^ 40 ≡ e
 word_events e r few = omega arith
+
+-- a step that tells the word of all events tells their number
+pub number_of : (v : View) (word n : ℕ) (log : List Event) → AreAll v log → IsWord word log → n ≡ events_in word → IsNumber n log
+number_of v word n log all told is =
+    is ∙ ap events_in told ∙ word_events (length log) (length (records_after log)) (omega (arith, all.few, all.passes))
 
 pub word_live : (e r : ℕ) → e < 2 ^ 40 → (e + 2 ^ 40 * r) / 2 ^ 40 ≡ r
 word_live e r few = omega arith

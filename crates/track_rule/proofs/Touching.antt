@@ -39,7 +39,7 @@ use Rattle.track_rule.proofs.EventSteps.{SameRecords, event_kept}
 use Rattle.track_rule.proofs.HistoryWord.{word_other, word_phase}
 use Rattle.track_rule.proofs.LivePlaces.{found_confirmed, one_place, hand_confirmed}
 use Rattle.track_rule.proofs.Lists.{same_bit}
-use Rattle.track_rule.proofs.Loads.{all_events, word_events}
+use Rattle.track_rule.proofs.Loads.{all_events, number_of}
 use Rattle.track_rule.proofs.Seats.{StaysAt, same_at}
 use Rattle.track_rule.proofs.Sums.{each_put, total_alike, total_map, total_same}
 
@@ -262,7 +262,7 @@ touching slots id v c t has_some can follow go_on low s (l, h) long at range =
         record {
           log = l.log;
           all = all;
-          word_is = h.history.word;
+          told = h.history.word;
           view = refl;
           legal = touch_legal l s id v t h at has_some can follow go_on low;
           before = known_before l s id v t h at has_some can follow go_on low;
@@ -298,8 +298,7 @@ has_touched None s me me' word n can told is = absurd can
 has_touched (Some t) s me me' word n can told is = record {
   log = told.0.log;
   all = told.0.all;
-  number = is ∙ ap events_in told.0.word_is
-      ∙ word_events (length told.0.log) (length (records_after told.0.log)) (omega (arith, told.0.all.few, told.0.all.passes));
+  told = number_of me.0 word n told.0.log told.0.all told.0.told is;
   view = told.0.view;
   legal = told.0.legal;
   before = told.0.before;

@@ -19,7 +19,7 @@ use Rattle.track_rule.specs.declared.view.Shut.{Shut}
 use Rattle.track_rule.specs.declared.view.View.{View}
 use Rattle.track_rule.specs.Chains.{bucket_of, chain_in, loose_of, pair_of, shuts_of}
 use Rattle.track_rule.specs.Free.{taken_out, unlisted}
-use Rattle.track_rule.specs.History.{packed}
+use Rattle.track_rule.specs.History.{IsNumber, IsWord, packed}
 use Rattle.track_rule.specs.Layout.{phase_word, place_of}
 use Rattle.track_rule.specs.Links.{hook_of, is_raised}
 use Rattle.track_rule.specs.Readings.{noted, stored}
@@ -100,11 +100,11 @@ confirmed log r v = noted (stored 0 (packed (with_confirm log r))) (record v {
   walk = None;
 })
 
--- These were all events before; the number of this one is how many they are. It was lawful.
-pub record Confirms (r : Record) (v : View) (word : ℕ) (w : View) : Type 0 where
+-- These were all events before, which the step tells. The Confirm was lawful.
+pub record MakesConfirm (r : Record) (v : View) (tells : List Event → Type 0) (w : View) : Type 0 where
   pub log : List Event
   pub all : AreAll v log
-  pub word_is : word ≡ packed log
+  pub told : tells log
   pub view : w ≡ confirmed log r v
   pub legal : is_legal v.passes.sizes (with_confirm log r) ≡ true
 
@@ -135,7 +135,7 @@ subject_of (Claim expectation master tuple moment) = None
 subject_of (Unexpect expectation moment) = None
 
 abbrev pub ConfirmStep : Record → Step Slot → Me Slot View → ℕ → Me Slot View → Type 0
-ConfirmStep r step me n me' = Confirms r me.0 n me'.0 × (me'.1 ≡ me.1)
+ConfirmStep r step me n me' = MakesConfirm r me.0 (IsWord n) me'.0 × (me'.1 ≡ me.1)
 
 -- what an event asks that is added as a Confirm, and what its step is
 abbrev pub CanAdd : Option Record → View → Type 0
@@ -147,16 +147,9 @@ AddStep None step me n me' = Unit {0}
 AddStep (Some r) step me n me' = ConfirmStep r step me n me'
 
 -- the number of the Confirm is n, with all that its step tells
-pub record HasConfirmed (r : Record) (v : View) (n : ℕ) (w : View) : Type 0 where
-  pub log : List Event
-  pub all : AreAll v log
-  pub number : n ≡ length log
-  pub view : w ≡ confirmed log r v
-  pub legal : is_legal v.passes.sizes (with_confirm log r) ≡ true
-
 abbrev pub HasAdded : Option Record → View → ℕ → View → Type 0
 HasAdded None v n w = ⊥
-HasAdded (Some r) v n w = HasConfirmed r v n w
+HasAdded (Some r) v n w = MakesConfirm r v (IsNumber n) w
 
 -- the word of the step is the phase of this place
 abbrev pub LiveStep : Step Slot → Me Slot View → ℕ → Me Slot View → Type 0

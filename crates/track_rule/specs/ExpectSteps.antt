@@ -14,7 +14,7 @@ use Rattle.history_book.specs.declared.event.Event.{Event}
 use Rattle.history_book.specs.declared.event.Event.TheVariants.{Confirm, Touch, Destroy, Expect, Claim, Unexpect}
 use Rattle.track_rule.specs.declared.slot.Slot.{Slot}
 use Rattle.track_rule.specs.declared.view.View.{View}
-use Rattle.track_rule.specs.History.{packed, state_after}
+use Rattle.track_rule.specs.History.{IsNumber, IsWord, packed, state_after}
 use Rattle.track_rule.specs.Readings.{noted, stored}
 use Rattle.track_rule.specs.Steps.{AreAll}
 use Rattle.track_rule.specs.TouchSteps.{known_phase, known_record}
@@ -215,25 +215,16 @@ pub record CanChange (e : Event) (v : View) : Type 0 where
   pub leaves : (n : ℕ) (s : State) → (next s (numbered n e)).records ≡ s.records
   pub may : (n : ℕ) (s : State) → s.expects ≡ known_expected v → KnowsLive v s → may_happen v.passes.sizes s n (numbered n e) ≡ true
 
--- These were all events before. The event was lawful: this was expected, and the record that the pass knows was live.
-pub record Changes (e : Event) (v : View) (word : ℕ) (w : View) : Type 0 where
+-- These were all events before, which the step tells. The event was lawful: this was expected, and the record that the pass knows was
+-- live.
+pub record MakesChange (e : Event) (v : View) (tells : List Event → Type 0) (w : View) : Type 0 where
   pub log : List Event
   pub all : AreAll v log
-  pub word_is : word ≡ packed log
+  pub told : tells log
   pub view : w ≡ made_expected log (numbered (length log) e) v
   pub legal : is_legal v.passes.sizes (log ++ numbered (length log) e ∷ []) ≡ true
   pub expects : (state_after log).expects ≡ known_expected v
   pub lives : KnowsLive v (state_after log)
 
 abbrev pub ChangeStep : Event → Step Slot → Me Slot View → ℕ → Me Slot View → Type 0
-ChangeStep e step me n me' = Changes e me.0 n me'.0 × (me'.1 ≡ me.1)
-
--- the number of the event is n, with all that its step tells
-pub record HasChanged (e : Event) (v : View) (n : ℕ) (w : View) : Type 0 where
-  pub log : List Event
-  pub all : AreAll v log
-  pub number : n ≡ length log
-  pub view : w ≡ made_expected log (numbered (length log) e) v
-  pub legal : is_legal v.passes.sizes (log ++ numbered (length log) e ∷ []) ≡ true
-  pub expects : (state_after log).expects ≡ known_expected v
-  pub lives : KnowsLive v (state_after log)
+ChangeStep e step me n me' = MakesChange e me.0 (IsWord n) me'.0 × (me'.1 ≡ me.1)

@@ -17,6 +17,13 @@ records_after log = (state_after log).records
 abbrev pub packed : List Event → ℕ
 packed log = length log + 2 ^ 40 * length (records_after log)
 
+-- the word of these events, or their number
+abbrev pub IsWord : ℕ → List Event → Type 0
+IsWord word log = word ≡ packed log
+
+abbrev pub IsNumber : ℕ → List Event → Type 0
+IsNumber n log = n ≡ length log
+
 -- the number of events, and of live records, that the word says
 abbrev pub events_in : ℕ → ℕ
 events_in word = word % 2 ^ 40

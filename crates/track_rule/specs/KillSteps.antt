@@ -21,7 +21,7 @@ use Rattle.track_rule.specs.declared.view.View.{View}
 use Rattle.track_rule.specs.Chains.{bucket_of, pair_of, shuts_of}
 use Rattle.track_rule.specs.CommitSteps.{told_in}
 use Rattle.track_rule.specs.Commits.{HasItsTurn}
-use Rattle.track_rule.specs.History.{packed, state_after}
+use Rattle.track_rule.specs.History.{IsNumber, IsWord, packed, state_after}
 use Rattle.track_rule.specs.Layout.{phase_word}
 use Rattle.track_rule.specs.PhaseSteps.{phase_dead}
 use Rattle.track_rule.specs.Readings.{noted, stored}
@@ -114,12 +114,11 @@ destroyed log d r v = noted (stored 0 (packed (with_destroy log d))) (record v {
   walk = None;
 })
 
--- These were all events before; the number of this one is how many they are. It was lawful: the record of the id was the one that
--- the pass knows.
-pub record Destroys (d : Destroying) (v : View) (word : ℕ) (w : View) (r : Record) : Type 0 where
+-- These were all events before, which the step tells. The Destroy was lawful: the record of the id was the one that the pass knows.
+pub record MakesDestroy (d : Destroying) (v : View) (tells : List Event → Type 0) (w : View) (r : Record) : Type 0 where
   pub log : List Event
   pub all : AreAll v log
-  pub word_is : word ≡ packed log
+  pub told : tells log
   pub view : w ≡ destroyed log d r v
   pub legal : is_legal v.passes.sizes (with_destroy log d) ≡ true
   pub before : record_of d.id (state_after log) ≡ Some r
@@ -139,17 +138,9 @@ CanDestroy (Some d) v = OfDying (MayDestroy d v) v.commit.middle
 
 abbrev pub DestroyStep : Option Destroying → Step Slot → Me Slot View → ℕ → Me Slot View → Type 0
 DestroyStep None step me n me' = Unit {0}
-DestroyStep (Some d) step me n me' = OfDying (Destroys d me.0 n me'.0) me.0.commit.middle × (me'.1 ≡ me.1)
+DestroyStep (Some d) step me n me' = OfDying (MakesDestroy d me.0 (IsWord n) me'.0) me.0.commit.middle × (me'.1 ≡ me.1)
 
 -- the number of the Destroy is n, with all that its step tells
-pub record HasDestroy (d : Destroying) (v : View) (n : ℕ) (w : View) (r : Record) : Type 0 where
-  pub log : List Event
-  pub all : AreAll v log
-  pub number : n ≡ length log
-  pub view : w ≡ destroyed log d r v
-  pub legal : is_legal v.passes.sizes (with_destroy log d) ≡ true
-  pub before : record_of d.id (state_after log) ≡ Some r
-
 abbrev pub HasDestroyed : Option Destroying → View → ℕ → View → Type 0
 HasDestroyed None v n w = ⊥
-HasDestroyed (Some d) v n w = OfDying (HasDestroy d v n w) v.commit.middle
+HasDestroyed (Some d) v n w = OfDying (MakesDestroy d v (IsNumber n) w) v.commit.middle

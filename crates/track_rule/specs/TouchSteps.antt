@@ -14,7 +14,7 @@ use Rattle.track_rule.specs.declared.slot.Slot.{Slot}
 use Rattle.track_rule.specs.declared.view.Hand.{Hand}
 use Rattle.track_rule.specs.declared.view.Middle.TheVariants.{Calm}
 use Rattle.track_rule.specs.declared.view.View.{View}
-use Rattle.track_rule.specs.History.{packed, state_after}
+use Rattle.track_rule.specs.History.{IsNumber, IsWord, packed, state_after}
 use Rattle.track_rule.specs.Readings.{noted, stored}
 use Rattle.track_rule.specs.Steps.{AreAll}
 
@@ -80,12 +80,12 @@ touched log t v = noted (stored 0 (packed (with_touch log t))) (record v {
   walk = None;
 })
 
--- These were all events before; the number of this one is how many they are. It was lawful: the record of the id was the one that
--- the pass knows, which has the place of its turn.
-pub record Touches (t : Touching) (v : View) (word : ℕ) (w : View) : Type 0 where
+-- These were all events before, which the step tells. The Touch was lawful: the record of the id was the one that the pass knows,
+-- which has the place of its turn.
+pub record MakesTouch (t : Touching) (v : View) (tells : List Event → Type 0) (w : View) : Type 0 where
   pub log : List Event
   pub all : AreAll v log
-  pub word_is : word ≡ packed log
+  pub told : tells log
   pub view : w ≡ touched log t v
   pub legal : is_legal v.passes.sizes (with_touch log t) ≡ true
   pub before : record_of t.id (state_after log) ≡ known_record v.commit.hand
@@ -100,18 +100,9 @@ CanTouch (Some t) v = MayTouch t v
 
 abbrev pub TouchStep : Option Touching → Step Slot → Me Slot View → ℕ → Me Slot View → Type 0
 TouchStep None step me n me' = Unit {0}
-TouchStep (Some t) step me n me' = Touches t me.0 n me'.0 × (me'.1 ≡ me.1)
+TouchStep (Some t) step me n me' = MakesTouch t me.0 (IsWord n) me'.0 × (me'.1 ≡ me.1)
 
 -- the number of the Touch is n, with all that its step tells
-pub record HasTouch (t : Touching) (v : View) (n : ℕ) (w : View) : Type 0 where
-  pub log : List Event
-  pub all : AreAll v log
-  pub number : n ≡ length log
-  pub view : w ≡ touched log t v
-  pub legal : is_legal v.passes.sizes (with_touch log t) ≡ true
-  pub before : record_of t.id (state_after log) ≡ known_record v.commit.hand
-  pub placed : IsItsTurn v.commit.hand
-
 abbrev pub HasTouched : Option Touching → View → ℕ → View → Type 0
 HasTouched None v n w = ⊥
-HasTouched (Some t) v n w = HasTouch t v n w
+HasTouched (Some t) v n w = MakesTouch t v (IsNumber n) w

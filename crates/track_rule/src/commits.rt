@@ -3,7 +3,7 @@
 
 ghost use Rattle.std.specs.Prelude.{◌≡◌, ◌<◌, ◌^◌, true};
 ghost use Rattle.track_rule.specs.declared.view.Middle.TheVariants.{Born};
-ghost use Rattle.track_rule.specs.CommitSteps.{AddStep, CanAdd, Confirms, HasAdded, IsBorn, LiveStep, shown_live, subject_of};
+ghost use Rattle.track_rule.specs.CommitSteps.{AddStep, CanAdd, HasAdded, IsBorn, LiveStep, shown_live, subject_of};
 ghost use Rattle.track_rule.specs.History.{events_in};
 ghost use Rattle.track_rule.specs.Records.{has_hand};
 ghost use Rattle.track_rule.specs.References.{is_held};

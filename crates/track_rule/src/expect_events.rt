@@ -2,7 +2,8 @@
 //! while the pass has the turn of the expectations.
 
 ghost use Rattle.std.specs.Prelude.{◌≡◌};
-ghost use Rattle.track_rule.specs.ExpectSteps.{CanChange, CanClaim, CanExpect, CanUnexpect, ChangeStep, HasChanged, HasClaimed, HasExpected, HasUnexpected, claim_in, expect_in, unexpect_in};
+ghost use Rattle.track_rule.specs.ExpectSteps.{CanChange, CanClaim, CanExpect, CanUnexpect, ChangeStep, HasClaimed, HasExpected, HasUnexpected, MakesChange, claim_in, expect_in, unexpect_in};
+ghost use Rattle.track_rule.specs.History.{IsNumber};
 
 use crate::commits::{Added, events_in};
 use crate::layout::HISTORY_WORD;
@@ -31,7 +32,7 @@ impl<'b> Pass<'b> {
     fn add_change<J: Added>(&mut self, event: &Event) -> u64
         requires event { event.now ≡ J.event }
         requires can { CanChange J.event self.old.view }
-        ensures adds { HasChanged J.event self.old.view result self.new.view }
+        ensures adds { MakesChange J.event self.old.view (IsNumber result) self.new.view }
         ensures kept { self.new ≡ record self.old { view = self.new.view } }
     {
         let _event = event;

@@ -2,7 +2,8 @@ use Rattle.std.proofs.Common.{◌+◌, ◌%◌, ◌^◌, ap, arith, subst, sym}
 use Rattle.atomic_table.specs.Table.{Allows, step}
 use mathlib.Core.Option.{none}
 use Rattle.history_book.specs.declared.sizes.Sizes.{Sizes}
-use Rattle.track_rule.specs.ExpectSteps.{CanChange, ChangeStep, HasChanged}
+use Rattle.track_rule.specs.History.{IsNumber}
+use Rattle.track_rule.specs.ExpectSteps.{CanChange, ChangeStep, MakesChange}
 use Rattle.track_rule.specs.Rule.{Holds}
 use Rattle.track_rule.specs.Sights.{PassSight}
 use Rattle.track_rule.proofs.Expecting.{changing, has_changed, stays_changed}
@@ -34,7 +35,7 @@ invariant_of-self g c =
 pub returns-clause-adds : goal.returns-clause-adds
 returns-clause-adds g c =
     let p = c.self.inside in
-    subst (λ (x : PassSight). HasChanged g.J.Added.event x.view c.events_in.result c.fetch_add-word.new.seat.me.0) c.self.view_is
+    subst (λ (x : PassSight). MakesChange g.J.Added.event x.view (IsNumber c.events_in.result) c.fetch_add-word.new.seat.me.0) c.self.view_is
     (has_changed g.J.Added.event p.seat.me.0 c.fetch_add-word.new.seat.me.0 c.fetch_add-word.result c.events_in.result c.fetch_add-word.ensures.2.0 c.events_in.ensures)
 
 pub returns-clause-kept : goal.returns-clause-kept
