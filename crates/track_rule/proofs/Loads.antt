@@ -191,20 +191,26 @@ looks low slots id v c has_some s (l, h) long at range =
           live = ap live_in h.history.word ∙ word_live (length l.log) (length (records_after l.log)) small;
           sole = λ one. h.readings one id v at has_some 0;
           chains = λ b below mine. shut_weighs z l s id v h at b below mine;
-          taken = λ q taken.
-              omega (arith, h.references.taken q, total_term (takes q) s.views id v at, total_some (λ k. is_at q k && is_for_new k.purpose) v.places.held taken);
-          hand = λ x turn live. (h.records.away id v at x turn).live live;
+          held = record {
+            taken = λ q taken.
+                omega (arith, h.references.taken q, total_term (takes q) s.views id v at, total_some (λ k. is_at q k && is_for_new k.purpose) v.places.held taken);
+            shown = λ q i kept. (h.kept_words.each id v at q i kept).was;
+          };
+          hand = record {
+            subject = λ x turn live. (h.records.away id v at x turn).live live;
+            gone = λ x i turn calm kept other. gone z l s id v h at x turn low calm i kept (eqb-false x.phase (3 + i) other);
+            empty = λ x turn calm few. empty z l s id v h at x turn calm few;
+          };
+          free = record {
+            full = λ list turn. omega (arith, full z l s h id v at, ap length (h.free_list.away id v at list turn));
+            used = λ list turn alone q below. omega (
+              arith,
+              in_use z l s h q below,
+              ap (times q) (h.free_list.away id v at list turn),
+              alone_total z l s id v h at (uses q) (λ u n. omega (arith, ap (held_times q) n.held, ap (times q) n.owed)) alone,
+            );
+          };
           expects = h.expected.away id v at;
-          gone = λ x i turn calm kept other. gone z l s id v h at x turn low calm i kept (eqb-false x.phase (3 + i) other);
-          empty = λ x turn calm few. empty z l s id v h at x turn calm few;
-          shown = λ q i kept. (h.kept_words.each id v at q i kept).was;
-          full = λ list turn. omega (arith, full z l s h id v at, ap length (h.free_list.away id v at list turn));
-          used = λ list turn alone q below. omega (
-            arith,
-            in_use z l s h q below,
-            ap (times q) (h.free_list.away id v at list turn),
-            alone_total z l s id v h at (uses q) (λ u n. omega (arith, ap (held_times q) n.held, ap (times q) n.owed)) alone,
-          );
         },
         refl,
       ),

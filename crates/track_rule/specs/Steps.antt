@@ -87,34 +87,56 @@ kept_places v = length v.places.held + length v.places.owed
 abbrev pub uses : ℕ → View → ℕ
 uses place v = held_times place v.places.held + times place v.places.owed
 
--- A load: the pass has seen all events, and the word is theirs. The chain of a bucket that the pass has shut weighs what the live
--- records weigh in it, and the pass's own links there. No live record has a place that the pass has taken. Under the turn of a
--- place's record the pass has the record of the id of which the place is LIVE. Unless it is in the middle of a commit itself, an
--- id for which it holds that place is live no more where the place is not LIVE of it, and no live record has the place where it
--- is LIVE of none. The pass has seen the Confirm of each id for which it holds a place. Under the turn of the free list it knows how
--- full the table is: there are at most as many places as places on the list, live records, references that it keeps, places that it
--- owes, and four for each share of others (`full`); where no other pass has a share, each place is on the list, or a live record's,
--- or the pass holds or owes it (`used`). Under the turn of the expectations it knows what is expected after all events.
+-- What a pass knows of all events at a load, by what it has then.
+
+-- Of a bucket that it has shut: its chain weighs what the live records weigh in it, and the pass's own links there.
+abbrev pub KnowsChains : View → List Event → Type 0
+KnowsChains v log =
+    (b : ℕ) → b < v.passes.sizes.buckets → 0 < shuts_of b v → (weight : Entry → ℕ)
+    → total weight (chain_in b v.buckets.shut) ≡ total (links_in v.passes.sizes b weight) (records_after log) + loose_of v.passes.sizes b weight v
+
+-- Of the places that it holds: no live record has one that it has taken, and it has seen the Confirm of each id for which it
+-- holds one.
+pub record KnowsHeld (v : View) (log : List Event) : Type 0 where
+  pub taken : (p : ℕ) → is_taken p v.places.held ≡ true → total (of_place p) (records_after log) ≡ 0
+  pub shown : (place id : ℕ) → is_kept_for place id v.places.held ≡ true → WasConfirmed log id place
+
+-- Under the turn of a place's record: it has the record of the id of which the place is LIVE. Unless it is in the middle of a
+-- commit itself, an id for which it holds that place is live no more where the place is not LIVE of it, and no live record has
+-- the place where it is LIVE of none.
+pub record KnowsHand (v : View) (log : List Event) : Type 0 where
+  pub subject : (h : Hand) → v.commit.hand ≡ Some h → 3 ≤ h.phase → h.subject ≡ record_of (h.phase - 3) (state_after log)
+  pub gone : (h : Hand) (id : ℕ) → v.commit.hand ≡ Some h → v.commit.middle ≡ Calm → is_kept_for h.place id v.places.held ≡ true
+      → (h.phase == 3 + id) ≡ false → record_of id (state_after log) ≡ None
+  pub empty : (h : Hand) → v.commit.hand ≡ Some h → v.commit.middle ≡ Calm → h.phase < 3 → total (of_place h.place) (records_after log) ≡ 0
+
+-- Under the turn of the free list it knows how full the table is: there are at most as many places as places on the list, live
+-- records, references that it keeps, places that it owes, and four for each share of others; where no other pass has a share,
+-- each place is on the list, or a live record's, or the pass holds or owes it.
+pub record KnowsFree (v : View) (log : List Event) : Type 0 where
+  pub full : (list : List ℕ) → v.free ≡ Some list
+      → v.passes.sizes.entries ≤ length list + length (records_after log) + kept_places v
+      + 4 * (v.passes.sizes.passes - (v.passes.shares + v.passes.returned))
+  pub used : (list : List ℕ) → v.free ≡ Some list → IsAlone v → (p : ℕ) → p < v.passes.sizes.entries
+      → 0 < times p list + uses p v + total (of_place p) (records_after log)
+
+-- Under the turn of the expectations: it knows what is expected.
+abbrev pub KnowsExpected : View → List Event → Type 0
+KnowsExpected v log = (list : List Expectation) → v.expected ≡ Some list → list ≡ (state_after log).expects
+
+-- A load: the pass has seen all events, the word is theirs, and it knows of them what it can. A pass that is the only one knew the
+-- word.
 pub record Looks (v : View) (word : ℕ) (w : View) : Type 0 where
   pub same : w ≡ noted (found_history word v) (saw w.seen.front v)
   pub all : AreAll v w.seen.front
   pub events : events_in word ≡ length w.seen.front
   pub live : live_in word ≡ length (records_after w.seen.front)
   pub sole : IsSole v → word ≡ last_read 0 v
-  pub chains : (b : ℕ) → b < v.passes.sizes.buckets → 0 < shuts_of b v → (weight : Entry → ℕ)
-      → total weight (chain_in b v.buckets.shut) ≡ total (links_in v.passes.sizes b weight) (records_after w.seen.front) + loose_of v.passes.sizes b weight v
-  pub taken : (p : ℕ) → is_taken p v.places.held ≡ true → total (of_place p) (records_after w.seen.front) ≡ 0
-  pub hand : (h : Hand) → v.commit.hand ≡ Some h → 3 ≤ h.phase → h.subject ≡ record_of (h.phase - 3) (state_after w.seen.front)
-  pub expects : (list : List Expectation) → v.expected ≡ Some list → list ≡ (state_after w.seen.front).expects
-  pub gone : (h : Hand) (id : ℕ) → v.commit.hand ≡ Some h → v.commit.middle ≡ Calm → is_kept_for h.place id v.places.held ≡ true
-      → (h.phase == 3 + id) ≡ false → record_of id (state_after w.seen.front) ≡ None
-  pub empty : (h : Hand) → v.commit.hand ≡ Some h → v.commit.middle ≡ Calm → h.phase < 3 → total (of_place h.place) (records_after w.seen.front) ≡ 0
-  pub shown : (place id : ℕ) → is_kept_for place id v.places.held ≡ true → WasConfirmed w.seen.front id place
-  pub full : (list : List ℕ) → v.free ≡ Some list
-      → v.passes.sizes.entries ≤ length list + length (records_after w.seen.front) + kept_places v
-      + 4 * (v.passes.sizes.passes - (v.passes.shares + v.passes.returned))
-  pub used : (list : List ℕ) → v.free ≡ Some list → IsAlone v → (p : ℕ) → p < v.passes.sizes.entries
-      → 0 < times p list + uses p v + total (of_place p) (records_after w.seen.front)
+  pub chains : KnowsChains v w.seen.front
+  pub held : KnowsHeld v w.seen.front
+  pub hand : KnowsHand v w.seen.front
+  pub free : KnowsFree v w.seen.front
+  pub expects : KnowsExpected v w.seen.front
 
 -- THE FREE LIST
 
