@@ -39,6 +39,7 @@ use Rattle.track_rule.specs.References.{AreKept, AreReferences, ends, held_times
 use Rattle.track_rule.specs.Rule.{IsKept, Ledger}
 use Rattle.track_rule.specs.Sums.{Each, bit, times, total}
 use Rattle.track_rule.specs.Walks.{AreWalks}
+use Rattle.track_rule.proofs.Adding.{event_added}
 use Rattle.track_rule.proofs.Confirming.{each_dropped, find_last, find_more, find_same, held_kept, held_long, held_taken, hook_else, kept_for, low_both, low_ids, total_dropped, words_for}
 use Rattle.track_rule.proofs.KeptWords.{GrowsTo, SamePairs, links_pairs, tuples_stay, words_stay, StaysOnly}
 use Rattle.track_rule.specs.KeptWords.{AreKeptWords, HasPair, HasTuples, link_of, pair_in, shows_held}
@@ -583,15 +584,9 @@ module _ (l : Ledger) (s : State Slot View) (id : ℕ) (v : View) (r : Record) (
   born_kept =
       let z : Sizes = v.passes.sizes in
       let expected : slice_index words 2 ≡ slice_index s.words 2 = word_other z s.words (packed made) 2 (omega arith) in
-      let long : 0 < length s.words = omega (arith, h.count) in
-      record {
-        limits = h.limits;
-        count = length-set s.words 0 (packed made) ∙ h.count;
-        passes = passes_made z l.log (Confirm subject) s.views id v after_it at has_some can.few refl refl h.passes;
-        history = record {
-          legal = go_on z l.log (Confirm subject) h.history.legal (lawful l s id v r h at has_some can);
-          word = get_or-set_same s.words 0 (packed made) 0 long;
-        };
+      event_added l (born_ledger l r v) s id v after_it (Confirm subject) h at has_some can.few
+      (go_on z l.log (Confirm subject) h.history.legal (lawful l s id v r h at has_some can)) refl refl refl
+      (record { reading = stored 0 (packed made); more = refl; word = refl; value = refl }) (record {
         references = born_references;
         free_list = born_free;
         records = born_records;
@@ -600,8 +595,6 @@ module _ (l : Ledger) (s : State Slot View) (id : ℕ) (v : View) (r : Record) (
         chains = born_chains;
         links = born_links;
         walks = born_walks;
-        readings = stored_on z l.log s.words s.views id 0 (packed made) v after_it h.passes at has_some long
-            (record { reading = stored 0 (packed made); more = refl; word = refl; value = refl }) h.readings;
         kept_words = born_words;
         expected = record {
           turn = expected ∙ h.expected.turn ∙ sym (total_same has_expected s.views id v after_it at refl);
@@ -612,4 +605,4 @@ module _ (l : Ledger) (s : State Slot View) (id : ℕ) (v : View) (r : Record) (
           away = each_put (λ (u : View). (list : List Expectation) → u.expected ≡ Some list → list ≡ (state_after made).expects) s.views id after_it
               (λ i u at' list e. h.expected.away i u at' list e ∙ sym expects_on) (λ list e. h.expected.away id v at list e ∙ sym expects_on);
         };
-      }
+      })

@@ -41,6 +41,7 @@ use Rattle.track_rule.specs.Records.{AreRecords, is_hand_of}
 use Rattle.track_rule.specs.References.{AreKept, AreReferences, WasConfirmed, ends, held_times, keeps, takes}
 use Rattle.track_rule.specs.Rule.{IsKept, Ledger}
 use Rattle.track_rule.specs.Sums.{Each, bit, times, total}
+use Rattle.track_rule.proofs.Adding.{event_added}
 use Rattle.track_rule.proofs.ChainLists.{chain_each}
 use Rattle.track_rule.proofs.Confirms.{bucket_low, state_on}
 use Rattle.track_rule.proofs.Events.{get_append, kept_on, passes_made}
@@ -541,12 +542,8 @@ module _ (l : Ledger) (s : State Slot View) (id : ℕ) (v : View) (d : Destroyin
       (record { words = slice_set s.words 0 (packed (with_destroy l.log d)); homes = s.homes; views = set s.views id (destroyed l.log d r v) })
   ended_kept =
       let z : Sizes = v.passes.sizes in
-      let long : 0 < length s.words = omega (arith, h.count) in
-      record {
-        limits = h.limits;
-        count = length-set s.words 0 (packed made) ∙ h.count;
-        passes = passes_made z l.log event s.views id v after_it at has_some may.few refl refl h.passes;
-        history = record { legal = end_legal; word = get_or-set_same s.words 0 (packed made) 0 long };
+      event_added l (ended_ledger l d r v) s id v after_it event h at has_some may.few end_legal refl refl refl
+      (record { reading = stored 0 (packed made); more = refl; word = refl; value = refl }) (record {
         references = ended_references;
         free_list = ended_free;
         records = ended_records;
@@ -555,8 +552,6 @@ module _ (l : Ledger) (s : State Slot View) (id : ℕ) (v : View) (d : Destroyin
         chains = ended_chains;
         links = ended_links;
         walks = told_walks z l s id v after_it h at r.place None refl words (word_same z s.words (packed made)) refl;
-        readings = stored_on z l.log s.words s.views id 0 (packed made) v after_it h.passes at has_some long
-            (record { reading = stored 0 (packed made); more = refl; word = refl; value = refl }) h.readings;
         expected = ended_expected;
         kept_words = words_left z l.log s.words s.views id v after_it at made words (λ i x at'. get_append l.log (event ∷ []) i x at') stays_only (word_same z s.words (packed made)).links refl h.kept_words;
-      }
+      })

@@ -28,6 +28,7 @@ use Rattle.track_rule.specs.References.{AreKept, AreReferences, ends, held_times
 use Rattle.track_rule.specs.Rule.{IsKept, Ledger}
 use Rattle.track_rule.specs.Sums.{Each, times, total}
 use Rattle.track_rule.specs.Walks.{IsWalk}
+use Rattle.track_rule.proofs.Adding.{event_added}
 use Rattle.track_rule.proofs.Balance.{free_left}
 use Rattle.track_rule.proofs.Carried.{carries_set}
 use Rattle.track_rule.proofs.Events.{get_append, kept_on, note_of, passes_made}
@@ -175,12 +176,7 @@ module _ (l : Ledger) (s : State Slot View) (id : ℕ) (v w : View) (e : Event) 
   event_kept records commits expected =
       let z : Sizes = v.passes.sizes in
       let stays : SameChains z s.words words = word_same z s.words (packed made) in
-      let long : 0 < length s.words = omega (arith, h.count) in
-      record {
-        limits = h.limits;
-        count = length-set s.words 0 (packed made) ∙ h.count;
-        passes = passes_made z l.log e s.views id v w at has_some few parts.passes seen h.passes;
-        history = record { legal = legal; word = get_or-set_same s.words 0 (packed made) 0 long };
+      event_added l (record l { log = l.log ++ e ∷ [] }) s id v w e h at has_some few legal refl parts.passes seen reads (record {
         references = event_references;
         free_list = free_left z s.words words s.homes s.homes s.views id v w l.free at parts.places parts.free (word_refs z s.words (packed made))
             (word_phase z s.words (packed made)) (word_other z s.words (packed made) 1 (omega arith)) refl h.free_list;
@@ -196,7 +192,6 @@ module _ (l : Ledger) (s : State Slot View) (id : ℕ) (v w : View) (e : Event) 
               (λ i u at' n k. walk_stays z s.words words stays l.chains u.seen.front n (h.walks.each i u at' n k))
               (λ n k. absurd (none-some n (sym parts.walk ∙ k)));
         };
-        readings = stored_on z l.log s.words s.views id 0 (packed made) v w h.passes at has_some long reads h.readings;
         expected = expected;
         kept_words = words_left z l.log s.words s.views id v w at made words (λ i x at'. get_append l.log (e ∷ []) i x at') (λ q i o. omega (arith, o, same.places q, same.both q i)) stays.links (ap (λ (x : Places). x.held) parts.places) h.kept_words;
-      }
+      })

@@ -40,6 +40,7 @@ pub mod LivePlaces
 pub mod LiveWords
 pub mod Tested
 pub mod TurnsKnown
+pub mod Adding
 pub mod EventSteps
 pub mod OneRecord
 pub mod Confirming
