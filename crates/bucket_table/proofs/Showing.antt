@@ -91,7 +91,7 @@ module _ (place n : ℕ) (v a : PassSight) (t : IsTesting place Testing v) (load
         (and_from (is_for (n - 3) (kept_for v.view.seen.front place (n - 3))) (place == place) (kept_id v.view.seen.front place (n - 3)) (eq-eqb place place refl))
 
     was : WasConfirmed b.view.seen.front (n - 3) place
-    was = looks.shown place (n - 3) (ap (is_kept_for place (n - 3)) (sym (look_held place word a b looks kept')) ∙ for_it)
+    was = looks.held.shown place (n - 3) (ap (is_kept_for place (n - 3)) (sym (look_held place word a b looks kept')) ∙ for_it)
 
     live_there : m ≡ n → IsLiveIn place (n - 3) (state_after b.view.seen.front)
     live_there same = again.live (n - 3) (omega (arith, same, live)) was
@@ -103,7 +103,7 @@ module _ (place n : ℕ) (v a : PassSight) (t : IsTesting place Testing v) (load
         let taken : is_taken place a.view.places.held ≡ true =
         ap (is_taken place) (sym (look_held place word a b looks kept') ∙ its_held)
         ∙ or_right (place == place && is_for_new (kept_for v.view.seen.front place (n - 3))) (is_taken place (others_of v.view.places.held)) e in
-        absurd (omega (arith, looks.taken place taken, live_weighs place (n - 3) b.view.seen.front (live_there same))))
+        absurd (omega (arith, looks.held.taken place taken, live_weighs place (n - 3) b.view.seen.front (live_there same))))
         (λ (e : is_taken place (others_of v.view.places.held) ≡ false). e)
         (cases_Bool (is_taken place (others_of v.view.places.held)))
 

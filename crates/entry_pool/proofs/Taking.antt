@@ -256,7 +256,7 @@ module _ (v u : PassSight) (list : Roomed ℕ) (h : HasList v u list) where
                 (and_both (events_in word == at) (length list.items == 0) (eq-eqb (events_in word) at (sym point)) (ap (λ xs. length xs == 0) none));
             full = omega (
               arith,
-              o.full list.items turn,
+              o.free.full list.items turn,
               ap length none,
               ap (λ es. length (records_after es)) ef,
               ap (λ (y : PassSight). kept_places y.view) h.same,
@@ -269,7 +269,7 @@ module _ (v u : PassSight) (list : Roomed ℕ) (h : HasList v u list) where
                 let same_below : p < (sizes_of u).entries = omega (arith, below, ap (λ z. z.entries) sizes_same) in
                 omega (
                   arith,
-                  o.used list.items turn same_alone p same_below,
+                  o.free.used list.items turn same_alone p same_below,
                   ap (times p) none,
                   ap (λ es. total (of_place p) (records_after es)) ef,
                   ap (λ (y : PassSight). uses p y.view) h.same,

@@ -183,6 +183,6 @@ blocks flow place n word at rival v u w blocked r laws looks kept loads kept' at
           directed = refl;
           same = r.both;
         };
-        unused = unused_place (sizes_of v) u.view.seen.front looks.all.legal laws place (looks.taken place blocked.taken);
+        unused = unused_place (sizes_of v) u.view.seen.front looks.all.legal laws place (looks.held.taken place blocked.taken);
       });
     }

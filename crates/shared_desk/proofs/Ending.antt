@@ -15,9 +15,9 @@ use Rattle.history_book.specs.declared.record.Record.{Record}
 use Rattle.history_book.specs.declared.sizes.Sizes.{Sizes}
 use Rattle.track_rule.specs.BucketSteps.{lower, taken_from, without_link}
 use Rattle.track_rule.specs.Chains.{chain_in, pair_of}
-use Rattle.track_rule.specs.History.{records_after, state_after}
+use Rattle.track_rule.specs.History.{IsNumber, records_after, state_after}
 use Rattle.track_rule.specs.Commits.{HasItsTurn}
-use Rattle.track_rule.specs.KillSteps.{CanDestroy, HasDestroy, HasDestroyed, MayDestroy, MayDie, OfDying, ShowsDead, destroy_in, destroyed, loose_hook, shown_dead, without_its}
+use Rattle.track_rule.specs.KillSteps.{CanDestroy, HasDestroyed, MakesDestroy, MayDestroy, MayDie, OfDying, ShowsDead, destroy_in, destroyed, loose_hook, shown_dead, without_its}
 use Rattle.track_rule.specs.Links.{hook_of, is_up}
 use Rattle.track_rule.specs.Sights.{PassSight, sizes_of}
 use Rattle.track_rule.specs.Steps.{AreAll, hooks_else}
@@ -89,8 +89,8 @@ module _ (place : ℕ) (r : Record) (why : Why) (locked : Buckets) (v : PassSigh
 
     -- the Destroy is made
     module _ (n : ℕ) (w : PassSight) (adds : HasDestroyed (destroy_in (Destroy r.id why)) u.view n w.view) (kept' : w ≡ record u { view = w.view }) where
-      has : HasDestroy (record { id = r.id; why = why }) u.view n w.view r
-      has = subst (OfDying (HasDestroy (record { id = r.id; why = why }) u.view n w.view)) dying adds
+      has : MakesDestroy (record { id = r.id; why = why }) u.view (IsNumber n) w.view r
+      has = subst (OfDying (MakesDestroy (record { id = r.id; why = why }) u.view (IsNumber n) w.view)) dying adds
 
       abbrev after : View
       after = destroyed has.log (record { id = r.id; why = why }) r (shown_dead place r v.view)
@@ -155,7 +155,7 @@ module _ (place : ℕ) (r : Record) (why : Why) (locked : Buckets) (v : PassSigh
           record {
             log = has.log;
             all = record { front = a.front; told = a.told; legal = a.legal; few = a.few; passes = a.passes; shares = a.shares; alone = a.alone };
-            number_is = has.number;
+            number_is = has.told;
             legal = subst (λ (x : View). is_legal x.passes.sizes (has.log ++ destroy_of r why ∷ []) ≡ true) dead.view has.legal;
             found = has.before;
           }
@@ -184,7 +184,7 @@ module _ (place : ℕ) (r : Record) (why : Why) (locked : Buckets) (v : PassSigh
                 view = record v.view {
                   seen = record v.view.seen {
                     front = has.log ++ destroy_of r why ∷ [];
-                    own = v.view.seen.own ++ record { number = sym has.number i; event = destroy_of r why } ∷ [];
+                    own = v.view.seen.own ++ record { number = sym has.told i; event = destroy_of r why } ∷ [];
                   };
                   places = record v.view.places { carried = place ∷ v.view.places.carried; ended = dead.placed i ∷ v.view.places.ended };
                   buckets = sym buckets_are i;

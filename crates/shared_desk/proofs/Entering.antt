@@ -13,9 +13,10 @@ use Rattle.proto_rules.specs.Protocol.{proto_of}
 use Rattle.tuple_core.specs.Tuple.{is_valid}
 use Rattle.tuple_core.specs.Words.{address_word, flow_word}
 use Rattle.tuple_core.specs.declared.Tuple.{Tuple}
+use Rattle.track_rule.specs.History.{IsNumber}
 use Rattle.track_rule.specs.BucketSteps.{put_in, raise}
 use Rattle.track_rule.specs.Chains.{bucket_of, chain_in, entry_of, pair_of, shuts_of, side}
-use Rattle.track_rule.specs.CommitSteps.{CanConfirm, HasConfirmed, HasLink, confirmed, has_pair, held_for, shown_live, told_in}
+use Rattle.track_rule.specs.CommitSteps.{CanConfirm, HasLink, MakesConfirm, confirmed, has_pair, held_for, shown_live, told_in}
 use Rattle.track_rule.specs.Free.{taken_out, unlisted}
 use Rattle.track_rule.specs.Layout.{side_of}
 use Rattle.track_rule.specs.Links.{hook_of, hooks_of, is_down, is_raised}
@@ -305,12 +306,12 @@ taken_front place places = ap (λ (b : Bool). if b then places else place ∷ ta
 -- the Confirm and LIVE, after the links and the table's reference
 pub committed : (place : ℕ) (flow : Flow) (locked : Buckets) (n : ℕ) (r : Record) (v u w x y : PassSight) → r ≡ record_for flow 0 place → CanCommit place flow locked v
     → ChangesBuckets (linked_buckets (sizes_of v) place v.view.buckets) v u → AddsReference place u w
-    → HasConfirmed r w.view n x.view → x ≡ record w { view = x.view }
+    → MakesConfirm r w.view (IsNumber n) x.view → x ≡ record w { view = x.view }
     → ((q : Record) → x.view.commit.middle ≡ Born q → y ≡ record x { view = shown_live place n q x.view })
     → Commits place flow n v y
 committed place flow locked n r v u w x y is can changes adds confirms kept shows =
     let whole = entering place v u w changes adds in
-    let has : HasConfirmed (record_for flow 0 place) w.view n x.view = subst (λ (q : Record). HasConfirmed q w.view n x.view) is confirms in
+    let has : MakesConfirm (record_for flow 0 place) w.view (IsNumber n) x.view = subst (λ (q : Record). MakesConfirm q w.view (IsNumber n) x.view) is confirms in
     let live : y ≡ record x { view = shown_live place n (record_for flow (length has.log) place) x.view } =
     shows (record_for flow (length has.log) place) (ap (λ (k : View). k.commit.middle) has.view) in
     let born_view : x.view ≡ confirmed has.log (record_for flow 0 place) (record v.view {
@@ -331,11 +332,11 @@ committed place flow locked n r v u w x y is can changes adds confirms kept show
       walk = u.view.walk;
       readings = w.view.readings;
     }) has.log = subst (λ (k : PassSight). AreAll k.view has.log) whole has.all in
-    let num : length has.log ≡ n = sym has.number in
+    let num : length has.log ≡ n = sym has.told in
     record {
       log = has.log;
       all = record { front = all.front; told = all.told; legal = all.legal; few = all.few; passes = all.passes; shares = all.shares; alone = all.alone };
-      number = has.number;
+      number = has.told;
       legal = subst (λ (k : ℕ). is_legal (sizes_of v) (has.log ++ Confirm (record_for flow k place) ∷ []) ≡ true) num
           (subst (λ (k : PassSight). is_legal (sizes_of k) (has.log ++ Confirm (record_for flow (length has.log) place) ∷ []) ≡ true) whole has.legal);
       same = ap (λ (k : PassSight). record k { view = y.view }) live ∙ ap (λ (k : PassSight). record k { view = y.view }) kept ∙ ap (λ (k : PassSight). record k { view = y.view }) whole
@@ -362,9 +363,9 @@ committed place flow locked n r v u w x y is can changes adds confirms kept show
 
 -- the place is held after the Confirm
 pub held_after : (place : ℕ) (flow : Flow) (locked : Buckets) (n : ℕ) (r : Record) (v u w x : PassSight) → r ≡ record_for flow 0 place → CanCommit place flow locked v
-    → ChangesBuckets (linked_buckets (sizes_of v) place v.view.buckets) v u → AddsReference place u w → HasConfirmed r w.view n x.view
+    → ChangesBuckets (linked_buckets (sizes_of v) place v.view.buckets) v u → AddsReference place u w → MakesConfirm r w.view (IsNumber n) x.view
     → is_held place x.view.places.held ≡ true
 held_after place flow locked n r v u w x is can changes adds confirms =
-    let has : HasConfirmed (record_for flow 0 place) w.view n x.view = subst (λ (q : Record). HasConfirmed q w.view n x.view) is confirms in
+    let has : MakesConfirm (record_for flow 0 place) w.view (IsNumber n) x.view = subst (λ (q : Record). MakesConfirm q w.view (IsNumber n) x.view) is confirms in
     ap (λ (k : View). is_held place k.places.held) has.view
     ∙ held_still place (length has.log) w.view.places.held (ap (λ (k : PassSight). is_taken place k.view.places.held) (entering place v u w changes adds) ∙ can.taken)

@@ -88,4 +88,4 @@ module _ (place n word : ℕ) (v u w : PassSight) (h : HasRecord place v)
     live_now =
         let hand : u.view.commit.hand ≡ Some h.hand = ap (λ (x : View). x.commit.hand) loads.view ∙ h.known in
         ap (λ (k : ℕ). record_of (k - 3) (state_after w.view.seen.front)) (sym phase_is)
-        ∙ sym (looks.hand h.hand hand (omega (arith, live, phase_is))) ∙ subject_is
+        ∙ sym (looks.hand.subject h.hand hand (omega (arith, live, phase_is))) ∙ subject_is

@@ -12,8 +12,8 @@ use Rattle.history_book.specs.declared.sizes.Sizes.{Sizes}
 use Rattle.track_rule.specs.ChangesOnly.{ChangesAndFrees, ChangesWords, either, frees_what_it_gave, has_change, is_expect_turn, is_free_turn, is_freeing, is_gen_of, is_head_of, is_history, is_last_given, is_live_of, is_next_of, is_of_kind, is_phase_of, is_refs_of, is_some_next, is_some_phase, is_some_refs, is_tuple_of, is_turn_of, no_word, where_so}
 use Rattle.track_rule.specs.CommitSteps.{HasAdded, subject_of}
 use Rattle.track_rule.specs.ExpectSteps.{HasClaimed, HasExpected, HasUnexpected, claim_in, expect_in, unexpect_in}
-use Rattle.track_rule.specs.History.{packed}
-use Rattle.track_rule.specs.KillSteps.{HasDestroy, HasDestroyed, OfDying, destroy_in}
+use Rattle.track_rule.specs.History.{IsNumber, packed}
+use Rattle.track_rule.specs.KillSteps.{HasDestroyed, MakesDestroy, OfDying, destroy_in}
 use Rattle.track_rule.specs.Links.{kind_of}
 use Rattle.track_rule.specs.Layout.{first_word, gen_word, phase_word, place_of, refs_word, second_word, turn_word}
 use Rattle.track_rule.specs.Readings.{added, found, stored}
@@ -84,10 +84,10 @@ destroy_adds (Touch id direction segment moment after) v w n adds = absurd adds
 destroy_adds (Destroy id why) v w n adds = by_middle v.commit.middle refl
   where
     by_middle : (m : Middle) → v.commit.middle ≡ m → ChangesWords is_history v w
-    by_middle Calm e = absurd (subst (OfDying (HasDestroy (record { id = id; why = why }) v n w)) e adds)
-    by_middle (Born r) e = absurd (subst (OfDying (HasDestroy (record { id = id; why = why }) v n w)) e adds)
+    by_middle Calm e = absurd (subst (OfDying (MakesDestroy (record { id = id; why = why }) v (IsNumber n) w)) e adds)
+    by_middle (Born r) e = absurd (subst (OfDying (MakesDestroy (record { id = id; why = why }) v (IsNumber n) w)) e adds)
     by_middle (Dying r) e =
-        let has : HasDestroy (record { id = id; why = why }) v n w r = subst (OfDying (HasDestroy (record { id = id; why = why }) v n w)) e adds in
+        let has : MakesDestroy (record { id = id; why = why }) v (IsNumber n) w r = subst (OfDying (MakesDestroy (record { id = id; why = why }) v (IsNumber n) w)) e adds in
         by_view is_history _ v w _ has.view refl refl refl
 destroy_adds (Expect expectation replaced moment) v w n adds = absurd adds
 destroy_adds (Claim expectation master tuple moment) v w n adds = absurd adds
