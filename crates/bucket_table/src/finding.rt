@@ -16,7 +16,9 @@ use entry_pool::hold::{TryHold, release, try_hold};
 use history_book::outcome::ReleaseOutcome;
 use history_book::sizes::Sizes;
 use track_rule::layout::refs_word;
+use track_rule::history_word::events_in;
 use track_rule::pass::Pass;
+use track_rule::place_phase::LIVE;
 use track_rule::word_places::gen_word;
 use tuple_core::{Direction, Tuple, bucket_of, words};
 
@@ -43,9 +45,6 @@ pub enum FindOnce {
         owed: Option<u32>,
     },
 }
-
-/// The least phase of a place that is LIVE.
-pub const LIVE: u64 = 3;
 
 /// An entry that is live at a place, and the point at which it was.
 #[derive(Clone, Copy)]
@@ -83,7 +82,7 @@ pub fn live_at(pass: &mut Pass, place: u32) -> Option<Shown>
     if phase < LIVE {
         return None;
     }
-    let at = pass.history_load() % (1 << 40);
+    let at = events_in(pass.history_load());
     if pass.phase_load(place) != phase {
         return None;
     }

@@ -9,6 +9,7 @@ ghost use Rattle.track_rule.specs.Links.{last_link};
 ghost use Rattle.track_rule.specs.Sights.{sizes_of};
 
 use history_book::sizes::Sizes;
+use track_rule::history_word::events_in;
 use track_rule::pass::Pass;
 use track_rule::word_places::{first_word, gen_word, head_word, next_word, second_word};
 use tuple_core::{Direction, Tuple, bucket_of, words};
@@ -115,7 +116,7 @@ fn end(pass: &mut Pass, word: u32, goal: &Goal) -> Followed
     let now = pass.gen_load(goal.bucket);
     if now == goal.generation {
         Followed::End {
-            at: history % (1 << 40),
+            at: events_in(history),
         }
     } else {
         Followed::Moved {

@@ -4,21 +4,14 @@ ghost use Rattle.std.specs.Prelude.{◌≡◌, ◌+◌, ◌≤◌, true, None, l
 ghost use Rattle.entry_pool.specs.Take.{IsBelow, IsGivenBack, OpenSays, Recycles, TakeSays, recycle_words, take_words};
 ghost use Rattle.track_rule.specs.ChangesOnly.{ChangesWords};
 ghost use Rattle.track_rule.specs.Free.{is_among};
-ghost use Rattle.track_rule.specs.History.{events_in};
 ghost use Rattle.track_rule.specs.Sights.{sizes_of};
 
 use crate::turn::{give_list, take_list};
 use history_book::outcome::TakeOutcome;
 use std::sync::Wait;
+use track_rule::history_word::events_in;
 use track_rule::pass::Pass;
 use track_rule::place_phase::{FREE, OWNED};
-
-/// The number of events that the history word says.
-fn events_in(word: u64) -> u64
-    ensures { result ≡ events_in word }
-{
-    word % (1 << 40)
-}
 
 /// Makes the first reference to a free place.
 fn open_place<R: Wait>(rt: &R, pass: &mut Pass) -> TakeOutcome

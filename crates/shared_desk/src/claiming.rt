@@ -9,13 +9,13 @@ ghost use Rattle.shared_desk.specs.Touching.{Notes};
 ghost use Rattle.track_rule.specs.ExpectTurns.{CanGiveExpected};
 ghost use Rattle.track_rule.specs.Sights.{sizes_of};
 
-use crate::clerk::events_in;
 use crate::expect_turn::{give_expects, take_expects};
 use expect_table::table::ExpectTable;
 use history_book::event::{Event, Note};
 use history_book::outcome::{ClaimOutcome, UnexpectOutcome};
 use history_book::report::Expectations;
 use std::sync::Wait;
+use track_rule::history_word::events_in;
 use track_rule::pass::Pass;
 use tuple_core::Tuple;
 

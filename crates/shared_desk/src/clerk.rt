@@ -11,7 +11,6 @@ ghost use Rattle.history_book.specs.Split.{CanSplit, Splits};
 ghost use Rattle.track_rule.specs.ChangesOnly.{ChangesWords, is_refs_of, is_some_refs, no_word};
 ghost use Rattle.shared_desk.specs.FindsOnce.{FindOnceSays};
 ghost use Rattle.shared_desk.specs.Sights.{sight_of};
-ghost use Rattle.track_rule.specs.History.{events_in, live_in};
 
 use crate::lookup::find_once;
 use crate::tracker::Spot;
@@ -22,6 +21,7 @@ use history_book::outcome::{LiveCount, ReleaseOutcome};
 use history_book::report::Notes;
 use std::alloc::Global;
 use std::marker::Model;
+use track_rule::history_word::{events_in, live_in};
 use track_rule::pass::Pass;
 use tuple_core::Tuple;
 
@@ -46,20 +46,6 @@ impl<'t, G: Gate> Model for Clerk<'t, G> {
     ghost view = { λ c. record { pass = c.pass; spare = c.spare } };
 
     ghost invariant = { λ c. IsAtRest c.pass c.notes c.spare };
-}
-
-/// The number of events that the history word says.
-pub(crate) fn events_in(word: u64) -> u64
-    ensures { result ≡ events_in word }
-{
-    word % (1 << 40)
-}
-
-/// The number of live entries that it says.
-pub(crate) fn live_in(word: u64) -> u32
-    ensures { result ≡ live_in word }
-{
-    (word / (1 << 40)) as u32
 }
 
 impl<'t, G: Gate> Clerk<'t, G> {

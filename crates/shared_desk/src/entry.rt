@@ -8,17 +8,17 @@ ghost use Rattle.shared_desk.specs.Looking.{HasRecord, IsFreeFor, Peeks};
 ghost use Rattle.shared_desk.specs.Touching.{Notes, SuitsEntry, touch_note, Touches, TouchesUnder};
 ghost use Rattle.track_rule.specs.TurnSteps.{subject_in};
 
-use crate::clerk::events_in;
 use crate::commit::take_turn;
 use crate::killing::judge;
 use crate::touching::{MadeTouch, Packet, step_record};
-use bucket_table::finding::LIVE;
 use history_book::event::{Note, Why};
 use history_book::laws::entries_keep_their_protocol;
 use history_book::outcome::{KillOutcome, PeekOutcome, TouchOutcome};
 use history_book::record::Record;
 use std::sync::Wait;
+use track_rule::history_word::events_in;
 use track_rule::pass::Pass;
+use track_rule::place_phase::LIVE;
 
 /// The record that is out of its slot, or none. It stays there.
 pub fn record_out(pass: &mut Pass, place: u32) -> Option<Record>

@@ -10,11 +10,9 @@ ghost use Rattle.shared_desk.specs.Looking.{HasRecord, IsFreeFor};
 ghost use Rattle.shared_desk.specs.Touching.{Notes};
 ghost use Rattle.track_rule.specs.ExpectTurns.{CanGiveExpected};
 
-use crate::clerk::events_in;
 use crate::commit::take_turn;
 use crate::entry::record_out;
 use crate::expect_turn::{give_expects, take_expects};
-use bucket_table::finding::LIVE;
 use expect_table::expectation::{Expectation, Want};
 use expect_table::table::{AddOutcome, ExpectTable};
 use history_book::event::{Event, Note};
@@ -22,7 +20,9 @@ use history_book::laws::{entries_keep_their_helper, expectations_are_in_order};
 use history_book::legality::expectation_at;
 use history_book::outcome::ExpectOutcome;
 use std::sync::Wait;
+use track_rule::history_word::events_in;
 use track_rule::pass::Pass;
+use track_rule::place_phase::LIVE;
 
 /// Adds what a live entry expects from a moment on to the table, whose turn the pass has, under the number of its event. Its id is the
 /// point at which it is not added otherwise.

@@ -7,15 +7,16 @@ ghost use Rattle.shared_desk.specs.Holding.{CanHold, Finds, HasNewest, HasSome, 
 ghost use Rattle.shared_desk.specs.Looking.{HasRecord};
 ghost use Rattle.track_rule.specs.declared.view.Purpose.TheVariants.{Testing};
 
-use crate::clerk::events_in;
 use crate::commit::take_turn;
-use bucket_table::finding::{LIVE, live_at};
+use bucket_table::finding::live_at;
 use entry_pool::hold::{TryHold, release, try_hold};
 use entry_pool::take::recycle;
 use history_book::outcome::{HoldOutcome, ReleaseOutcome};
 use std::sync::Wait;
 use std::thread;
+use track_rule::history_word::events_in;
 use track_rule::pass::Pass;
+use track_rule::place_phase::LIVE;
 
 /// Looks which entry is live in the place to which the pass has just got a reference, and holds it for that.
 fn name_entry(pass: &mut Pass, place: u32) -> Option<HoldOutcome>

@@ -5,13 +5,13 @@ ghost use Rattle.bucket_table.specs.Finding.{CanTest};
 ghost use Rattle.track_rule.specs.ChangesOnly.{ChangesWords, is_some_refs};
 ghost use Rattle.shared_desk.specs.Lookups.{LooksOnce};
 
-use crate::clerk::events_in;
 use bucket_table::finding;
 use bucket_table::finding::FindOnce;
 use history_book::laws::{
     live_records_are_confirmed, records_are_apart, records_are_of_one_protocol,
     same_tuple_is_equality,
 };
+use track_rule::history_word::events_in;
 use track_rule::pass::Pass;
 use tuple_core::{Tuple, is_valid, words_determine_the_tuple};
 

@@ -8,12 +8,12 @@ ghost use Rattle.track_rule.specs.ChangesOnly.{ChangesWords, no_word};
 ghost use Rattle.shared_desk.specs.Rival.{Clashes, IsBlocked, has_both, rival_in};
 ghost use Rattle.track_rule.specs.Sights.{sizes_of};
 
-use crate::clerk::events_in;
 use bucket_table::lock::Locked;
 use bucket_table::locked_chain::{walk, walk_reply};
 use history_book::laws::{records_are_apart, records_are_of_one_protocol, same_tuple_is_equality};
 use history_book::outcome::ConfirmOutcome;
 use history_book::record::Flow;
+use track_rule::history_word::events_in;
 use track_rule::pass::Pass;
 use tuple_core::{Direction, words_determine_the_tuple};
 

@@ -8,12 +8,13 @@ ghost use Rattle.history_book.specs.Sight.{IsKnown};
 ghost use Rattle.history_book.specs.Sizes.{AreWithinLimits};
 ghost use Rattle.shared_desk.specs.Sights.{sight_of};
 
-use crate::clerk::{Clerk, events_in, live_in};
+use crate::clerk::Clerk;
 use ct_io::Gate;
 use history_book::report::{Closed, Notes};
 use history_book::sizes::Sizes;
 use std::alloc::Global;
 use std::marker::Model;
+use track_rule::history_word::{events_in, live_in};
 use track_rule::pass::{Board, Pass, Stub};
 use tuple_core::NoMemory;
 

@@ -4,10 +4,10 @@
 ghost use Rattle.std.specs.Prelude.{◌≡◌, ◌<◌, ◌^◌, true};
 ghost use Rattle.track_rule.specs.declared.view.Middle.TheVariants.{Born};
 ghost use Rattle.track_rule.specs.CommitSteps.{AddStep, CanAdd, HasAdded, IsBorn, LiveStep, shown_live, subject_of};
-ghost use Rattle.track_rule.specs.History.{events_in};
 ghost use Rattle.track_rule.specs.Records.{has_hand};
 ghost use Rattle.track_rule.specs.References.{is_held};
 
+use crate::history_word::events_in;
 use crate::pass::Pass;
 use crate::place_phase::phase_word;
 use crate::slot::Slot;
@@ -50,13 +50,6 @@ impl Play<Slot, View> for StoreLive {
 
 /// What a Confirm adds to the history word: one event, and one live record.
 const CONFIRM: u64 = 1 + (1 << 40);
-
-/// The number of events that the history word says.
-pub(crate) fn events_in(word: u64) -> u64
-    ensures { result ≡ events_in word }
-{
-    word % (1 << 40)
-}
 
 impl<'b> Pass<'b> {
     /// Makes the Confirm of a record; the caller picks the event.

@@ -5,7 +5,8 @@ ghost use Rattle.std.specs.Prelude.{◌≡◌};
 ghost use Rattle.track_rule.specs.ExpectSteps.{CanChange, CanClaim, CanExpect, CanUnexpect, ChangeStep, HasClaimed, HasExpected, HasUnexpected, MakesChange, claim_in, expect_in, unexpect_in};
 ghost use Rattle.track_rule.specs.History.{IsNumber};
 
-use crate::commits::{Added, events_in};
+use crate::commits::Added;
+use crate::history_word::events_in;
 use crate::layout::HISTORY_WORD;
 use crate::pass::Pass;
 use crate::slot::Slot;

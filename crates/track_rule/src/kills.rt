@@ -8,7 +8,8 @@ ghost use Rattle.track_rule.specs.Records.{has_hand};
 ghost use Rattle.track_rule.specs.References.{is_held};
 ghost use Rattle.track_rule.specs.TouchSteps.{known_phase, known_record};
 
-use crate::commits::{Added, events_in};
+use crate::commits::Added;
+use crate::history_word::events_in;
 use crate::layout::HISTORY_WORD;
 use crate::pass::Pass;
 use crate::place_phase::phase_word;

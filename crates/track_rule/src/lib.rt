@@ -9,6 +9,7 @@ pub mod commits;
 pub mod expect_events;
 pub mod expect_turn;
 pub mod free_list;
+pub mod history_word;
 pub mod kills;
 pub mod laws;
 pub mod layout;

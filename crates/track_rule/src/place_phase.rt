@@ -20,6 +20,9 @@ pub const FREE: u64 = 0;
 /// The phase of a place that a pass has taken for a new entry.
 pub const OWNED: u64 = 1;
 
+/// The least phase of a place that is LIVE: it is this one and the id of the entry.
+pub const LIVE: u64 = 3;
+
 /// A load of a phase.
 pub struct LoadPhase;
 

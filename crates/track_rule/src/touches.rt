@@ -3,7 +3,8 @@
 ghost use Rattle.std.specs.Prelude.{◌≡◌};
 ghost use Rattle.track_rule.specs.TouchSteps.{CanTouch, HasTouched, TouchStep, touch_in};
 
-use crate::commits::{Added, events_in};
+use crate::commits::Added;
+use crate::history_word::events_in;
 use crate::layout::HISTORY_WORD;
 use crate::pass::Pass;
 use crate::slot::Slot;
