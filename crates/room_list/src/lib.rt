@@ -43,6 +43,15 @@ impl<T> RoomList<T> {
         }
     }
 
+    /// An empty list that would take its memory where this one does. It takes none yet.
+    pub fn empty_like(&self) -> Self
+        ensures { result.items ≡ [] }
+    {
+        RoomList {
+            items: Vec::new(*self.items.allocator()),
+        }
+    }
+
     /// An empty list with room for at least `room` items.
     pub fn new(alloc: Global, room: usize) -> Result<Self, NoMemory>
         ensures empty { IfOk result (λ l. l.items ≡ []) }

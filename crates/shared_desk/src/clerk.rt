@@ -19,7 +19,6 @@ use ct_io::Gate;
 use entry_pool::hold::release;
 use history_book::outcome::{LiveCount, ReleaseOutcome};
 use history_book::report::Notes;
-use std::alloc::Global;
 use std::marker::Model;
 use track_rule::history_word::{events_in, live_in};
 use track_rule::pass::Pass;
@@ -30,7 +29,6 @@ use tuple_core::Tuple;
 #[derive(Drop)]
 pub struct Clerk<'t, G: Gate> {
     pub(crate) pass: Pass<'t>,
-    pub(crate) alloc: Global,
     pub(crate) notes: Notes,
     pub(crate) spare: u64,
     pub(crate) gate: &'t G,
@@ -57,14 +55,12 @@ impl<'t, G: Gate> Clerk<'t, G> {
     {
         let Clerk {
             pass,
-            alloc,
             notes,
             spare,
             ..
         } = self;
         Spot {
             stub: pass.leave(),
-            alloc,
             notes,
             spare,
         }
@@ -80,8 +76,7 @@ impl<'t, G: Gate> Clerk<'t, G> {
         let pass = self.pass.split(shares);
         Clerk {
             pass,
-            alloc: self.alloc,
-            notes: Notes::empty(self.alloc),
+            notes: self.notes.empty_like(),
             spare: 0,
             gate: self.gate,
             worker,

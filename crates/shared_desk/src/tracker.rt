@@ -37,7 +37,6 @@ impl Model for Tracker {
 #[derive(Drop)]
 pub struct Spot {
     pub(crate) stub: Stub,
-    pub(crate) alloc: Global,
     pub(crate) notes: Notes,
     pub(crate) spare: u64,
 }
@@ -64,7 +63,6 @@ impl Tracker {
         let (board, stub) = Pass::first(alloc, sizes)?;
         let spot = Spot {
             stub,
-            alloc,
             notes: Notes::empty(alloc),
             spare: 0,
         };
@@ -78,15 +76,9 @@ impl Tracker {
         ensures same { result ≡ spot }
         ensures knows { IsKnown (sight_of result) }
     {
-        let Spot {
-            stub,
-            alloc,
-            notes,
-            spare,
-        } = spot;
+        let Spot { stub, notes, spare } = spot;
         Clerk {
             pass: self.board.pass(stub),
-            alloc,
             notes,
             spare,
             gate,
