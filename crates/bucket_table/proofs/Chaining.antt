@@ -1,10 +1,10 @@
 -- The words that are changed where links are put in and taken out, and where buckets are locked.
-use Rattle.std.specs.Prelude.{◌==◌, ◌&&◌, ◌||◌, nat_le, nat_lt, not, drop}
-use Rattle.std.proofs.Common.{◌≡◌, ℕ, ◌+◌, ◌*◌, ◌<◌, ◌≤◌, Bool, true, false, List, [], ◌∷◌, ◌++◌, length, refl, sym, ap, ◌∙◌, subst, arith}
+use Rattle.std.specs.Prelude.{◌==◌, ◌||◌, nat_le, nat_lt, not}
+use Rattle.std.proofs.Common.{◌≡◌, ℕ, ◌+◌, ◌*◌, ◌<◌, ◌≤◌, Bool, true, false, List, [], ◌∷◌, refl, sym, ap, ◌∙◌, subst, arith}
 use Rattle.std.proofs.lemmas.Bool.{and_from, eq-eqb, eqb-true, false≢true, le-leb, lt-ltb, or_left, or_right}
 use Rattle.history_book.specs.declared.sizes.Sizes.{Sizes}
 use Rattle.track_rule.specs.BucketSteps.{LoadsLink, Strings, end_word}
-use Rattle.track_rule.specs.ChangesOnly.{ChangesWords, either, is_gen_of, is_head_of, is_next_of, is_of_kind, is_some_next, is_some_refs, no_word}
+use Rattle.track_rule.specs.ChangesOnly.{ChangesWords, either, is_gen_of, is_head_of, is_next_of, is_of_kind, is_some_next, is_some_refs}
 use Rattle.track_rule.specs.Layout.{gen_word, head_word, next_word, place_of, refs_word}
 use Rattle.tuple_core.specs.declared.Tuple.{Tuple}
 use Rattle.bucket_table.specs.Finding.{FindOnceSays}

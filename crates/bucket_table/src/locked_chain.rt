@@ -101,8 +101,8 @@ pub fn link(pass: &mut Pass, locked: &Locked, place: u32)
     requires reply_ready { IsReady (sizes_of pass.old) locked.now (reply_link place) pass.old.view.buckets.hooks }
     ensures links { ChangesBuckets (linked_buckets (sizes_of pass.old) place pass.old.view.buckets) pass.old pass.new }
     ensures words { ChangesWords
-      (link_words (hook_bucket (sizes_of pass.old) (original_link place) pass.old.view.buckets.hooks) (hook_bucket (sizes_of pass.old) (reply_link place) pass.old.view.buckets.hooks) place)
-      pass.old.view pass.new.view }
+        (link_words (hook_bucket (sizes_of pass.old) (original_link place) pass.old.view.buckets.hooks) (hook_bucket (sizes_of pass.old) (reply_link place) pass.old.view.buckets.hooks) place)
+        pass.old.view pass.new.view }
 {
     let _ = locked;
     let sizes = pass.sizes();
@@ -124,8 +124,8 @@ pub fn unlink(pass: &mut Pass, locked: &Locked, place: u32)
     requires reply_ready { IsReady (sizes_of pass.old) locked.now (reply_link place) pass.old.view.buckets.hooks }
     ensures unlinks { ChangesBuckets (unlinked_buckets (sizes_of pass.old) place pass.old.view.buckets) pass.old pass.new }
     ensures words { ChangesWords
-      (unlink_words (hook_bucket (sizes_of pass.old) (original_link place) pass.old.view.buckets.hooks) (hook_bucket (sizes_of pass.old) (reply_link place) pass.old.view.buckets.hooks))
-      pass.old.view pass.new.view }
+        (unlink_words (hook_bucket (sizes_of pass.old) (original_link place) pass.old.view.buckets.hooks) (hook_bucket (sizes_of pass.old) (reply_link place) pass.old.view.buckets.hooks))
+        pass.old.view pass.new.view }
 {
     let _ = locked;
     let sizes = pass.sizes();

@@ -5,7 +5,7 @@ use Rattle.std.proofs.Common.{◌≡◌, ◌≢◌, ℕ, ◌+◌, ◌<◌, ◌�
 use Rattle.std.proofs.lemmas.Bool.{and_from, and_left, and_right, cases_Bool, cases_eq, cases_lt, eq-eqb, eqb-true, le-leb, lt-leb, ne_eqb, or_left, or_parts}
 use Rattle.history_book.specs.declared.sizes.Sizes.{Sizes}
 use Rattle.track_rule.proofs.Changing.{by_own, by_pass, joined, word_is}
-use Rattle.track_rule.specs.ChangesOnly.{ChangesWords, is_free_turn, is_phase_of, is_refs_of, places_taken}
+use Rattle.track_rule.specs.ChangesOnly.{ChangesWords, is_free_turn, is_phase_of, places_taken}
 use Rattle.entry_pool.specs.GoesOn.{ReadingsStand}
 use Rattle.history_book.specs.declared.outcome.TakeOutcome.TheVariants as outcome
 use Rattle.room_list.specs.Roomed.{Roomed}

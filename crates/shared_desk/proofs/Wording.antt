@@ -67,8 +67,8 @@ gave_expects v w slots e = by_pass is_expect_turn (stored 2 0) v w _ e refl refl
 
 -- EVENTS
 
-pub confirm_words : (r : Record) (v w : View) (n : ℕ) → HasAdded (Some r) v n w → ChangesWords is_history v w
-confirm_words r v w n adds = by_view is_history _ v w _ adds.view refl refl refl
+pub confirm_adds : (r : Record) (v w : View) (n : ℕ) → HasAdded (Some r) v n w → ChangesWords is_history v w
+confirm_adds r v w n adds = by_view is_history _ v w _ adds.view refl refl refl
 
 pub touch_adds : (e : Event) (v w : View) (n : ℕ) → HasTouched (touch_in e) v n w → ChangesWords is_history v w
 touch_adds (Confirm r) v w n adds = absurd adds

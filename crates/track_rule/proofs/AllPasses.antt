@@ -10,7 +10,7 @@ use Rattle.history_book.specs.declared.sizes.Sizes.{Sizes}
 use Rattle.track_rule.specs.declared.view.View.{View}
 use Rattle.track_rule.specs.Free.{has_turn, owes, turn_of}
 use Rattle.track_rule.specs.History.{records_after}
-use Rattle.track_rule.specs.Laws.{CountsUsers, KeepsTableRule, KeptLeavesAUse, LastReferenceIsAlone, OnePassHasTheList, ReleasesStayOut, TableState, TakenPlacesAreNew, TheListIsKnown, WordsCountUsers, entries_of, part_in, part_of, uses_in}
+use Rattle.track_rule.specs.Laws.{KeepsTableRule, KeptLeavesAUse, LastReferenceIsAlone, OnePassHasTheList, ReleasesStayOut, TableState, TakenPlacesAreNew, TheListIsKnown, WordsCountUsers, entries_of, part_in, part_of, uses_in}
 use Rattle.track_rule.specs.Layout.{phase_at, refs_at}
 use Rattle.track_rule.specs.Phases.{middle_of, of_place, table_keeps}
 use Rattle.track_rule.specs.References.{keeps}

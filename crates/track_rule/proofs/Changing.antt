@@ -1,16 +1,14 @@
 -- The words that calls change, one call after the other.
-use Rattle.std.specs.Prelude.{◌==◌, ◌&&◌, ◌||◌, nat_le, nat_lt, not, drop, filter, if◌then◌else◌}
-use Rattle.std.specs.List.{list_all, list_any}
-use Rattle.std.proofs.Common.{◌≡◌, ℕ, ◌+◌, ◌*◌, ◌<◌, ◌≤◌, Bool, true, false, List, [], ◌∷◌, ◌++◌, length, refl, sym, ap, ◌∙◌, subst, append_assoc, arith}
-use Rattle.std.proofs.lemmas.Bool.{and_from, and_left, and_parts, and_right, eq-eqb, eqb-true, false≢true, le-leb, leb-true, le-ltb, lt-leb, lt-ltb, ltb-true, ne_eqb, or_from, or_left, or_parts, or_right}
+use Rattle.std.specs.Prelude.{◌==◌, ◌&&◌, ◌||◌, nat_le, not, drop}
+use Rattle.std.proofs.Common.{◌≡◌, ℕ, ◌+◌, ◌*◌, ◌<◌, Bool, true, false, List, [], ◌∷◌, ◌++◌, length, refl, sym, ap, ◌∙◌, append_assoc, arith}
+use Rattle.std.proofs.lemmas.Bool.{and_from, and_left, and_parts, and_right, false≢true, lt-leb, ne_eqb, or_from, or_left, or_parts, or_right}
 use Rattle.std.proofs.lemmas.List.Folds.{list_all-append, list_any-append}
-use Rattle.std.proofs.Math.Seq.{drop-append_seam}
 use Rattle.history_book.specs.declared.sizes.Sizes.{Sizes}
-use Rattle.track_rule.specs.ChangesOnly.{ChangesAndFrees, ChangesOnly, ChangesWords, changes_only, either, frees_what_it_gave, has_change, is_expect_turn, is_free_turn, is_freeing, is_gen_of, is_head_of, is_history, is_last_given, is_live_of, is_next_of, is_of_kind, is_phase_of, is_refs_of, is_some_next, is_some_phase, is_some_refs, is_tuple_of, is_turn_of, no_word, places_taken, where_so}
-use Rattle.track_rule.specs.Layout.{gen_word, head_word, phase_word, refs_word, turn_word}
+use Rattle.track_rule.specs.ChangesOnly.{ChangesAndFrees, ChangesWords, changes_only, either, frees_what_it_gave, has_change, is_freeing, is_last_given, is_of_kind, is_some_phase, no_word, where_so}
+use Rattle.track_rule.specs.Layout.{phase_word, refs_word}
 use Rattle.track_rule.specs.Links.{kind_of}
 use Rattle.track_rule.specs.PhaseSteps.{LoadsPhase}
-use Rattle.track_rule.specs.Readings.{changes, found, stored}
+use Rattle.track_rule.specs.Readings.{changes, found}
 use Rattle.track_rule.specs.Sights.{PassSight}
 use Rattle.track_rule.specs.Steps.{Looks, found_history}
 use Rattle.track_rule.specs.declared.view.Reading.{Reading}

@@ -9,7 +9,6 @@ use Rattle.track_rule.specs.Links.{hooks_of, is_down, is_up}
 use Rattle.track_rule.specs.Sights.{PassSight, sizes_of}
 use Rattle.track_rule.specs.declared.view.Hook.{Hook}
 use Rattle.bucket_table.specs.LockedChain.{hook_bucket, original_link, reply_link}
-use Rattle.track_rule.specs.ChangesOnly.{ChangesWords}
 use Rattle.bucket_table.specs.LockedChain.{link_words}
 use Rattle.track_rule.proofs.Changing.{joined}
 use Rattle.bucket_table.proofs.Chaining.{only_words, put_one, put_other}

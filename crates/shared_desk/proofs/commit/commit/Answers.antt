@@ -8,7 +8,7 @@ use Rattle.history_book.specs.Entry.{record_for}
 use Rattle.track_rule.specs.Chains.{bucket_of}
 use Rattle.shared_desk.specs.Changed.{commit_words, flow_heads}
 use Rattle.std.proofs.Common.{refl}
-use Rattle.shared_desk.proofs.Wording.{confirm_words, link_flow, live_in}
+use Rattle.shared_desk.proofs.Wording.{confirm_adds, link_flow, live_in}
 use Rattle.std.proofs.Common.{ap, arith, sym, ◌∙◌}
 use Rattle.std.proofs.lemmas.Bool.{false≢true}
 use Rattle.track_rule.specs.Sights.{sizes_of}
@@ -64,7 +64,7 @@ returns-clause-words g c =
     (weaker _ _ c.add_reference.new.pass.view c.phase_live.new.self.view (in_other (is_refs_of c.args.place) (either is_history (is_live_of c.args.place)))
     (joined (either is_history (is_live_of c.args.place)) c.add_reference.new.pass.view c.confirm_add-id.new.self.view c.phase_live.new.self.view
     (weaker _ _ c.add_reference.new.pass.view c.confirm_add-id.new.self.view (in_one is_history (is_live_of c.args.place))
-    (confirm_words c.record_for.result c.add_reference.new.pass.view c.confirm_add-id.new.self.view c.confirm_add-id.result c.confirm_add-id.ensures.adds))
+    (confirm_adds c.record_for.result c.add_reference.new.pass.view c.confirm_add-id.new.self.view c.confirm_add-id.result c.confirm_add-id.ensures.adds))
     (weaker _ _ c.confirm_add-id.new.self.view c.phase_live.new.self.view (in_other is_history (is_live_of c.args.place))
     (by_pass (is_live_of c.args.place) (stored (phase_word (sizes_of c.confirm_add-id.new.self) c.args.place) (3 + c.confirm_add-id.result)) c.confirm_add-id.new.self c.phase_live.new.self _
     (c.phase_live.ensures _ (ap (λ (k : View). k.commit.middle) c.confirm_add-id.ensures.adds.view)) refl refl

@@ -23,8 +23,6 @@ returns-clause-says g c =
     c.find_once.result c.args.t.now c.find_once.new.pass c.find_once.ensures.says
     (still_taken is_some_refs c.self.inside.pass c.find_once.new.pass no_some_refs c.find_once.ensures.words))
 
-
-
 pub returns-clause-knows : goal.returns-clause-knows
 returns-clause-knows g c = (invariant_of-self g c).knows
 
