@@ -9,7 +9,7 @@ use Rattle.tuple_core.specs.declared.Direction.{Direction}
 use Rattle.history_book.specs.Desk.{IsLiveIn}
 use Rattle.history_book.specs.declared.event.Event.{Event}
 use Rattle.history_book.specs.declared.sizes.Sizes.{Sizes}
-use Rattle.entry_pool.specs.Hold.{HoldsMore, KeepsNone, KeepsSome, OnlyReads, ReadsTwo, ReadsZero, gave_up}
+use Rattle.entry_pool.specs.Hold.{HoldsMore, KeepsNone, KeepsSome, OnlyReadsRefs, ReadsTwo, ReadsZero, gave_up}
 use Rattle.track_rule.specs.BucketSteps.{LoadsGen}
 use Rattle.track_rule.specs.Free.{is_among, unlisted}
 use Rattle.track_rule.specs.History.{state_after}
@@ -362,7 +362,7 @@ module _ (place : ℕ) (v u : PassSight) (can : CanTest v) (below : place < (siz
   })
 
 -- what only reads the references
-only_tests : (place last : ℕ) (v u : PassSight) → OnlyReads place last v u → Tests place v u
+only_tests : (place last : ℕ) (v u : PassSight) → OnlyReadsRefs place last v u → Tests place v u
 only_tests place last v u only = record {
   more = added v.view u.view;
   same = only.same ∙ (λ i. record v {

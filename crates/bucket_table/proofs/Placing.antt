@@ -21,7 +21,7 @@ use Rattle.track_rule.specs.declared.view.Shut.{Shut}
 use Rattle.track_rule.specs.declared.view.View.{View}
 use Rattle.bucket_table.specs.LockedChain.{IsReady, IsTuple, has_bucket, linked_buckets, original_link, reply_link, unlinked_buckets}
 use Rattle.bucket_table.specs.Locks.{AreShut, Buckets}
-use Rattle.bucket_table.specs.TestPlace.{HasLinks, HasOriginal, HasPlace, only_bucket}
+use Rattle.bucket_table.specs.TestPlace.{HasLinks, HasOriginal, HasTestPlace, only_bucket}
 use Rattle.bucket_table.proofs.Pairs.{put_keeps, take_keeps}
 use Rattle.bucket_table.proofs.Stringing.{lower_else, lower_link, raise_else, raise_link}
 
@@ -239,7 +239,7 @@ only_one z p e = ap (has_bucket only_bucket) (lone (mix (bit_xor (mix (bit_xor p
 
 -- LINKED, AND UNLINKED
 
-module _ (up : Bool) (place : ℕ) (v : PassSight) (h : HasPlace up place v) where
+module _ (up : Bool) (place : ℕ) (v : PassSight) (h : HasTestPlace up place v) where
   pub ready_original : IsReady (sizes_of v) only_bucket (original_link place) v.view.buckets.hooks
   ready_original =
       let here : hook_of (original_link place) v.view.buckets.hooks ≡ h.has.original =
@@ -258,7 +258,7 @@ module _ (up : Bool) (place : ℕ) (v : PassSight) (h : HasPlace up place v) whe
         its_bucket = only_one (sizes_of v) (hook_of (reply_link place) v.view.buckets.hooks).pair h.has.buckets;
       }
 
-module _ (place : ℕ) (v : PassSight) (h : HasPlace true place v) where
+module _ (place : ℕ) (v : PassSight) (h : HasTestPlace true place v) where
   pub raised_original : is_raised (original_link place) v.view.buckets.hooks ≡ true
   raised_original =
       ap (is_raised (original_link place)) h.has.all
@@ -273,7 +273,7 @@ module _ (old new : Bool) (place : ℕ) (v w : PassSight) (f : Hook → Hook) (s
     (first : (k : Hook) → k.link ≡ original_link place → (f k).up ≡ new) (second : (k : Hook) → k.link ≡ reply_link place → (f k).up ≡ new)
     (sizes : sizes_of w ≡ sizes_of v) (owned : w.view.places.owned ≡ v.view.places.owned) (calm : w.view.commit.middle ≡ v.view.commit.middle)
     (hooks : w.view.buckets.hooks ≡ map f v.view.buckets.hooks) where
-  place_changed : HasPlace old place v → HasPlace new place w
+  place_changed : HasTestPlace old place v → HasTestPlace new place w
   place_changed h = record {
     has = record {
       below = subst (λ (y : Sizes). place < y.entries) (sym sizes) h.has.below;
@@ -301,7 +301,7 @@ module _ (place : ℕ) (v w : PassSight) (sizes : sizes_of w ≡ sizes_of v) (ow
   apart e = omega (arith, e)
 
   pub place_raised : w.view.buckets.hooks ≡ map (raise (original_link place)) (map (raise (reply_link place)) v.view.buckets.hooks)
-      → HasPlace false place v → HasPlace true place w
+      → HasTestPlace false place v → HasTestPlace true place w
   place_raised hooks =
       place_changed false true place v w (λ (k : Hook). raise (original_link place) (raise (reply_link place) k))
       (λ k. (
@@ -315,7 +315,7 @@ module _ (place : ℕ) (v w : PassSight) (sizes : sizes_of w ≡ sizes_of v) (ow
       sizes owned calm (hooks ∙ map_twice (raise (original_link place)) (raise (reply_link place)) v.view.buckets.hooks)
 
   pub place_lowered : w.view.buckets.hooks ≡ map (lower (reply_link place)) (map (lower (original_link place)) v.view.buckets.hooks)
-      → HasPlace true place v → HasPlace false place w
+      → HasTestPlace true place v → HasTestPlace false place w
   place_lowered hooks =
       place_changed true false place v w (λ (k : Hook). lower (reply_link place) (lower (original_link place) k))
       (λ k. (
@@ -350,7 +350,7 @@ first_stored place t a b word word' v u w words first second h e f =
 -- those of the second one
 pub second_stored : (place : ℕ) (t y : Tuple) (a b word word' : ℕ) (v u w : PassSight) → pair_of y ≡ record { first = a; second = b } → is_valid t ≡ true
     → is_valid y ≡ true → word ≡ first_word (sizes_of v) (reply_link place) → word' ≡ second_word (sizes_of v) (reply_link place) → HasOriginal t place v
-    → u ≡ record v { view = tuple_stored word a v.view } → w ≡ record u { view = tuple_stored word' b u.view } → HasPlace false place w
+    → u ≡ record v { view = tuple_stored word a v.view } → w ≡ record u { view = tuple_stored word' b u.view } → HasTestPlace false place w
 unfolding links_stored
 second_stored place t y a b word word' v u w words valid valid' first second h e f =
     let one = links_stored place v h.has word a u e in
@@ -369,7 +369,7 @@ second_stored place t y a b word word' v u w words valid valid' first second h e
 
 -- what leaves the hooks
 pub place_stays : (up : Bool) (place : ℕ) (v w : PassSight) → sizes_of w ≡ sizes_of v → w.view.places.owned ≡ v.view.places.owned
-    → w.view.commit.middle ≡ v.view.commit.middle → w.view.buckets.hooks ≡ v.view.buckets.hooks → HasPlace up place v → HasPlace up place w
+    → w.view.commit.middle ≡ v.view.commit.middle → w.view.buckets.hooks ≡ v.view.buckets.hooks → HasTestPlace up place v → HasTestPlace up place w
 place_stays up place v w sizes owned calm hooks h = record {
   has = record {
     below = subst (λ (y : Sizes). place < y.entries) (sym sizes) h.has.below;

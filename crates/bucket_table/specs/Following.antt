@@ -17,7 +17,7 @@ use Rattle.track_rule.specs.Layout.{gen_word, place_of, side_of}
 use Rattle.track_rule.specs.Links.{last_link}
 use Rattle.track_rule.specs.Notes.{is_other, just_met}
 use Rattle.track_rule.specs.Readings.{Gave, IsSole, added, changes, found, is_found, of_word, read_from}
-use Rattle.track_rule.specs.Sights.{PassSight, sizes_of}
+use Rattle.track_rule.specs.Sights.{PassSight, looked_on, sizes_of}
 use Rattle.track_rule.specs.Steps.{AreAll}
 use Rattle.track_rule.specs.Walks.{HasLive, Stands}
 use Rattle.track_rule.specs.declared.view.Entry.{Entry}
@@ -69,13 +69,7 @@ has_words first second e = e.pair.first == first && e.pair.second == second
 -- The pass has only read: no word was changed, and nothing of what it has. It may have seen more events, and its readings come
 -- after those before the call.
 pub record OnlyReads (v w : PassSight) : Type 0 where
-  pub same : w ≡ record v {
-    view = record v.view {
-      seen = record v.view.seen { front = w.view.seen.front };
-      walk = w.view.walk;
-      readings = w.view.readings;
-    };
-  }
+  pub same : w ≡ looked_on v w
   pub front : StartsWith w.view.seen.front v.view.seen.front
   pub stand : ReadingsStand v w
   pub own : changes (λ word. true) (added v.view w.view) ≡ false

@@ -31,7 +31,7 @@ pub record HasOriginal (t : Tuple) (place : ℕ) (v : PassSight) : Type 0 where
   pub pair : has.original.pair ≡ pair_of t
 
 -- Both links have valid tuples besides.
-pub record HasPlace (up : Bool) (place : ℕ) (v : PassSight) : Type 0 where
+pub record HasTestPlace (up : Bool) (place : ℕ) (v : PassSight) : Type 0 where
   pub has : HasLinks up place v
   pub original : IsTuple has.original.pair.first has.original.pair.second
   pub reply : IsTuple has.reply.pair.first has.reply.pair.second

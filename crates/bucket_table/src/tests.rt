@@ -4,7 +4,7 @@
 ghost use Rattle.std.specs.Prelude.{◌≡◌, ◌<◌, None, [], false, true};
 ghost use Rattle.history_book.specs.Sizes.{AreWithinLimits};
 ghost use Rattle.bucket_table.specs.Locks.{AreOpen, AreShut};
-ghost use Rattle.bucket_table.specs.TestPlace.{HasLinks, HasOriginal, HasPlace, only_bucket};
+ghost use Rattle.bucket_table.specs.TestPlace.{HasLinks, HasOriginal, HasTestPlace, only_bucket};
 ghost use Rattle.track_rule.specs.declared.view.Middle.TheVariants.{Calm};
 ghost use Rattle.track_rule.specs.Free.{is_among, known_free};
 ghost use Rattle.track_rule.specs.Passes.{no_places};
@@ -130,7 +130,7 @@ fn store_reply(pass: &mut Pass, place: u32, t: &Tuple, u: &Tuple)
     requires valid { is_valid t.now ≡ true }
     requires reply { is_valid u.now ≡ true }
     requires open { AreOpen only_bucket pass.old.view }
-    ensures place { HasPlace false place pass.new }
+    ensures place { HasTestPlace false place pass.new }
     ensures open { AreOpen only_bucket pass.new.view }
 {
     let _ = t;
@@ -152,7 +152,7 @@ fn place_of_flow<R: Abort>(rt: &R, pass: &mut Pass, t: &Tuple, u: &Tuple) -> u32
     requires open { AreOpen only_bucket pass.old.view }
     requires original { is_valid t.now ≡ true }
     requires reply { is_valid u.now ≡ true }
-    ensures place { HasPlace false result pass.new }
+    ensures place { HasTestPlace false result pass.new }
     ensures open { AreOpen only_bucket pass.new.view }
 {
     let place = take_place(rt, pass);
@@ -163,11 +163,11 @@ fn place_of_flow<R: Abort>(rt: &R, pass: &mut Pass, t: &Tuple, u: &Tuple) -> u32
 
 /// Locks the only bucket.
 fn lock_only<R: Wait>(rt: &R, pass: &mut Pass, place: u32) -> Locked
-    requires place { HasPlace false place pass.old }
+    requires place { HasTestPlace false place pass.old }
     requires open { AreOpen only_bucket pass.old.view }
     ensures locked { result ≡ only_bucket }
     ensures shut { AreShut only_bucket pass.new.view }
-    ensures place { HasPlace false place pass.new }
+    ensures place { HasTestPlace false place pass.new }
 {
     let _ = place;
     lock_two(rt, pass, 0, 0)
@@ -177,9 +177,9 @@ fn lock_only<R: Wait>(rt: &R, pass: &mut Pass, place: u32) -> Locked
 fn link_locked(pass: &mut Pass, locked: &Locked, place: u32)
     requires locked { locked.now ≡ only_bucket }
     requires shut { AreShut only_bucket pass.old.view }
-    requires place { HasPlace false place pass.old }
+    requires place { HasTestPlace false place pass.old }
     ensures shut { AreShut only_bucket pass.new.view }
-    ensures place { HasPlace true place pass.new }
+    ensures place { HasTestPlace true place pass.new }
 {
     link(pass, locked, place);
 }
@@ -188,9 +188,9 @@ fn link_locked(pass: &mut Pass, locked: &Locked, place: u32)
 fn unlink_locked(pass: &mut Pass, locked: &Locked, place: u32)
     requires locked { locked.now ≡ only_bucket }
     requires shut { AreShut only_bucket pass.old.view }
-    requires place { HasPlace true place pass.old }
+    requires place { HasTestPlace true place pass.old }
     ensures shut { AreShut only_bucket pass.new.view }
-    ensures place { HasPlace false place pass.new }
+    ensures place { HasTestPlace false place pass.new }
 {
     unlink(pass, locked, place);
 }
@@ -199,9 +199,9 @@ fn unlink_locked(pass: &mut Pass, locked: &Locked, place: u32)
 fn walk_locked(pass: &mut Pass, locked: &Locked, place: u32, t: &Tuple) -> Option<(u32, Direction)>
     requires locked { locked.now ≡ only_bucket }
     requires shut { AreShut only_bucket pass.old.view }
-    requires place { HasPlace true place pass.old }
+    requires place { HasTestPlace true place pass.old }
     ensures shut { AreShut only_bucket pass.new.view }
-    ensures place { HasPlace true place pass.new }
+    ensures place { HasTestPlace true place pass.new }
 {
     let _ = place;
     walk(pass, locked, t)
@@ -211,9 +211,9 @@ fn walk_locked(pass: &mut Pass, locked: &Locked, place: u32, t: &Tuple) -> Optio
 fn unlock_only(pass: &mut Pass, locked: Locked, place: u32)
     requires locked { locked ≡ only_bucket }
     requires shut { AreShut only_bucket pass.old.view }
-    requires place { HasPlace false place pass.old }
+    requires place { HasTestPlace false place pass.old }
     ensures open { AreOpen only_bucket pass.new.view }
-    ensures place { HasPlace false place pass.new }
+    ensures place { HasTestPlace false place pass.new }
 {
     let _ = place;
     unlock_two(pass, locked);
@@ -272,10 +272,10 @@ fn show_locked<R: Abort>(
 )
     requires locked { locked.now ≡ only_bucket }
     requires shut { AreShut only_bucket one.old.view }
-    requires place { HasPlace true place one.old }
+    requires place { HasTestPlace true place one.old }
     requires open { two.old.view.buckets.shut ≡ [] }
     ensures shut { AreShut only_bucket one.new.view }
-    ensures place { HasPlace true place one.new }
+    ensures place { HasTestPlace true place one.new }
     ensures open { two.new.view.buckets.shut ≡ [] }
 {
     let there = walk_locked(one, locked, place, &flow.original);
@@ -288,10 +288,10 @@ fn show_locked<R: Abort>(
 
 /// Links the flow while the bucket is locked, shows it there, and takes it out again.
 fn show_linked<R: Abort + Wait>(rt: &R, one: &mut Pass, two: &mut Pass, place: u32, flow: &Flow)
-    requires place { HasPlace false place one.old }
+    requires place { HasTestPlace false place one.old }
     requires mine { AreOpen only_bucket one.old.view }
     requires open { two.old.view.buckets.shut ≡ [] }
-    ensures place { HasPlace false place one.new }
+    ensures place { HasTestPlace false place one.new }
     ensures mine { AreOpen only_bucket one.new.view }
     ensures open { two.new.view.buckets.shut ≡ [] }
 {
@@ -315,7 +315,7 @@ fn show_absent<R: Abort>(rt: &R, pass: &mut Pass, flow: &Flow)
 
 /// What comes of a flow that the first pass links and unlinks.
 fn show_flow<R: Abort + Wait>(rt: &R, one: &mut Pass, two: &mut Pass, place: u32, flow: &Flow)
-    requires place { HasPlace false place one.old }
+    requires place { HasTestPlace false place one.old }
     requires mine { AreOpen only_bucket one.old.view }
     requires open { two.old.view.buckets.shut ≡ [] }
 {

@@ -38,7 +38,7 @@ pub record HoldsMore (place : ℕ) (v w : PassSight) : Type 0 where
 
 -- The pass has only read: it changed no word, and all that it holds and owes is as it was. A walk that met a link of the place has
 -- noted where the last number of references that it read is 0.
-pub record OnlyReads (place last : ℕ) (v w : PassSight) : Type 0 where
+pub record OnlyReadsRefs (place last : ℕ) (v w : PassSight) : Type 0 where
   pub same : w ≡ record v { view = record v.view { walk = note_where (last == 0) place v.view.walk; readings = w.view.readings } }
   pub stand : ReadingsStand v w
   pub own : changes (λ word. true) (added v.view w.view) ≡ false
@@ -46,12 +46,12 @@ pub record OnlyReads (place last : ℕ) (v w : PassSight) : Type 0 where
 
 -- A reading of the references word in this call gave 0.
 pub record ReadsZero (place : ℕ) (v w : PassSight) : Type 0 where
-  pub only : OnlyReads place 0 v w
+  pub only : OnlyReadsRefs place 0 v w
   pub zero : is_found (refs_word (sizes_of v) place) 0 (added v.view w.view) ≡ true
 
 -- It gave two different values in this call. So the table is not one of a single pass.
 pub record ReadsTwo (place was now : ℕ) (v w : PassSight) : Type 0 where
-  pub only : OnlyReads place now v w
+  pub only : OnlyReadsRefs place now v w
   pub gave : Gave (refs_word (sizes_of v) place) was now (added v.view w.view)
   pub many : IsSole v.view → ⊥
 

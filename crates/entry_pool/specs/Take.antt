@@ -13,7 +13,7 @@ use Rattle.track_rule.specs.PhaseSteps.{phase_free, phase_owned}
 use Rattle.track_rule.specs.Phases.{of_place}
 use Rattle.track_rule.specs.Readings.{added, changes, is_stored}
 use Rattle.track_rule.specs.References.{held_times}
-use Rattle.track_rule.specs.Sights.{PassSight, sizes_of}
+use Rattle.track_rule.specs.Sights.{PassSight, looked_on, sizes_of}
 use Rattle.track_rule.specs.Steps.{AreAll, IsAlone, NewHooks, keep, kept_places, uses}
 use Rattle.track_rule.specs.Sums.{times, total}
 use Rattle.track_rule.specs.declared.view.Purpose.TheVariants as purpose
@@ -23,7 +23,7 @@ use Rattle.entry_pool.specs.Turn.{IsUnused}
 
 -- The place is held, for a new entry, and the pass has both its links, which are in no chain; before the call the pass neither
 -- held nor owed the place, and it was unused. The pass owns these places. All else is as it was.
-pub record HasPlace (place : ℕ) (owned : List ℕ) (v w : PassSight) : Type 0 where
+pub record HasNewPlace (place : ℕ) (owned : List ℕ) (v w : PassSight) : Type 0 where
   pub same : w ≡ record v {
     view = record v.view {
       places = record v.view.places { held = keep place purpose.Taken ∷ v.view.places.held; owned = owned };
@@ -40,13 +40,13 @@ pub record HasPlace (place : ℕ) (owned : List ℕ) (v w : PassSight) : Type 0 
 
 -- The pass changed no word itself but the turn of the free list and the references of the place.
 pub record HasOpened (place : ℕ) (v w : PassSight) : Type 0 where
-  pub has : HasPlace place v.view.places.owned v w
+  pub has : HasNewPlace place v.view.places.owned v w
   pub own : changes (λ word. not (word == 1 || word == refs_word (sizes_of v) place)) (added v.view w.view) ≡ false
 
 -- Its phase is OWNED besides, as a reading of the call shows, and the pass owns it. The pass made one phase OWNED in the call,
 -- and changed no word itself but these three.
 pub record HasTaken (place : ℕ) (v w : PassSight) : Type 0 where
-  pub has : HasPlace place (place ∷ v.view.places.owned) v w
+  pub has : HasNewPlace place (place ∷ v.view.places.owned) v w
   pub phase : is_stored (phase_word (sizes_of v) place) phase_owned (added v.view w.view) ≡ true
   pub once : places_taken (sizes_of v) (added v.view w.view) ≡ 1
   pub own : changes (λ word. not (word == 1 || word == refs_word (sizes_of v) place || word == phase_word (sizes_of v) place)) (added v.view w.view) ≡ false
@@ -73,13 +73,7 @@ says_empty at r = r.word == 0 && not r.own && events_in r.value == at && is_zero
 -- that the pass keeps, places that it owes, and four for each share of others (`full`); where no other pass has a share, each place is
 -- a live record's, or the pass holds or owes it (`used`).
 pub record IsFull (at : ℕ) (v w : PassSight) : Type 0 where
-  pub same : w ≡ record v {
-    view = record v.view {
-      seen = record v.view.seen { front = w.view.seen.front };
-      walk = w.view.walk;
-      readings = w.view.readings;
-    };
-  }
+  pub same : w ≡ looked_on v w
   pub stand : ReadingsStand v w
   pub all : AreAll v.view w.view.seen.front
   pub point : at ≡ length w.view.seen.front

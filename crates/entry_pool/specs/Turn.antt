@@ -39,7 +39,7 @@ abbrev pub with_list : List ℕ → List Reading → View → View
 with_list places readings v = record v { free = Some places; readings = readings }
 
 -- it has the list out of its slot, but not yet in hand
-pub record HasTurn (v w : PassSight) : Type 0 where
+pub record HasFreeTurn (v w : PassSight) : Type 0 where
   pub same : w ≡ record {
     table = v.table;
     view = with_list (list_in w.slots).items w.view.readings v.view;

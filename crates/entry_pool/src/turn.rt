@@ -1,7 +1,7 @@
 //! The turn of the free list.
 
 ghost use Rattle.std.specs.Prelude.{◌≡◌, true, None, is_some};
-ghost use Rattle.entry_pool.specs.Turn.{HasList, HasTurn};
+ghost use Rattle.entry_pool.specs.Turn.{HasList, HasFreeTurn};
 ghost use Rattle.track_rule.specs.Slots.{given_back};
 ghost use Rattle.track_rule.specs.Steps.{CanGive, gave_free};
 
@@ -13,7 +13,7 @@ use track_rule::pass::Pass;
 /// Waits for the turn, and takes it.
 fn lock<R: Wait>(rt: &R, pass: &mut Pass)
     requires { pass.old.view.free ≡ None }
-    ensures { HasTurn pass.old pass.new }
+    ensures { HasFreeTurn pass.old pass.new }
 {
     'turns: for _ in rt.forever() {
         if pass.free_take() {

@@ -20,7 +20,7 @@ use Rattle.track_rule.specs.Sights.{PassSight}
 use Rattle.shared_desk.specs.Noting.{room_after, with_note}
 use Rattle.shared_desk.specs.Rest.{IsAtRest}
 use Rattle.shared_desk.specs.Sights.{hold_of, sight_of}
-use Rattle.shared_desk.specs.Touching.{Gives, IsLeft, IsNotLive, IsTouched, Notes, SuitsEntry, Touches, touch_of}
+use Rattle.shared_desk.specs.Touching.{Gives, IsLeft, IsNotLive, IsTouched, Notes, SuitsEntry, TouchesLive, touch_of}
 use Rattle.shared_desk.specs.declared.touching.Packet.{Packet}
 use Rattle.shared_desk.proofs.Noted.{known_made, looks_left, made_here, noted_one, rest_left, so_before}
 use Rattle.shared_desk.proofs.Peeking.{kept}
@@ -87,7 +87,7 @@ module _ (v : PassSight) (notes : Roomed Note) (spare place : ℕ) (p : Packet) 
       → IsAtRest w (with_note made notes) (room_after made spare)
   pass_left at F w l made is = rest_left v notes spare place h held at F w l made is
 
-  pub rest_touching : (o : TouchOutcome) (w : PassSight) (made : Option Note) → Touches place p o v w → Notes made v.view.seen.own w.view.seen.own
+  pub rest_touching : (o : TouchOutcome) (w : PassSight) (made : Option Note) → TouchesLive place p o v w → Notes made v.view.seen.own w.view.seen.own
       → IsAtRest w (with_note made notes) (room_after made spare)
   rest_touching (touch.Touched number q) w made t is =
       let one = noted_one made v.view.seen.own w.view.seen.own (record { number = number; event = touch_of p t.id t.after }) is (ap (λ (k : PassSight). k.view.seen.own) t.same) in
@@ -105,7 +105,7 @@ module _ (v : PassSight) (notes : Roomed Note) (spare place : ℕ) (p : Packet) 
       looks_left v notes spare place h held at (Gives p o) w l made is
       (StepGives (held_id place (map hold_of v.view.places.held)) p.direction p.segment p.moment o) (λ fact. fact)
 
-  pub says_touching : StatesStay → (o : TouchOutcome) (w : PassSight) (made : Option Note) → Touches place p o v w → Notes made v.view.seen.own w.view.seen.own
+  pub says_touching : StatesStay → (o : TouchOutcome) (w : PassSight) (made : Option Note) → TouchesLive place p o v w → Notes made v.view.seen.own w.view.seen.own
       → TouchSays place p.direction p.segment p.moment (sight_of (clerk_at v spare)) (then_of v (clerk_at w (room_after made spare))) o
   says_touching stay (touch.Touched number q) w made t is =
       let one = noted_one made v.view.seen.own w.view.seen.own (record { number = number; event = touch_of p t.id t.after }) is (ap (λ (k : PassSight). k.view.seen.own) t.same) in

@@ -16,7 +16,7 @@ use Rattle.track_rule.specs.declared.view.Commit.{Commit}
 use Rattle.track_rule.specs.declared.view.Keep.{Keep}
 use Rattle.track_rule.specs.declared.view.Reading.{Reading}
 use Rattle.track_rule.specs.declared.view.View.{View}
-use Rattle.shared_desk.specs.Commit.{AddsReference, HasTurn}
+use Rattle.shared_desk.specs.Commit.{AddsReference, HasRecordTurn}
 
 -- a view with its own readings
 with_readings : (x y : View) (commit : Commit) (rs : List Reading) → y ≡ record x { commit = commit; readings = rs } → y ≡ record x { commit = commit; readings = y.readings }
@@ -24,7 +24,7 @@ with_readings x y commit rs e = e ∙ (λ i. record x { commit = commit; reading
 
 -- the turn, after some waiting
 pub turn_taken : (place : ℕ) (v u w : PassSight) → u ≡ record v { view = record v.view { readings = u.view.readings } }
-    → TookTurn place u.view u.slots w.view w.slots → w.table ≡ u.table → HasTurn place v w
+    → TookTurn place u.view u.slots w.view w.slots → w.table ≡ u.table → HasRecordTurn place v w
 turn_taken place v u w waited took table =
     let view : w.view ≡ record v.view {
       commit = record v.view.commit { hand = Some (record { place = place; phase = took.phase; subject = subject_in w.slots }) };

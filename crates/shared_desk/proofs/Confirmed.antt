@@ -32,7 +32,7 @@ use Rattle.track_rule.specs.declared.view.Middle.TheVariants.{Calm}
 use Rattle.track_rule.specs.declared.view.View.{View}
 use Rattle.bucket_table.specs.LockedChain.{original_link, reply_link}
 use Rattle.bucket_table.specs.Locks.{AreShut, AreWhole, Buckets, UnlocksTwo, open_both}
-use Rattle.shared_desk.specs.Commit.{Commits, HasTurn, is_any_up}
+use Rattle.shared_desk.specs.Commit.{Commits, HasRecordTurn, is_any_up}
 use Rattle.shared_desk.specs.Confirm.{Answers, BlocksAndOpens, CanConfirmFlow, CanEnter, ConfirmsFlow, EntersAndOpens, IsLocked}
 use Rattle.shared_desk.specs.Rival.{Clashes}
 use Rattle.shared_desk.specs.Tuples.{StoresTuples, pair_at, standing}
@@ -134,7 +134,7 @@ commit_opens place flow id locked r v w x y is h unlocks r_is swapped =
 -- THE WHOLE
 
 -- once the tuples are stored and the turn is taken
-pub can_enter : (place : ℕ) (flow : Flow) (v u w : PassSight) → CanConfirmFlow place flow v → StoresTuples place flow v u → HasTurn place u w → CanEnter place flow w
+pub can_enter : (place : ℕ) (flow : Flow) (v u w : PassSight) → CanConfirmFlow place flow v → StoresTuples place flow v u → HasRecordTurn place u w → CanEnter place flow w
 can_enter place flow v u w can stores turn =
     let view : w.view ≡ record u.view { commit = record u.view.commit { hand = Some turn.hand }; readings = w.view.readings } = ap (λ (k : PassSight). k.view) turn.same in
     let hooks : w.view.buckets.hooks ≡ u.view.buckets.hooks = ap (λ (k : View). k.buckets.hooks) view in
@@ -183,7 +183,7 @@ some_hand : (a b : Hand) → Some a ≡ Some b → a ≡ b
 some_hand a b e = cc
 
 -- the turn may be given back: the record of a live entry is in its slot
-pub can_give : (o : ConfirmOutcome) (place : ℕ) (flow : Flow) (u w x : PassSight) → HasTurn place u w → Answers place flow o w x → CanGiveTurn x.view x.slots
+pub can_give : (o : ConfirmOutcome) (place : ℕ) (flow : Flow) (u w x : PassSight) → HasRecordTurn place u w → Answers place flow o w x → CanGiveTurn x.view x.slots
 can_give (Confirmed id) place flow u w x turn h =
     λ hand is live.
     let same : record { place = place; phase = 3 + id; subject = Some (record_for flow id place) } ≡ hand = some_hand _ _ (sym (ap (λ (k : PassSight). k.view.commit.hand) h.same) ∙ is) in
@@ -194,7 +194,7 @@ can_give (Clash id direction both at) place flow u w x turn h =
     some_hand _ _ (sym (ap (λ (k : PassSight). k.view.commit.hand) h.same ∙ ap (λ (k : PassSight). k.view.commit.hand) turn.same) ∙ is) in
     ap (λ (k : PassSight). subject_in k.slots) h.same ∙ ap (λ (k : PassSight). subject_in k.slots) turn.same ∙ subject_back turn.hand.subject ∙ ap (λ (k : Hand). k.subject) same
 
-pub hand_still : (o : ConfirmOutcome) (place : ℕ) (flow : Flow) (u w x : PassSight) → HasTurn place u w → Answers place flow o w x → has_hand place x.view ≡ 1
+pub hand_still : (o : ConfirmOutcome) (place : ℕ) (flow : Flow) (u w x : PassSight) → HasRecordTurn place u w → Answers place flow o w x → has_hand place x.view ≡ 1
 hand_still (Confirmed id) place flow u w x turn h = ap (λ (k : PassSight). has_hand place k.view) h.same ∙ ap bit (eq-eqb place place refl)
 hand_still (Clash id direction both at) place flow u w x turn h =
     ap (λ (k : PassSight). has_hand place k.view) h.same ∙ ap (λ (k : PassSight). has_hand place k.view) turn.same ∙ ap bit (eq-eqb turn.hand.place place turn.its_place)
@@ -212,7 +212,7 @@ sizes_still (Confirmed id) place flow w x h = ap sizes_of h.same
 sizes_still (Clash id direction both at) place flow w x h = ap sizes_of h.same
 
 -- the pass as it was before, but for its hooks, once it has the turn
-turned : (place : ℕ) (flow : Flow) (v u w : PassSight) → CanConfirmFlow place flow v → StoresTuples place flow v u → (t : HasTurn place u w) → w ≡ record v {
+turned : (place : ℕ) (flow : Flow) (v u w : PassSight) → CanConfirmFlow place flow v → StoresTuples place flow v u → (t : HasRecordTurn place u w) → w ≡ record v {
   view = record v.view {
     buckets = record v.view.buckets { hooks = u.view.buckets.hooks };
     commit = record { hand = Some t.hand; middle = Calm };
@@ -235,7 +235,7 @@ turned place flow v u w can stores turn =
       slots = (record_slot place, slot_of_record turn.hand.subject) ∷ v.slots;
     })
 
-pub answered : (o : ConfirmOutcome) (place : ℕ) (flow : Flow) (v u w x y : PassSight) → CanConfirmFlow place flow v → StoresTuples place flow v u → HasTurn place u w → Answers place flow o w x
+pub answered : (o : ConfirmOutcome) (place : ℕ) (flow : Flow) (v u w x y : PassSight) → CanConfirmFlow place flow v → StoresTuples place flow v u → HasRecordTurn place u w → Answers place flow o w x
     → y ≡ record x { view = gave_turn place x.view; slots = rest x.slots } → ConfirmsFlow place flow o v y
 answered (Confirmed id) place flow v u w x y can stores turn h gave =
     let before = turned place flow v u w can stores turn in

@@ -17,7 +17,7 @@ use Rattle.track_rule.specs.declared.view.View.{View}
 use Rattle.bucket_table.specs.Locks.{AreShut, AreWhole, Buckets, UnlocksTwo, open_both}
 use Rattle.shared_desk.specs.Commit.{seen_with}
 use Rattle.shared_desk.specs.Confirm.{IsLocked, LocksFlow}
-use Rattle.shared_desk.specs.Killing.{Destroys, EndsEntry, HasEnded, KnowsRecord, dead_commit, destroy_of, flow_of}
+use Rattle.shared_desk.specs.Killing.{DestroysLocked, EndsEntry, HasEnded, KnowsRecord, dead_commit, destroy_of, flow_of}
 use Rattle.shared_desk.proofs.Entering.{taken_front}
 use Rattle.shared_desk.proofs.Linking.{none_up, same_shuts}
 use Rattle.shared_desk.proofs.Opening.{all_open, whole_from}
@@ -40,7 +40,7 @@ module _ (place : ℕ) (r : Record) (why : Why) (flow : Flow) (locked : Buckets)
   })
 
   -- the entry was destroyed
-  module _ (n : ℕ) (w : PassSight) (d : Destroys place r why n u w) where
+  module _ (n : ℕ) (w : PassSight) (d : DestroysLocked place r why n u w) where
     pub still_shut : AreShut locked w.view
     still_shut = record {
       lower = subst (λ (m : ℕ). 0 < m) (sym (same_shuts locked.lower w.view.buckets.shut u.view.buckets.shut d.buckets)) locks.is.shut.lower;

@@ -31,7 +31,7 @@ use Rattle.bucket_table.specs.LockedChain.{ChangesBuckets, IsReady, has_bucket, 
 use Rattle.bucket_table.specs.Locks.{AreShut, Buckets}
 use Rattle.shared_desk.specs.Commit.{is_any_up, shut_buckets}
 use Rattle.shared_desk.specs.Confirm.{IsLocked}
-use Rattle.shared_desk.specs.Killing.{Destroys, HasEnded, KnowsRecord, dead_commit, destroy_of, flow_of}
+use Rattle.shared_desk.specs.Killing.{DestroysLocked, HasEnded, KnowsRecord, dead_commit, destroy_of, flow_of}
 use Rattle.shared_desk.specs.Tuples.{pair_at}
 use Rattle.shared_desk.proofs.Entering.{either_shut, has_first, has_second, is_ready, told_shut, valid_original, valid_reply}
 use Rattle.shared_desk.proofs.Linking.{none_up, same_buckets, same_shuts}
@@ -174,7 +174,7 @@ module _ (place : ℕ) (r : Record) (why : Why) (locked : Buckets) (v : PassSigh
         names_then : shut_buckets x.view.buckets.shut ≡ shut_buckets w.view.buckets.shut
         names_then = ap (λ (b : HeldBuckets). shut_buckets b.shut) buckets_are ∙ unlinked_shut (sizes_of w) place w.view.buckets
 
-        pub destroys : Destroys place r why n v x
+        pub destroys : DestroysLocked place r why n v x
         unfolding ended
         destroys = record {
           ended = ended;

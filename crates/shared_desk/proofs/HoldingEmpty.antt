@@ -11,7 +11,7 @@ use Rattle.track_rule.specs.Sights.{PassSight}
 use Rattle.track_rule.specs.Steps.{AreAll}
 use Rattle.track_rule.specs.Sums.{total}
 use Rattle.track_rule.specs.TurnSteps.{gave_turn}
-use Rattle.shared_desk.specs.Commit.{HasTurn}
+use Rattle.shared_desk.specs.Commit.{HasRecordTurn}
 use Rattle.shared_desk.specs.Holding.{Finds, IsEmpty, OnlyLooks}
 use Rattle.shared_desk.specs.Looking.{HasRecord, IsFreeFor}
 use Rattle.shared_desk.proofs.HoldingFrames.{looks_from}
@@ -23,7 +23,7 @@ has_found place (Some at) v w h f = still_has place v w h f.looks.same
 has_found place None v w h f = still_has place v w h f.same
 
 -- the turn is given back
-module _ (place : ℕ) (v t y w : PassSight) (free : IsFreeFor place v) (turn : HasTurn place v t)
+module _ (place : ℕ) (v t y w : PassSight) (free : IsFreeFor place v) (turn : HasRecordTurn place v t)
     (gave : w ≡ record y { view = gave_turn place y.view; slots = rest y.slots }) where
   pub looks_back : OnlyLooks t y → OnlyLooks v w
   looks_back l = looks_from v w y.view.seen.front y.view.walk (y.view.readings ++ stored (turn_word y.view.passes.sizes place) 0 ∷ []) as_before

@@ -14,7 +14,7 @@ use Rattle.track_rule.specs.Sums.{times}
 use Rattle.track_rule.specs.declared.view.Reading.{Reading}
 use Rattle.track_rule.specs.declared.view.View.{View}
 use Rattle.track_rule.specs.declared.view.Walk.{Walk}
-use Rattle.shared_desk.specs.Holding.{CanHold, Holds, OnlyLooks, but_newest}
+use Rattle.shared_desk.specs.Holding.{CanHold, HoldsLive, OnlyLooks, but_newest}
 use Rattle.shared_desk.specs.Rest.{AreSettled}
 
 pub starts_same : (log : List Event) → StartsWith log log
@@ -87,7 +87,7 @@ can_still place v w h l = record {
 }
 
 -- an answer after some looking
-pub holds_after : (place : ℕ) (o : HoldOutcome) (v u w : PassSight) → OnlyLooks v u → Holds place o u w → Holds place o v w
+pub holds_after : (place : ℕ) (o : HoldOutcome) (v u w : PassSight) → OnlyLooks v u → HoldsLive place o u w → HoldsLive place o v w
 holds_after place (Held id at) v u w l h = record {
   newest = h.newest;
   looks = looks_again v u (but_newest w) l h.looks;

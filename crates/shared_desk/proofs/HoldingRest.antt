@@ -23,7 +23,7 @@ use Rattle.track_rule.specs.declared.view.Keep.{Keep}
 use Rattle.track_rule.specs.declared.view.Places.{Places}
 use Rattle.track_rule.specs.declared.view.Purpose.{Purpose}
 use Rattle.track_rule.specs.declared.view.Purpose.TheVariants.{Taken, Testing, Shown, For}
-use Rattle.shared_desk.specs.Holding.{CanHold, Holds, IsHeldFor}
+use Rattle.shared_desk.specs.Holding.{CanHold, HoldsLive, IsHeldFor}
 use Rattle.shared_desk.specs.Rest.{AreSettled, IsAtRest, IsPrepared, IsSettled}
 use Rattle.shared_desk.specs.Sights.{hold_of, sight_of}
 use Rattle.shared_desk.proofs.Known.{known_held, known_later, counted}
@@ -164,11 +164,11 @@ module _ (v : PassSight) (notes : Roomed Note) (spare place : ℕ) (h : IsAtRest
     )
 
   -- whichever it is
-  pub rest_holding : (o : HoldOutcome) (w : PassSight) → Holds place o v w → IsAtRest w notes spare
+  pub rest_holding : (o : HoldOutcome) (w : PassSight) → HoldsLive place o v w → IsAtRest w notes spare
   rest_holding (Held id at) w s = rest_held id at w s
   rest_holding (Empty at) w s = rest_looked v notes spare h w.view.seen.front w.view.walk w.view.readings w s.looks.same s.all
 
-  pub says_holding : (o : HoldOutcome) (w : PassSight) → Holds place o v w → HoldSays place (sight_of (clerk_at v spare)) (then_of v (clerk_at w spare)) o
+  pub says_holding : (o : HoldOutcome) (w : PassSight) → HoldsLive place o v w → HoldSays place (sight_of (clerk_at v spare)) (then_of v (clerk_at w spare)) o
   says_holding (Held id at) w s = says_held id at w s
   says_holding (Empty at) w s = (
     record {

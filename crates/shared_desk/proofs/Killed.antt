@@ -13,7 +13,7 @@ use Rattle.track_rule.specs.Sights.{PassSight, sizes_of}
 use Rattle.track_rule.specs.TurnSteps.{CanGiveTurn, gave_turn}
 use Rattle.track_rule.specs.declared.view.Hand.{Hand}
 use Rattle.track_rule.specs.declared.view.Middle.TheVariants.{Calm}
-use Rattle.shared_desk.specs.Commit.{HasTurn, seen_with}
+use Rattle.shared_desk.specs.Commit.{HasRecordTurn, seen_with}
 use Rattle.shared_desk.specs.Killing.{HasEnded, IsAsFound, IsKilled, Kills, KillsUnder, dead_commit, destroy_of}
 use Rattle.shared_desk.specs.Looking.{HasRecord, IsFreeFor}
 use Rattle.shared_desk.specs.Touching.{IsNotLive}
@@ -34,7 +34,7 @@ can_give place why (kill.Killed number q) v w h k =
 can_give place why (kill.Gone at) v w h k = record_whole place w (left_known place at IsNotLive v w h k)
 can_give place why (kill.Not q at) v w h k = record_whole place w (left_known place at (IsAsFound q) v w h k.left)
 
-module _ (place : ℕ) (v w x y : PassSight) (f : IsFreeFor place v) (t : HasTurn place v w)
+module _ (place : ℕ) (v w x y : PassSight) (f : IsFreeFor place v) (t : HasRecordTurn place v w)
     (gave : y ≡ record x { view = gave_turn place x.view; slots = rest x.slots }) where
   killed_back : (why : Why) (number : ℕ) (q : Record) → IsKilled place why number q (dead_commit place q) w x → IsKilled place why number q v.view.commit v y
   killed_back why number q u =

@@ -12,13 +12,13 @@ use Rattle.track_rule.specs.Sights.{PassSight, sizes_of}
 use Rattle.track_rule.specs.Steps.{AreAll}
 use Rattle.track_rule.specs.TurnSteps.{CanGiveTurn, gave_turn, subject_in}
 use Rattle.track_rule.specs.declared.view.Hand.{Hand}
-use Rattle.shared_desk.specs.Commit.{HasTurn}
+use Rattle.shared_desk.specs.Commit.{HasRecordTurn}
 use Rattle.shared_desk.specs.Looking.{HasRecord, IsFreeFor, Peeks, IsSeen}
 use Rattle.history_book.specs.declared.event.Event.{Event}
 use Rattle.track_rule.specs.KeptWords.{is_kept_for}
 
 -- under the turn the record is out of its slot
-pub has_record : (place : ℕ) (v w : PassSight) → IsFreeFor place v → HasTurn place v w → HasRecord place w
+pub has_record : (place : ℕ) (v w : PassSight) → IsFreeFor place v → HasRecordTurn place v w → HasRecord place w
 has_record place v w f t = record {
   hand = t.hand;
   its_place = t.its_place;
@@ -64,7 +64,7 @@ pub still_out : (place : ℕ) (o : PeekOutcome) (v w : PassSight) → HasRecord 
 still_out place o v w h p = still_has place v w h p.same
 
 -- the turn is given back
-pub peeked : (place : ℕ) (o : PeekOutcome) (v w x y : PassSight) → IsFreeFor place v → HasTurn place v w → Peeks place o w x
+pub peeked : (place : ℕ) (o : PeekOutcome) (v w x y : PassSight) → IsFreeFor place v → HasRecordTurn place v w → Peeks place o w x
     → y ≡ record x { view = gave_turn place x.view; slots = rest x.slots } → Peeks place o v y
 peeked place o v w x y f t p gave =
     let whole : y ≡ record v {

@@ -16,9 +16,9 @@ use Rattle.track_rule.specs.PhaseSteps.{holds_open}
 use Rattle.track_rule.specs.Steps.{AreAll}
 use Rattle.track_rule.specs.TouchSteps.{goes_on, hand_goes_on, known_record}
 use Rattle.track_rule.specs.TurnSteps.{gave_turn, with_subject}
-use Rattle.shared_desk.specs.Commit.{HasTurn, seen_with}
+use Rattle.shared_desk.specs.Commit.{HasRecordTurn, seen_with}
 use Rattle.shared_desk.specs.Looking.{HasRecord, IsFreeFor}
-use Rattle.shared_desk.specs.Touching.{Gives, GoesOn, IsLeft, IsNotLive, IsTouched, IsTouchedUnder, Touches, TouchesUnder, touch_of}
+use Rattle.shared_desk.specs.Touching.{Gives, GoesOn, IsLeft, IsNotLive, IsTouched, IsTouchedUnder, TouchesLive, TouchesUnder, touch_of}
 use Rattle.shared_desk.specs.declared.touching.Packet.{Packet}
 use Rattle.shared_desk.proofs.Looking.{still_has}
 
@@ -52,7 +52,7 @@ still_known place p (touch.Reset at) v w h t = left_known place at (Gives p outc
 still_known place p (touch.Expired at) v w h t = left_known place at (Gives p outcome.Expired) v w h t
 still_known place p (touch.Gone at) v w h t = left_known place at IsNotLive v w h t
 
-module _ (place : ℕ) (v w x y : PassSight) (f : IsFreeFor place v) (t : HasTurn place v w)
+module _ (place : ℕ) (v w x y : PassSight) (f : IsFreeFor place v) (t : HasRecordTurn place v w)
     (gave : y ≡ record x { view = gave_turn place x.view; slots = rest x.slots }) where
   pub told : (log : List Event) → AreAll w.view log → AreAll v.view log
   told log all =
@@ -136,7 +136,7 @@ module _ (place : ℕ) (v w x y : PassSight) (f : IsFreeFor place v) (t : HasTur
         });
       }
 
-  pub given_back : (p : Packet) (o : TouchOutcome) → TouchesUnder place p o w x → Touches place p o v y
+  pub given_back : (p : Packet) (o : TouchOutcome) → TouchesUnder place p o w x → TouchesLive place p o v y
   given_back p (touch.Touched number q) u = touched_back p number q u
   given_back p (touch.Ignored at) u = left_back at (Gives p outcome.Ignore) u
   given_back p (touch.Invalid at) u = left_back at (Gives p outcome.Invalid) u

@@ -30,7 +30,7 @@ use Rattle.track_rule.proofs.Changing.{Within, or_elim, by_loads, by_own, by_pas
 use Rattle.bucket_table.specs.Following.{bucket_in}
 use Rattle.bucket_table.specs.LockedChain.{link_words, unlink_words}
 use Rattle.bucket_table.specs.Locks.{Buckets, buckets_of}
-use Rattle.entry_pool.specs.Hold.{HoldsMore, OnlyReads}
+use Rattle.entry_pool.specs.Hold.{HoldsMore, OnlyReadsRefs}
 use Rattle.entry_pool.specs.Take.{recycle_words}
 use Rattle.history_book.specs.declared.outcome.ConfirmOutcome.{ConfirmOutcome}
 use Rattle.history_book.specs.declared.outcome.ConfirmOutcome.TheVariants.{Confirmed, Clash}
@@ -235,7 +235,7 @@ hold_more place v w h =
     (λ z r e. in_other (is_turn_of place) (give_words place) z r (in_one (is_refs_of place) (recycle_words place) z r e)) (refs_free_none place)
     (by_own (λ word. not (word == refs_word (sizes_of v) place)) (is_refs_of place) v.view w.view (ap sizes_of h.same) h.stand h.own (λ r e. word_is (refs_word (sizes_of v) place) r.word e))
 
-pub hold_reads : (place last : ℕ) (v w : PassSight) → OnlyReads place last v w → ChangesAndFrees (hold_words place) v.view w.view
+pub hold_reads : (place last : ℕ) (v w : PassSight) → OnlyReadsRefs place last v w → ChangesAndFrees (hold_words place) v.view w.view
 hold_reads place last v w h = hold_none place v.view w.view (by_loads no_word v.view w.view (ap sizes_of h.same) h.stand h.own)
 
 -- a reference given up, and the last one, after which the place is made free

@@ -13,7 +13,7 @@ use Rattle.history_book.specs.declared.outcome.ClaimOutcome.TheVariants as claim
 use Rattle.history_book.specs.declared.outcome.UnexpectOutcome.{UnexpectOutcome}
 use Rattle.history_book.specs.declared.outcome.UnexpectOutcome.TheVariants as unexpect
 use Rattle.track_rule.specs.History.{state_after}
-use Rattle.track_rule.specs.Sights.{PassSight, sizes_of}
+use Rattle.track_rule.specs.Sights.{PassSight, looked_on, sizes_of}
 use Rattle.track_rule.specs.Steps.{AreAll}
 use Rattle.shared_desk.specs.Commit.{seen_with}
 
@@ -29,9 +29,7 @@ pub record HasMade (number : ℕ) (e : Event) (v w : PassSight) : Type 0 where
 
 -- The pass has seen all events so far, and this was so after them. All else is as it was, but the note of a walk and the readings.
 pub record HasLooked (at : ℕ) (F : State → Type 0) (v w : PassSight) : Type 0 where
-  pub same : w ≡ record v {
-    view = record v.view { seen = record v.view.seen { front = w.view.seen.front }; walk = w.view.walk; readings = w.view.readings };
-  }
+  pub same : w ≡ looked_on v w
   pub all : AreAll v.view w.view.seen.front
   pub point : at ≡ length w.view.seen.front
   pub is : F (state_after w.view.seen.front)

@@ -31,7 +31,7 @@ use Rattle.shared_desk.specs.Tuples.{pair_at}
 
 -- The pass has the turn of the place's record, with the record that is there, or none, out of its slot. All else is as it was, but
 -- the readings.
-pub record HasTurn (place : ℕ) (v w : PassSight) : Type 0 where
+pub record HasRecordTurn (place : ℕ) (v w : PassSight) : Type 0 where
   pub hand : Hand
   pub its_place : hand.place ≡ place
   pub same : w ≡ record v {

@@ -8,7 +8,7 @@ use Rattle.track_rule.specs.History.{records_after, state_after}
 use Rattle.track_rule.specs.KeptWords.{is_kept_for}
 use Rattle.track_rule.specs.Phases.{of_place}
 use Rattle.track_rule.specs.References.{WasConfirmed, is_taken}
-use Rattle.track_rule.specs.Sights.{PassSight}
+use Rattle.track_rule.specs.Sights.{PassSight, looked_on}
 use Rattle.track_rule.specs.Steps.{AreAll, keep}
 use Rattle.track_rule.specs.Sums.{times, total}
 use Rattle.track_rule.specs.declared.view.Purpose.{Purpose}
@@ -27,9 +27,7 @@ pub record CanHold (place : ℕ) (v : PassSight) : Type 0 where
 
 -- The pass has seen no fewer events than before. All else is as it was, but the note of a walk and the readings.
 pub record OnlyLooks (v w : PassSight) : Type 0 where
-  pub same : w ≡ record v {
-    view = record v.view { seen = record v.view.seen { front = w.view.seen.front }; walk = w.view.walk; readings = w.view.readings };
-  }
+  pub same : w ≡ looked_on v w
   pub front : StartsWith w.view.seen.front v.view.seen.front
 
 -- the pass without its newest reference
@@ -65,13 +63,13 @@ pub record IsEmpty (place at : ℕ) (v w : PassSight) : Type 0 where
   pub point : at ≡ length w.view.seen.front
   pub unused : total (of_place place) (records_after w.view.seen.front) ≡ 0
 
-abbrev pub Holds : ℕ → HoldOutcome → PassSight → PassSight → Type 0
-Holds place (Held id at) v w = IsHeldFor place id at v w
-Holds place (Empty at) v w = IsEmpty place at v w
+abbrev pub HoldsLive : ℕ → HoldOutcome → PassSight → PassSight → Type 0
+HoldsLive place (Held id at) v w = IsHeldFor place id at v w
+HoldsLive place (Empty at) v w = IsEmpty place at v w
 
 -- a try, which may tell nothing
 abbrev pub Tries : ℕ → Option HoldOutcome → PassSight → PassSight → Type 0
-Tries place (Some outcome) v w = Holds place outcome v w
+Tries place (Some outcome) v w = HoldsLive place outcome v w
 Tries place None v w = OnlyLooks v w
 
 -- The entry that is live in the place was named; or the pass still has its reference, for whatever that is now.
@@ -80,7 +78,7 @@ pub record StillHas (place : ℕ) (v w : PassSight) : Type 0 where
   pub looks : OnlyLooks (but_newest v) (but_newest w)
 
 abbrev pub Names : ℕ → Option HoldOutcome → PassSight → PassSight → Type 0
-Names place (Some outcome) v w = Holds place outcome (but_newest v) w
+Names place (Some outcome) v w = HoldsLive place outcome (but_newest v) w
 Names place None v w = StillHas place v w
 
 -- no live record has the place at this point, if there is one

@@ -75,7 +75,7 @@ dead_commit place r = record { hand = Some (record { place = place; phase = phas
 
 -- The Destroy was made, and the pass carries the table's reference. Both links are out of their chains; without them the links are as
 -- they were, and so are the buckets that are shut.
-pub record Destroys (place : ℕ) (r : Record) (why : Why) (number : ℕ) (v w : PassSight) : Type 0 where
+pub record DestroysLocked (place : ℕ) (r : Record) (why : Why) (number : ℕ) (v w : PassSight) : Type 0 where
   pub ended : HasEnded r why number v
   pub same : w ≡ record v {
     view = record v.view {

@@ -9,7 +9,7 @@ use Rattle.track_rule.specs.KeptWords.{is_kept_for}
 use Rattle.track_rule.specs.Layout.{record_slot}
 use Rattle.track_rule.specs.PhaseSteps.{holds_open}
 use Rattle.track_rule.specs.Records.{slot_of_record}
-use Rattle.track_rule.specs.Sights.{PassSight, sizes_of}
+use Rattle.track_rule.specs.Sights.{PassSight, looked_on, sizes_of}
 use Rattle.track_rule.specs.Steps.{AreAll}
 use Rattle.track_rule.specs.declared.slot.Slot.{Slot}
 use Rattle.track_rule.specs.declared.view.Hand.{Hand}
@@ -46,8 +46,6 @@ IsSeen id log (Gone at) = (at ≡ length log) × (record_of id (state_after log)
 -- The pass has seen all events so far, after which this was so of the entry for which it holds the place. All else is as it was, but
 -- the note of a walk and the readings.
 pub record Peeks (place : ℕ) (outcome : PeekOutcome) (v w : PassSight) : Type 0 where
-  pub same : w ≡ record v {
-    view = record v.view { seen = record v.view.seen { front = w.view.seen.front }; walk = w.view.walk; readings = w.view.readings };
-  }
+  pub same : w ≡ looked_on v w
   pub all : AreAll v.view w.view.seen.front
   pub is : (id : ℕ) → is_kept_for place id v.view.places.held ≡ true → IsSeen id w.view.seen.front outcome

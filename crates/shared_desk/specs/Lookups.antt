@@ -9,7 +9,7 @@ use Rattle.track_rule.specs.KeptWords.{is_kept_for}
 use Rattle.track_rule.specs.Layout.{refs_word}
 use Rattle.track_rule.specs.Readings.{added, changes}
 use Rattle.track_rule.specs.References.{WasConfirmed, is_taken}
-use Rattle.track_rule.specs.Sights.{PassSight, sizes_of}
+use Rattle.track_rule.specs.Sights.{PassSight, looked_on, sizes_of}
 use Rattle.track_rule.specs.Steps.{AreAll, keep}
 use Rattle.track_rule.specs.Sums.{times}
 use Rattle.track_rule.specs.declared.view.Purpose.TheVariants.{For}
@@ -44,9 +44,7 @@ pub record FindsLive (t : Tuple) (place id : ℕ) (direction : Direction) (at : 
 -- Nothing is live under the tuple after all events up to this point, which the pass has seen. It changed no word. All else is as it was,
 -- but the note of a walk and the readings.
 pub record FindsNobody (t : Tuple) (at : ℕ) (v w : PassSight) : Type 0 where
-  pub same : w ≡ record v {
-    view = record v.view { seen = record v.view.seen { front = w.view.seen.front }; walk = w.view.walk; readings = w.view.readings };
-  }
+  pub same : w ≡ looked_on v w
   pub stand : ReadingsStand v w
   pub own : changes (λ word. true) (added v.view w.view) ≡ false
   pub all : AreAll v.view w.view.seen.front

@@ -15,7 +15,7 @@ use Rattle.track_rule.specs.Chains.{chain_in, shuts_of}
 use Rattle.track_rule.specs.History.{state_after}
 use Rattle.track_rule.specs.PhaseSteps.{holds_open}
 use Rattle.track_rule.specs.References.{is_taken}
-use Rattle.track_rule.specs.Sights.{PassSight, sizes_of}
+use Rattle.track_rule.specs.Sights.{PassSight, looked_on, sizes_of}
 use Rattle.track_rule.specs.Steps.{AreAll}
 use Rattle.track_rule.specs.declared.view.Entry.{Entry}
 use Rattle.track_rule.specs.declared.view.Middle.TheVariants.{Calm}
@@ -69,7 +69,7 @@ pub record IsBlocked (place : ℕ) (flow : Flow) (rival : Rival) (v : PassSight)
 -- The pass has seen all events up to this point, and there the entry of the id stood in the flow's way. All else is as it was, but the
 -- note of a walk and the readings.
 pub record Blocks (place : ℕ) (flow : Flow) (id : ℕ) (direction : Direction) (both : Bool) (at : ℕ) (v w : PassSight) : Type 0 where
-  pub same : w ≡ record v { view = record v.view { seen = record v.view.seen { front = w.view.seen.front }; walk = w.view.walk; readings = w.view.readings } }
+  pub same : w ≡ looked_on v w
   pub all : AreAll v.view w.view.seen.front
   pub point : at ≡ length w.view.seen.front
   pub clash : IsClash place flow id direction both (state_after w.view.seen.front)

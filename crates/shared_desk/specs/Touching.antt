@@ -16,7 +16,7 @@ use Rattle.history_book.specs.declared.outcome.TouchOutcome.TheVariants as touch
 use Rattle.history_book.specs.declared.record.Record.{Record}
 use Rattle.track_rule.specs.History.{state_after}
 use Rattle.track_rule.specs.KeptWords.{is_kept_for}
-use Rattle.track_rule.specs.Sights.{PassSight, sizes_of}
+use Rattle.track_rule.specs.Sights.{PassSight, looked_on, sizes_of}
 use Rattle.track_rule.specs.Steps.{AreAll}
 use Rattle.shared_desk.specs.Commit.{seen_with}
 use Rattle.track_rule.specs.TouchSteps.{hand_goes_on, known_phase, known_record}
@@ -64,9 +64,7 @@ pub record IsTouched (place : ℕ) (p : Packet) (number : ℕ) (before : Record)
 
 -- The pass has seen all events so far, and this was so after them of the entry for which it holds the place.
 pub record IsLeft (place at : ℕ) (F : ℕ → List Event → Type 0) (v w : PassSight) : Type 0 where
-  pub same : w ≡ record v {
-    view = record v.view { seen = record v.view.seen { front = w.view.seen.front }; walk = w.view.walk; readings = w.view.readings };
-  }
+  pub same : w ≡ looked_on v w
   pub all : AreAll v.view w.view.seen.front
   pub point : at ≡ length w.view.seen.front
   pub is : (id : ℕ) → is_kept_for place id v.view.places.held ≡ true → F id w.view.seen.front
@@ -125,14 +123,14 @@ StepsRecord place id before p at (touch.Expired a) v w = IsStill before p outcom
 StepsRecord place id before p at (touch.Gone a) v w = ⊥
 
 -- all else is as it was, but the note of a walk and the readings
-abbrev pub Touches : ℕ → Packet → TouchOutcome → PassSight → PassSight → Type 0
-Touches place p (touch.Touched number before) v w = IsTouched place p number before v w
-Touches place p (touch.Ignored at) v w = IsLeft place at (Gives p outcome.Ignore) v w
-Touches place p (touch.Invalid at) v w = IsLeft place at (Gives p outcome.Invalid) v w
-Touches place p (touch.Reopen at) v w = IsLeft place at (Gives p outcome.Reopen) v w
-Touches place p (touch.Reset at) v w = IsLeft place at (Gives p outcome.Reset) v w
-Touches place p (touch.Expired at) v w = IsLeft place at (Gives p outcome.Expired) v w
-Touches place p (touch.Gone at) v w = IsLeft place at IsNotLive v w
+abbrev pub TouchesLive : ℕ → Packet → TouchOutcome → PassSight → PassSight → Type 0
+TouchesLive place p (touch.Touched number before) v w = IsTouched place p number before v w
+TouchesLive place p (touch.Ignored at) v w = IsLeft place at (Gives p outcome.Ignore) v w
+TouchesLive place p (touch.Invalid at) v w = IsLeft place at (Gives p outcome.Invalid) v w
+TouchesLive place p (touch.Reopen at) v w = IsLeft place at (Gives p outcome.Reopen) v w
+TouchesLive place p (touch.Reset at) v w = IsLeft place at (Gives p outcome.Reset) v w
+TouchesLive place p (touch.Expired at) v w = IsLeft place at (Gives p outcome.Expired) v w
+TouchesLive place p (touch.Gone at) v w = IsLeft place at IsNotLive v w
 
 -- what a Touch is under the turn: the pass knows the record with its new part, which is in the slot's stead
 pub record IsTouchedUnder (place : ℕ) (p : Packet) (number : ℕ) (before : Record) (v w : PassSight) : Type 0 where

@@ -4,7 +4,7 @@ ghost use Rattle.std.specs.Prelude.{◌≡◌, ◌<◌, true, None, []};
 ghost use Rattle.history_book.specs.Entry.{record_for};
 ghost use Rattle.track_rule.specs.ChangesOnly.{ChangesWords, is_refs_of, is_turn_of};
 ghost use Rattle.shared_desk.specs.Changed.{commit_words};
-ghost use Rattle.shared_desk.specs.Commit.{AddsReference, CanCommit, Commits, HasTurn};
+ghost use Rattle.shared_desk.specs.Commit.{AddsReference, CanCommit, Commits, HasRecordTurn};
 ghost use Rattle.track_rule.specs.Sights.{sizes_of};
 ghost use Rattle.track_rule.specs.Steps.{is_second};
 
@@ -45,7 +45,7 @@ pub fn take_turn<R: Wait>(rt: &R, pass: &mut Pass, place: u32)
     requires expected { pass.old.view.expected ≡ None }
     requires free { pass.old.view.free ≡ None }
     requires shut { pass.old.view.buckets.shut ≡ [] }
-    ensures has { HasTurn place pass.old pass.new }
+    ensures has { HasRecordTurn place pass.old pass.new }
     ensures words { ChangesWords (is_turn_of place) pass.old.view pass.new.view }
 {
     'turns: for _ in rt.forever() {

@@ -5,7 +5,7 @@ ghost use Rattle.track_rule.specs.ChangesOnly.{ChangesWords, is_history, is_turn
 ghost use Rattle.shared_desk.specs.Changed.{is_touched, kill_words, killed_words, touch_words};
 ghost use Rattle.shared_desk.specs.Killing.{Kills, KillsUnder, SuitsKill};
 ghost use Rattle.shared_desk.specs.Looking.{HasRecord, IsFreeFor, Peeks};
-ghost use Rattle.shared_desk.specs.Touching.{Notes, SuitsEntry, touch_note, Touches, TouchesUnder};
+ghost use Rattle.shared_desk.specs.Touching.{Notes, SuitsEntry, touch_note, TouchesLive, TouchesUnder};
 ghost use Rattle.track_rule.specs.TurnSteps.{subject_in};
 
 use crate::commit::take_turn;
@@ -58,7 +58,7 @@ pub fn peek<R: Wait>(rt: &R, pass: &mut Pass, place: u32) -> PeekOutcome
     outcome
 }
 
-/// Touches the entry for which a place is held, under the turn of the place's record.
+/// TouchesLive the entry for which a place is held, under the turn of the place's record.
 fn touch_record(pass: &mut Pass, place: u32, packet: &Packet) -> (TouchOutcome, Option<MadeTouch>)
     requires has { HasRecord place pass.old }
     requires suits { SuitsEntry place packet.now pass.old }
@@ -87,7 +87,7 @@ pub fn touch<R: Wait>(
 ) -> (TouchOutcome, Option<MadeTouch>)
     requires free { IsFreeFor place pass.old }
     requires suits { SuitsEntry place packet.now pass.old }
-    ensures touches { Touches place packet.now result.0 pass.old pass.new }
+    ensures touches { TouchesLive place packet.now result.0 pass.old pass.new }
     ensures words { ChangesWords (touch_words place result.0) pass.old.view pass.new.view }
     ensures noted { Notes (touch_note packet.now result.1) pass.old.view.seen.own pass.new.view.seen.own }
 {

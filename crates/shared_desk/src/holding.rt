@@ -3,7 +3,7 @@
 ghost use Rattle.std.specs.Prelude.{◌≡◌, ◌∷◌};
 ghost use Rattle.track_rule.specs.ChangesOnly.{ChangesAndFrees, ChangesWords, is_turn_of, no_word};
 ghost use Rattle.shared_desk.specs.Changed.{give_words, hold_words};
-ghost use Rattle.shared_desk.specs.Holding.{CanHold, Finds, HasNewest, HasSome, Holds, Names, OnlyLooks, Tries, but_newest};
+ghost use Rattle.shared_desk.specs.Holding.{CanHold, Finds, HasNewest, HasSome, HoldsLive, Names, OnlyLooks, Tries, but_newest};
 ghost use Rattle.shared_desk.specs.Looking.{HasRecord};
 ghost use Rattle.track_rule.specs.declared.view.Purpose.TheVariants.{Testing};
 
@@ -74,7 +74,7 @@ fn find_empty<R: Wait>(rt: &R, pass: &mut Pass, place: u32) -> Option<HoldOutcom
     }
 }
 
-/// Holds the place to which the pass has just got a reference for the entry that is live in it; else gives the reference back and
+/// HoldsLive the place to which the pass has just got a reference for the entry that is live in it; else gives the reference back and
 /// looks whether no live entry has the place.
 fn keep_live<R: Wait>(rt: &R, pass: &mut Pass, place: u32) -> Option<HoldOutcome>
     requires { HasNewest place Testing pass.old }
@@ -103,11 +103,11 @@ fn try_once<R: Wait>(rt: &R, pass: &mut Pass, place: u32) -> Option<HoldOutcome>
     }
 }
 
-/// Holds a place for the entry that is live in it, if one is. It may wait for the turn of the place's record, and for that of the free
+/// HoldsLive a place for the entry that is live in it, if one is. It may wait for the turn of the place's record, and for that of the free
 /// list.
 pub fn hold<R: Wait>(rt: &R, pass: &mut Pass, place: u32) -> HoldOutcome
     requires { CanHold place pass.old }
-    ensures holds { Holds place result pass.old pass.new }
+    ensures holds { HoldsLive place result pass.old pass.new }
     ensures words { ChangesAndFrees (hold_words place) pass.old.view pass.new.view }
 {
     'tries: for _ in rt.forever() {

@@ -6,7 +6,7 @@ ghost use Rattle.track_rule.specs.ChangesOnly.{ChangesWords, either, is_expect_t
 ghost use Rattle.shared_desk.specs.Changed.{destroy_words, end_words, killed_words};
 ghost use Rattle.shared_desk.specs.Confirm.{IsLocked};
 ghost use Rattle.shared_desk.specs.ExpectTurn.{CanTakeExpects};
-ghost use Rattle.shared_desk.specs.Killing.{Destroys, EndsEntry, Judges, KnowsRecord, flow_of};
+ghost use Rattle.shared_desk.specs.Killing.{DestroysLocked, EndsEntry, Judges, KnowsRecord, flow_of};
 ghost use Rattle.shared_desk.specs.Touching.{Notes};
 ghost use Rattle.track_rule.specs.Commits.{HasItsTurn};
 
@@ -43,14 +43,14 @@ fn flow_of(subject: &Record) -> Flow
     }
 }
 
-/// Destroys the entry of a place while both buckets of its tuples are locked: the place is DEAD, the Destroy is made, and both links
+/// DestroysLocked the entry of a place while both buckets of its tuples are locked: the place is DEAD, the Destroy is made, and both links
 /// come out of their chains. Gives the number of the Destroy.
 fn destroy(pass: &mut Pass, locked: &Locked, place: u32, subject: &Record, why: Why) -> u64
     requires knows { KnowsRecord place subject.now pass.old }
     requires reason { is_reason why subject.now ≡ true }
     requires locked { IsLocked (flow_of subject.now) locked.now pass.old }
     requires helped { HasItsTurn subject.now pass.old.view.expected }
-    ensures destroys { Destroys place subject.now why result pass.old pass.new }
+    ensures destroys { DestroysLocked place subject.now why result pass.old pass.new }
     ensures words { ChangesWords (destroy_words place subject.now) pass.old.view pass.new.view }
 {
     records_are_of_one_protocol();
@@ -81,7 +81,7 @@ fn end_entry<R: Wait>(rt: &R, pass: &mut Pass, place: u32, subject: &Record, why
     number
 }
 
-/// Destroys the entry of a record. Where it has the helper, the turn of the expectations is waited for before that, and what it expected
+/// DestroysLocked the entry of a record. Where it has the helper, the turn of the expectations is waited for before that, and what it expected
 /// is taken out of their table. Gives the number of the Destroy.
 fn end_with_expected<R: Wait>(
     rt: &R,
@@ -106,7 +106,7 @@ fn end_with_expected<R: Wait>(
     number
 }
 
-/// Destroys the entry of a record, which was so at this point, where the reason holds of it.
+/// DestroysLocked the entry of a record, which was so at this point, where the reason holds of it.
 pub fn judge<R: Wait>(
     rt: &R,
     pass: &mut Pass,

@@ -20,7 +20,7 @@ use Rattle.track_rule.specs.Links.{IsHook, hook_of, hooks_of, is_link_word, is_t
 use Rattle.track_rule.specs.Notes.{link_note, note_then, tuple_note}
 use Rattle.track_rule.specs.Passes.{IsPass}
 use Rattle.track_rule.specs.Readings.{found, noted}
-use Rattle.track_rule.specs.Rule.{Holds, IsKept, Ledger}
+use Rattle.track_rule.specs.Rule.{RuleHolds, IsKept, Ledger}
 use Rattle.track_rule.specs.Sums.{bit, total}
 use Rattle.track_rule.specs.Walks.{IsWalk, rev_onto}
 use Rattle.track_rule.proofs.Balance.{Moves, pass_moved, bucket_lines}
@@ -49,7 +49,7 @@ note_read z l s id i v walk h at has_some is_walk =
 
 -- a load of a generation
 pub loads_gen : (slots id b : ℕ) (v : View) (c : List (ℕ × Slot)) → b < v.passes.sizes.buckets → 0 < v.passes.shares
-    → Allows (Holds v.passes.sizes) slots id (v, c) (gen_word v.passes.sizes b) (λ n. n)
+    → Allows (RuleHolds v.passes.sizes) slots id (v, c) (gen_word v.passes.sizes b) (λ n. n)
     (LoadGenStep (step slots (gen_word v.passes.sizes b) 0 0 none) (v, c))
 loads_gen slots id b v c below has_some s (l, h) long at range =
     let z : Sizes = v.passes.sizes in
@@ -130,7 +130,7 @@ module _ (z : Sizes) (l : Ledger) (s : State Slot View) (h : IsKept z l s) (id :
 
 -- a load of a link
 pub loads_link : (slots id word : ℕ) (v : View) (c : List (ℕ × Slot)) → is_link_word v.passes.sizes word ≡ true → 0 < v.passes.shares
-    → Allows (Holds v.passes.sizes) slots id (v, c) word (λ n. n) (LoadLinkStep (step slots word 0 0 none) (v, c))
+    → Allows (RuleHolds v.passes.sizes) slots id (v, c) word (λ n. n) (LoadLinkStep (step slots word 0 0 none) (v, c))
 loads_link slots id word v c is has_some s (l, h) long at range =
     let z : Sizes = v.passes.sizes in
     let n : ℕ = slice_index s.words word in (
@@ -169,7 +169,7 @@ loads_link slots id word v c is has_some s (l, h) long at range =
 
 -- a load of a word of a tuple
 pub loads_tuple : (slots id word : ℕ) (v : View) (c : List (ℕ × Slot)) → 0 < v.passes.shares
-    → Allows (Holds v.passes.sizes) slots id (v, c) word (λ n. n) (LoadTupleStep (step slots word 0 0 none) (v, c))
+    → Allows (RuleHolds v.passes.sizes) slots id (v, c) word (λ n. n) (LoadTupleStep (step slots word 0 0 none) (v, c))
 loads_tuple slots id word v c has_some s (l, h) long at range =
     let z : Sizes = v.passes.sizes in
     let n : ℕ = slice_index s.words word in (

@@ -27,7 +27,7 @@ use Rattle.track_rule.specs.Layout.{first_word, gen_at, gen_word, head_word, nex
 use Rattle.track_rule.specs.Links.{AreLinks, HasHooks, last_gen}
 use Rattle.track_rule.specs.Passes.{AreFronts, IsPass}
 use Rattle.track_rule.specs.Readings.{found, noted, stored}
-use Rattle.track_rule.specs.Rule.{Holds, IsKept, Ledger}
+use Rattle.track_rule.specs.Rule.{RuleHolds, IsKept, Ledger}
 use Rattle.track_rule.specs.KeptWords.{shows_held}
 use Rattle.track_rule.specs.Sums.{bit, total}
 use Rattle.track_rule.specs.Walks.{AreWalks, IsWalk}
@@ -308,13 +308,13 @@ module _ (l : Ledger) (s : State Slot View) (id b : ℕ) (v : View) (h : IsKept 
 
 -- shutting a bucket keeps the rule
 pub shutting : (slots id b even : ℕ) (v : View) (c : List (ℕ × Slot)) → b < v.passes.sizes.buckets → 0 < v.passes.shares → even % 2 ≡ 0 → even < last_gen
-    → Allows (Holds v.passes.sizes) slots id (v, c) (gen_word v.passes.sizes b) (λ n. either (eqb n even) (even + 1) n)
+    → Allows (RuleHolds v.passes.sizes) slots id (v, c) (gen_word v.passes.sizes b) (λ n. either (eqb n even) (even + 1) n)
     (ShutGenStep (step slots (gen_word v.passes.sizes b) even (even + 1) none) (v, c))
 shutting slots id b even v c below has_some half low s (l, h) long at range =
     let z : Sizes = v.passes.sizes in
     let n : ℕ = gen_at z s.words b in
     exchanged n even (even + 1)
-    (λ (k : ℕ). (w : View) × (a : Act Slot) × Valid s.homes c a × Holds z (stepped s (gen_word z b) k id c w a)
+    (λ (k : ℕ). (w : View) × (a : Act Slot) × Valid s.homes c a × RuleHolds z (stepped s (gen_word z b) k id c w a)
     × ShutGenStep (step slots (gen_word z b) even (even + 1) none) (v, c) n (w, carried_after c a))
     (λ (hit : n ≡ even).
     let w : View = noted (stored (gen_word z b) (even + 1)) (record v { buckets = shut_now b (l.chains b) v.buckets }) in (
@@ -350,7 +350,7 @@ shutting slots id b even v c below has_some half low s (l, h) long at range =
 -- opening it keeps the rule
 pub opening_gen : (slots id b : ℕ) (v : View) (c : List (ℕ × Slot)) → b < v.passes.sizes.buckets → 0 < v.passes.shares → 0 < shuts_of b v
     → loose_of v.passes.sizes b each_link v ≡ 0 → v.commit.middle ≡ Calm
-    → Allows (Holds v.passes.sizes) slots id (v, c) (gen_word v.passes.sizes b) (λ n. (n + 1) % 2 ^ 64)
+    → Allows (RuleHolds v.passes.sizes) slots id (v, c) (gen_word v.passes.sizes b) (λ n. (n + 1) % 2 ^ 64)
     (OpenGenStep (step slots (gen_word v.passes.sizes b) 1 0 none) (v, c))
 opening_gen slots id b v c below has_some any nothing calm s (l, h) long at range =
     let z : Sizes = v.passes.sizes in

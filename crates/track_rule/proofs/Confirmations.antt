@@ -17,7 +17,7 @@ use Rattle.track_rule.specs.declared.slot.Slot.{Slot}
 use Rattle.track_rule.specs.declared.view.View.{View}
 use Rattle.track_rule.specs.CommitSteps.{CanConfirm, ConfirmStep, born, confirmed, with_confirm, AddStep, CanAdd, HasAdded, held_for}
 use Rattle.track_rule.specs.History.{packed, records_after, events_in}
-use Rattle.track_rule.specs.Rule.{Holds, IsKept}
+use Rattle.track_rule.specs.Rule.{RuleHolds, IsKept}
 use Rattle.track_rule.proofs.Born.{born_kept}
 use Rattle.track_rule.proofs.Named.{born_ledger}
 use Rattle.track_rule.proofs.Confirms.{lawful, place_below, place_unused, state_on}
@@ -25,7 +25,7 @@ use Rattle.track_rule.proofs.Loads.{all_events, number_of}
 
 pub confirming : (slots id : ℕ) (v : View) (c : List (ℕ × Slot)) (r : Record) → 0 < v.passes.shares → CanConfirm r v → StatesFollow → LegalHistoriesGoOn
     → LiveRecordsAreConfirmed → UnusedPlacesAreRoom
-    → Allows (Holds v.passes.sizes) slots id (v, c) 0 (λ n. (n + (1 + 2 ^ 40)) % 2 ^ 64) (ConfirmStep r (step slots 0 (1 + 2 ^ 40) 0 none) (v, c))
+    → Allows (RuleHolds v.passes.sizes) slots id (v, c) 0 (λ n. (n + (1 + 2 ^ 40)) % 2 ^ 64) (ConfirmStep r (step slots 0 (1 + 2 ^ 40) 0 none) (v, c))
 confirming slots id v c r has_some can follow go_on low room s (l, h) long at range =
     let z : Sizes = v.passes.sizes in
     let w : View = confirmed l.log r v in
@@ -64,7 +64,7 @@ confirming slots id v c r has_some can follow go_on low room s (l, h) long at ra
 -- the same, as the event that is added says which record it is
 pub adding : (slots id : ℕ) (v : View) (c : List (ℕ × Slot)) (o : Option Record) → 0 < v.passes.shares → CanAdd o v → StatesFollow → LegalHistoriesGoOn
     → LiveRecordsAreConfirmed → UnusedPlacesAreRoom
-    → Allows (Holds v.passes.sizes) slots id (v, c) 0 (λ n. (n + (1 + 2 ^ 40)) % 2 ^ 64) (AddStep o (step slots 0 (1 + 2 ^ 40) 0 none) (v, c))
+    → Allows (RuleHolds v.passes.sizes) slots id (v, c) 0 (λ n. (n + (1 + 2 ^ 40)) % 2 ^ 64) (AddStep o (step slots 0 (1 + 2 ^ 40) 0 none) (v, c))
 adding slots id v c None has_some can follow go_on low room = absurd can
 adding slots id v c (Some r) has_some can follow go_on low room = confirming slots id v c r has_some can follow go_on low room
 

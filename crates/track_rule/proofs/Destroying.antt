@@ -13,7 +13,7 @@ use Rattle.track_rule.specs.declared.view.Middle.TheVariants.{Calm, Born, Dying}
 use Rattle.track_rule.specs.declared.view.View.{View}
 use Rattle.track_rule.specs.History.{events_in, IsNumber, IsWord, packed, records_after}
 use Rattle.track_rule.specs.KillSteps.{CanDestroy, DestroyStep, Destroying, HasDestroyed, MakesDestroy, MayDestroy, OfDying, destroyed, with_destroy, without_its}
-use Rattle.track_rule.specs.Rule.{Holds, IsKept}
+use Rattle.track_rule.specs.Rule.{RuleHolds, IsKept}
 use Rattle.track_rule.specs.Slots.{expected_number, free_number, hand_number}
 use Rattle.track_rule.proofs.Ending.{end_legal, ended_kept, ended_ledger, ended_packed, known_before}
 use Rattle.track_rule.proofs.Loads.{all_events, number_of}
@@ -25,7 +25,7 @@ one_less = 2 ^ 64 - 2 ^ 40 + 1
 
 ending : (slots id : ℕ) (v : View) (c : List (ℕ × Slot)) (d : Destroying) (r : Record) → 0 < v.passes.shares → v.commit.middle ≡ Dying r → MayDestroy d v r
     → StatesFollow → LegalHistoriesGoOn → LiveRecordsAreConfirmed → MastersHaveTheHelper
-    → Allows (Holds v.passes.sizes) slots id (v, c) 0 (λ n. (n + one_less) % 2 ^ 64) (DestroyStep (Some d) (step slots 0 one_less 0 none) (v, c))
+    → Allows (RuleHolds v.passes.sizes) slots id (v, c) 0 (λ n. (n + one_less) % 2 ^ 64) (DestroyStep (Some d) (step slots 0 one_less 0 none) (v, c))
 ending slots id v c d r has_some dying may follow go_on low helped s (l, h) long at range =
     let z : Sizes = v.passes.sizes in
     let all = all_events l s id v h at has_some in
@@ -58,12 +58,12 @@ ending slots id v c d r has_some dying may follow go_on low helped s (l, h) long
 -- the same, as the event that is added says what it destroys
 pub adding_destroy : (slots id : ℕ) (v : View) (c : List (ℕ × Slot)) (o : Option Destroying) → 0 < v.passes.shares → CanDestroy o v → StatesFollow → LegalHistoriesGoOn
     → LiveRecordsAreConfirmed → MastersHaveTheHelper
-    → Allows (Holds v.passes.sizes) slots id (v, c) 0 (λ n. (n + one_less) % 2 ^ 64) (DestroyStep o (step slots 0 one_less 0 none) (v, c))
+    → Allows (RuleHolds v.passes.sizes) slots id (v, c) 0 (λ n. (n + one_less) % 2 ^ 64) (DestroyStep o (step slots 0 one_less 0 none) (v, c))
 adding_destroy slots id v c None has_some can follow go_on low helped = absurd can
 adding_destroy slots id v c (Some d) has_some can follow go_on low helped = by_middle v.commit.middle refl can
   where
     by_middle : (m : Middle) → v.commit.middle ≡ m → OfDying (MayDestroy d v) m
-        → Allows (Holds v.passes.sizes) slots id (v, c) 0 (λ n. (n + one_less) % 2 ^ 64) (DestroyStep (Some d) (step slots 0 one_less 0 none) (v, c))
+        → Allows (RuleHolds v.passes.sizes) slots id (v, c) 0 (λ n. (n + one_less) % 2 ^ 64) (DestroyStep (Some d) (step slots 0 one_less 0 none) (v, c))
     by_middle Calm e k = absurd k
     by_middle (Born r) e k = absurd k
     by_middle (Dying r) e k = ending slots id v c d r has_some e k follow go_on low helped

@@ -29,7 +29,7 @@ use Rattle.track_rule.specs.Phases.{ArePhases, IsMiddlePhase, middle_of, middle_
 use Rattle.track_rule.specs.Readings.{stored}
 use Rattle.track_rule.specs.Records.{AreRecords, IsHand, has_hand, is_hand_of, record_in}
 use Rattle.track_rule.specs.References.{AreKept, AreReferences, ends, held_times, is_at, is_held, keeps, takes}
-use Rattle.track_rule.specs.Rule.{Holds, IsKept, Ledger}
+use Rattle.track_rule.specs.Rule.{RuleHolds, IsKept, Ledger}
 use Rattle.track_rule.specs.Slots.{expected_number, free_number, hand_number}
 use Rattle.track_rule.specs.Sums.{bit, times, total}
 use Rattle.track_rule.specs.TouchSteps.{known_phase, known_record}
@@ -381,7 +381,7 @@ knows_live l s id v place r h at low a known =
 -- the phase of a live entry is made DEAD
 showing : (slots id place : ℕ) (v : View) (c : List (ℕ × Slot)) (r : Record) → 0 < v.passes.shares → AsksDead place v → LiveRecordsAreConfirmed
     → known_record v.commit.hand ≡ Some r → IsShutFor v r
-    → Allows (Holds v.passes.sizes) slots id (v, c) (phase_word v.passes.sizes place) (λ _. 2)
+    → Allows (RuleHolds v.passes.sizes) slots id (v, c) (phase_word v.passes.sizes place) (λ _. 2)
     (λ _. DeadStep (step slots (phase_word v.passes.sizes place) 2 0 none) (v, c) 2)
 showing slots id place v c r has_some a low known shut s (l, h) long at range =
     let z : Sizes = v.passes.sizes in
@@ -410,12 +410,12 @@ showing slots id place v c r has_some a low known shut s (l, h) long at range =
     one_record a b e = cc
 
 pub dying : (slots id place : ℕ) (v : View) (c : List (ℕ × Slot)) → 0 < v.passes.shares → AsksDead place v → LiveRecordsAreConfirmed
-    → Allows (Holds v.passes.sizes) slots id (v, c) (phase_word v.passes.sizes place) (λ _. 2)
+    → Allows (RuleHolds v.passes.sizes) slots id (v, c) (phase_word v.passes.sizes place) (λ _. 2)
     (λ _. DeadStep (step slots (phase_word v.passes.sizes place) 2 0 none) (v, c) 2)
 dying slots id place v c has_some a low = by_record (known_record v.commit.hand) refl a.ready
   where
     by_record : (o : Option Record) → known_record v.commit.hand ≡ o → MayDie v o
-        → Allows (Holds v.passes.sizes) slots id (v, c) (phase_word v.passes.sizes place) (λ _. 2)
+        → Allows (RuleHolds v.passes.sizes) slots id (v, c) (phase_word v.passes.sizes place) (λ _. 2)
         (λ _. DeadStep (step slots (phase_word v.passes.sizes place) 2 0 none) (v, c) 2)
     by_record None e ready = absurd ready
     by_record (Some r) e ready = showing slots id place v c r has_some a low e ready

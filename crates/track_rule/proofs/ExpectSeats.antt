@@ -16,7 +16,7 @@ use Rattle.track_rule.specs.declared.view.Middle.TheVariants.{Calm}
 use Rattle.track_rule.specs.declared.view.View.{View}
 use Rattle.track_rule.specs.ExpectTurns.{CanGiveExpected, GiveExpectsStep, TookExpected, before_expects, expects_at, no_table, table_in, with_expects}
 use Rattle.track_rule.specs.Expected.{expected_turn, has_expected}
-use Rattle.track_rule.specs.Rule.{Holds}
+use Rattle.track_rule.specs.Rule.{RuleHolds}
 use Rattle.track_rule.specs.Sights.{IsAt, PassSight, sight_at}
 use Rattle.track_rule.specs.Slots.{AllSuit, expected_number, expects_in, free_number, hand_number, numbers, numbers_of, slot_of_expects, suits}
 use Rattle.track_rule.specs.TurnSteps.{subject_in}
@@ -96,14 +96,14 @@ subject_stays slots new out =
 -- giving it back, after it was brought to the front
 pub giving_front : (key : Sizes) (slots id : ℕ) (me me' : Me Slot View) → me.0.passes.sizes ≡ key → me' ≡ (me.0, turned me.1) → 1 < slots → 0 < me.0.passes.shares
     → me.0.commit.middle ≡ Calm → is_some (expects_at me.1) ≡ true → CanGiveExpected me.0 (table_in me.1) → ExpectsOut me.1
-    → Allows (Holds key) slots id me' 2 (λ _. 0) (λ _. GiveExpectsStep (step slots 2 0 0 none) me' 0)
+    → Allows (RuleHolds key) slots id me' 2 (λ _. 0) (λ _. GiveExpectsStep (step slots 2 0 0 none) me' 0)
 giving_front key slots id me me' same there some_slots has_some calm some_table can out =
     let table : Roomed Expectation = table_in me.1 in
     let inside : out.inside ≡ Expects table = out.kind ∙ slot_is (expects_in out.inside) (expects_at me.1) (inside_is me.1 out) some_table in
     let front : turned me.1 ≡ (1, Expects table) ∷ before_expects me.1 = out.first ∙ ap (λ (x : Slot). (1, x) ∷ before_expects me.1) inside in
-    subst (λ (z : Sizes). Allows (Holds z) slots id me' 2 (λ _. 0) (λ _. GiveExpectsStep (step slots 2 0 0 none) me' 0)) same
-    (subst (λ (m : Me Slot View). Allows (Holds me.0.passes.sizes) slots id m 2 (λ _. 0) (λ _. GiveExpectsStep (step slots 2 0 0 none) m 0)) (sym there)
-    (subst (λ (c : List (ℕ × Slot)). Allows (Holds me.0.passes.sizes) slots id (me.0, c) 2 (λ _. 0) (λ _. GiveExpectsStep (step slots 2 0 0 none) (me.0, c) 0)) (sym front)
+    subst (λ (z : Sizes). Allows (RuleHolds z) slots id me' 2 (λ _. 0) (λ _. GiveExpectsStep (step slots 2 0 0 none) me' 0)) same
+    (subst (λ (m : Me Slot View). Allows (RuleHolds me.0.passes.sizes) slots id m 2 (λ _. 0) (λ _. GiveExpectsStep (step slots 2 0 0 none) m 0)) (sym there)
+    (subst (λ (c : List (ℕ × Slot)). Allows (RuleHolds me.0.passes.sizes) slots id (me.0, c) 2 (λ _. 0) (λ _. GiveExpectsStep (step slots 2 0 0 none) (me.0, c) 0)) (sym front)
     (giving_expected slots id me.0 table (before_expects me.1) some_slots has_some calm can)))
   where
     slot_is : (o p : Option (Roomed Expectation)) → p ≡ o → is_some p ≡ true → slot_of_expects o ≡ Expects (unwrap_or p no_table)

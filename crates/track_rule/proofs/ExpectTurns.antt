@@ -27,7 +27,7 @@ use Rattle.track_rule.specs.Layout.{first_word, gen_word, head_word, next_word, 
 use Rattle.track_rule.specs.Passes.{IsPass}
 use Rattle.track_rule.specs.Readings.{found, noted, stored}
 use Rattle.track_rule.specs.Records.{AreRecords, IsHand, IsRecordHome, has_hand, is_hand_of}
-use Rattle.track_rule.specs.Rule.{Holds, IsKept, Ledger}
+use Rattle.track_rule.specs.Rule.{RuleHolds, IsKept, Ledger}
 use Rattle.track_rule.specs.Slots.{expects_in, slot_of_expects}
 use Rattle.track_rule.specs.TurnSteps.{subject_in}
 use Rattle.track_rule.specs.Sums.{total}
@@ -206,10 +206,10 @@ module _ (l : Ledger) (s : State Slot View) (id : ℕ) (v : View) (h : IsKept v.
 
 -- taking the turn keeps the rule
 pub taking_expected : (slots id : ℕ) (v : View) (c : List (ℕ × Slot)) → 0 < v.passes.shares → v.expected ≡ None
-    → Allows (Holds v.passes.sizes) slots id (v, c) 2 (λ n. either (eqb n 0) 1 n) (TakeExpectsStep (step slots 2 0 1 none) (v, c))
+    → Allows (RuleHolds v.passes.sizes) slots id (v, c) 2 (λ n. either (eqb n 0) 1 n) (TakeExpectsStep (step slots 2 0 1 none) (v, c))
 taking_expected slots id v c has_some calm s (l, h) sized at range =
     exchanged (slice_index s.words 2) 0 1
-    (λ (n : ℕ). (w : View) × (a : Act Slot) × Valid s.homes c a × Holds v.passes.sizes (stepped s 2 n id c w a)
+    (λ (n : ℕ). (w : View) × (a : Act Slot) × Valid s.homes c a × RuleHolds v.passes.sizes (stepped s 2 n id c w a)
     × TakeExpectsStep (step slots 2 0 1 none) (v, c) (slice_index s.words 2) (w, carried_after c a))
     (λ (hit : slice_index s.words 2 ≡ 0).
     let home = h.expected.home hit in
@@ -239,7 +239,7 @@ taking_expected slots id v c has_some calm s (l, h) sized at range =
 -- giving it back keeps the rule
 pub giving_expected : (slots id : ℕ) (v : View) (table : Roomed Expectation) (c : List (ℕ × Slot)) → 1 < slots → 0 < v.passes.shares
     → v.commit.middle ≡ Calm → CanGiveExpected v table
-    → Allows (Holds v.passes.sizes) slots id (v, (1, Expects table) ∷ c) 2 (λ _. 0)
+    → Allows (RuleHolds v.passes.sizes) slots id (v, (1, Expects table) ∷ c) 2 (λ _. 0)
     (λ _. GiveExpectsStep (step slots 2 0 0 none) (v, (1, Expects table) ∷ c) 0)
 giving_expected slots id v table c some_slots has_some calm can s (l, h) sized at range = (
   gave_expected v,

@@ -32,7 +32,7 @@ use Rattle.track_rule.specs.History.{events_in, IsNumber, IsWord, packed, record
 use Rattle.track_rule.specs.Phases.{of_both, of_place}
 use Rattle.track_rule.specs.Readings.{stored}
 use Rattle.track_rule.specs.Records.{AreRecords, IsHand, has_hand, record_in}
-use Rattle.track_rule.specs.Rule.{Holds, IsKept, Ledger}
+use Rattle.track_rule.specs.Rule.{RuleHolds, IsKept, Ledger}
 use Rattle.track_rule.specs.Slots.{expected_number, free_number, hand_number}
 use Rattle.track_rule.specs.Sums.{total}
 use Rattle.track_rule.proofs.Confirms.{state_on}
@@ -193,7 +193,7 @@ module _ (l : Ledger) (s : Board Slot View) (id : ℕ) (v : View) (e : Event) (h
 
 -- adding to the history word for such an event keeps the rule
 pub changing : (slots id : ℕ) (v : View) (c : List (ℕ × Slot)) (e : Event) → 0 < v.passes.shares → CanChange e v → StatesFollow → LegalHistoriesGoOn
-    → Allows (Holds v.passes.sizes) slots id (v, c) 0 (λ n. (n + 1) % 2 ^ 64) (ChangeStep e (step slots 0 1 0 none) (v, c))
+    → Allows (RuleHolds v.passes.sizes) slots id (v, c) 0 (λ n. (n + 1) % 2 ^ 64) (ChangeStep e (step slots 0 1 0 none) (v, c))
 changing slots id v c e has_some can follow go_on s (l, h) long at range =
     let z : Sizes = v.passes.sizes in
     let all = all_events l s id v h at has_some in

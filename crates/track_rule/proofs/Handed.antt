@@ -32,7 +32,7 @@ use Rattle.track_rule.specs.Passes.{AreFronts, ArePasses, HasNothing, IsPass, Is
 use Rattle.track_rule.specs.References.{AreKept, AreReferences, ends, held_times, is_at, is_for_new, keeps, taken_times, takes}
 use Rattle.track_rule.specs.Phases.{middle_of, middle_weight, of_place, table_keeps}
 use Rattle.track_rule.specs.Readings.{AreRead}
-use Rattle.track_rule.specs.Rule.{Holds, IsKept, Ledger}
+use Rattle.track_rule.specs.Rule.{RuleHolds, IsKept, Ledger}
 use Rattle.track_rule.specs.Shares.{IsLast, further, joined, shares_left, spent_view}
 use Rattle.track_rule.specs.Sums.{Each, bit, times, total}
 use Rattle.track_rule.specs.Walks.{IsWalk}
@@ -174,7 +174,7 @@ total_cut f vs i v left right at cut = omega (arith, total_append f (set vs i le
 
 -- handing over shares keeps the rule
 pub splits : (z : Sizes) (id shares : ℕ) (v : View) → 1 ≤ shares → shares < v.passes.shares
-    → Splits (Holds z) id v (shares_left shares v) (further shares v)
+    → Splits (RuleHolds z) id v (shares_left shares v) (further shares v)
 splits z id shares v has_some fewer s (l, h) at =
     let left : View = shares_left shares v in
     let right : View = further shares v in
@@ -276,7 +276,7 @@ none_among (p ∷ ps) none = absurd (omega (arith, none p, same_bit p p refl))
 
 -- taking in another pass keeps the rule
 pub joins : (z : Sizes) (id other : ℕ) (v w : View) → 0 < v.passes.shares → 0 < w.passes.shares → HasNothing w
-    → Joins (Holds z) id v other w (joined v w) spent_view
+    → Joins (RuleHolds z) id v other w (joined v w) spent_view
 joins z id other v w has_some has_other none s (l, h) at apart at' =
     let both : View = joined v w in
     let vs : List View = set s.views id both in

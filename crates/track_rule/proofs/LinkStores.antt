@@ -12,7 +12,7 @@ use Rattle.track_rule.specs.BucketSteps.{Aims, Cuts, IsShutAt, MayString, Puts, 
 use Rattle.track_rule.specs.Chains.{bucket_of, is_at_link}
 use Rattle.track_rule.specs.Layout.{first_word, head_word, next_word, second_word}
 use Rattle.track_rule.specs.Links.{is_down}
-use Rattle.track_rule.specs.Rule.{Holds, IsKept, Ledger}
+use Rattle.track_rule.specs.Rule.{RuleHolds, IsKept, Ledger}
 use Rattle.track_rule.specs.Sums.{total}
 use Rattle.track_rule.proofs.BucketLoads.{chain_rest, shut_chain}
 use Rattle.track_rule.proofs.ChainCuts.{cuts_kept}
@@ -100,11 +100,11 @@ module _ (l : Ledger) (s : State Slot View) (id : ℕ) (v : View) (h : IsKept v.
 
 -- a store of a link keeps the rule
 pub stores_link : (slots id word to : ℕ) (v : View) (c : List (ℕ × Slot)) → MayString word to v → 0 < v.passes.shares
-    → Allows (Holds v.passes.sizes) slots id (v, c) word (λ _. to) (λ _. StoreLinkStep (step slots word to 0 none) (v, c) to)
+    → Allows (RuleHolds v.passes.sizes) slots id (v, c) word (λ _. to) (λ _. StoreLinkStep (step slots word to 0 none) (v, c) to)
 stores_link slots id word to v c may has_some s (l, h) long at range =
     let z : Sizes = v.passes.sizes in
     let Told : ℕ → ℕ → Type 0 = λ (k n : ℕ).
-    (w : View) × Holds z (record { words = slice_set s.words k n; homes = s.homes; views = set s.views id w }) × Strings k n v w in
+    (w : View) × RuleHolds z (record { words = slice_set s.words k n; homes = s.homes; views = set s.views id w }) × Strings k n v w in
     let done : Told word to =
     ⊎_elim
     (λ (t : Aims word to v).

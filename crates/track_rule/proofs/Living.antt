@@ -31,7 +31,7 @@ use Rattle.track_rule.specs.Phases.{ArePhases, IsMiddlePhase, middle_of, middle_
 use Rattle.track_rule.specs.Readings.{stored}
 use Rattle.track_rule.specs.Records.{AreRecords, IsHand, has_hand, is_hand_of, record_in}
 use Rattle.track_rule.specs.References.{AreKept, AreReferences, ends, held_times, keeps, takes}
-use Rattle.track_rule.specs.Rule.{Holds, IsKept, Ledger}
+use Rattle.track_rule.specs.Rule.{RuleHolds, IsKept, Ledger}
 use Rattle.track_rule.specs.Sums.{bit, times, total}
 use Rattle.track_rule.specs.Walks.{IsWalk}
 use Rattle.track_rule.proofs.Balance.{MakesNone, pass_moved, passes_moved}
@@ -408,7 +408,7 @@ module _ (l : Ledger) (s : State Slot View) (id : ℕ) (v : View) (r : Record) (
 
 -- the phase of a record that was just confirmed is stored
 pub living : (slots id : ℕ) (v : View) (c : List (ℕ × Slot)) (r : Record) → 0 < v.passes.shares → v.commit.middle ≡ Born r
-    → Allows (Holds v.passes.sizes) slots id (v, c) (phase_word v.passes.sizes r.place) (λ _. 3 + r.id)
+    → Allows (RuleHolds v.passes.sizes) slots id (v, c) (phase_word v.passes.sizes r.place) (λ _. 3 + r.id)
     (λ _. LiveStep (step slots (phase_word v.passes.sizes r.place) (3 + r.id) 0 none) (v, c) (3 + r.id))
 living slots id v c r has_some born s (l, h) long at range = (
   shown_live r.place r.id r v,
@@ -427,18 +427,18 @@ living slots id v c r has_some born s (l, h) long at range = (
 
 -- the same, by place and id
 pub living_at : (slots id place n : ℕ) (v : View) (c : List (ℕ × Slot)) → 0 < v.passes.shares → IsBorn place n v.commit.middle
-    → Allows (Holds v.passes.sizes) slots id (v, c) (phase_word v.passes.sizes place) (λ _. 3 + n)
+    → Allows (RuleHolds v.passes.sizes) slots id (v, c) (phase_word v.passes.sizes place) (λ _. 3 + n)
     (λ _. LiveStep (step slots (phase_word v.passes.sizes place) (3 + n) 0 none) (v, c) (3 + n))
 living_at slots id place n v c has_some born = by_middle v.commit.middle refl born
   where
     by_middle : (m : Middle) → v.commit.middle ≡ m → IsBorn place n m
-        → Allows (Holds v.passes.sizes) slots id (v, c) (phase_word v.passes.sizes place) (λ _. 3 + n)
+        → Allows (RuleHolds v.passes.sizes) slots id (v, c) (phase_word v.passes.sizes place) (λ _. 3 + n)
         (λ _. LiveStep (step slots (phase_word v.passes.sizes place) (3 + n) 0 none) (v, c) (3 + n))
     by_middle Calm e k = absurd k
     by_middle (Born r) e k =
-        subst (λ (q : ℕ). Allows (Holds v.passes.sizes) slots id (v, c) (phase_word v.passes.sizes q) (λ _. 3 + n)
+        subst (λ (q : ℕ). Allows (RuleHolds v.passes.sizes) slots id (v, c) (phase_word v.passes.sizes q) (λ _. 3 + n)
         (λ _. LiveStep (step slots (phase_word v.passes.sizes q) (3 + n) 0 none) (v, c) (3 + n))) k.0
-        (subst (λ (i : ℕ). Allows (Holds v.passes.sizes) slots id (v, c) (phase_word v.passes.sizes r.place) (λ _. 3 + i)
+        (subst (λ (i : ℕ). Allows (RuleHolds v.passes.sizes) slots id (v, c) (phase_word v.passes.sizes r.place) (λ _. 3 + i)
         (λ _. LiveStep (step slots (phase_word v.passes.sizes r.place) (3 + i) 0 none) (v, c) (3 + i))) k.1
         (living slots id v c r has_some e))
     by_middle (Dying r) e k = absurd k

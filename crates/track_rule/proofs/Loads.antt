@@ -27,7 +27,7 @@ use Rattle.track_rule.specs.Passes.{ArePasses, HasNothing, IsPass, IsSpent, made
 use Rattle.track_rule.specs.Phases.{middle_of, middle_weight, of_place, table_keeps}
 use Rattle.track_rule.specs.Readings.{found, noted}
 use Rattle.track_rule.specs.References.{held_times, is_at, is_for_new, keeps, takes}
-use Rattle.track_rule.specs.Rule.{Holds, IsKept, Ledger}
+use Rattle.track_rule.specs.Rule.{RuleHolds, IsKept, Ledger}
 use Rattle.track_rule.specs.Steps.{AreAll, HasOthers, IsCount, LoadStep, LoadsRefs, LookStep, at_point, found_history, read_refs, saw, uses}
 use Rattle.track_rule.specs.Sums.{Each, times, total}
 use Rattle.track_rule.proofs.LastRead.{ReadsAt, read_on}
@@ -166,7 +166,7 @@ all_events l s id v h at has_some =
 
 -- a load of the history word keeps the rule, and shows the whole history
 pub looks : LiveRecordsAreConfirmed → (slots id : ℕ) (v : View) (c : List (ℕ × Slot)) → 0 < v.passes.shares
-    → Allows (Holds v.passes.sizes) slots id (v, c) 0 (λ n. n) (LookStep (step slots 0 0 0 none) (v, c))
+    → Allows (RuleHolds v.passes.sizes) slots id (v, c) 0 (λ n. n) (LookStep (step slots 0 0 0 none) (v, c))
 looks low slots id v c has_some s (l, h) long at range =
     let z : Sizes = v.passes.sizes in
     let w : View = noted (found_history (slice_index s.words 0) v) (saw l.log v) in
@@ -272,7 +272,7 @@ refs_read l s id p v h at below has_some =
 
 -- a load of the references of a place
 pub loads : (slots id p : ℕ) (v : View) (c : List (ℕ × Slot)) → p < v.passes.sizes.entries → 0 < v.passes.shares
-    → Allows (Holds v.passes.sizes) slots id (v, c) (refs_word v.passes.sizes p) (λ n. n)
+    → Allows (RuleHolds v.passes.sizes) slots id (v, c) (refs_word v.passes.sizes p) (λ n. n)
     (LoadStep (step slots (refs_word v.passes.sizes p) 0 0 none) (v, c))
 loads slots id p v c below has_some s (l, h) long at range =
     let z : Sizes = v.passes.sizes in

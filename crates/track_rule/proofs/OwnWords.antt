@@ -23,7 +23,7 @@ use Rattle.track_rule.specs.Layout.{first_word, gen_at, head_word, next_word, pl
 use Rattle.track_rule.specs.Links.{HasHooks, IsHook, IsOwned, hook_of, hooks_of, is_down, last_link, is_up}
 use Rattle.track_rule.specs.Readings.{stored}
 use Rattle.track_rule.specs.References.{takes}
-use Rattle.track_rule.specs.Rule.{Holds, IsKept, Ledger}
+use Rattle.track_rule.specs.Rule.{RuleHolds, IsKept, Ledger}
 use Rattle.track_rule.specs.Sums.{Each, bit, total, times}
 use Rattle.track_rule.specs.Walks.{IsWalk}
 use Rattle.track_rule.proofs.LastRead.{stored_on}
@@ -352,7 +352,7 @@ tuples_kept l s id v x word to h at has_some down of low apart owned =
 
 -- storing a word of the tuple of a link in no chain keeps the rule
 pub stores_tuple : (slots id word to : ℕ) (v : View) (c : List (ℕ × Slot)) → is_own_tuple v.passes.sizes word v.buckets v.places.owned ≡ true → 0 < v.passes.shares
-    → Allows (Holds v.passes.sizes) slots id (v, c) word (λ _. to) (λ _. StoreTupleStep (step slots word to 0 none) (v, c) to)
+    → Allows (RuleHolds v.passes.sizes) slots id (v, c) word (λ _. to) (λ _. StoreTupleStep (step slots word to 0 none) (v, c) to)
 stores_tuple slots id word to v c own has_some s (l, h) long at range = (
   tuple_stored word to v,
   unchanged,

@@ -29,7 +29,7 @@ use Rattle.track_rule.specs.Phases.{ArePhases, IsMiddlePhase, middle_of, of_both
 use Rattle.track_rule.specs.Readings.{found, stored}
 use Rattle.track_rule.specs.Records.{AreRecords, IsHand, has_hand, record_in}
 use Rattle.track_rule.specs.References.{AreKept, AreReferences, ends, held_times, is_at, is_for_new, is_taken, keeps, taken_times, takes}
-use Rattle.track_rule.specs.Rule.{Holds, IsKept, Ledger}
+use Rattle.track_rule.specs.Rule.{RuleHolds, IsKept, Ledger}
 use Rattle.track_rule.specs.Sights.{AreOfPool}
 use Rattle.track_rule.specs.Sums.{times, total}
 use Rattle.track_rule.specs.Walks.{IsWalk}
@@ -150,7 +150,7 @@ module _ (laws : AreLaws) (l : Ledger) (s : State Slot View) (id p : ℕ) (v : V
 
 -- a load of a phase
 pub loads_phase : AreLaws → (slots id p : ℕ) (v : View) (c : List (ℕ × Slot)) → p < v.passes.sizes.entries → 0 < v.passes.shares
-    → Allows (Holds v.passes.sizes) slots id (v, c) (phase_word v.passes.sizes p) (λ n. n)
+    → Allows (RuleHolds v.passes.sizes) slots id (v, c) (phase_word v.passes.sizes p) (λ n. n)
     (LoadPhaseStep (step slots (phase_word v.passes.sizes p) 0 0 none) (v, c))
 loads_phase laws slots id p v c below has_some s (l, h) long at range =
     let z : Sizes = v.passes.sizes in
@@ -615,7 +615,7 @@ module _ (l : Ledger) (s : State Slot View) (id p to : ℕ) (v : View) (h : IsKe
 
 -- FREE, or OWNED, is stored
 pub stores_phase : (slots id p to : ℕ) (v : View) (c : List (ℕ × Slot)) → p < v.passes.sizes.entries → 0 < v.passes.shares → may_store p to v ≡ true
-    → Allows (Holds v.passes.sizes) slots id (v, c) (phase_word v.passes.sizes p) (λ _. to)
+    → Allows (RuleHolds v.passes.sizes) slots id (v, c) (phase_word v.passes.sizes p) (λ _. to)
     (λ _. StorePhaseStep (step slots (phase_word v.passes.sizes p) to 0 none) (v, c) to)
 stores_phase slots id p to v c below has_some may s (l, h) long at range = (
   phase_stored p to v,

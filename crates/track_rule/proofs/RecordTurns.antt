@@ -26,7 +26,7 @@ use Rattle.track_rule.specs.Layout.{first_word, gen_word, head_word, next_word, 
 use Rattle.track_rule.specs.Passes.{IsPass}
 use Rattle.track_rule.specs.Readings.{found, noted, stored}
 use Rattle.track_rule.specs.Records.{AreRecords, IsHand, IsRecordHome, has_hand, is_hand_of, is_records, record_in, slot_of_record}
-use Rattle.track_rule.specs.Rule.{Holds, IsKept, Ledger}
+use Rattle.track_rule.specs.Rule.{RuleHolds, IsKept, Ledger}
 use Rattle.track_rule.specs.Sums.{bit, total}
 use Rattle.track_rule.specs.TurnSteps.{CanGiveTurn, GiveTurnStep, TakeTurnStep, TakesTurn, gave_turn, with_hand}
 use Rattle.track_rule.proofs.Balance.{Moves, pass_moved, same_lines}
@@ -186,11 +186,11 @@ own_slot (Subject r) e = refl
 
 -- taking the turn keeps the rule
 pub taking_turn : (slots id p : ℕ) (v : View) (c : List (ℕ × Slot)) → p < v.passes.sizes.entries → 0 < v.passes.shares → v.commit.hand ≡ None
-    → Allows (Holds v.passes.sizes) slots id (v, c) (turn_word v.passes.sizes p) (λ n. either (eqb n 0) 1 n)
+    → Allows (RuleHolds v.passes.sizes) slots id (v, c) (turn_word v.passes.sizes p) (λ n. either (eqb n 0) 1 n)
     (TakeTurnStep (step slots (turn_word v.passes.sizes p) 0 1 none) (v, c))
 taking_turn slots id p v c below has_some calm s (l, h) sized at range =
     exchanged (slice_index s.words (turn_word v.passes.sizes p)) 0 1
-    (λ (n : ℕ). (w : View) × (a : Act Slot) × Valid s.homes c a × Holds v.passes.sizes (stepped s (turn_word v.passes.sizes p) n id c w a)
+    (λ (n : ℕ). (w : View) × (a : Act Slot) × Valid s.homes c a × RuleHolds v.passes.sizes (stepped s (turn_word v.passes.sizes p) n id c w a)
     × TakeTurnStep (step slots (turn_word v.passes.sizes p) 0 1 none) (v, c) (slice_index s.words (turn_word v.passes.sizes p)) (w, carried_after c a))
     (λ (hit : slice_index s.words (turn_word v.passes.sizes p) ≡ 0).
     let z : Sizes = v.passes.sizes in
@@ -255,7 +255,7 @@ hand_there p (Some x) e =
 -- giving it back keeps the rule
 pub giving_turn : (slots id p : ℕ) (v : View) (x : Slot) (c : List (ℕ × Slot)) → p < v.passes.sizes.entries → 2 + v.passes.sizes.entries ≤ slots → 0 < v.passes.shares
     → has_hand p v ≡ 1 → v.commit.middle ≡ Calm → is_records x ≡ true → CanGiveTurn v ((record_slot p, x) ∷ c)
-    → Allows (Holds v.passes.sizes) slots id (v, (record_slot p, x) ∷ c) (turn_word v.passes.sizes p) (λ _. 0)
+    → Allows (RuleHolds v.passes.sizes) slots id (v, (record_slot p, x) ∷ c) (turn_word v.passes.sizes p) (λ _. 0)
     (λ _. GiveTurnStep (step slots (turn_word v.passes.sizes p) 0 0 none) (v, (record_slot p, x) ∷ c) 0)
 giving_turn slots id p v x c below some_slots has_some mine calm kind can s (l, h) sized at range =
     let z : Sizes = v.passes.sizes in (

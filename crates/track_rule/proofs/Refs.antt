@@ -24,7 +24,7 @@ use Rattle.track_rule.specs.History.{records_after}
 use Rattle.track_rule.specs.Phases.{middle_of, middle_weight, of_place}
 use Rattle.track_rule.specs.Records.{has_hand}
 use Rattle.track_rule.specs.References.{AreKept, ends, held_times, is_at, is_for_new, is_held, is_taken, keeps, taken_times, takes, without}
-use Rattle.track_rule.specs.Rule.{Holds, IsKept, Ledger}
+use Rattle.track_rule.specs.Rule.{RuleHolds, IsKept, Ledger}
 use Rattle.track_rule.specs.Steps.{IsCount, LowerStep, LowersRefs, OpenStep, Opens, RaiseStep, RaisedRefs, RaisesRefs, is_second, keep, let_go, let_go_of, opened, owed_then, raised, read_refs}
 use Rattle.track_rule.specs.Sums.{bit, times, total}
 use Rattle.track_rule.proofs.Frames.{Quiet, middle_more}
@@ -142,7 +142,7 @@ counts z l s id p n v w free' h at has_some below t lines taken purposes middle 
 -- the first reference to a place from the free list
 pub opening : (slots id p : ℕ) (v : View) (c : List (ℕ × Slot)) → p < v.passes.sizes.entries → 0 < v.passes.shares
     → is_among p (known_free v) ≡ true → length v.places.held + length v.places.owed ≤ 3
-    → Allows (Holds v.passes.sizes) slots id (v, c) (refs_word v.passes.sizes p) (λ _. 1)
+    → Allows (RuleHolds v.passes.sizes) slots id (v, c) (refs_word v.passes.sizes p) (λ _. 1)
     (λ _. OpenStep (step slots (refs_word v.passes.sizes p) 1 0 none) (v, c) 1)
 opening slots id p v c below has_some on room s (l, h) sized at range =
     let z : Sizes = v.passes.sizes in
@@ -316,14 +316,14 @@ module _ (slots id p seen : ℕ) (v : View) (c : List (ℕ × Slot)) (below : p 
 
 pub raising : (slots id p seen : ℕ) (v : View) (c : List (ℕ × Slot)) → p < v.passes.sizes.entries → 0 < v.passes.shares → 0 < seen
     → (is_second p v ≡ false → length v.places.held + length v.places.owed ≤ 3)
-    → Allows (Holds v.passes.sizes) slots id (v, c) (refs_word v.passes.sizes p) (λ n. either (eqb n seen) (seen + 1) n)
+    → Allows (RuleHolds v.passes.sizes) slots id (v, c) (refs_word v.passes.sizes p) (λ n. either (eqb n seen) (seen + 1) n)
     (RaiseStep (step slots (refs_word v.passes.sizes p) seen (seen + 1) none) (v, c))
 raising slots id p seen v c below has_some some_seen room s (l, h) sized at range =
     let z : Sizes = v.passes.sizes in
     let word : ℕ = refs_word v.passes.sizes p in
     let n : ℕ = slice_index s.words (refs_word v.passes.sizes p) in
     exchanged (slice_index s.words (refs_word v.passes.sizes p)) seen (seen + 1)
-    (λ (m : ℕ). (w : View) × (a : Act Slot) × Valid s.homes c a × Holds v.passes.sizes (stepped s (refs_word v.passes.sizes p) m id c w a)
+    (λ (m : ℕ). (w : View) × (a : Act Slot) × Valid s.homes c a × RuleHolds v.passes.sizes (stepped s (refs_word v.passes.sizes p) m id c w a)
     × RaiseStep (step slots (refs_word v.passes.sizes p) seen (seen + 1) none) (v, c) (slice_index s.words (refs_word v.passes.sizes p)) (w, carried_after c a))
     (λ (hit : slice_index s.words (refs_word v.passes.sizes p) ≡ seen).
     let w : View = raised (is_second p v) p seen v in
@@ -491,7 +491,7 @@ module _ (id p : ℕ) (v : View) (below : p < v.passes.sizes.entries) (has_some 
 
 pub lowering : (slots id p : ℕ) (v : View) (c : List (ℕ × Slot)) → p < v.passes.sizes.entries → 0 < v.passes.shares
     → is_held p v.places.held ≡ true → is_up p v.buckets.hooks ≡ false → (is_among p v.places.carried ≡ true → v.commit.middle ≡ Calm)
-    → Allows (Holds v.passes.sizes) slots id (v, c) (refs_word v.passes.sizes p) (λ n. (n + (2 ^ 64 - 1)) % 2 ^ 64)
+    → Allows (RuleHolds v.passes.sizes) slots id (v, c) (refs_word v.passes.sizes p) (λ n. (n + (2 ^ 64 - 1)) % 2 ^ 64)
     (LowerStep (step slots (refs_word v.passes.sizes p) 1 0 none) (v, c))
 lowering slots id p v c below has_some held down calm s (l, h) sized at range =
     let z : Sizes = v.passes.sizes in

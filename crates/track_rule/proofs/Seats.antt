@@ -6,7 +6,7 @@ use Rattle.atomic_table.specs.Seated.{TableId}
 use Rattle.atomic_table.specs.Table.{Allows, Me, rest}
 use Rattle.track_rule.proofs.Lists.{other_bit}
 use Rattle.std.proofs.lemmas.Option.{none-some}
-use Rattle.track_rule.specs.Rule.{Holds}
+use Rattle.track_rule.specs.Rule.{RuleHolds}
 use Rattle.expect_table.specs.declared.expectation.Expectation.{Expectation}
 use Rattle.room_list.specs.Roomed.{Roomed}
 use Rattle.history_book.specs.declared.sizes.Sizes.{Sizes}
@@ -85,9 +85,9 @@ kept_at old table table' me me' was there slots k = record {
 
 -- what a step asks, at the sizes of the rule and at the word as it was reckoned
 pub allowed : (z key : Sizes) (slots id : ℕ) (me : Me Slot View) (word word' : ℕ) (f : ℕ → ℕ) (tells : ℕ → ℕ → Me Slot View → Type 0)
-    → z ≡ key → word' ≡ word → Allows (Holds z) slots id me word f (tells word) → Allows (Holds key) slots id me word' f (tells word')
+    → z ≡ key → word' ≡ word → Allows (RuleHolds z) slots id me word f (tells word) → Allows (RuleHolds key) slots id me word' f (tells word')
 allowed z key slots id me word word' f tells same there h =
-    subst (λ (w : ℕ). Allows (Holds key) slots id me w f (tells w)) (sym there) (subst (λ (y : Sizes). Allows (Holds y) slots id me word f (tells word)) same h)
+    subst (λ (w : ℕ). Allows (RuleHolds key) slots id me w f (tells w)) (sym there) (subst (λ (y : Sizes). Allows (RuleHolds y) slots id me word f (tells word)) same h)
 
 abbrev pub first_number : List ℕ → ℕ
 first_number [] = 0

@@ -34,7 +34,7 @@ use Rattle.track_rule.specs.declared.view.Walk.{Walk}
 use Rattle.track_rule.specs.References.{AreKept, ends, held_times, takes}
 use Rattle.track_rule.specs.Readings.{last_read}
 use Rattle.track_rule.specs.Records.{IsHand}
-use Rattle.track_rule.specs.Rule.{Holds, Ledger, first_view}
+use Rattle.track_rule.specs.Rule.{RuleHolds, Ledger, first_view}
 use Rattle.track_rule.specs.Sums.{Each, times, total}
 
 -- each word is 0
@@ -91,7 +91,7 @@ first_apart z n = grind (arith, nat_tests)
 
 pub starts : (z : Sizes) (list : Roomed ℕ) (table : Roomed Expectation) → AreWithinLimits z → IsWhole z.entries list → table.items ≡ []
     → table.room ≡ z.expectations
-    → Holds z (opening (replicate (word_count z) 0) (first_slots z.entries list table) (first_view z))
+    → RuleHolds z (opening (replicate (word_count z) 0) (first_slots z.entries list table) (first_view z))
 starts z list table limits whole nothing room =
     let ws : List ℕ = replicate (word_count z) 0 in
     let word : (k : ℕ) → slice_index ws k ≡ 0 = zero_word (word_count z) in

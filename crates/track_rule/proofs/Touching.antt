@@ -30,7 +30,7 @@ use Rattle.track_rule.specs.Phases.{of_both, of_place}
 use Rattle.track_rule.specs.Readings.{stored}
 use Rattle.track_rule.specs.Records.{AreRecords, IsHand, has_hand, is_hand_of}
 use Rattle.track_rule.specs.References.{WasConfirmed}
-use Rattle.track_rule.specs.Rule.{Holds, IsKept, Ledger}
+use Rattle.track_rule.specs.Rule.{RuleHolds, IsKept, Ledger}
 use Rattle.track_rule.specs.Slots.{expected_number, free_number, hand_number}
 use Rattle.track_rule.specs.Sums.{total}
 use Rattle.track_rule.specs.TouchSteps.{CanTouch, HasTouched, IsItsTurn, MayTouch, TouchStep, Touching, goes_on, hand_goes_on, known_phase, known_record, touched, with_touch}
@@ -241,7 +241,7 @@ module _ (l : Ledger) (s : State Slot View) (id : ℕ) (v : View) (t : Touching)
 -- adding to the history word for a Touch keeps the rule
 pub touching : (slots id : ℕ) (v : View) (c : List (ℕ × Slot)) (t : Touching) → 0 < v.passes.shares → MayTouch t v → StatesFollow → LegalHistoriesGoOn
     → LiveRecordsAreConfirmed
-    → Allows (Holds v.passes.sizes) slots id (v, c) 0 (λ n. (n + 1) % 2 ^ 64) (TouchStep (Some t) (step slots 0 1 0 none) (v, c))
+    → Allows (RuleHolds v.passes.sizes) slots id (v, c) 0 (λ n. (n + 1) % 2 ^ 64) (TouchStep (Some t) (step slots 0 1 0 none) (v, c))
 touching slots id v c t has_some can follow go_on low s (l, h) long at range =
     let z : Sizes = v.passes.sizes in
     let all = all_events l s id v h at has_some in
@@ -275,7 +275,7 @@ touching slots id v c t has_some can follow go_on low s (l, h) long at range =
 -- the same, as the event that is added says what it touches
 pub adding_touch : (slots id : ℕ) (v : View) (c : List (ℕ × Slot)) (o : Option Touching) → 0 < v.passes.shares → CanTouch o v → StatesFollow → LegalHistoriesGoOn
     → LiveRecordsAreConfirmed
-    → Allows (Holds v.passes.sizes) slots id (v, c) 0 (λ n. (n + 1) % 2 ^ 64) (TouchStep o (step slots 0 1 0 none) (v, c))
+    → Allows (RuleHolds v.passes.sizes) slots id (v, c) 0 (λ n. (n + 1) % 2 ^ 64) (TouchStep o (step slots 0 1 0 none) (v, c))
 adding_touch slots id v c None has_some can follow go_on low = absurd can
 adding_touch slots id v c (Some t) has_some can follow go_on low = touching slots id v c t has_some can follow go_on low
 

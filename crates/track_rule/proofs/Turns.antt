@@ -21,7 +21,7 @@ use Rattle.track_rule.specs.Passes.{IsPass}
 use Rattle.track_rule.specs.Phases.{of_place}
 use Rattle.track_rule.specs.Readings.{found, noted, stored}
 use Rattle.track_rule.specs.References.{keeps}
-use Rattle.track_rule.specs.Rule.{Holds, IsKept, Ledger}
+use Rattle.track_rule.specs.Rule.{RuleHolds, IsKept, Ledger}
 use Rattle.track_rule.specs.Slots.{list_in}
 use Rattle.track_rule.specs.Steps.{CanGive, GiveStep, TakeStep, TakesFree, TookFree, gave_free, with_turn}
 use Rattle.track_rule.specs.Sums.{times, total}
@@ -178,10 +178,10 @@ module _ (l : Ledger) (s : State Slot View) (id : ℕ) (v : View) (h : IsKept v.
 
 -- taking the turn keeps the rule
 pub taking : (slots id : ℕ) (v : View) (c : List (ℕ × Slot)) → 0 < v.passes.shares → v.free ≡ None
-    → Allows (Holds v.passes.sizes) slots id (v, c) 1 (λ n. either (eqb n 0) 1 n) (TakeStep (step slots 1 0 1 none) (v, c))
+    → Allows (RuleHolds v.passes.sizes) slots id (v, c) 1 (λ n. either (eqb n 0) 1 n) (TakeStep (step slots 1 0 1 none) (v, c))
 taking slots id v c has_some calm s (l, h) sized at range =
     exchanged (slice_index s.words 1) 0 1
-    (λ (n : ℕ). (w : View) × (a : Act Slot) × Valid s.homes c a × Holds v.passes.sizes (stepped s 1 n id c w a)
+    (λ (n : ℕ). (w : View) × (a : Act Slot) × Valid s.homes c a × RuleHolds v.passes.sizes (stepped s 1 n id c w a)
     × TakeStep (step slots 1 0 1 none) (v, c) (slice_index s.words 1) (w, carried_after c a))
     (λ (hit : slice_index s.words 1 ≡ 0).
     let home = h.free_list.home hit in
@@ -210,7 +210,7 @@ taking slots id v c has_some calm s (l, h) sized at range =
 -- giving it back keeps the rule
 pub giving : (slots id : ℕ) (v : View) (free : List ℕ) (list : Roomed ℕ) (c : List (ℕ × Slot)) → 0 < slots → 0 < v.passes.shares → v.free ≡ Some free
     → CanGive v list
-    → Allows (Holds v.passes.sizes) slots id (v, (0, Free list) ∷ c) 1 (λ _. 0) (λ _. GiveStep (step slots 1 0 0 none) (v, (0, Free list) ∷ c) 0)
+    → Allows (RuleHolds v.passes.sizes) slots id (v, (0, Free list) ∷ c) 1 (λ _. 0) (λ _. GiveStep (step slots 1 0 0 none) (v, (0, Free list) ∷ c) 0)
 giving slots id v free list c some_slots has_some has can s (l, h) sized at range = (
   gave_free list.items v,
   gives,
@@ -221,12 +221,12 @@ giving slots id v free list c some_slots has_some has can s (l, h) sized at rang
 
 pub giving_back : (slots id : ℕ) (me : Me Slot View) → 0 < slots → 0 < me.0.passes.shares → is_some me.0.free ≡ true
     → me.1 ≡ (0, Free (list_in me.1)) ∷ rest me.1 → CanGive me.0 (list_in me.1)
-    → Allows (Holds me.0.passes.sizes) slots id me 1 (λ _. 0) (λ _. GiveStep (step slots 1 0 0 none) me 0)
+    → Allows (RuleHolds me.0.passes.sizes) slots id me 1 (λ _. 0) (λ _. GiveStep (step slots 1 0 0 none) me 0)
 giving_back slots id me some_slots has_some turn out can =
     let list : Roomed ℕ = list_in me.1 in
     let known : (free : List ℕ) × (me.0.free ≡ Some free) = known_list me.0.free turn in
     let family : List (ℕ × Slot) → Type 0 = λ c.
-    Allows (Holds me.0.passes.sizes) slots id (me.0, c) 1 (λ _. 0) (λ _. GiveStep (step slots 1 0 0 none) (me.0, c) 0) in
+    Allows (RuleHolds me.0.passes.sizes) slots id (me.0, c) 1 (λ _. 0) (λ _. GiveStep (step slots 1 0 0 none) (me.0, c) 0) in
     subst family (sym out) (giving slots id me.0 known.0 list (rest me.1) some_slots has_some known.1 can)
   where
     known_list : (o : Option (List ℕ)) → is_some o ≡ true → (free : List ℕ) × (o ≡ Some free)

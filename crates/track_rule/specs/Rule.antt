@@ -49,8 +49,8 @@ pub record IsKept (z : Sizes) (l : Ledger) (s : State Slot View) : Type 0 where
   pub expected : AreExpected z l.log s.words s.homes s.views
   pub kept_words : AreKeptWords z l.log s.words s.views
 
-abbrev pub Holds : Sizes → State Slot View → Type 0
-Holds z s = (l : Ledger) × IsKept z l s
+abbrev pub RuleHolds : Sizes → State Slot View → Type 0
+RuleHolds z s = (l : Ledger) × IsKept z l s
 
 -- a pass with these shares, which has seen this much, and nothing else
 abbrev pub fresh_view : Sizes → ℕ → ℕ → List Event → View

@@ -26,6 +26,12 @@ pub record BoardSight : Type 0 where
 abbrev pub sizes_of : PassSight → Sizes
 sizes_of p = p.view.passes.sizes
 
+-- the pass has seen this much of the history, and has this note of a walk and these readings; all else is as it was
+abbrev pub looked_on : PassSight → PassSight → PassSight
+looked_on v w = record v {
+  view = record v.view { seen = record v.view.seen { front = w.view.seen.front }; walk = w.view.walk; readings = w.view.readings };
+}
+
 -- the pass is one of this table
 pub record IsPassOf (board : BoardSight) (p : PassSight) : Type 0 where
   pub table : p.table ≡ board.table

@@ -10,9 +10,9 @@ use std::alloc::Global;
 pub struct TrackRule;
 
 impl TableRule<Slot, View, Sizes> for TrackRule {
-    ghost use Rattle.track_rule.specs.Rule.{Holds, first_view};
+    ghost use Rattle.track_rule.specs.Rule.{RuleHolds, first_view};
 
-    ghost holds = { Holds };
+    ghost holds = { RuleHolds };
 
     ghost first = { first_view };
 }

@@ -4,7 +4,7 @@
 
 ghost use Rattle.std.specs.Prelude.{◌≡◌, [], false};
 ghost use Rattle.bucket_table.specs.Locks.{AreOpen};
-ghost use Rattle.bucket_table.specs.TestPlace.{HasPlace, only_bucket};
+ghost use Rattle.bucket_table.specs.TestPlace.{HasTestPlace, only_bucket};
 ghost use Rattle.track_rule.specs.Sights.{sizes_of};
 
 use super::{
@@ -31,9 +31,9 @@ const REST: u32 = 200;
 
 /// Links the flow, and takes it out again before the bucket is given back.
 fn link_once<R: Wait>(rt: &R, pass: &mut Pass, place: u32)
-    requires place { HasPlace false place pass.old }
+    requires place { HasTestPlace false place pass.old }
     requires mine { AreOpen only_bucket pass.old.view }
-    ensures place { HasPlace false place pass.new }
+    ensures place { HasTestPlace false place pass.new }
     ensures mine { AreOpen only_bucket pass.new.view }
 {
     let locked = lock_only(rt, pass, place);
@@ -69,7 +69,7 @@ impl Progress {
 
 /// Links the flow and unlinks it, many times.
 fn link_and_unlink<R: Wait>(rt: &R, pass: &mut Pass, place: u32, progress: &Progress)
-    requires place { HasPlace false place pass.old }
+    requires place { HasTestPlace false place pass.old }
     requires mine { AreOpen only_bucket pass.old.view }
 {
     'rounds: for _round in 0..ROUNDS {
@@ -157,7 +157,7 @@ fn is_always_right<R: Threads + Wait + Sync>(
     place: u32,
     progress: &Progress,
 ) -> bool
-    requires place { HasPlace false place one.old }
+    requires place { HasTestPlace false place one.old }
     requires mine { AreOpen only_bucket one.old.view }
     requires open { two.old.view.buckets.shut ≡ [] }
     requires buckets { (sizes_of two.old).buckets ≡ 1 }
@@ -165,7 +165,7 @@ fn is_always_right<R: Threads + Wait + Sync>(
     let (_, right) = join_mut(
         rt,
         &mut ||
-            requires place { HasPlace false place one.now }
+            requires place { HasTestPlace false place one.now }
             requires mine { AreOpen only_bucket one.now.view }
         { link_and_unlink(rt, one, place, progress) },
         &mut ||

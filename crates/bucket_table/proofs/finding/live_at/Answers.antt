@@ -19,7 +19,7 @@ pub returns-clause-shows : goal.returns-clause-shows
 returns-clause-shows c =
     shows_live c.args.place c.phase_load-phase.result c.args.pass.now c.phase_load-phase.new.self c.requires.testing c.phase_load-phase.ensures.loads
     c.phase_load-phase.ensures.kept c.if-phase-lt-LIVE.false c.history_load.result c.phase_load.result c.history_load.new.self c.phase_load.new.self
-    c.history_load.ensures.looks c.history_load.ensures.kept c.phase_load.ensures.loads c.phase_load.ensures.kept c.if-phase_load-phase.false _ refl
+    c.history_load.ensures.looks c.history_load.ensures.kept c.phase_load.ensures.loads c.phase_load.ensures.kept c.if-phase_load-phase.false c.events_in-at.result c.events_in-at.ensures
 
 pub returns-then-phase-lt-LIVE-clause-words : goal.returns-then-phase-lt-LIVE-clause-words
 returns-then-phase-lt-LIVE-clause-words c =

@@ -4,7 +4,7 @@ use mathlib.Core.Option.{none}
 use Rattle.history_book.specs.declared.sizes.Sizes.{Sizes}
 use Rattle.track_rule.specs.History.{IsNumber}
 use Rattle.track_rule.specs.ExpectSteps.{CanChange, ChangeStep, MakesChange}
-use Rattle.track_rule.specs.Rule.{Holds}
+use Rattle.track_rule.specs.Rule.{RuleHolds}
 use Rattle.track_rule.specs.Sights.{PassSight}
 use Rattle.track_rule.proofs.Expecting.{changing, has_changed, stays_changed}
 use Rattle.track_rule.proofs.Seats.{kept_at, stays_at}
@@ -18,7 +18,7 @@ fetch_add-word-requires g c =
     let can : CanChange g.J.Added.event p.seat.me.0 = subst (λ (x : PassSight). CanChange g.J.Added.event x.view) (sym c.self.view_is) c.requires.can in (
       h.same,
       omega (arith, h.right.counts.words, ap (λ t. t.words) h.same),
-      subst (λ (z : Sizes). Allows (Holds z) slots p.seat.id p.seat.me 0 (λ n. (n + 1) % 2 ^ 64)
+      subst (λ (z : Sizes). Allows (RuleHolds z) slots p.seat.id p.seat.me 0 (λ n. (n + 1) % 2 ^ 64)
           (ChangeStep g.J.Added.event (step slots 0 1 0 none) p.seat.me))
           h.key_is (changing slots p.seat.id p.seat.me.0 p.seat.me.1 g.J.Added.event h.right.some can c.states_follow.ensures c.legal_histories_go_on.ensures),
     )

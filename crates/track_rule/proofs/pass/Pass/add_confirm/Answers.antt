@@ -3,7 +3,7 @@ use Rattle.atomic_table.specs.Table.{Allows, step}
 use mathlib.Core.Option.{none}
 use Rattle.history_book.specs.declared.sizes.Sizes.{Sizes}
 use Rattle.track_rule.specs.CommitSteps.{AddStep, CanAdd, HasAdded, subject_of}
-use Rattle.track_rule.specs.Rule.{Holds}
+use Rattle.track_rule.specs.Rule.{RuleHolds}
 use Rattle.track_rule.specs.Sights.{PassSight}
 use Rattle.track_rule.proofs.Confirmations.{adding, has_added, stays_confirmed}
 use Rattle.track_rule.proofs.Seats.{kept_at, stays_at}
@@ -17,7 +17,7 @@ fetch_add-word-requires g c =
     let can : CanAdd (subject_of g.J.Added.event) p.seat.me.0 = subst (λ (x : PassSight). CanAdd (subject_of g.J.Added.event) x.view) (sym c.self.view_is) c.requires.can in (
       h.same,
       omega (arith, h.right.counts.words, ap (λ t. t.words) h.same),
-      subst (λ (z : Sizes). Allows (Holds z) slots p.seat.id p.seat.me 0 (λ n. (n + (1 + 2 ^ 40)) % 2 ^ 64)
+      subst (λ (z : Sizes). Allows (RuleHolds z) slots p.seat.id p.seat.me 0 (λ n. (n + (1 + 2 ^ 40)) % 2 ^ 64)
           (AddStep (subject_of g.J.Added.event) (step slots 0 (1 + 2 ^ 40) 0 none) p.seat.me))
           h.key_is (adding slots p.seat.id p.seat.me.0 p.seat.me.1 (subject_of g.J.Added.event) h.right.some can c.states_follow.ensures c.legal_histories_go_on.ensures
           c.live_records_are_confirmed.ensures c.unused_places_are_room.ensures),

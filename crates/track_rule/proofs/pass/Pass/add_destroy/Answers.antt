@@ -2,7 +2,7 @@ use Rattle.std.proofs.Common.{◌+◌, ◌%◌, ◌^◌, ap, arith, subst, sym}
 use Rattle.atomic_table.specs.Table.{Allows, step}
 use mathlib.Core.Option.{none}
 use Rattle.history_book.specs.declared.sizes.Sizes.{Sizes}
-use Rattle.track_rule.specs.Rule.{Holds}
+use Rattle.track_rule.specs.Rule.{RuleHolds}
 use Rattle.track_rule.specs.Sights.{PassSight}
 use Rattle.track_rule.specs.KillSteps.{CanDestroy, HasDestroyed, DestroyStep, destroy_in}
 use Rattle.track_rule.proofs.Seats.{kept_at, stays_at}
@@ -17,7 +17,7 @@ fetch_add-word-requires g c =
     let can : CanDestroy (destroy_in g.J.Added.event) p.seat.me.0 = subst (λ (x : PassSight). CanDestroy (destroy_in g.J.Added.event) x.view) (sym c.self.view_is) c.requires.can in (
       h.same,
       omega (arith, h.right.counts.words, ap (λ t. t.words) h.same),
-      subst (λ (z : Sizes). Allows (Holds z) slots p.seat.id p.seat.me 0 (λ n. (n + one_less) % 2 ^ 64)
+      subst (λ (z : Sizes). Allows (RuleHolds z) slots p.seat.id p.seat.me 0 (λ n. (n + one_less) % 2 ^ 64)
           (DestroyStep (destroy_in g.J.Added.event) (step slots 0 one_less 0 none) p.seat.me))
           h.key_is (adding_destroy slots p.seat.id p.seat.me.0 p.seat.me.1 (destroy_in g.J.Added.event) h.right.some can c.states_follow.ensures c.legal_histories_go_on.ensures
           c.live_records_are_confirmed.ensures c.masters_have_the_helper.ensures),

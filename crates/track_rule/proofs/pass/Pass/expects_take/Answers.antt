@@ -6,7 +6,7 @@ use Rattle.history_book.specs.declared.sizes.Sizes.{Sizes}
 use Rattle.track_rule.specs.declared.slot.Slot.{Slot}
 use Rattle.track_rule.specs.declared.view.View.{View}
 use Rattle.track_rule.specs.ExpectTurns.{TakeExpectsStep, TookExpected}
-use Rattle.track_rule.specs.Rule.{Holds}
+use Rattle.track_rule.specs.Rule.{RuleHolds}
 use Rattle.track_rule.specs.Sights.{PassSight}
 use Rattle.track_rule.proofs.ExpectSeats.{took_at}
 use Rattle.track_rule.proofs.ExpectTurns.{taking_expected}
@@ -20,7 +20,7 @@ compare_exchange-found-requires c =
     let slots = p.shared.now.table_id.slots in (
       h.same,
       omega (arith, h.right.counts.words, ap (λ t. t.words) h.same),
-      subst (λ (z : Sizes). Allows (Holds z) slots p.seat.id p.seat.me 2 (λ n. either (eqb n 0) 1 n) (TakeExpectsStep (step slots 2 0 1 none) p.seat.me))
+      subst (λ (z : Sizes). Allows (RuleHolds z) slots p.seat.id p.seat.me 2 (λ n. either (eqb n 0) 1 n) (TakeExpectsStep (step slots 2 0 1 none) p.seat.me))
           h.key_is (taking_expected slots p.seat.id p.seat.me.0 p.seat.me.1 h.right.some expected),
     )
 

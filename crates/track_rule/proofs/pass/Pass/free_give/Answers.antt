@@ -4,7 +4,7 @@ use Rattle.atomic_table.specs.Table.{Allows, step}
 use mathlib.Core.Option.{none}
 use Rattle.history_book.specs.declared.sizes.Sizes.{Sizes}
 use Rattle.track_rule.specs.declared.view.View.{View}
-use Rattle.track_rule.specs.Rule.{Holds}
+use Rattle.track_rule.specs.Rule.{RuleHolds}
 use Rattle.track_rule.specs.Sights.{AreOfPool, PassSight}
 use Rattle.track_rule.specs.Slots.{free_at, list_in}
 use Rattle.track_rule.specs.Steps.{CanGive, GiveStep, gave_free}
@@ -22,7 +22,7 @@ store-requires c =
     let whole : CanGive p.seat.me.0 (list_in p.seat.me.1) = subst (λ (x : PassSight). CanGive x.view (list_in x.slots)) (sym c.self.view_is) c.requires.whole in (
       h.same,
       omega (arith, h.right.counts.words, ap (λ t. t.words) h.same),
-      subst (λ (z : Sizes). Allows (Holds z) slots p.seat.id p.seat.me 1 (λ _. 0) (λ _. GiveStep (step slots 1 0 0 none) p.seat.me 0))
+      subst (λ (z : Sizes). Allows (RuleHolds z) slots p.seat.id p.seat.me 1 (λ _. 0) (λ _. GiveStep (step slots 1 0 0 none) p.seat.me 0))
           h.key_is (giving_back slots p.seat.id p.seat.me (omega (arith, h.right.counts.slots, ap (λ t. t.slots) h.same)) h.right.some turn
           (list_out p.seat.me turn there h.right.carries h.right.suit) whole),
     )

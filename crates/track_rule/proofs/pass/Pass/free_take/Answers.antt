@@ -3,7 +3,7 @@ use Rattle.atomic_table.specs.Table.{Allows, step}
 use mathlib.Core.Option.{none}
 use prog.Atomic.{either}
 use Rattle.history_book.specs.declared.sizes.Sizes.{Sizes}
-use Rattle.track_rule.specs.Rule.{Holds}
+use Rattle.track_rule.specs.Rule.{RuleHolds}
 use Rattle.track_rule.specs.Sights.{PassSight}
 use Rattle.track_rule.specs.Steps.{TakeStep}
 use Rattle.track_rule.proofs.Turns.{taking}
@@ -17,6 +17,6 @@ compare_exchange-requires c =
     let slots = p.shared.now.table_id.slots in (
       h.same,
       omega (arith, h.right.counts.words, ap (λ t. t.words) h.same),
-      subst (λ (z : Sizes). Allows (Holds z) slots p.seat.id p.seat.me 1 (λ n. either (eqb n 0) 1 n) (TakeStep (step slots 1 0 1 none) p.seat.me))
+      subst (λ (z : Sizes). Allows (RuleHolds z) slots p.seat.id p.seat.me 1 (λ n. either (eqb n 0) 1 n) (TakeStep (step slots 1 0 1 none) p.seat.me))
           h.key_is (taking slots p.seat.id p.seat.me.0 p.seat.me.1 h.right.some free),
     )

@@ -4,7 +4,7 @@ use mathlib.Core.Option.{none}
 use Rattle.history_book.specs.declared.sizes.Sizes.{Sizes}
 use Rattle.track_rule.specs.BucketSteps.{LoadLinkStep}
 use Rattle.track_rule.specs.Links.{is_link_word}
-use Rattle.track_rule.specs.Rule.{Holds}
+use Rattle.track_rule.specs.Rule.{RuleHolds}
 use Rattle.track_rule.specs.Sights.{PassSight, sizes_of}
 use Rattle.track_rule.proofs.BucketLoads.{link_word_low, loads_link}
 use Rattle.track_rule.proofs.pass.Pass.link_load.Goals as goal
@@ -17,6 +17,6 @@ load-requires c =
     let slots = p.shared.now.table_id.slots in (
       h.same,
       omega (arith, h.right.counts.words, ap (λ t. t.words) h.same, link_word_low p.seat.me.0.passes.sizes c.args.word is),
-      subst (λ (z : Sizes). Allows (Holds z) slots p.seat.id p.seat.me c.args.word (λ n. n) (LoadLinkStep (step slots c.args.word 0 0 none) p.seat.me))
+      subst (λ (z : Sizes). Allows (RuleHolds z) slots p.seat.id p.seat.me c.args.word (λ n. n) (LoadLinkStep (step slots c.args.word 0 0 none) p.seat.me))
           h.key_is (loads_link slots p.seat.id c.args.word p.seat.me.0 p.seat.me.1 is h.right.some),
     )

@@ -5,7 +5,7 @@ use Rattle.history_book.specs.declared.sizes.Sizes.{Sizes}
 use Rattle.track_rule.specs.Layout.{turn_word}
 use Rattle.track_rule.specs.declared.view.Middle.TheVariants.{Calm}
 use Rattle.track_rule.specs.Records.{has_hand}
-use Rattle.track_rule.specs.Rule.{Holds}
+use Rattle.track_rule.specs.Rule.{RuleHolds}
 use Rattle.track_rule.specs.Sights.{PassSight, sizes_of}
 use Rattle.track_rule.specs.declared.slot.Slot.{Slot}
 use Rattle.std.proofs.Common.{List}
@@ -31,7 +31,7 @@ store-requires c =
       omega (arith, h.right.counts.words, ap (λ t. t.words) h.same, word, below),
       allowed z p.shared.now.key slots p.seat.id p.seat.me (turn_word z place) c.turn_word-word.result (λ _. 0)
           (λ w _. GiveTurnStep (step slots w 0 0 none) p.seat.me 0) h.key_is word
-          (subst (λ (d : List (ℕ × Slot)). Allows (Holds z) slots p.seat.id (p.seat.me.0, d) (turn_word z place) (λ _. 0)
+          (subst (λ (d : List (ℕ × Slot)). Allows (RuleHolds z) slots p.seat.id (p.seat.me.0, d) (turn_word z place) (λ _. 0)
           (λ _. GiveTurnStep (step slots (turn_word z place) 0 0 none) (p.seat.me.0, d) 0)) (sym out.1)
           (giving_turn slots p.seat.id place p.seat.me.0 out.0 (rest p.seat.me.1) below (omega (arith, h.right.counts.slots, ap (λ t. t.slots) h.same)) h.right.some turn
           (subst (λ (x : PassSight). x.view.commit.middle ≡ Calm) (sym c.self.view_is) c.requires.calm) out.2 (subst (λ (d : List (ℕ × Slot)). CanGiveTurn p.seat.me.0 d) out.1 whole))),
