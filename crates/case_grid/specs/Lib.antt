@@ -1,3 +1,4 @@
 pub mod Cell
 pub mod FlagSets
 pub mod TcpTables
+pub mod Droppable

@@ -3,6 +3,7 @@
 
 ghost use Rattle.std.specs.Prelude.{◌≡◌, ◌<◌};
 ghost use Rattle.case_grid.specs.Cell.{cell, cells_of};
+ghost use Rattle.case_grid.specs.Droppable.{droppable_cells};
 ghost use Rattle.case_grid.specs.FlagSets.{flag_sets};
 ghost use Rattle.case_grid.specs.TcpTables.{tcp_original, tcp_reply};
 
@@ -84,5 +85,20 @@ pub fn tcp_reply() -> Grid<6, 10>
         10 11 2 3 5 5 7 7 8 11;
         10 8 8 8 8 8 8 8 8 8;
         10 10 10 10 10 10 10 10 10 10;
+    }
+}
+
+/// Which entries a full table may drop for a new flow. The row is 2 for TCP and 0 otherwise, and one more
+/// where the entry is assured. The column is the state of the connection, in the order of
+/// `tcp_original`, and 0 for other protocols. 1 is an entry that may go.
+#[tactic(auto, unfolding(crate::specs::Droppable::droppable_cells))]
+pub fn droppable_cells() -> Grid<4, 10>
+    ensures { cells_of result ≡ droppable_cells }
+{
+    rows! {
+        1 1 1 1 1 1 1 1 1 1;
+        0 0 0 0 0 0 0 0 0 0;
+        1 1 1 1 1 1 1 1 1 1;
+        0 0 0 0 1 1 1 1 1 0;
     }
 }

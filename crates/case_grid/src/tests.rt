@@ -1,6 +1,6 @@
 //! The tables at cells that are typed from their rules.
 
-use crate::{flag_sets, tcp_original, tcp_reply};
+use crate::{droppable_cells, flag_sets, tcp_original, tcp_reply};
 
 #[test]
 fn flag_sets_of_segments(rt: HostRuntime) {
@@ -53,5 +53,23 @@ fn states_of_a_connection(rt: HostRuntime) {
         ("RST of no connection", 4, 0, 10),
     ] {
         assert_eq!(rt; reply.at(row, column), cell, "{name}");
+    }
+}
+
+#[test]
+fn entries_that_may_go(rt: HostRuntime) {
+    let cells = droppable_cells();
+    for (name, row, column, cell) in [
+        ("a flow that is not assured", 0, 0, 1),
+        ("an assured flow of UDP", 1, 0, 0),
+        ("a connection that begins", 2, 1, 1),
+        ("an established one that is not assured", 2, 3, 1),
+        ("an assured one in SYN_RECV", 3, 2, 0),
+        ("an assured one that is established", 3, 3, 0),
+        ("an assured one in FIN_WAIT", 3, 4, 1),
+        ("an assured one that is closed", 3, 8, 1),
+        ("an assured one in SYN_SENT2", 3, 9, 0),
+    ] {
+        assert_eq!(rt; cells.at(row, column), cell, "{name}");
     }
 }

@@ -7,3 +7,4 @@ pub mod Start
 pub mod Step
 pub mod Same
 pub mod Laws
+pub mod Droppable

@@ -8,6 +8,7 @@ ghost use Rattle.proto_rules.specs.Start.{start_of};
 ghost use Rattle.proto_rules.specs.Step.{step_of};
 
 mod accepted;
+mod drops;
 pub mod laws;
 mod protocol;
 mod same;
@@ -18,6 +19,7 @@ mod tests;
 mod timeout;
 
 use accepted::{begin, icmp_part, udp_part};
+pub use drops::droppable;
 pub use protocol::{is_of_protocol, proto_of};
 pub use same::is_same_part;
 use tcp::{tcp_start, tcp_step};

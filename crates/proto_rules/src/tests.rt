@@ -4,8 +4,8 @@ use crate::TcpState::{
     Close, CloseWait, Established, FinWait, LastAck, SynRecv, SynSent, SynSent2, TimeWait, Unset,
 };
 use crate::{
-    Cell, Outcome, Part, PartKind, TcpState, is_of_protocol, is_same_part, proto_of, start, step,
-    tcp_cell,
+    Cell, Outcome, Part, PartKind, TcpState, droppable, is_of_protocol, is_same_part, proto_of,
+    start, step, tcp_cell,
 };
 use std::alloc::{AllocError, Global};
 use std::process::Abort;
@@ -237,4 +237,49 @@ fn protocols_of_parts(rt: HostRuntime) {
     assert!(rt; proto_of(PartKind::Udp) == Proto::Udp);
     assert!(rt; proto_of(PartKind::Icmp) == Proto::Icmp);
     assert!(rt; !is_of_protocol(Segment::Udp, PartKind::Icmp));
+}
+
+/// The states in which an entry of TCP may be dropped, a space after each.
+fn droppable_states(alloc: Global, assured: bool) -> Result<String, AllocError> {
+    let mut text = String::new(alloc);
+    for state in &STATES {
+        let part = Part {
+            kind: PartKind::Tcp(*state),
+            replied: true,
+            assured,
+            deadline: 5,
+        };
+        if droppable(&part) {
+            text.push_str(word_of(Cell::To(*state)))?;
+            text.push_str(" ")?;
+        }
+    }
+    Ok(text)
+}
+
+#[test]
+fn entries_that_may_be_dropped(rt: HostRuntime) -> Result<(), Fail> {
+    assert_eq!(rt;
+        droppable_states(rt.alloc(), false)?.as_str(),
+        "NO SS SR ES FW CW LA TW CL S2 "
+    );
+    assert_eq!(rt;
+        droppable_states(rt.alloc(), true)?.as_str(),
+        "FW CW LA TW CL "
+    );
+    for (kind, assured, may_go) in [
+        (PartKind::Udp, false, true),
+        (PartKind::Udp, true, false),
+        (PartKind::Icmp, false, true),
+        (PartKind::Icmp, true, false),
+    ] {
+        let part = Part {
+            kind,
+            replied: true,
+            assured,
+            deadline: 5,
+        };
+        assert_eq!(rt; droppable(&part), may_go);
+    }
+    Ok(())
 }
