@@ -56,3 +56,4 @@ suits_entry (why.Reopened direction segment moment) id log = is_of_entry segment
 suits_entry (why.Reset segment moment) id log = is_of_entry segment id log
 suits_entry (why.Deleted filter) id log = true
 suits_entry why.Flushed id log = true
+suits_entry (why.Dropped moment) id log = true

@@ -1,5 +1,5 @@
 -- Which events may happen in a state of the table, in a tracker of some sizes.
-use Rattle.std.specs.Prelude.{ℕ, ◌+◌, Bool, true, false, not, ◌==◌, ◌&&◌, nat_lt, Option, Some, None, find}
+use Rattle.std.specs.Prelude.{ℕ, ◌+◌, Bool, true, false, not, ◌==◌, ◌&&◌, ◌||◌, nat_lt, Option, Some, None, find}
 use Rattle.expect_table.specs.Expectations.{add_outcome, matching}
 use Rattle.expect_table.specs.Match.{has_id, is_awaited}
 use Rattle.expect_table.specs.declared.expectation.Expectation.{Expectation}
@@ -18,6 +18,7 @@ use Rattle.proto_rules.specs.declared.Outcome.{Outcome}
 use Rattle.proto_rules.specs.declared.Outcome.TheVariants as outcome
 use Rattle.proto_rules.specs.declared.Part.{Part}
 use Rattle.history_book.specs.declared.record.Record.{Record}
+use Rattle.proto_rules.specs.Droppable.{droppable}
 use Rattle.proto_rules.specs.Part.{is_expired}
 use Rattle.proto_rules.specs.Same.{same_part}
 use Rattle.proto_rules.specs.Protocol.{is_of_protocol, proto_of}
@@ -79,8 +80,8 @@ may_touch (Some r) direction segment moment after =
     is_of_protocol segment r.part.kind && accepts (step_of r.part direction segment moment) after
 
 -- The reason holds of the record: it was expired at the moment, or a segment of its protocol reopened or
--- reset it then, or it passes the filter of a command; one that flushes all needs no more. A reset is the same in
--- both directions.
+-- reset it then, or it passes the filter of a command; one that flushes all needs no more. One that makes room in a
+-- full table needs a record that was expired at the moment or may be dropped. A reset is the same in both directions.
 abbrev pub is_reason : Why → Record → Bool
 is_reason (why.Expired moment) r = is_expired r.part moment
 is_reason (why.Reopened direction segment moment) r =
@@ -89,6 +90,7 @@ is_reason (why.Reset segment moment) r =
     is_of_protocol segment r.part.kind && is_reset (step_of r.part Original segment moment)
 is_reason (why.Deleted filter) r = passes filter r
 is_reason why.Flushed r = true
+is_reason (why.Dropped moment) r = is_expired r.part moment || droppable r.part
 
 -- an entry may be destroyed where it is live and the reason holds of it
 abbrev pub may_destroy : Option Record → Why → Bool
@@ -152,3 +154,4 @@ reason_moment_of (why.Reopened direction segment moment) = moment
 reason_moment_of (why.Reset segment moment) = moment
 reason_moment_of (why.Deleted filter) = 0
 reason_moment_of why.Flushed = 0
+reason_moment_of (why.Dropped moment) = 0

@@ -49,7 +49,7 @@ points_of (class.Ignored id at) = at ∷ []
 points_of (class.Merged id at translated) = at ∷ translated_points translated
 points_of (class.Clash id at translated) = at ∷ translated_points translated
 points_of (class.NoPort from to) = from ∷ to ∷ []
-points_of (class.Full at) = at ∷ []
+points_of (class.Full from at) = from ∷ at ∷ []
 points_of (class.Contended id at) = at ∷ []
 
 -- a thread's mark after a packet that made these events and got this class

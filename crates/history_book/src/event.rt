@@ -30,6 +30,11 @@ pub enum Why {
     },
     /// A command was to delete all entries.
     Flushed,
+    /// A full table was to have room for a new flow at the moment, in microseconds, and the entry was expired
+    /// then, or may be dropped.
+    Dropped {
+        moment: u64,
+    },
 }
 
 /// One change of the table.

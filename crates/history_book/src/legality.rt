@@ -23,7 +23,7 @@ use crate::record::Record;
 use crate::sizes::Sizes;
 use expect_table::expectation::{Expectation, Want};
 use expect_table::table::{AddOutcome, first_match, first_with, outcome_of};
-use proto_rules::{Outcome, Part, is_of_protocol, is_same_part, proto_of, step};
+use proto_rules::{Outcome, Part, droppable, is_of_protocol, is_same_part, proto_of, step};
 use tuple_core::{Direction, Segment, Tuple, is_valid};
 
 /// Whether the record has the tuple in either direction.
@@ -172,6 +172,7 @@ pub fn is_reason_for(why: &Why, r: &Record) -> bool
         }
         Why::Deleted { filter } => passes(&filter, r),
         Why::Flushed => true,
+        Why::Dropped { moment } => r.part.deadline <= moment || droppable(&r.part),
     }
 }
 

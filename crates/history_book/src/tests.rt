@@ -191,6 +191,14 @@ fn is_expired(entry: &Record, moment: u32) -> bool {
     is_lawful(&sizes(1), &[*entry], &[], 1, &Event::Destroy { id: 0, why })
 }
 
+/// Whether the entry may be dropped for a new flow.
+fn is_dropped(entry: &Record, moment: u32) -> bool {
+    let why = Why::Dropped {
+        moment: moment as u64,
+    };
+    is_lawful(&sizes(1), &[*entry], &[], 1, &Event::Destroy { id: 0, why })
+}
+
 /// Whether the entry may be destroyed as reopened by such a packet.
 fn is_reopened(entry: &Record, direction: Direction, segment: Segment, moment: u32) -> bool {
     let why = Why::Reopened {
@@ -277,6 +285,15 @@ fn ignored_packet_touches_nothing(rt: HostRuntime) {
 fn destroyed_as_expired(rt: HostRuntime) {
     assert!(rt; !is_expired(&ENTRY, 1_029_999_999));
     assert!(rt; is_expired(&ENTRY, 1_030_000_000));
+}
+
+#[test]
+fn dropped_where_expired_or_not_assured(rt: HostRuntime) {
+    assert!(rt; is_dropped(&ENTRY, 1_000_000_000));
+    let mut assured = ENTRY;
+    assured.part.assured = true;
+    assert!(rt; !is_dropped(&assured, 1_029_999_999));
+    assert!(rt; is_dropped(&assured, 1_030_000_000));
 }
 
 #[test]

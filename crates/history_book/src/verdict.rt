@@ -121,8 +121,10 @@ pub enum Class {
         from: u64,
         to: u64,
     },
-    /// It would begin a flow, and the table has no room.
+    /// It would begin a flow, and the table had no room at the point `from`; and then, up to `at`, no entry could be
+    /// dropped for it, or the place of the one that was dropped was taken by another flow.
     Full {
+        from: u64,
         at: u64,
     },
     /// Four times it ended an entry of its flow and found another, and this one was to end too.

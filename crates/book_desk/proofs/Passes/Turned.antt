@@ -213,3 +213,4 @@ suits_on (why.Reopened direction segment moment) log front id starts h = of_entr
 suits_on (why.Reset segment moment) log front id starts h = of_entry_on segment log front id starts h
 suits_on (why.Deleted filter) log front id starts h = refl
 suits_on why.Flushed log front id starts h = refl
+suits_on (why.Dropped moment) log front id starts h = refl

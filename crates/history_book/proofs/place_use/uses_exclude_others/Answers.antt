@@ -1,6 +1,6 @@
 use Rattle.std.proofs.Common.{◌≡◌, ℕ, ◌+◌, ◌<◌, ◌≤◌, min, zero, suc, ⊎_elim, arith}
 use Rattle.std.proofs.lemmas.Bool.{cases_lt}
-use Rattle.history_book.specs.PlaceUse.{IsPartOf, IsRightUse, PassUse, PlaceUse, StaysOut, users_of}
+use Rattle.history_book.specs.PlaceUse.{users_of}
 use Rattle.history_book.proofs.place_use.uses_exclude_others.Goals as goal
 
 -- of three that add up to one, the last of which counts once at most
