@@ -19,10 +19,13 @@ use Rattle.history_book.specs.Laws.{EntriesKeepTheirPlace, GoneEntriesStayGone, 
 use Rattle.history_book.specs.Record.{has_id}
 use Rattle.history_book.specs.Sight.{WasConfirmedIn}
 use Rattle.history_book.specs.State.{record_of}
-use Rattle.conntrack_cmd.specs.Answer.{AreInOrder, LivedThroughout, NoneIsLeft, has_row, is_live_and}
+use Rattle.pool_visits.specs.Row.{has_row}
+use Rattle.pool_visits.specs.Visit.{LivedThroughout, is_live_and}
+use Rattle.conntrack_cmd.specs.Answer.{AreInOrder, NoneIsLeft}
 use Rattle.conntrack_cmd.specs.Internal.Loops.{times}
-use Rattle.conntrack_cmd.specs.Internal.Sweep.{AreVisited, Missed}
-use Rattle.conntrack_cmd.proofs.Places.{has_id_of}
+use Rattle.pool_visits.specs.Laws.{LivedHaveRows}
+use Rattle.pool_visits.specs.Visit.{AreVisited, Missed}
+use Rattle.conntrack_cmd.proofs.Fronts.{has_id_of}
 
 -- what holds of each holds of the one that is found
 pub found_one : {X : Type 0} (P : X → Type 0) (p : X → Bool) (xs : List X) (y : X) → AllByRecursion P xs → find p xs ≡ Some y → P y
@@ -85,7 +88,7 @@ each_permuted P rows sorted same h =
 pub has_row_permuted : (id : ℕ) (rows sorted : List Row) → IsPermutation rows sorted → has_row id rows ≡ true → has_row id sorted ≡ true
 has_row_permuted id rows sorted same h = sym (list_any-IsPermutation (λ (r : Row). r.subject.id == id) rows sorted same) ∙ h
 
-module _ (keep : EntriesKeepTheirPlace) (pool : PlacesAreInThePool) (sizes : Sizes) (log : List Event) (legal : is_legal sizes log ≡ true) where
+module _ (have : LivedHaveRows) (keep : EntriesKeepTheirPlace) (pool : PlacesAreInThePool) (sizes : Sizes) (log : List Event) (legal : is_legal sizes log ≡ true) where
   -- an entry that is live has a place of the pool, in which it was confirmed
   confirmed_in : (p id : ℕ) (r : Record) → record_of id (after log p) ≡ Some r → (r.place < sizes.entries) × WasConfirmedIn log r.place id
   confirmed_in p id r live = (
@@ -106,19 +109,13 @@ module _ (keep : EntriesKeepTheirPlace) (pool : PlacesAreInThePool) (sizes : Siz
       → (id : ℕ) → LivedThroughout log test from to id → has_row id rows ≡ true
   all_have_rows test from to rows order visited id lived = by_first (record_of id (after log from)) refl
     where
-      by_visit : (has_row id rows ≡ true) ⊎ Missed log test from to id → has_row id rows ≡ true
-      by_visit (inl h) = h
-      by_visit (inr m) = absurd (differ (sym (lived m.at m.low m.high) ∙ m.missed))
-        where
-          differ : true ≡ false → ⊥
-          differ e = cc
-
       by_first : (o : Option Record) → record_of id (after log from) ≡ o → has_row id rows ≡ true
       by_first None e = absurd (differ (ap (is_live_and test) (sym e) ∙ lived from (omega arith) order))
         where
           differ : false ≡ true → ⊥
           differ e = cc
-      by_first (Some r) e = by_visit (visited_at test from to id rows visited r e)
+      by_first (Some r) e =
+          have sizes log test sizes.entries from to from id r rows legal visited lived e (confirmed_in from id r e).0
 
   -- two records of one entry have the same tuples
   same_tuples : LiveRecordsAreConfirmed → (p q id : ℕ) (r s : Record) → record_of id (after log p) ≡ Some r → record_of id (after log q) ≡ Some s

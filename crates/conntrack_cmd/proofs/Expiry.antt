@@ -27,7 +27,8 @@ use Rattle.conntrack_cmd.specs.Internal.Spoken.{Speaks}
 use Rattle.conntrack_cmd.proofs.Ends.{all_have_rows, found_one}
 use Rattle.conntrack_cmd.proofs.Growth.{happened_grows}
 use Rattle.conntrack_cmd.proofs.Lateness.{expected_at, made_saw, over_grows, same_expectation}
-use Rattle.conntrack_cmd.proofs.Places.{starts_longer, starts_trans}
+use Rattle.pool_visits.specs.Laws.{AllVisitsStay, LivedHaveRows}
+use Rattle.conntrack_cmd.proofs.Fronts.{starts_longer, starts_trans}
 use Rattle.conntrack_cmd.proofs.Said.{destroyed_for, made_between, visited_between}
 use Rattle.conntrack_cmd.proofs.Sweeps.{each_map}
 
@@ -116,12 +117,12 @@ module _ (going : GoingOnAddsUp) (states : StatesStay) (events : EventsStay) whe
       by_first None none = absurd (differ (ap (is_there_and_late moment) (sym none) ∙ late))
       by_first (Some e) there = by_listed e there (find (has_id id) (after new.front listing).expects) refl
 
-  pub expire_speaks : ExpectationsAreFew → EntriesKeepTheirPlace → PlacesAreInThePool → ExpectationsAreExpected → ExpectationsAreInOrder → GoneExpectationsStayGone
+  pub expire_speaks : AllVisitsStay → LivedHaveRows → ExpectationsAreFew → EntriesKeepTheirPlace → PlacesAreInThePool → ExpectationsAreExpected → ExpectationsAreInOrder → GoneExpectationsStayGone
       → (old a b c d new : Sight) (moment from listing to ended over : ℕ) (listed : List Expectation) (F G : State → Type 0)
       → Looked old a from F → IsCounting (why.Expired moment) a b a.sizes.entries ended → Looked b c listing (λ s. listed ≡ s.expects) → IsKnown c
       → IsEnding moment c d listed (length listed) over → Looked d new to G → HoldsNothing new → IsKnown new
       → Speaks (command.Expire moment) old new (record { said = said.Expired ended over; from = from; to = to })
-  expire_speaks bounded keep pool expected ordered gone old a b c d new moment from listing to ended over listed F G first counting looked known_c ending last
+  expire_speaks stay have bounded keep pool expected ordered gone old a b c d new moment from listing to ended over listed F G first counting looked known_c ending last
       empty known =
       let k = counting.destroying in
       let made : MadeNotes a c k.notes = made_saw going states events a b c k.notes k.made looked.saw in
@@ -154,9 +155,9 @@ module _ (going : GoingOnAddsUp) (states : StatesStay) (events : EventsStay) whe
         all = refl;
         killed = destroyed_for b.front (why.Expired moment) k.notes counting.rows k.each;
         ended = ending.each;
-        no_survivor = λ id lived. none_without_row (all_have_rows keep pool new.sizes new.front known.legal (λ r. is_expired r.part moment) from to []
+        no_survivor = λ id lived. none_without_row (all_have_rows have keep pool new.sizes new.front known.legal (λ r. is_expired r.part moment) from to []
             (omega (arith, first.fact.within, b_longer, c_longer, d_longer, last.low))
-            (visited_between states keep b new (λ r. is_expired r.part moment) a.sizes.entries (length a.front) (length b.front) from to []
+            (visited_between stay b new (λ r. is_expired r.part moment) a.sizes.entries (length a.front) (length b.front) from to []
             k.known known new_b sizes_b (ap (λ (z : Sizes). z.entries) (sym (sizes_b ∙ k.made.went.pass.sizes))) first.fact.within b_longer (omega arith)
             (omega (arith, c_longer, d_longer, last.low)) k.visited) id lived);
         left = none_late expected ordered gone new moment from listing to listed known (omega (arith, first.fact.within, b_longer, looked.low))

@@ -16,7 +16,9 @@ use Rattle.history_book.specs.Point.{At, StartsWith}
 use Rattle.history_book.specs.State.{State, record_of}
 use Rattle.conntrack_cmd.specs.declared.command.Command.{Command}
 use Rattle.conntrack_cmd.specs.declared.command.Command.TheVariants as command
-use Rattle.conntrack_cmd.specs.Answer.{AreDestroyed, FitsCommand, FitsCommandFrom, IsRow, LivedThroughout, NoLateIsLeft, NoneIsLeft, is_live_and, is_there_and_late}
+use Rattle.pool_visits.specs.Row.{IsRow}
+use Rattle.pool_visits.specs.Visit.{LivedThroughout, is_live_and}
+use Rattle.conntrack_cmd.specs.Answer.{AreDestroyed, FitsCommand, FitsCommandFrom, NoLateIsLeft, NoneIsLeft, is_there_and_late}
 
 pub at_grows : StatesStay → (longer log : List Event) (p : ℕ) (F : State → Type 0) → StartsWith longer log
     → At log p F → At longer p F

@@ -27,7 +27,7 @@ use Rattle.conntrack_cmd.specs.Internal.Late.{IsEnding, IsOver, IsOverWhereLate}
 use Rattle.conntrack_cmd.specs.Internal.Loops.{MadeNotes}
 use Rattle.conntrack_cmd.proofs.Ends.{found_one}
 use Rattle.conntrack_cmd.proofs.Growth.{happened_grows}
-use Rattle.conntrack_cmd.proofs.Places.{found_has, starts_longer}
+use Rattle.conntrack_cmd.proofs.Fronts.{found_has, starts_longer}
 use Rattle.conntrack_cmd.proofs.Sweeps.{each_map, each_push}
 
 -- what stands at an index, with what stands before it and after it

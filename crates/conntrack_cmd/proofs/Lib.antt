@@ -7,7 +7,6 @@ pub mod Said
 pub mod Expiry
 pub mod Growth
 pub mod Lateness
-pub mod Places
+pub mod Fronts
 pub mod Speaking
 pub mod Sweeps
-pub mod Visits

@@ -19,7 +19,7 @@ use Rattle.conntrack_cmd.specs.declared.command.Command.TheVariants as command
 use Rattle.conntrack_cmd.specs.Answer.{FitsCommandFrom}
 use Rattle.conntrack_cmd.specs.Internal.Spoken.{Speaks}
 use Rattle.conntrack_cmd.proofs.Growth.{at_grows}
-use Rattle.conntrack_cmd.proofs.Places.{starts_longer, starts_trans}
+use Rattle.conntrack_cmd.proofs.Fronts.{starts_longer, starts_trans}
 
 -- one answer of the desk, at whose point this was so
 pub one_look : (asked : Command) (said : Said) (old new : Sight) (at : ℕ) (F : State → Type 0) → Looked old new at F → HoldsNothing new

@@ -1,10 +1,9 @@
 -- One place more.
-use Rattle.std.proofs.Common.{◌≡◌, ℕ, ◌+◌, ◌<◌, ◌≤◌, Bool, true, false, cond, List, [], ◌∷◌, ◌++◌, length, refl, sym, ap, subst, ◌∙◌, ◌⊎◌, inl, inr, Option, Some, None, arith, length-append}
+use Rattle.std.proofs.Common.{◌≡◌, ℕ, ◌+◌, ◌<◌, ◌≤◌, Bool, true, false, cond, List, [], ◌∷◌, ◌++◌, length, refl, sym, ap, subst, ◌∙◌, arith, length-append}
 use Rattle.std.specs.List.{AllByRecursion}
-use Rattle.std.specs.Prelude.{◌==◌, ◌≢◌, ◌||◌}
-use Rattle.std.proofs.lemmas.Bool.{eqb-false, eqb-true, ne_eqb}
+use Rattle.std.specs.Prelude.{◌==◌, ◌≢◌}
+use Rattle.std.proofs.lemmas.Bool.{eqb-true, ne_eqb}
 use Rattle.std.proofs.lemmas.List.{append-nil}
-use Rattle.std.proofs.lemmas.List.Folds.{list_any-append}
 use Rattle.std.proofs.lemmas.List.Sums.{sum_by-append, sum_by-cons}
 use Rattle.history_book.specs.declared.answer.Row.{Row}
 use Rattle.history_book.specs.declared.event.Event.{Event}
@@ -17,19 +16,20 @@ use Rattle.history_book.specs.declared.sizes.Sizes.{Sizes}
 use Rattle.history_book.specs.SightLaws.{GoingOnAddsUp}
 use Rattle.history_book.specs.WentOn.{Saw}
 use Rattle.history_book.specs.Filter.{passes}
-use Rattle.history_book.specs.History.{after, is_legal}
+use Rattle.history_book.specs.History.{is_legal}
 use Rattle.history_book.specs.Laws.{EntriesKeepTheirPlace, EventsStay, StatesStay}
 use Rattle.history_book.specs.Legality.{is_reason}
 use Rattle.history_book.specs.Notes.{Happened}
 use Rattle.history_book.specs.Places.{HoldsNothing}
 use Rattle.history_book.specs.Point.{StartsWith}
 use Rattle.history_book.specs.Sight.{IsKnown, Sight, WasConfirmedIn}
-use Rattle.history_book.specs.State.{State, record_of}
-use Rattle.conntrack_cmd.specs.Answer.{AreDestroyed, IsDestroyed, IsRow, has_row, is_live_and}
+use Rattle.pool_visits.specs.Laws.{VisitsAddUp}
+use Rattle.pool_visits.specs.Row.{IsDestroyed, IsRow}
+use Rattle.pool_visits.specs.Visit.{AreVisited, DestroysRow, Visited}
+use Rattle.conntrack_cmd.specs.Answer.{AreDestroyed}
 use Rattle.conntrack_cmd.specs.Internal.Loops.{AreOfPlaces, IsCounting, IsDestroying, IsListing, WasLive, times}
-use Rattle.conntrack_cmd.specs.Internal.Sweep.{AreVisited, DestroysRow, Missed, Visited}
 use Rattle.conntrack_cmd.proofs.Growth.{at_grows, destroyed_grow, happened_grows}
-use Rattle.conntrack_cmd.proofs.Places.{starts_longer, starts_refl}
+use Rattle.conntrack_cmd.proofs.Fronts.{starts_longer}
 
 pub each_push : {X : Type 0} (P : X → Type 0) (xs : List X) (x : X) → AllByRecursion P xs → P x → AllByRecursion P (xs ++ x ∷ [])
 each_push P [] x h p = (p, tt)
@@ -63,16 +63,6 @@ once_push rows row once none id = by_same (row.subject.id == id) refl
 none_below : (p : ℕ) → p < 0 → ⊥
 none_below p h = omega (arith, h)
 
-any_left : (id : ℕ) (rows more : List Row) → has_row id rows ≡ true → has_row id (rows ++ more) ≡ true
-any_left id rows more h = list_any-append (λ (r : Row). r.subject.id == id) rows more ∙ ap (λ b. b || has_row id more) h
-
-any_right : (id : ℕ) (rows more : List Row) → has_row id more ≡ true → has_row id (rows ++ more) ≡ true
-any_right id rows more h = list_any-append (λ (r : Row). r.subject.id == id) rows more ∙ either (has_row id rows) (has_row id more) h
-  where
-    either : (a b : Bool) → b ≡ true → (a || b) ≡ true
-    either true b e = refl
-    either false b e = e
-
 destroyed_push : (why : Why) (log : List Event) (notes : List Note) (rows : List Row) (note : Note) (row : Row) → AreDestroyed log why notes rows
     → IsDestroyed log why note row → AreDestroyed log why (notes ++ note ∷ []) (rows ++ row ∷ [])
 destroyed_push why log [] [] note row h one = (one, tt)
@@ -81,41 +71,6 @@ destroyed_push why log (n ∷ ns) [] note row h one = absurd h
 destroyed_push why log (n ∷ ns) (r ∷ rs) note row (h, hs) one = (h, destroyed_push why log ns rs note row hs one)
 
 module _ (states : StatesStay) (keep : EntriesKeepTheirPlace) where
-  module _ (sizes : Sizes) (longer log : List Event) (starts : StartsWith longer log) (legal : is_legal sizes longer ≡ true)
-      (was_legal : is_legal sizes log ≡ true) (test : Record → Bool) where
-    missed_grows : (from to first last id : ℕ) → first ≤ from → to ≤ last → to ≤ length log → Missed log test from to id
-        → Missed longer test first last id
-    missed_grows from to first last id low high within m = record {
-      at = m.at;
-      low = omega (arith, low, m.low);
-      high = omega (arith, high, m.high);
-      missed = ap (λ (s : State). is_live_and test (record_of id s)) (states longer log m.at starts (omega (arith, m.high, within))).1 ∙ m.missed;
-    }
-
-    -- what was looked at between two points was so between others that lie further apart, in a longer history
-    pub visited_grows : (place from to first last : ℕ) (rows all : List Row) → first ≤ from → from ≤ to → to ≤ last → to ≤ length log
-        → ((id : ℕ) → has_row id rows ≡ true → has_row id all ≡ true) → Visited log test place from to rows
-        → Visited longer test place first last all
-    visited_grows place from to first last rows all low order high within more visited id was = by_first (record_of id (after longer first)) refl
-      where
-        by_visit : (has_row id rows ≡ true) ⊎ Missed log test from to id → (has_row id all ≡ true) ⊎ Missed longer test first last id
-        by_visit (inl h) = inl (more id h)
-        by_visit (inr m) = inr (missed_grows from to first last id low high within m)
-
-        by_first : (o : Option Record) → record_of id (after longer first) ≡ o → (has_row id all ≡ true) ⊎ Missed longer test first last id
-        by_first None e = inr (record { at = first; low = omega arith; high = omega (arith, low, order, high); missed = ap (is_live_and test) e })
-        by_first (Some r) e =
-            let was_there : record_of id (after log first) ≡ Some r =
-            ap (λ (s : State). record_of id s) (sym (states longer log first starts (omega (arith, low, order, within))).1) ∙ e in
-            let placed : r.place ≡ place = (keep sizes longer first id r legal e).1 place was in
-            by_visit (visited id (subst (λ p. WasConfirmedIn log p id) placed (keep sizes log first id r was_legal was_there).0))
-
-    pub all_visited_grow : (count from to first last : ℕ) (rows all : List Row) → first ≤ from → from ≤ to → to ≤ last → to ≤ length log
-        → ((id : ℕ) → has_row id rows ≡ true → has_row id all ≡ true) → AreVisited log test count from to rows
-        → AreVisited longer test count first last all
-    all_visited_grow count from to first last rows all low order high within more visited place below =
-        visited_grows place from to first last rows all low order high within more (visited place below)
-
   -- rows of entries of places stay so
   places_grow : (longer log : List Event) (count : ℕ) (rows : List Row) → StartsWith longer log → AreOfPlaces log count rows
       → AreOfPlaces longer (count + 1) rows
@@ -150,35 +105,23 @@ module _ (states : StatesStay) (keep : EntriesKeepTheirPlace) where
         (times_none row.subject.id rows (no_row_yet sizes log count row legal live placed rows h.live below));
   }
 
-  module _ (going : GoingOnAddsUp) (old now new : Sight) (count : ℕ) where
+  module _ (going : GoingOnAddsUp) (add : VisitsAddUp) (old now new : Sight) (count : ℕ) where
     -- the visits of earlier places, and that of the next
-    visits_more : (test : Record → Bool) (rows more : List Row) → IsKnown now → IsKnown new → now.sizes ≡ old.sizes → new.sizes ≡ now.sizes
-        → StartsWith now.front old.front → StartsWith new.front now.front
+    visits_more : (test : Record → Bool) (rows more : List Row) → IsKnown now → IsKnown new → now.sizes ≡ old.sizes
+        → new.sizes ≡ now.sizes → StartsWith now.front old.front → StartsWith new.front now.front
         → AreVisited now.front test count (length old.front) (length now.front) rows
         → Visited new.front test count (length now.front) (length new.front) more
         → AreVisited new.front test (count + 1) (length old.front) (length new.front) (rows ++ more)
-    visits_more test rows more known known' same same' first then earlier visit place below = by_place (place == count) refl
-      where
-        legal : is_legal now.sizes new.front ≡ true
-        legal = subst (λ (z : Sizes). is_legal z new.front ≡ true) same' known'.legal
-
-        low : length old.front ≤ length now.front
-        low = starts_longer now.front old.front first
-
-        high : length now.front ≤ length new.front
-        high = starts_longer new.front now.front then
-
-        by_place : (b : Bool) → (place == count) ≡ b → Visited new.front test place (length old.front) (length new.front) (rows ++ more)
-        by_place true e =
-            visited_grows new.sizes new.front new.front (starts_refl new.front) known'.legal known'.legal test place
-            (length now.front) (length new.front) (length old.front) (length new.front) more (rows ++ more) low high (omega arith) (omega arith)
-            (λ id. any_right id rows more)
-            (subst (λ p. Visited new.front test p (length now.front) (length new.front) more) (sym (eqb-true place count e)) visit)
-        by_place false e =
-            visited_grows now.sizes new.front now.front then legal known.legal test place
-            (length old.front) (length now.front) (length old.front) (length new.front) rows (rows ++ more) (omega arith) low high (omega arith)
-            (λ id. any_left id rows more)
-            (earlier place (omega (arith, below, eqb-false place count e)))
+    visits_more test rows more known known' same same' first then earlier visit =
+        let low : length old.front ≤ length now.front = starts_longer now.front old.front first in
+        let high : length now.front ≤ length new.front = starts_longer new.front now.front then in
+        add now.sizes new.front now.front test count (length old.front) (length now.front) (length now.front) (length new.front) rows more
+        (record {
+          starts = then;
+          longer_legal = subst (λ (z : Sizes). is_legal z new.front ≡ true) same' known'.legal;
+          legal = known.legal;
+        })
+        low (omega arith) high low high (omega arith) earlier visit
 
     rows_wider : (filter : Filter) (rows : List Row) → Saw now new
         → AllByRecursion (IsRow now.front filter (length old.front) (length now.front)) rows

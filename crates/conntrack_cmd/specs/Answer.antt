@@ -1,6 +1,6 @@
 -- When an answer fits a command and the events that the command made: by facts at points and events at numbers alone.
-use Rattle.std.specs.Prelude.{◌≡◌, ℕ, ◌<◌, ◌≤◌, Bool, true, false, ◌==◌, not, Option, Some, None, List, [], ◌∷◌, ◌++◌, length, find, AllPairs, IsPermutation}
-use Rattle.std.specs.List.{AllByRecursion, list_any}
+use Rattle.std.specs.Prelude.{◌≡◌, ℕ, ◌<◌, ◌≤◌, Bool, true, false, not, Option, Some, None, List, [], ◌∷◌, ◌++◌, length, find, AllPairs, IsPermutation}
+use Rattle.std.specs.List.{AllByRecursion}
 use Rattle.tuple_core.specs.declared.Tuple.{Tuple}
 use Rattle.expect_table.specs.Match as expected
 use Rattle.expect_table.specs.declared.expectation.Expectation.{Expectation}
@@ -21,32 +21,14 @@ use Rattle.history_book.specs.Point.{At}
 use Rattle.history_book.specs.State.{Found, State, live_under, record_of}
 use Rattle.proto_rules.specs.Part.{is_expired}
 use Rattle.room_list.specs.Roomed.{Roomed}
+use Rattle.pool_visits.specs.Row.{IsDestroyed, IsRow, has_row}
+use Rattle.pool_visits.specs.Visit.{LivedThroughout, is_live_and}
 use Rattle.conntrack_cmd.specs.declared.command.Command.{Command}
 use Rattle.conntrack_cmd.specs.declared.command.Command.TheVariants as command
-
--- an entry is live and passes a test
-abbrev pub is_live_and : (Record → Bool) → Option Record → Bool
-is_live_and test None = false
-is_live_and test (Some r) = test r
-
--- the entry of the id was live at each point from the one to the other, and passed the test at each
-abbrev pub LivedThroughout : List Event → (Record → Bool) → ℕ → ℕ → ℕ → Type 0
-LivedThroughout log test from to id =
-    (p : ℕ) → from ≤ p → p ≤ to → is_live_and test (record_of id (after log p)) ≡ true
 
 -- the rows stand in order of id, so that no entry has two
 abbrev pub AreInOrder : List Row → Type 0
 AreInOrder rows = AllPairs (λ r s. r.subject.id < s.subject.id) rows
-
-abbrev pub has_row : ℕ → List Row → Bool
-has_row id rows = list_any (λ (r : Row). r.subject.id == id) rows
-
--- the row is an entry as it was live at the row's point, between the two, and it passes
-pub record IsRow (log : List Event) (filter : Filter) (from to : ℕ) (row : Row) : Type 0 where
-  pub low : from ≤ row.at
-  pub high : row.at ≤ to
-  pub live : At log row.at (λ s. record_of row.subject.id s ≡ Some row.subject)
-  pub passes : passes filter row.subject ≡ true
 
 -- the rows are entries that were live and passed; each that did so throughout has a row
 pub record Lists (log : List Event) (filter : Filter) (own : List Note) (answer : Said) (from to : ℕ) : Type 0 where
@@ -77,12 +59,6 @@ pub record Gets (log : List Event) (t : Tuple) (own : List Note) (answer : Said)
   pub no_event : own ≡ []
   pub one : from ≡ to
   pub found : At log from (IsGot t from row)
-
--- the event destroyed the row's entry for the reason; the row has its number, and the entry as it was found
-pub record IsDestroyed (log : List Event) (why : Why) (note : Note) (row : Row) : Type 0 where
-  pub event : note.event ≡ Destroy row.subject.id why
-  pub number : row.at ≡ note.number
-  pub found : At log row.at (λ s. record_of row.subject.id s ≡ Some row.subject)
 
 -- each event destroyed the entry of one row, in the order of the events
 abbrev pub AreDestroyed : List Event → Why → List Note → List Row → Type 0

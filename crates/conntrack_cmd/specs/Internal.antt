@@ -2,7 +2,6 @@
 pub mod Late
 pub mod Loops
 pub mod Spoken
-pub mod Sweep
 use Rattle.std.specs.Prelude.{ℕ, Option, Some}
 use Rattle.conntrack_cmd.specs.declared.command.LineMeaning.{LineMeaning}
 use Rattle.conntrack_cmd.specs.declared.command.LineMeaning.TheVariants as meaning

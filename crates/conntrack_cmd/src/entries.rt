@@ -19,6 +19,7 @@ use history_book::laws::{
     places_are_in_the_pool, states_stay,
 };
 use history_book::sight_laws::going_on_adds_up;
+use pool_visits::laws::{all_visits_stay, lived_have_rows};
 use std::sync::Wait;
 
 /// Lists the entries that pass the filter, in the list that it takes.
@@ -29,9 +30,11 @@ pub fn list_entries<R: Wait, D: Desk>(rt: &R, desk: &mut D, filter: &Filter, row
     ensures says { Speaks (List filter.now) (D.sight desk.old) (D.sight desk.new) result }
     ensures knows { IsKnown (D.sight desk.new) }
 {
+    all_visits_stay();
     entries_keep_their_place();
     events_stay();
     going_on_adds_up();
+    lived_have_rows();
     places_are_in_the_pool();
     states_stay();
     let mut rows = rows;
@@ -56,11 +59,13 @@ pub fn delete_entries<R: Wait, D: Desk>(rt: &R, desk: &mut D, filter: &Filter, r
     ensures says { Speaks (Delete filter.now) (D.sight desk.old) (D.sight desk.new) result }
     ensures knows { IsKnown (D.sight desk.new) }
 {
+    all_visits_stay();
     entries_keep_their_place();
     events_stay();
     going_on_adds_up();
     gone_entries_stay_gone();
     live_records_are_confirmed();
+    lived_have_rows();
     places_are_in_the_pool();
     states_stay();
     let mut rows = rows;
@@ -84,11 +89,13 @@ pub fn flush_entries<R: Wait, D: Desk>(rt: &R, desk: &mut D) -> Spoken
     ensures says { Speaks Flush (D.sight desk.old) (D.sight desk.new) result }
     ensures knows { IsKnown (D.sight desk.new) }
 {
+    all_visits_stay();
     entries_keep_their_place();
     events_stay();
     going_on_adds_up();
     gone_entries_stay_gone();
     live_records_are_confirmed();
+    lived_have_rows();
     places_are_in_the_pool();
     states_stay();
     let first = desk.count(rt);

@@ -18,6 +18,7 @@ use history_book::laws::{
 };
 use history_book::report::Expectations;
 use history_book::sight_laws::going_on_adds_up;
+use pool_visits::laws::{all_visits_stay, lived_have_rows};
 use std::sync::Wait;
 
 /// Destroys the entries that are expired at the moment, and then ends the expectations that are due no longer; the
@@ -30,6 +31,7 @@ pub fn expire<R: Wait, D: Desk>(rt: &R, desk: &mut D, listed: Expectations, mome
     ensures says { Speaks (Expire moment) (D.sight desk.old) (D.sight desk.new) result }
     ensures knows { IsKnown (D.sight desk.new) }
 {
+    all_visits_stay();
     entries_keep_their_place();
     events_stay();
     expectations_are_expected();
@@ -37,6 +39,7 @@ pub fn expire<R: Wait, D: Desk>(rt: &R, desk: &mut D, listed: Expectations, mome
     expectations_are_in_order();
     going_on_adds_up();
     gone_expectations_stay_gone();
+    lived_have_rows();
     places_are_in_the_pool();
     states_stay();
     let mut listed = listed;

@@ -10,7 +10,6 @@ mod line;
 mod looks;
 mod options;
 pub mod perform;
-mod place;
 pub mod read;
 mod sort;
 mod spoken;

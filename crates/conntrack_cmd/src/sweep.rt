@@ -5,15 +5,16 @@ ghost use Rattle.history_book.specs.Legality.{reason_moment_of};
 ghost use Rattle.history_book.specs.Places.{HoldsNothing};
 ghost use Rattle.history_book.specs.Sight.{IsKnown};
 ghost use Rattle.conntrack_cmd.specs.Internal.Loops.{IsCounting, IsDestroying, IsListing};
-ghost use Rattle.conntrack_cmd.specs.Internal.Sweep.{names_no_segment};
+ghost use Rattle.pool_visits.specs.Visit.{names_no_segment};
 
-use crate::place::{destroy_place, list_place};
 use history_book::answer::Rows;
 use history_book::desk::Desk;
 use history_book::event::Why;
 use history_book::filter::Filter;
 use history_book::laws::{entries_keep_their_place, events_stay, states_stay};
 use history_book::sight_laws::going_on_adds_up;
+use pool_visits::laws::visits_add_up;
+use pool_visits::place::{destroy_place, list_place};
 use std::sync::Wait;
 
 /// Lists the entries that pass the filter, in the order of their places.
@@ -30,6 +31,7 @@ pub fn list_all<R: Wait, D: Desk>(rt: &R, desk: &mut D, filter: &Filter, rows: &
     going_on_adds_up();
     let places = desk.places();
     states_stay();
+    visits_add_up();
     let mut next = 0;
     'places: while next < places {
         let place = next;
@@ -58,6 +60,7 @@ pub fn destroy_all<R: Wait, D: Desk>(rt: &R, desk: &mut D, why: Why, rows: &mut 
     going_on_adds_up();
     let places = desk.places();
     states_stay();
+    visits_add_up();
     let mut next = 0;
     'places: while next < places {
         let place = next;
@@ -82,6 +85,7 @@ pub fn count_destroyed<R: Wait, D: Desk>(rt: &R, desk: &mut D, why: Why) -> u32
     going_on_adds_up();
     let places = desk.places();
     states_stay();
+    visits_add_up();
     let mut next = 0;
     let mut ended = 0;
     'places: while next < places {

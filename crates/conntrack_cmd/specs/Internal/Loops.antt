@@ -14,8 +14,9 @@ use Rattle.history_book.specs.Places.{HoldsNothing}
 use Rattle.history_book.specs.Point.{At}
 use Rattle.history_book.specs.Sight.{IsKnown, Sight}
 use Rattle.history_book.specs.State.{record_of}
-use Rattle.conntrack_cmd.specs.Answer.{AreDestroyed, IsRow}
-use Rattle.conntrack_cmd.specs.Internal.Sweep.{AreVisited}
+use Rattle.pool_visits.specs.Row.{IsRow}
+use Rattle.conntrack_cmd.specs.Answer.{AreDestroyed}
+use Rattle.pool_visits.specs.Visit.{AreVisited}
 
 -- the row is an entry as it was live at the row's point
 abbrev pub WasLive : List Event → Row → Type 0

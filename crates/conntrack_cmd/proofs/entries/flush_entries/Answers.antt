@@ -1,5 +1,5 @@
 use Rattle.std.proofs.Common.{◌≡◌, length}
-use Rattle.conntrack_cmd.proofs.Places.{still_empty}
+use Rattle.conntrack_cmd.proofs.Fronts.{still_empty}
 use Rattle.conntrack_cmd.proofs.Said.{flush_speaks}
 use Rattle.conntrack_cmd.proofs.entries.flush_entries.Goals as goal
 
@@ -11,7 +11,7 @@ returns-clause-says g c =
     let new = g.D.Desk.sight c.count-last.new.self in
     flush_speaks c.going_on_adds_up.ensures.all c.states_stay.ensures old a b new c.count-first.result.at c.count-last.result.at
     (λ s. c.count-first.result.live ≡ length s.records) (λ s. c.count-last.result.live ≡ length s.records)
-    c.count-first.ensures.says.0 c.count-last.ensures.says.0 c.events_stay.ensures c.entries_keep_their_place.ensures
+    c.count-first.ensures.says.0 c.count-last.ensures.says.0 c.events_stay.ensures c.all_visits_stay.ensures c.lived_have_rows.ensures c.entries_keep_their_place.ensures
     c.places_are_in_the_pool.ensures c.live_records_are_confirmed.ensures
     c.gone_entries_stay_gone.ensures c.count_destroyed.result c.count_destroyed.ensures
     (still_empty b new c.count-last.ensures.says.1 c.count_destroyed.ensures.destroying.empty) c.count-last.ensures.knows

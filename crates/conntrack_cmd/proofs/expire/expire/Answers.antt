@@ -1,6 +1,6 @@
 use Rattle.std.proofs.Common.{◌≡◌, length}
 use Rattle.conntrack_cmd.proofs.Expiry.{expire_speaks, late_spare}
-use Rattle.conntrack_cmd.proofs.Places.{still_empty}
+use Rattle.conntrack_cmd.proofs.Fronts.{still_empty}
 use Rattle.conntrack_cmd.proofs.expire.expire.Goals as goal
 
 pub end_late-expectations-requires-clause-spare : goal.end_late-expectations-requires-clause-spare
@@ -14,7 +14,7 @@ pub returns-clause-says : goal.returns-clause-says
 returns-clause-says g c =
     let d = g.D.Desk.sight c.end_late-expectations.new.desk in
     let new = g.D.Desk.sight c.count-last.new.self in
-    expire_speaks c.going_on_adds_up.ensures.all c.states_stay.ensures c.events_stay.ensures c.expectations_are_few.ensures c.entries_keep_their_place.ensures c.places_are_in_the_pool.ensures
+    expire_speaks c.going_on_adds_up.ensures.all c.states_stay.ensures c.events_stay.ensures c.all_visits_stay.ensures c.lived_have_rows.ensures c.expectations_are_few.ensures c.entries_keep_their_place.ensures c.places_are_in_the_pool.ensures
     c.expectations_are_expected.ensures c.expectations_are_in_order.ensures c.gone_expectations_stay_gone.ensures
     (g.D.Desk.sight c.args.desk.now) (g.D.Desk.sight c.count-first.new.self) (g.D.Desk.sight c.count_destroyed-entries.new.desk)
     (g.D.Desk.sight c.expects.new.self) d new c.args.moment c.count-first.result.at c.expects.result c.count-last.result.at

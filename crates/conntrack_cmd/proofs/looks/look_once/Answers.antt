@@ -1,5 +1,5 @@
 use Rattle.history_book.specs.Desk.{IsRecord}
-use Rattle.conntrack_cmd.proofs.Places.{looked_at_one}
+use Rattle.conntrack_cmd.proofs.Fronts.{looked_at_one}
 use Rattle.conntrack_cmd.proofs.Speaking.{present}
 use Rattle.conntrack_cmd.proofs.looks.look_once.Goals as goal
 

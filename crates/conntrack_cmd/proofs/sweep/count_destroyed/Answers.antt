@@ -6,7 +6,7 @@ pub places-preserved-in-Some : goal.places-preserved-in-Some
 places-preserved-in-Some g c = record {
   within = omega (arith, c.places-test.true);
   all = c.places.invariant.all;
-  counting = counting_some c.states_stay.ensures c.entries_keep_their_place.ensures c.going_on_adds_up.ensures.all (g.D.Desk.sight c.args.desk.now)
+  counting = counting_some c.states_stay.ensures c.entries_keep_their_place.ensures c.going_on_adds_up.ensures.all c.visits_add_up.ensures (g.D.Desk.sight c.args.desk.now)
       (g.D.Desk.sight c.places.desk) (g.D.Desk.sight c.destroy_place.new.desk) c.places.next c.events_stay.ensures c.args.why
       c.places.ended _ c.places.invariant.counting c.in-Some.ensures.made c.in-Some.ensures.placed c.in-Some.ensures.visited
       c.in-Some.ensures.empty c.in-Some.ensures.knows;
@@ -16,7 +16,7 @@ pub places-preserved : goal.places-preserved
 places-preserved g c = record {
   within = omega (arith, c.places-test.true);
   all = c.places.invariant.all;
-  counting = counting_none c.states_stay.ensures c.entries_keep_their_place.ensures c.going_on_adds_up.ensures.all (g.D.Desk.sight c.args.desk.now)
+  counting = counting_none c.states_stay.ensures c.entries_keep_their_place.ensures c.going_on_adds_up.ensures.all c.visits_add_up.ensures (g.D.Desk.sight c.args.desk.now)
       (g.D.Desk.sight c.places.desk) (g.D.Desk.sight c.destroy_place.new.desk) c.places.next c.events_stay.ensures c.args.why
       c.places.ended c.places.invariant.counting c.in_default.ensures.made c.in_default.ensures.visited c.in_default.ensures.empty
       c.in_default.ensures.knows;

@@ -2,8 +2,8 @@ use Rattle.history_book.specs.Desk.{IsRecord}
 use Rattle.history_book.specs.Filter.{passes}
 use Rattle.history_book.specs.State.{record_of}
 use Rattle.std.proofs.Common.{◌≡◌, ◌∙◌, None, sym}
-use Rattle.conntrack_cmd.proofs.Places.{empty_visited, failed_visited, gone_visited, looked_at_one, row_is, row_placed, row_visited}
-use Rattle.conntrack_cmd.proofs.place.list_place.Goals as goal
+use Rattle.pool_visits.proofs.Places.{empty_visited, failed_visited, gone_visited, looked_at_one, row_is, row_placed, row_visited}
+use Rattle.pool_visits.proofs.place.list_place.Goals as goal
 
 pub returns-in-Empty-clause-visited : goal.returns-in-Empty-clause-visited
 returns-in-Empty-clause-visited g c =

@@ -23,10 +23,16 @@ use Rattle.history_book.specs.Record.{has_id}
 use Rattle.history_book.specs.Sight.{IsKnown, Sight, WasConfirmedIn}
 use Rattle.history_book.specs.State.{State, is_unused, record_of}
 use Rattle.history_book.specs.StateLaws.{UnusedPlacesAreNobodys}
-use Rattle.conntrack_cmd.specs.Answer.{IsRow, has_row, is_live_and}
-use Rattle.conntrack_cmd.specs.Internal.Sweep.{DestroysRow, Missed, Visited}
-use Rattle.conntrack_cmd.proofs.Growth.{at_grows}
-use Rattle.conntrack_cmd.proofs.Visits.{gone_from, own_row, visited_held, visited_unused}
+use Rattle.pool_visits.specs.Row.{IsRow, has_row}
+use Rattle.pool_visits.specs.Visit.{DestroysRow, Missed, Visited, is_live_and}
+use Rattle.pool_visits.proofs.Visits.{gone_from, own_row, visited_held, visited_unused}
+
+-- a fact at a point stays as the history goes on
+pub at_grows : StatesStay → (longer log : List Event) (p : ℕ) (F : State → Type 0) → StartsWith longer log
+    → At log p F → At longer p F
+at_grows stay longer log p F starts fact =
+    let same = stay longer log p starts fact.within in
+    record { within = same.0; fact = subst F (sym same.1) fact.fact }
 
 pub starts_refl : (l : List Event) → StartsWith l l
 starts_refl l = ([], sym (append-nil l))
@@ -186,7 +192,3 @@ module _ (one : OneHoldHasItsId) (old mid : Sight) (place id : ℕ) (empty : Hol
 
   pub looked_at_one : (then : Sight) (at : ℕ) (F : ℕ → State → Type 0) → Looked mid then at (F (held_id place mid.held)) → Looked mid then at (F id)
   looked_at_one then at F looked = subst (λ i. Looked mid then at (F i)) is_held_id looked
-
--- what holds nothing still does where the places are the same
-pub still_empty : (a b : Sight) → SamePlaces a b → HoldsNothing a → HoldsNothing b
-still_empty a b same empty = record { held = same.held ∙ empty.held; owed = same.owed ∙ empty.owed }

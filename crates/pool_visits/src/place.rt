@@ -6,8 +6,8 @@ ghost use Rattle.history_book.specs.Filter.{passes};
 ghost use Rattle.history_book.specs.Legality.{is_reason, reason_moment_of};
 ghost use Rattle.history_book.specs.Places.{HoldsNothing};
 ghost use Rattle.history_book.specs.Sight.{IsKnown};
-ghost use Rattle.conntrack_cmd.specs.Answer.{IsRow};
-ghost use Rattle.conntrack_cmd.specs.Internal.Sweep.{DestroysOrSaw, names_no_segment, Visited};
+ghost use Rattle.pool_visits.specs.Row.{IsRow};
+ghost use Rattle.pool_visits.specs.Visit.{DestroysOrSaw, names_no_segment, Visited};
 
 use history_book::answer::Row;
 use history_book::desk::Desk;

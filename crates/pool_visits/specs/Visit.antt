@@ -10,7 +10,17 @@ use Rattle.history_book.specs.WentOn.{MadeEvent, Saw}
 use Rattle.history_book.specs.History.{after}
 use Rattle.history_book.specs.Sight.{Sight, WasConfirmedIn}
 use Rattle.history_book.specs.State.{record_of}
-use Rattle.conntrack_cmd.specs.Answer.{IsDestroyed, has_row, is_live_and}
+use Rattle.pool_visits.specs.Row.{IsDestroyed, has_row}
+
+-- an entry is live and passes a test
+abbrev pub is_live_and : (Record → Bool) → Option Record → Bool
+is_live_and test None = false
+is_live_and test (Some r) = test r
+
+-- the entry of the id was live at each point from the one to the other, and passed the test at each
+abbrev pub LivedThroughout : List Event → (Record → Bool) → ℕ → ℕ → ℕ → Type 0
+LivedThroughout log test from to id =
+    (p : ℕ) → from ≤ p → p ≤ to → is_live_and test (record_of id (after log p)) ≡ true
 
 -- at some point from the one to the other the entry of the id was not live, or failed the test
 pub record Missed (log : List Event) (test : Record → Bool) (from to id : ℕ) : Type 0 where
@@ -46,3 +56,4 @@ names_no_segment (why.Reopened direction segment moment) = false
 names_no_segment (why.Reset segment moment) = false
 names_no_segment (why.Deleted filter) = true
 names_no_segment why.Flushed = true
+names_no_segment (why.Dropped moment) = true

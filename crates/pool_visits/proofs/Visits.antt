@@ -15,8 +15,8 @@ use Rattle.history_book.specs.Record.{has_id}
 use Rattle.history_book.specs.Sight.{WasConfirmedIn}
 use Rattle.history_book.specs.State.{State, is_unused, record_of}
 use Rattle.history_book.specs.StateLaws.{UnusedPlacesAreNobodys}
-use Rattle.conntrack_cmd.specs.Answer.{has_row, is_live_and}
-use Rattle.conntrack_cmd.specs.Internal.Sweep.{Missed, Visited}
+use Rattle.pool_visits.specs.Row.{has_row}
+use Rattle.pool_visits.specs.Visit.{Missed, Visited, is_live_and}
 
 -- no record of the id is among these
 none_of : (id : ℕ) (rs : List Record) → AllByRecursion (λ r. r.id ≢ id) rs → find (has_id id) rs ≡ None

@@ -2,9 +2,9 @@ use Rattle.std.proofs.Common.{◌≡◌, None}
 use Rattle.history_book.specs.Desk.{Destroys, IsRecord}
 use Rattle.history_book.specs.Legality.{is_reason}
 use Rattle.history_book.specs.State.{record_of}
-use Rattle.conntrack_cmd.proofs.Places.{empty_visited, failed_visited, gone_visited, killed_placed, killed_row, killed_visited, is_held_id, looked_at_one}
+use Rattle.pool_visits.proofs.Places.{empty_visited, failed_visited, gone_visited, killed_placed, killed_row, killed_visited, is_held_id, looked_at_one}
 use Rattle.std.proofs.Common.{subst}
-use Rattle.conntrack_cmd.proofs.place.destroy_place.Goals as goal
+use Rattle.pool_visits.proofs.place.destroy_place.Goals as goal
 
 pub returns-in-Empty-clause-visited : goal.returns-in-Empty-clause-visited
 returns-in-Empty-clause-visited g c =
