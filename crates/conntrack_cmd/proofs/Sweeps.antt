@@ -25,7 +25,7 @@ use Rattle.history_book.specs.Point.{StartsWith}
 use Rattle.history_book.specs.Sight.{IsKnown, Sight, WasConfirmedIn}
 use Rattle.pool_visits.specs.Laws.{VisitsAddUp}
 use Rattle.pool_visits.specs.Row.{IsDestroyed, IsRow}
-use Rattle.pool_visits.specs.Visit.{AreVisited, DestroysRow, Visited}
+use Rattle.pool_visits.specs.Visit.{AreVisited, DestroysRow, LeavesPlace, Visited}
 use Rattle.conntrack_cmd.specs.Answer.{AreDestroyed}
 use Rattle.conntrack_cmd.specs.Internal.Loops.{AreOfPlaces, IsCounting, IsDestroying, IsListing, WasLive, times}
 use Rattle.conntrack_cmd.proofs.Growth.{at_grows, destroyed_grow, happened_grows}
@@ -107,21 +107,28 @@ module _ (states : StatesStay) (keep : EntriesKeepTheirPlace) where
 
   module _ (going : GoingOnAddsUp) (add : VisitsAddUp) (old now new : Sight) (count : ℕ) where
     -- the visits of earlier places, and that of the next
-    visits_more : (test : Record → Bool) (rows more : List Row) → IsKnown now → IsKnown new → now.sizes ≡ old.sizes
+    visits_more : (test : Record → Bool) (at : ℕ) (rows more : List Row) → IsKnown now → IsKnown new → now.sizes ≡ old.sizes
         → new.sizes ≡ now.sizes → StartsWith now.front old.front → StartsWith new.front now.front
+        → length now.front ≤ at → at ≤ length new.front
         → AreVisited now.front test count (length old.front) (length now.front) rows
-        → Visited new.front test count (length now.front) (length new.front) more
+        → Visited new.front test count (length now.front) at more
         → AreVisited new.front test (count + 1) (length old.front) (length new.front) (rows ++ more)
-    visits_more test rows more known known' same same' first then earlier visit =
-        let low : length old.front ≤ length now.front = starts_longer now.front old.front first in
-        let high : length now.front ≤ length new.front = starts_longer new.front now.front then in
-        add now.sizes new.front now.front test count (length old.front) (length now.front) (length now.front) (length new.front) rows more
+    visits_more test at rows more known known' same same' first then low high earlier visit =
+        add now.sizes new.front now.front test count (length old.front) (length now.front) (length now.front) at (length new.front) rows more
         (record {
           starts = then;
           longer_legal = subst (λ (z : Sizes). is_legal z new.front ≡ true) same' known'.legal;
           legal = known.legal;
         })
-        low (omega arith) high low high (omega arith) earlier visit
+        (record {
+          first = starts_longer now.front old.front first;
+          within = omega arith;
+          next = omega arith;
+          between = low;
+          inside = high;
+          behind = high;
+        })
+        earlier visit
 
     rows_wider : (filter : Filter) (rows : List Row) → Saw now new
         → AllByRecursion (IsRow now.front filter (length old.front) (length now.front)) rows
@@ -144,7 +151,8 @@ module _ (states : StatesStay) (keep : EntriesKeepTheirPlace) where
       each = rows_wider filter rows saw l.each;
       places = places_grow new.front now.front count rows saw.went.front l.places;
       visited = subst (AreVisited new.front (passes filter) (count + 1) (length old.front) (length new.front)) (append-nil rows)
-          (visits_more (passes filter) rows [] l.known known l.saw.went.pass.sizes saw.went.pass.sizes l.saw.went.front saw.went.front l.visited visit);
+          (visits_more (passes filter) (length new.front) rows [] l.known known l.saw.went.pass.sizes saw.went.pass.sizes l.saw.went.front saw.went.front
+          (starts_longer new.front now.front saw.went.front) (omega arith) l.visited visit);
       empty = empty;
       known = known;
     }
@@ -165,7 +173,8 @@ module _ (states : StatesStay) (keep : EntriesKeepTheirPlace) where
           });
       places = places_push new.sizes new.front count rows row known.legal (places_grow new.front now.front count rows saw.went.front l.places)
           l.places.below is.live placed;
-      visited = visits_more (passes filter) rows (row ∷ []) l.known known l.saw.went.pass.sizes saw.went.pass.sizes l.saw.went.front saw.went.front l.visited visit;
+      visited = visits_more (passes filter) (length new.front) rows (row ∷ []) l.known known l.saw.went.pass.sizes saw.went.pass.sizes l.saw.went.front
+          saw.went.front (starts_longer new.front now.front saw.went.front) (omega arith) l.visited visit;
       empty = empty;
       known = known;
     }
@@ -186,9 +195,9 @@ module _ (states : StatesStay) (keep : EntriesKeepTheirPlace) where
           (λ n h. (h.0, omega (arith, h.1, starts_longer new.front now.front then)))
           (happened_grows events states new.front now.front then (length old.front) (length now.front) d.notes d.made.happened)
 
-      pub destroying_none : Saw now new → Visited new.front (is_reason why) count (length now.front) (length new.front) [] → HoldsNothing new
-          → IsKnown new → IsDestroying why old new (count + 1) rows
-      destroying_none saw visit empty known = record {
+      pub destroying_none : (at : ℕ) → LeavesPlace why count now new at → HoldsNothing new → IsKnown new
+          → IsDestroying why old new (count + 1) rows
+      destroying_none at left empty known = let saw : Saw now new = left.saw in record {
         notes = d.notes;
         made = record {
           went = going.before old now new d.notes d.made.went saw;
@@ -199,15 +208,15 @@ module _ (states : StatesStay) (keep : EntriesKeepTheirPlace) where
         as_many = d.as_many;
         each = destroyed_grow events states new.front now.front saw.went.front why d.notes rows d.each;
         places = places_grow new.front now.front count rows saw.went.front d.places;
-        visited = visits_more (is_reason why) [] [] d.known known d.made.went.pass.sizes saw.went.pass.sizes d.made.went.front saw.went.front d.visited visit;
+        visited = visits_more (is_reason why) at [] [] d.known known d.made.went.pass.sizes saw.went.pass.sizes d.made.went.front saw.went.front
+            left.low left.within d.visited left.visited;
         empty = empty;
         known = known;
       }
 
-      destroying_some : (row : Row) → DestroysRow why now new row → row.subject.place ≡ count
-          → Visited new.front (is_reason why) count (length now.front) (length new.front) [] → HoldsNothing new
-          → IsKnown new → IsDestroying why old new (count + 1) (rows ++ row ∷ [])
-      destroying_some row k placed visit empty known =
+      destroying_some : (row : Row) → DestroysRow why count now new row → HoldsNothing new → IsKnown new
+          → IsDestroying why old new (count + 1) (rows ++ row ∷ [])
+      destroying_some row k empty known =
           let note : Note = record { number = row.at; event = Destroy row.subject.id why } in
           record {
             notes = d.notes ++ note ∷ [];
@@ -225,35 +234,34 @@ module _ (states : StatesStay) (keep : EntriesKeepTheirPlace) where
             each = destroyed_push why new.front d.notes rows note row
                 (destroyed_grow events states new.front now.front k.made.went.front why d.notes rows d.each) k.destroyed;
             places = places_push new.sizes new.front count rows row known.legal (places_grow new.front now.front count rows k.made.went.front d.places)
-                d.places.below k.destroyed.found placed;
-            visited = visits_more (is_reason why) [] [] d.known known d.made.went.pass.sizes k.made.went.pass.sizes d.made.went.front k.made.went.front d.visited visit;
+                d.places.below k.destroyed.found k.placed;
+            visited = visits_more (is_reason why) (length new.front) [] [] d.known known d.made.went.pass.sizes k.made.went.pass.sizes d.made.went.front
+                k.made.went.front (starts_longer new.front now.front k.made.went.front) (omega arith) d.visited k.visited;
             empty = empty;
             known = known;
           }
 
     pub destroying_pushed : (events : EventsStay) (why : Why) (rows more : List Row) (row : Row) → more ≡ rows ++ row ∷ []
-        → IsDestroying why old now count rows → DestroysRow why now new row → row.subject.place ≡ count
-        → Visited new.front (is_reason why) count (length now.front) (length new.front) [] → HoldsNothing new → IsKnown new
+        → IsDestroying why old now count rows → DestroysRow why count now new row → HoldsNothing new → IsKnown new
         → IsDestroying why old new (count + 1) more
-    destroying_pushed events why rows more row pushed d k placed visit empty known =
-        subst (IsDestroying why old new (count + 1)) (sym pushed) (destroying_some events why rows d row k placed visit empty known)
+    destroying_pushed events why rows more row pushed d k empty known =
+        subst (IsDestroying why old new (count + 1)) (sym pushed) (destroying_some events why rows d row k empty known)
 
     pub counting_none : (events : EventsStay) (why : Why) (ended : ℕ) → IsCounting why old now count ended
-        → Saw now new → Visited new.front (is_reason why) count (length now.front) (length new.front) [] → HoldsNothing new → IsKnown new
+        → (at : ℕ) → LeavesPlace why count now new at → HoldsNothing new → IsKnown new
         → IsCounting why old new (count + 1) ended
-    counting_none events why ended c saw visit empty known = record {
+    counting_none events why ended c at left empty known = record {
       rows = c.rows;
-      destroying = destroying_none events why c.rows c.destroying saw visit empty known;
+      destroying = destroying_none events why c.rows c.destroying at left empty known;
       exact = c.exact;
     }
 
     pub counting_some : (events : EventsStay) (why : Why) (ended : ℕ) (row : Row) → IsCounting why old now count ended
-        → DestroysRow why now new row → row.subject.place ≡ count
-        → Visited new.front (is_reason why) count (length now.front) (length new.front) [] → HoldsNothing new → IsKnown new
+        → DestroysRow why count now new row → HoldsNothing new → IsKnown new
         → IsCounting why old new (count + 1) (ended + 1)
-    counting_some events why ended row c k placed visit empty known = record {
+    counting_some events why ended row c k empty known = record {
       rows = c.rows ++ row ∷ [];
-      destroying = destroying_some events why c.rows c.destroying row k placed visit empty known;
+      destroying = destroying_some events why c.rows c.destroying row k empty known;
       exact = ap (λ n. n + 1) c.exact ∙ sym (length-append c.rows (row ∷ []));
     }
 

@@ -14,7 +14,7 @@ use history_book::filter::Filter;
 use history_book::laws::{entries_keep_their_place, events_stay, states_stay};
 use history_book::sight_laws::going_on_adds_up;
 use pool_visits::laws::visits_add_up;
-use pool_visits::place::{destroy_place, list_place};
+use pool_visits::place::{Visit, destroy_place, list_place};
 use std::sync::Wait;
 
 /// Lists the entries that pass the filter, in the order of their places.
@@ -65,8 +65,9 @@ pub fn destroy_all<R: Wait, D: Desk>(rt: &R, desk: &mut D, why: Why, rows: &mut 
     'places: while next < places {
         let place = next;
         next += 1;
-        if let Some(row) = destroy_place(rt, desk, why, place) {
-            rows.push(row);
+        match destroy_place(rt, desk, why, place) {
+            Visit::Destroyed(row) => rows.push(row),
+            Visit::Left { .. } => {}
         }
     }
 }
@@ -91,8 +92,9 @@ pub fn count_destroyed<R: Wait, D: Desk>(rt: &R, desk: &mut D, why: Why) -> u32
     'places: while next < places {
         let place = next;
         next += 1;
-        if let Some(_) = destroy_place(rt, desk, why, place) {
-            ended += 1;
+        match destroy_place(rt, desk, why, place) {
+            Visit::Destroyed(_) => ended += 1,
+            Visit::Left { .. } => {}
         }
     }
     ended

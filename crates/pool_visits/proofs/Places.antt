@@ -10,21 +10,22 @@ use Rattle.history_book.specs.declared.event.Why.{Why}
 use Rattle.history_book.specs.declared.filter.Filter.{Filter}
 use Rattle.history_book.specs.declared.record.Record.{Record}
 use Rattle.history_book.specs.declared.desk.Hold.{Hold}
-use Rattle.history_book.specs.Desk.{Destroys, HoldsOneMore, IsLiveIn, IsRecord, SamePlaces}
-use Rattle.history_book.specs.SightLaws.{GoingOnAddsUp}
+use Rattle.history_book.specs.Desk.{Destroys, HoldsOneMore, IsLiveIn, IsRecord}
+use Rattle.history_book.specs.SightLaws.{GoingOnAddsUp, SeeingAddsUp}
 use Rattle.history_book.specs.WentOn.{Looked, MadeEvent, Saw}
 use Rattle.history_book.specs.Held.{held_id}
 use Rattle.history_book.specs.Places.{HoldsNothing, HoldsOne, OneHoldHasItsId}
 use Rattle.history_book.specs.Filter.{passes}
 use Rattle.history_book.specs.History.{after}
 use Rattle.history_book.specs.Laws.{DestroyedIdsStayDead, EntriesKeepTheirPlace, EventsStay, PlacesNameEntries, StatesStay}
+use Rattle.history_book.specs.Legality.{is_reason}
 use Rattle.history_book.specs.Point.{At, StartsWith}
 use Rattle.history_book.specs.Record.{has_id}
 use Rattle.history_book.specs.Sight.{IsKnown, Sight, WasConfirmedIn}
 use Rattle.history_book.specs.State.{State, is_unused, record_of}
 use Rattle.history_book.specs.StateLaws.{UnusedPlacesAreNobodys}
 use Rattle.pool_visits.specs.Row.{IsRow, has_row}
-use Rattle.pool_visits.specs.Visit.{DestroysRow, Missed, Visited, is_live_and}
+use Rattle.pool_visits.specs.Visit.{DestroysRow, LeavesPlace, Missed, Visited, is_live_and}
 use Rattle.pool_visits.proofs.Visits.{gone_from, own_row, visited_held, visited_unused}
 
 -- a fact at a point stays as the history goes on
@@ -60,54 +61,118 @@ has_id_of id s r h = eqb-true r.id id (found_has (has_id id) s.records r h)
 module _ (states : StatesStay) (keep : EntriesKeepTheirPlace) (name : PlacesNameEntries) (nobodys : UnusedPlacesAreNobodys)
     (old new : Sight) (known : IsKnown new) (place : ℕ) where
   -- no entry was live in the place
-  pub empty_visited : (test : Record → Bool) (at : ℕ) → Looked old new at (λ s. is_unused place s ≡ true)
-      → Visited new.front test place (length old.front) (length new.front) []
-  empty_visited test at looked =
-      visited_unused keep name nobodys new.sizes new.front known.legal test place (length old.front) (length new.front) at []
-      looked.low looked.fact.within looked.fact.fact
+  empty_upto : (test : Record → Bool) (at : ℕ) → Looked old new at (λ s. is_unused place s ≡ true)
+      → Visited new.front test place (length old.front) at []
+  empty_upto test at looked =
+      visited_unused keep name nobodys new.sizes new.front known.legal test place (length old.front) at at []
+      looked.low (omega arith) looked.fact.fact
 
   -- one entry was live in the place, and has a row or was missed
-  held_visited : (test : Record → Bool) (mid : Sight) (at id : ℕ) (rows : List Row) → Looked old mid at (IsLiveIn place id)
-      → StartsWith new.front mid.front → (has_row id rows ≡ true) ⊎ Missed new.front test (length old.front) (length new.front) id
-      → Visited new.front test place (length old.front) (length new.front) rows
-  held_visited test mid at id rows looked starts own =
+  held_visited : (test : Record → Bool) (mid : Sight) (at to id : ℕ) (rows : List Row) → Looked old mid at (IsLiveIn place id)
+      → StartsWith new.front mid.front → at ≤ to → (has_row id rows ≡ true) ⊎ Missed new.front test (length old.front) to id
+      → Visited new.front test place (length old.front) to rows
+  held_visited test mid at to id rows looked starts high own =
       let grown : At new.front at (IsLiveIn place id) = at_grows states new.front mid.front at (IsLiveIn place id) starts looked.fact in
-      visited_held keep name nobodys new.sizes new.front known.legal test place (length old.front) (length new.front) at id rows
-      looked.low grown.within grown.fact own
+      visited_held keep name nobodys new.sizes new.front known.legal test place (length old.front) to at id rows
+      looked.low high grown.fact own
 
   -- a later look missed the entry
   missed_at : (test : Record → Bool) (mid then : Sight) (at id : ℕ) (F : State → Type 0) → StartsWith mid.front old.front
       → Looked mid then at F → StartsWith new.front then.front
       → ((s : State) → F s → is_live_and test (record_of id s) ≡ false)
-      → Missed new.front test (length old.front) (length new.front) id
+      → Missed new.front test (length old.front) at id
   missed_at test mid then at id F first looked starts none =
       let grown : At new.front at F = at_grows states new.front then.front at F starts looked.fact in
       record {
         at = at;
         low = omega (arith, starts_longer mid.front old.front first, looked.low);
-        high = grown.within;
+        high = omega arith;
         missed = none (after new.front at) grown.fact;
       }
+
+  -- so it was missed up to the later look
+  missed_upto : (test : Record → Bool) (mid then : Sight) (at seen id : ℕ) (F : State → Type 0) → Looked old mid at (IsLiveIn place id)
+      → Looked mid then seen F → StartsWith new.front then.front → ((s : State) → F s → is_live_and test (record_of id s) ≡ false)
+      → Visited new.front test place (length old.front) seen []
+  missed_upto test mid then at seen id F held looked starts none =
+      held_visited test mid at seen id [] held (starts_trans new.front then.front mid.front starts looked.saw.went.front)
+      (omega (arith, held.fact.within, looked.low))
+      (inr (missed_at test mid then seen id F held.saw.went.front looked starts none))
+
+  gone_upto : (test : Record → Bool) (mid then : Sight) (at gone id : ℕ) → Looked old mid at (IsLiveIn place id)
+      → Looked mid then gone (λ s. record_of id s ≡ None) → StartsWith new.front then.front
+      → Visited new.front test place (length old.front) gone []
+  gone_upto test mid then at gone id held looked starts =
+      missed_upto test mid then at gone id (λ s. record_of id s ≡ None) held looked starts (λ s e. ap (is_live_and test) e)
+
+  failed_upto : (test : Record → Bool) (mid then : Sight) (at seen id : ℕ) (r : Record) → Looked old mid at (IsLiveIn place id)
+      → Looked mid then seen (IsRecord id r) → StartsWith new.front then.front → test r ≡ false
+      → Visited new.front test place (length old.front) seen []
+  failed_upto test mid then at seen id r held looked starts fails =
+      missed_upto test mid then at seen id (IsRecord id r) held looked starts (λ s e. ap (is_live_and test) e ∙ fails)
+
+  -- what was missed up to a point was so up to the end
+  to_the_end : (test : Record → Bool) (at : ℕ) → at ≤ length new.front → Visited new.front test place (length old.front) at []
+      → Visited new.front test place (length old.front) (length new.front) []
+  to_the_end test at within visited id was = by_visit (visited id was)
+    where
+      by_visit : (has_row id [] ≡ true) ⊎ Missed new.front test (length old.front) at id
+          → (has_row id [] ≡ true) ⊎ Missed new.front test (length old.front) (length new.front) id
+      by_visit (inl h) = inl h
+      by_visit (inr m) = inr (record { at = m.at; low = m.low; high = omega (arith, m.high, within); missed = m.missed })
+
+  pub empty_visited : (test : Record → Bool) (at : ℕ) → Looked old new at (λ s. is_unused place s ≡ true)
+      → Visited new.front test place (length old.front) (length new.front) []
+  empty_visited test at looked = to_the_end test at looked.fact.within (empty_upto test at looked)
 
   pub gone_visited : (test : Record → Bool) (mid then : Sight) (at gone id : ℕ) → Looked old mid at (IsLiveIn place id)
       → Looked mid then gone (λ s. record_of id s ≡ None) → StartsWith new.front then.front
       → Visited new.front test place (length old.front) (length new.front) []
   gone_visited test mid then at gone id held looked starts =
-      held_visited test mid at id [] held (starts_trans new.front then.front mid.front starts looked.saw.went.front)
-      (inr (missed_at test mid then gone id (λ s. record_of id s ≡ None) held.saw.went.front looked starts (λ s e. ap (is_live_and test) e)))
+      to_the_end test gone (omega (arith, looked.fact.within, starts_longer new.front then.front starts))
+      (gone_upto test mid then at gone id held looked starts)
 
   pub failed_visited : (test : Record → Bool) (mid then : Sight) (at seen id : ℕ) (r : Record) → Looked old mid at (IsLiveIn place id)
       → Looked mid then seen (IsRecord id r) → StartsWith new.front then.front → test r ≡ false
       → Visited new.front test place (length old.front) (length new.front) []
   failed_visited test mid then at seen id r held looked starts fails =
-      held_visited test mid at id [] held (starts_trans new.front then.front mid.front starts looked.saw.went.front)
-      (inr (missed_at test mid then seen id (IsRecord id r) held.saw.went.front looked starts (λ s e. ap (is_live_and test) e ∙ fails)))
+      to_the_end test seen (omega (arith, looked.fact.within, starts_longer new.front then.front starts))
+      (failed_upto test mid then at seen id r held looked starts fails)
+
+  -- a place in which no entry was live is left, and so is one whose entry was gone, or failed the test
+  pub left_empty : (why : Why) (at : ℕ) → Looked old new at (λ s. is_unused place s ≡ true) → LeavesPlace why place old new at
+  left_empty why at looked = record {
+    saw = looked.saw;
+    low = looked.low;
+    within = looked.fact.within;
+    visited = empty_upto (is_reason why) at looked;
+  }
+
+  pub left_gone : SeeingAddsUp → (why : Why) (mid then : Sight) (at gone id : ℕ) → Looked old mid at (IsLiveIn place id)
+      → Looked mid then gone (λ s. record_of id s ≡ None) → Saw then new → LeavesPlace why place old new gone
+  left_gone twice why mid then at gone id held looked saw = record {
+    saw = twice old then new (twice old mid then held.saw looked.saw) saw;
+    low = omega (arith, held.low, held.fact.within, looked.low);
+    within = omega (arith, looked.fact.within, starts_longer new.front then.front saw.went.front);
+    visited = gone_upto (is_reason why) mid then at gone id held looked saw.went.front;
+  }
+
+  pub left_failed : SeeingAddsUp → (why : Why) (mid then : Sight) (at seen id : ℕ) (r : Record) → Looked old mid at (IsLiveIn place id)
+      → Looked mid then seen (IsRecord id r) → Saw then new → is_reason why r ≡ false → LeavesPlace why place old new seen
+  left_failed twice why mid then at seen id r held looked saw fails = record {
+    saw = twice old then new (twice old mid then held.saw looked.saw) saw;
+    low = omega (arith, held.low, held.fact.within, looked.low);
+    within = omega (arith, looked.fact.within, starts_longer new.front then.front saw.went.front);
+    visited = failed_upto (is_reason why) mid then at seen id r held looked saw.went.front fails;
+  }
 
   pub row_visited : (test : Record → Bool) (mid then : Sight) (at seen id : ℕ) (r : Record) → Looked old mid at (IsLiveIn place id)
       → Looked mid then seen (IsRecord id r) → StartsWith new.front then.front
       → Visited new.front test place (length old.front) (length new.front) (record { subject = r; at = seen } ∷ [])
   row_visited test mid then at seen id r held looked starts =
-      held_visited test mid at id (record { subject = r; at = seen } ∷ []) held (starts_trans new.front then.front mid.front starts looked.saw.went.front)
+      held_visited test mid at (length new.front) id (record { subject = r; at = seen } ∷ []) held
+      (starts_trans new.front then.front mid.front starts looked.saw.went.front)
+      (omega (arith, held.fact.within, looked.low, looked.fact.within, starts_longer new.front then.front starts))
       (inl (own_row id (record { subject = r; at = seen }) (has_id_of id (after then.front seen) r looked.fact.fact)))
 
   -- the record that was seen has the place
@@ -148,17 +213,18 @@ module _ (states : StatesStay) (keep : EntriesKeepTheirPlace) (name : PlacesName
     same : r.id ≡ id
     same = has_id_of id (after new.front number) r found.fact
 
-    pub killed_placed : r.place ≡ place
+    killed_placed : r.place ≡ place
     killed_placed = placed_at mid at number id r held starts found
 
-    pub killed_visited : (test : Record → Bool) → Visited new.front test place (length old.front) (length new.front) []
+    killed_visited : (test : Record → Bool) → Visited new.front test place (length old.front) (length new.front) []
     killed_visited test =
         let longer : length then.front ≤ length new.front = starts_longer new.front then.front saw.went.front in
         let none : record_of id (after new.front (number + 1)) ≡ None =
         gone_from id (after new.front (number + 1))
         (dead new.sizes new.front number (number + 1) id why known.legal
         (events new.front then.front number (Destroy id why) saw.went.front d.made.happened) (omega arith) (omega (arith, longer, d.made.high))) in
-        held_visited test mid at id [] held starts
+        held_visited test mid at (length new.front) id [] held starts
+        (omega (arith, held.fact.within, starts_longer new.front mid.front starts))
         (inr (record {
           at = number + 1;
           low = omega (arith, starts_longer mid.front old.front held.saw.went.front, d.made.low);
@@ -166,7 +232,7 @@ module _ (states : StatesStay) (keep : EntriesKeepTheirPlace) (name : PlacesName
           missed = ap (is_live_and test) none;
         }))
 
-    pub killed_row : GoingOnAddsUp → DestroysRow why old new (record { subject = r; at = number })
+    pub killed_row : GoingOnAddsUp → DestroysRow why place old new (record { subject = r; at = number })
     killed_row going = record {
       made = subst (λ (i : ℕ). MadeEvent old new number (Destroy i why)) (sym same)
           ((going.event old then new number (Destroy id why)).1
@@ -176,6 +242,8 @@ module _ (states : StatesStay) (keep : EntriesKeepTheirPlace) (name : PlacesName
         number = refl;
         found = subst (λ i. At new.front number (IsRecord i r)) (sym same) found;
       };
+      placed = killed_placed;
+      visited = killed_visited (is_reason why);
     }
 
 -- the only place that is held is held for the entry

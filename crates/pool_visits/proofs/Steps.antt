@@ -1,5 +1,5 @@
 -- Looks at places, one after the other.
-use Rattle.std.proofs.Common.{◌≡◌, ℕ, ◌+◌, ◌<◌, ◌≤◌, Bool, true, false, List, ◌++◌, length, refl, sym, ap, subst, ◌∙◌, ◌⊎◌, inl, inr, Option, Some, None, arith}
+use Rattle.std.proofs.Common.{◌≡◌, ℕ, ◌≤◌, Bool, true, false, List, ◌++◌, length, refl, sym, ap, subst, ◌∙◌, ◌⊎◌, inl, inr, Option, Some, None, arith}
 use Rattle.std.specs.Prelude.{◌==◌, ◌||◌}
 use Rattle.std.proofs.lemmas.Bool.{eqb-false, eqb-true}
 use Rattle.std.proofs.lemmas.List.Folds.{list_any-append}
@@ -14,7 +14,7 @@ use Rattle.history_book.specs.Sight.{WasConfirmedIn}
 use Rattle.history_book.specs.State.{State, record_of}
 use Rattle.pool_visits.specs.Laws.{AllVisitsStay, LivedHaveRows, VisitsAddUp}
 use Rattle.pool_visits.specs.Row.{has_row}
-use Rattle.pool_visits.specs.Visit.{AreVisited, LivedThroughout, Missed, Visited, is_live_and}
+use Rattle.pool_visits.specs.Visit.{AreVisited, Missed, Visited, is_live_and}
 use Rattle.pool_visits.proofs.Places.{starts_refl}
 
 any_left : (id : ℕ) (rows more : List Row) → has_row id rows ≡ true → has_row id (rows ++ more) ≡ true
@@ -69,18 +69,18 @@ module _ (states : StatesStay) (keep : EntriesKeepTheirPlace) where
       (λ id h. h) visited
 
   pub adds_up : VisitsAddUp
-  adds_up sizes longer log test count from upto low high rows more both order within later from_low low_high inside earlier visit place below =
+  adds_up sizes longer log test count from upto low high last rows more both p earlier visit place below =
       by_place (place == count) refl
     where
-      by_place : (b : Bool) → (place == count) ≡ b → Visited longer test place from high (rows ++ more)
+      by_place : (b : Bool) → (place == count) ≡ b → Visited longer test place from last (rows ++ more)
       by_place true e =
           visited_grows sizes longer longer (starts_refl longer) both.longer_legal both.longer_legal test place
-          low high from high more (rows ++ more) from_low low_high (omega arith) inside
+          low high from last more (rows ++ more) (omega (arith, p.first, p.next)) p.between p.behind p.inside
           (λ id. any_right id rows more)
-          (subst (λ p. Visited longer test p low high more) (sym (eqb-true place count e)) visit)
+          (subst (λ q. Visited longer test q low high more) (sym (eqb-true place count e)) visit)
       by_place false e =
           visited_grows sizes longer log both.starts both.longer_legal both.legal test place
-          from upto from high rows (rows ++ more) (omega arith) order later within
+          from upto from last rows (rows ++ more) (omega arith) p.first (omega (arith, p.next, p.between, p.behind)) p.within
           (λ id. any_left id rows more)
           (earlier place (omega (arith, below, eqb-false place count e)))
 

@@ -23,14 +23,23 @@ AllVisitsStay =
     → BothAreLegal sizes longer log → first ≤ from → from ≤ to → to ≤ last → to ≤ length log
     → AreVisited log test count from to rows → AreVisited longer test count first last rows
 
--- the looks at places below this one up to a point, and the look at this one from a later point on, are looks at one
--- place more up to the last point
+-- these points do not fall: from the first on, looks up to a point of a history, and one between two later points of a
+-- longer one, the last of all behind them
+pub record PointsRise (longer log : List Event) (from upto low high last : ℕ) : Type 0 where
+  pub first : from ≤ upto
+  pub within : upto ≤ length log
+  pub next : upto ≤ low
+  pub between : low ≤ high
+  pub inside : high ≤ length longer
+  pub behind : high ≤ last
+
+-- the looks at places below this one, and then that at this one, are looks at one place more
 abbrev pub VisitsAddUp : Type 0
 VisitsAddUp =
-    (sizes : Sizes) (longer log : List Event) (test : Record → Bool) (count from upto low high : ℕ) (rows more : List Row)
-    → BothAreLegal sizes longer log → from ≤ upto → upto ≤ length log → upto ≤ high → from ≤ low → low ≤ high
-    → high ≤ length longer → AreVisited log test count from upto rows → Visited longer test count low high more
-    → AreVisited longer test (count + 1) from high (rows ++ more)
+    (sizes : Sizes) (longer log : List Event) (test : Record → Bool) (count from upto low high last : ℕ) (rows more : List Row)
+    → BothAreLegal sizes longer log → PointsRise longer log from upto low high last
+    → AreVisited log test count from upto rows → Visited longer test count low high more
+    → AreVisited longer test (count + 1) from last (rows ++ more)
 
 -- an entry of a place that was looked at has a row, where it was live and passed the test throughout
 abbrev pub LivedHaveRows : Type 0

@@ -1,5 +1,5 @@
 -- Looking at one place after the other.
-use Rattle.std.specs.Prelude.{◌≡◌, ◌⊎◌, ℕ, ◌<◌, ◌≤◌, Bool, true, false, Option, Some, None, List}
+use Rattle.std.specs.Prelude.{◌≡◌, ◌⊎◌, ℕ, ◌<◌, ◌≤◌, Bool, true, false, Option, Some, None, List, [], length}
 use Rattle.history_book.specs.declared.answer.Row.{Row}
 use Rattle.history_book.specs.declared.event.Event.{Event}
 use Rattle.history_book.specs.declared.event.Event.TheVariants.{Destroy}
@@ -8,8 +8,11 @@ use Rattle.history_book.specs.declared.event.Why.TheVariants as why
 use Rattle.history_book.specs.declared.record.Record.{Record}
 use Rattle.history_book.specs.WentOn.{MadeEvent, Saw}
 use Rattle.history_book.specs.History.{after}
+use Rattle.history_book.specs.Legality.{is_reason}
 use Rattle.history_book.specs.Sight.{Sight, WasConfirmedIn}
 use Rattle.history_book.specs.State.{record_of}
+use Rattle.pool_visits.specs.declared.place.Visit.{Visit}
+use Rattle.pool_visits.specs.declared.place.Visit.TheVariants.{Destroyed, Left}
 use Rattle.pool_visits.specs.Row.{IsDestroyed, has_row}
 
 -- an entry is live and passes a test
@@ -39,15 +42,25 @@ abbrev pub AreVisited : List Event → (Record → Bool) → ℕ → ℕ → ℕ
 AreVisited log test count from to rows =
     (place : ℕ) → place < count → Visited log test place from to rows
 
--- the desk destroyed the entry of the row for the reason, and made no other event
-pub record DestroysRow (why : Why) (old new : Sight) (row : Row) : Type 0 where
+-- the desk destroyed the entry of the row for the reason, which is an entry of the place, and made no other event; no
+-- other entry of the place was live throughout
+pub record DestroysRow (why : Why) (place : ℕ) (old new : Sight) (row : Row) : Type 0 where
   pub made : MadeEvent old new row.at (Destroy row.subject.id why)
   pub destroyed : IsDestroyed new.front why (record { number = row.at; event = Destroy row.subject.id why }) row
+  pub placed : row.subject.place ≡ place
+  pub visited : Visited new.front (is_reason why) place (length old.front) (length new.front) []
 
--- it destroyed the row's entry; or, without a row, it looked and made no event
-abbrev pub DestroysOrSaw : Why → Sight → Sight → Option Row → Type 0
-DestroysOrSaw why old new None = Saw old new
-DestroysOrSaw why old new (Some row) = DestroysRow why old new row
+-- it looked and made no event; up to this point each entry of the place was missed
+pub record LeavesPlace (why : Why) (place : ℕ) (old new : Sight) (at : ℕ) : Type 0 where
+  pub saw : Saw old new
+  pub low : length old.front ≤ at
+  pub within : at ≤ length new.front
+  pub visited : Visited new.front (is_reason why) place (length old.front) at []
+
+-- one of the two, by the answer
+abbrev pub VisitSays : Why → ℕ → Sight → Sight → Visit → Type 0
+VisitSays why place old new (Destroyed row) = DestroysRow why place old new row
+VisitSays why place old new (Left at) = LeavesPlace why place old new at
 
 -- a reason that names no segment
 abbrev pub names_no_segment : Why → Bool

@@ -3,11 +3,11 @@
 ghost use Rattle.std.specs.Prelude.{◌≡◌, ◌+◌, ◌<◌, ◌≤◌, ◌^◌, ℕ, true, [], length, IfSome, option_to_list};
 ghost use Rattle.history_book.specs.WentOn.{Saw};
 ghost use Rattle.history_book.specs.Filter.{passes};
-ghost use Rattle.history_book.specs.Legality.{is_reason, reason_moment_of};
+ghost use Rattle.history_book.specs.Legality.{reason_moment_of};
 ghost use Rattle.history_book.specs.Places.{HoldsNothing};
 ghost use Rattle.history_book.specs.Sight.{IsKnown};
 ghost use Rattle.pool_visits.specs.Row.{IsRow};
-ghost use Rattle.pool_visits.specs.Visit.{DestroysOrSaw, names_no_segment, Visited};
+ghost use Rattle.pool_visits.specs.Visit.{names_no_segment, Visited, VisitSays};
 
 use history_book::answer::Row;
 use history_book::desk::Desk;
@@ -66,18 +66,23 @@ pub fn list_place<R: Wait, D: Desk>(
     }
 }
 
-/// Destroys the entry that is live in the place, if one is and the reason holds of it; the row is the entry as it was
-/// found, with the number of the event.
-pub fn destroy_place<R: Wait, D: Desk>(rt: &R, desk: &mut D, why: Why, place: u32) -> Option<Row>
+/// How a look at a place ended whose entry was to be destroyed.
+#[derive(Clone, Copy)]
+pub enum Visit {
+    /// The entry was destroyed. The row is the entry as it was found, with the number of the event.
+    Destroyed(Row),
+    /// None was destroyed, up to this point: none was live in the place, or the reason did not hold of it.
+    Left { at: u64 },
+}
+
+/// Destroys the entry that is live in the place, if one is and the reason holds of it. The reason names no segment.
+pub fn destroy_place<R: Wait, D: Desk>(rt: &R, desk: &mut D, why: Why, place: u32) -> Visit
     requires below { place < (D.sight desk.old).sizes.entries }
     requires empty { HoldsNothing (D.sight desk.old) }
     requires suits { names_no_segment why ≡ true }
     requires timely { reason_moment_of why ≤ 10 ^ 16 }
     requires spare { 1 ≤ (D.sight desk.old).spare }
-    ensures made { DestroysOrSaw why (D.sight desk.old) (D.sight desk.new) result }
-    ensures placed { IfSome result (λ r. r.subject.place ≡ place) }
-    ensures visited { Visited (D.sight desk.new).front (is_reason why) place
-        (length (D.sight desk.old).front) (length (D.sight desk.new).front) [] }
+    ensures says { VisitSays why place (D.sight desk.old) (D.sight desk.new) result }
     ensures empty { HoldsNothing (D.sight desk.new) }
     ensures knows { IsKnown (D.sight desk.new) }
 {
@@ -91,22 +96,22 @@ pub fn destroy_place<R: Wait, D: Desk>(rt: &R, desk: &mut D, why: Why, place: u3
     states_stay();
     unused_places_are_nobodys();
     match desk.hold(rt, place) {
-        HoldOutcome::Empty { .. } => None,
+        HoldOutcome::Empty { at } => Visit::Left { at },
         HoldOutcome::Held { .. } => match desk.kill(rt, place, why) {
             KillOutcome::Killed { number, subject } => {
                 give_up(rt, desk, place);
-                Some(Row {
+                Visit::Destroyed(Row {
                     subject,
                     at: number,
                 })
             }
-            KillOutcome::Gone { .. } => {
+            KillOutcome::Gone { at } => {
                 give_up(rt, desk, place);
-                None
+                Visit::Left { at }
             }
-            KillOutcome::Not { .. } => {
+            KillOutcome::Not { at, .. } => {
                 give_up(rt, desk, place);
-                None
+                Visit::Left { at }
             }
         },
     }

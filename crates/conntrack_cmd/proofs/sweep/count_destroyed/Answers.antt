@@ -2,14 +2,13 @@ use Rattle.std.proofs.Common.{arith}
 use Rattle.conntrack_cmd.proofs.Sweeps.{counting_none, counting_some, counting_start}
 use Rattle.conntrack_cmd.proofs.sweep.count_destroyed.Goals as goal
 
-pub places-preserved-in-Some : goal.places-preserved-in-Some
-places-preserved-in-Some g c = record {
+pub places-preserved-in-Destroyed : goal.places-preserved-in-Destroyed
+places-preserved-in-Destroyed g c = record {
   within = omega (arith, c.places-test.true);
   all = c.places.invariant.all;
   counting = counting_some c.states_stay.ensures c.entries_keep_their_place.ensures c.going_on_adds_up.ensures.all c.visits_add_up.ensures (g.D.Desk.sight c.args.desk.now)
       (g.D.Desk.sight c.places.desk) (g.D.Desk.sight c.destroy_place.new.desk) c.places.next c.events_stay.ensures c.args.why
-      c.places.ended _ c.places.invariant.counting c.in-Some.ensures.made c.in-Some.ensures.placed c.in-Some.ensures.visited
-      c.in-Some.ensures.empty c.in-Some.ensures.knows;
+      c.places.ended _ c.places.invariant.counting c.in-Destroyed.ensures.says c.in-Destroyed.ensures.empty c.in-Destroyed.ensures.knows;
 }
 
 pub places-preserved : goal.places-preserved
@@ -18,8 +17,7 @@ places-preserved g c = record {
   all = c.places.invariant.all;
   counting = counting_none c.states_stay.ensures c.entries_keep_their_place.ensures c.going_on_adds_up.ensures.all c.visits_add_up.ensures (g.D.Desk.sight c.args.desk.now)
       (g.D.Desk.sight c.places.desk) (g.D.Desk.sight c.destroy_place.new.desk) c.places.next c.events_stay.ensures c.args.why
-      c.places.ended c.places.invariant.counting c.in_default.ensures.made c.in_default.ensures.visited c.in_default.ensures.empty
-      c.in_default.ensures.knows;
+      c.places.ended c.places.invariant.counting c.in-Left.at c.in-Left.ensures.says c.in-Left.ensures.empty c.in-Left.ensures.knows;
 }
 
 pub places-init : goal.places-init

@@ -3,15 +3,15 @@ use Rattle.conntrack_cmd.specs.Internal.Loops.{IsDestroying}
 use Rattle.conntrack_cmd.proofs.Sweeps.{destroying_none, destroying_pushed, destroying_start}
 use Rattle.conntrack_cmd.proofs.sweep.destroy_all.Goals as goal
 
-pub places-preserved-in-Some : goal.places-preserved-in-Some
-places-preserved-in-Some g c = record {
+pub places-preserved-in-Destroyed : goal.places-preserved-in-Destroyed
+places-preserved-in-Destroyed g c = record {
   within = omega (arith, c.places-test.true);
   all = c.places.invariant.all;
   room = omega (arith, c.push.ensures.room, c.places.invariant.room);
   destroying = destroying_pushed c.states_stay.ensures c.entries_keep_their_place.ensures c.going_on_adds_up.ensures.all c.visits_add_up.ensures (g.D.Desk.sight c.args.desk.now)
       (g.D.Desk.sight c.places.desk) (g.D.Desk.sight c.destroy_place.new.desk) c.places.next c.events_stay.ensures c.args.why
-      c.places.rows.items c.push.new.self.items c.in-Some.row c.push.ensures.items c.places.invariant.destroying c.in-Some.ensures.made
-      c.in-Some.ensures.placed c.in-Some.ensures.visited c.in-Some.ensures.empty c.in-Some.ensures.knows;
+      c.places.rows.items c.push.new.self.items c.in-Destroyed.row c.push.ensures.items c.places.invariant.destroying c.in-Destroyed.ensures.says
+      c.in-Destroyed.ensures.empty c.in-Destroyed.ensures.knows;
 }
 
 pub places-preserved : goal.places-preserved
@@ -21,8 +21,7 @@ places-preserved g c = record {
   room = c.places.invariant.room;
   destroying = destroying_none c.states_stay.ensures c.entries_keep_their_place.ensures c.going_on_adds_up.ensures.all c.visits_add_up.ensures (g.D.Desk.sight c.args.desk.now)
       (g.D.Desk.sight c.places.desk) (g.D.Desk.sight c.destroy_place.new.desk) c.places.next c.events_stay.ensures c.args.why
-      c.places.rows.items c.places.invariant.destroying c.in_default.ensures.made c.in_default.ensures.visited c.in_default.ensures.empty
-      c.in_default.ensures.knows;
+      c.places.rows.items c.places.invariant.destroying c.in-Left.at c.in-Left.ensures.says c.in-Left.ensures.empty c.in-Left.ensures.knows;
 }
 
 pub places-init : goal.places-init

@@ -1,19 +1,17 @@
-use Rattle.std.proofs.Common.{◌≡◌, None}
+use Rattle.std.proofs.Common.{◌≡◌, None, subst}
 use Rattle.history_book.specs.Desk.{Destroys, IsRecord}
-use Rattle.history_book.specs.Legality.{is_reason}
 use Rattle.history_book.specs.State.{record_of}
-use Rattle.pool_visits.proofs.Places.{empty_visited, failed_visited, gone_visited, killed_placed, killed_row, killed_visited, is_held_id, looked_at_one}
-use Rattle.std.proofs.Common.{subst}
+use Rattle.pool_visits.proofs.Places.{is_held_id, killed_row, left_empty, left_failed, left_gone, looked_at_one}
 use Rattle.pool_visits.proofs.place.destroy_place.Goals as goal
 
-pub returns-in-Empty-clause-visited : goal.returns-in-Empty-clause-visited
-returns-in-Empty-clause-visited g c =
-    empty_visited c.states_stay.ensures c.entries_keep_their_place.ensures c.places_name_entries.ensures c.unused_places_are_nobodys.ensures
-    (g.D.Desk.sight c.args.desk.now) (g.D.Desk.sight c.hold.new.self) c.hold.ensures.knows c.args.place (is_reason c.args.why)
+pub returns-in-Empty-clause-says : goal.returns-in-Empty-clause-says
+returns-in-Empty-clause-says g c =
+    left_empty c.states_stay.ensures c.entries_keep_their_place.ensures c.places_name_entries.ensures c.unused_places_are_nobodys.ensures
+    (g.D.Desk.sight c.args.desk.now) (g.D.Desk.sight c.hold.new.self) c.hold.ensures.knows c.args.place c.args.why
     c.in-Empty.at c.in-Empty.ensures.says.0
 
-pub returns-in-Killed-clause-made : goal.returns-in-Killed-clause-made
-returns-in-Killed-clause-made g c =
+pub returns-in-Killed-clause-says : goal.returns-in-Killed-clause-says
+returns-in-Killed-clause-says g c =
     let s = g.D.Desk.sight c.args.desk.now in
     let mid = g.D.Desk.sight c.hold.new.self in
     let then = g.D.Desk.sight c.kill.new.self in
@@ -24,50 +22,26 @@ returns-in-Killed-clause-made g c =
     (is_held_id c.one_hold_has_its_id.ensures s mid c.args.place c.in-Held.id c.requires.empty c.in-Held.ensures.says.1) c.in-Killed.ensures.says)
     c.give_up.ensures.saw c.going_on_adds_up.ensures.all
 
-pub returns-in-Killed-clause-placed : goal.returns-in-Killed-clause-placed
-returns-in-Killed-clause-placed g c =
+pub returns-in-Gone-clause-says : goal.returns-in-Gone-clause-says
+returns-in-Gone-clause-says g c =
     let s = g.D.Desk.sight c.args.desk.now in
     let mid = g.D.Desk.sight c.hold.new.self in
     let then = g.D.Desk.sight c.kill.new.self in
-    killed_placed c.states_stay.ensures c.entries_keep_their_place.ensures c.places_name_entries.ensures c.unused_places_are_nobodys.ensures
-    s (g.D.Desk.sight c.give_up.new.desk) c.give_up.ensures.knows c.args.place c.destroyed_ids_stay_dead.ensures c.events_stay.ensures
-    c.args.why mid then c.in-Held.at c.in-Killed.number c.in-Held.id c.in-Killed.subject c.in-Held.ensures.says.0
-    (subst (λ i. Destroys i c.args.why mid then c.in-Killed.number c.in-Killed.subject)
-    (is_held_id c.one_hold_has_its_id.ensures s mid c.args.place c.in-Held.id c.requires.empty c.in-Held.ensures.says.1) c.in-Killed.ensures.says)
-    c.give_up.ensures.saw
-
-pub returns-in-Killed-clause-visited : goal.returns-in-Killed-clause-visited
-returns-in-Killed-clause-visited g c =
-    let s = g.D.Desk.sight c.args.desk.now in
-    let mid = g.D.Desk.sight c.hold.new.self in
-    let then = g.D.Desk.sight c.kill.new.self in
-    killed_visited c.states_stay.ensures c.entries_keep_their_place.ensures c.places_name_entries.ensures c.unused_places_are_nobodys.ensures
-    s (g.D.Desk.sight c.give_up.new.desk) c.give_up.ensures.knows c.args.place c.destroyed_ids_stay_dead.ensures c.events_stay.ensures
-    c.args.why mid then c.in-Held.at c.in-Killed.number c.in-Held.id c.in-Killed.subject c.in-Held.ensures.says.0
-    (subst (λ i. Destroys i c.args.why mid then c.in-Killed.number c.in-Killed.subject)
-    (is_held_id c.one_hold_has_its_id.ensures s mid c.args.place c.in-Held.id c.requires.empty c.in-Held.ensures.says.1) c.in-Killed.ensures.says)
-    c.give_up.ensures.saw (is_reason c.args.why)
-
-pub returns-in-Gone-clause-visited : goal.returns-in-Gone-clause-visited
-returns-in-Gone-clause-visited g c =
-    let s = g.D.Desk.sight c.args.desk.now in
-    let mid = g.D.Desk.sight c.hold.new.self in
-    let then = g.D.Desk.sight c.kill.new.self in
-    gone_visited c.states_stay.ensures c.entries_keep_their_place.ensures c.places_name_entries.ensures c.unused_places_are_nobodys.ensures
-    s (g.D.Desk.sight c.give_up-in-Gone.new.desk) c.give_up-in-Gone.ensures.knows c.args.place (is_reason c.args.why) mid then
+    left_gone c.states_stay.ensures c.entries_keep_their_place.ensures c.places_name_entries.ensures c.unused_places_are_nobodys.ensures
+    s (g.D.Desk.sight c.give_up-in-Gone.new.desk) c.give_up-in-Gone.ensures.knows c.args.place c.seeing_adds_up.ensures.twice c.args.why mid then
     c.in-Held.at c.in-Gone.at c.in-Held.id c.in-Held.ensures.says.0
     (looked_at_one c.one_hold_has_its_id.ensures s mid c.args.place c.in-Held.id c.requires.empty c.in-Held.ensures.says.1 then c.in-Gone.at
     (λ i s. record_of i s ≡ None) c.in-Gone.ensures.says.0)
-    c.give_up-in-Gone.ensures.saw.went.front
+    c.give_up-in-Gone.ensures.saw
 
-pub returns-in-Not-clause-visited : goal.returns-in-Not-clause-visited
-returns-in-Not-clause-visited g c =
+pub returns-in-Not-clause-says : goal.returns-in-Not-clause-says
+returns-in-Not-clause-says g c =
     let s = g.D.Desk.sight c.args.desk.now in
     let mid = g.D.Desk.sight c.hold.new.self in
     let then = g.D.Desk.sight c.kill.new.self in
-    failed_visited c.states_stay.ensures c.entries_keep_their_place.ensures c.places_name_entries.ensures c.unused_places_are_nobodys.ensures
-    s (g.D.Desk.sight c.give_up-in-Not.new.desk) c.give_up-in-Not.ensures.knows c.args.place (is_reason c.args.why) mid then
+    left_failed c.states_stay.ensures c.entries_keep_their_place.ensures c.places_name_entries.ensures c.unused_places_are_nobodys.ensures
+    s (g.D.Desk.sight c.give_up-in-Not.new.desk) c.give_up-in-Not.ensures.knows c.args.place c.seeing_adds_up.ensures.twice c.args.why mid then
     c.in-Held.at c.in-Not.at c.in-Held.id c.in-Not.subject c.in-Held.ensures.says.0
     (looked_at_one c.one_hold_has_its_id.ensures s mid c.args.place c.in-Held.id c.requires.empty c.in-Held.ensures.says.1 then c.in-Not.at
     (λ i. IsRecord i c.in-Not.subject) c.in-Not.ensures.says.0)
-    c.give_up-in-Not.ensures.saw.went.front c.in-Not.ensures.says.1
+    c.give_up-in-Not.ensures.saw c.in-Not.ensures.says.1
