@@ -41,6 +41,23 @@ pub points_more : (m n : ℕ) (ps : List ℕ) → m ≤ n → AllByRecursion (λ
 points_more m n [] le h = tt
 points_more m n (p ∷ ps) le (h, hs) = (omega (arith, h), points_more m n ps le hs)
 
+-- a desk that took a place went on without an event
+pub placed_went : (a b : Sight) (place : ℕ) → Takes a b place → WentOn a b []
+placed_went a b place takes =
+    let went : WentOn a (record b { taken = a.taken }) [] = takes.saw.went in
+    record {
+      front = went.front;
+      own = went.own;
+      spare = went.spare;
+      pass = record {
+        tracker = went.pass.tracker;
+        sizes = went.pass.sizes;
+        shares = went.pass.shares;
+        returned = went.pass.returned;
+        gathered = went.pass.gathered;
+      };
+    }
+
 module _ (states : StatesStay) (events : EventsStay) (going : GoingOnAddsUp) (twice : SeeingAddsUp) where
   -- an answer of a desk that went on without an event is one of the desk before
   pub answers_on : (setup : Setup) (a b c : Sight) (packet : FlowPacket) (n from : ℕ) (k : Class) → WentOn a b [] → Answers setup b c packet n from k
@@ -59,24 +76,6 @@ module _ (states : StatesStay) (events : EventsStay) (going : GoingOnAddsUp) (tw
   pub answers_after : (setup : Setup) (a b c : Sight) (packet : FlowPacket) (n from : ℕ) (k : Class) → Saw a b → Answers setup b c packet n from k
       → Answers setup a c packet n from k
   answers_after setup a b c packet n from k saw ans = answers_on setup a b c packet n from k saw.went ans
-
-  -- so is that of one that took a place
-  pub answers_placed : (setup : Setup) (a b c : Sight) (packet : FlowPacket) (n from place : ℕ) (k : Class) → Takes a b place
-      → Answers setup b c packet n from k → Answers setup a c packet n from k
-  answers_placed setup a b c packet n from place k takes ans =
-      let went : WentOn a (record b { taken = a.taken }) [] = takes.saw.went in
-      answers_on setup a b c packet n from k (record {
-        front = went.front;
-        own = went.own;
-        spare = went.spare;
-        pass = record {
-          tracker = went.pass.tracker;
-          sizes = went.pass.sizes;
-          shares = went.pass.shares;
-          returned = went.pass.returned;
-          gathered = went.pass.gathered;
-        };
-      }) ans
 
   -- an answer stays when the desk sees more
   pub answers_before : (setup : Setup) (a b c : Sight) (packet : FlowPacket) (n from : ℕ) (k : Class) → Answers setup a b packet n from k → Saw b c

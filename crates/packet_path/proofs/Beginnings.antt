@@ -1,6 +1,7 @@
 -- What is said of a packet that would begin a flow.
 use Rattle.std.proofs.Common.{◌≡◌, ℕ, ◌+◌, ◌<◌, ◌≤◌, Bool, true, false, cond, List, [], ◌∷◌, ◌++◌, length, Option, Some, None, refl, sym, ap, subst, ◌∙◌, ◌⊎◌, inl, inr, ⊎_elim, arith, length-append}
 use Rattle.std.specs.List.{All, AllByRecursion}
+use Rattle.std.proofs.lemmas.List.{append-nil}
 use Rattle.std.proofs.lemmas.List.Elements.{recursion_from_All}
 use Rattle.std.specs.Prelude.{◌&&◌, IsSome, option_to_list}
 use Rattle.std.proofs.lemmas.Bool.{and_parts, eqb-true, true≢false}
@@ -49,16 +50,30 @@ use Rattle.history_book.specs.SightLaws.{GoingOnAddsUp, RestingIsSeeing}
 use Rattle.history_book.specs.State.{Found, State, first_found, live_under, winner}
 use Rattle.history_book.specs.StateLaws.{AbsentTuplesAreNobodys, FreeIsAbsent}
 use Rattle.packet_path.specs.Packet.{FlowPacket}
-use Rattle.packet_path.specs.Internal.Attempt.{Answers, IsFoundFor, claimed_master, unclaimed_at}
+use Rattle.packet_path.specs.Internal.Attempt.{Answers, HadPlace, IsFoundBefore, IsFoundFor, claimed_master, unclaimed_at}
+use Rattle.history_book.specs.declared.answer.Row.{Row}
+use Rattle.history_book.specs.declared.event.Why.TheVariants.{Dropped}
+use Rattle.history_book.specs.Sizes.{fewest_of_full}
+use Rattle.packet_path.specs.Internal.Scan.{DropsNone, DropsOne}
+use Rattle.packet_path.specs.Room.{Dropping, IsFullAt, MakesRoom, drop_by, drops_by}
 use Rattle.packet_path.specs.Winner.{IsNewWinner, MeetsWinner}
 use Rattle.packet_path.proofs.Claims.{LookedFor}
-use Rattle.packet_path.proofs.Growth.{at_grows, claims_grows, translated_grows}
+use Rattle.packet_path.proofs.Growth.{at_grows, claims_grows, room_grows, translated_grows}
 use Rattle.packet_path.proofs.Attempts.{absent_upto, flow_answer, points_more, silent, silent_answer, starts_longer, starts_refl}
 
 -- the flow that a packet begins
 abbrev pub flow_of : FlowPacket → Part → Tuple → Bool → Option ℕ → Flow
 flow_of packet part reply helper master =
     record { original = packet.tuple; reply = reply; part = part; helper = helper; master = master }
+
+-- the drop of a row
+abbrev pub dropping : Row → Dropping
+dropping row = record { number = row.at; subject = row.subject }
+
+-- a packet drops one entry at most
+drops_few : (packet : FlowPacket) (d : Option Dropping) → length (drops_by packet d) ≤ 1
+drops_few packet None = omega arith
+drops_few packet (Some d) = omega arith
 
 -- points that may be none, and others
 both_points : (m : ℕ) (o : Option ℕ) (ps : List ℕ) → AllByRecursion (λ p. p ≤ m) (option_to_list o) → AllByRecursion (λ p. p ≤ m) ps
@@ -164,17 +179,16 @@ module _ (states : StatesStay) (events : EventsStay) where
       }))
 
   -- from each mark up to the point at which nothing was live under its tuple, the packet would begin a flow
-  would_begin : (setup : Setup) (longer log : List Event) (packet : FlowPacket) (k absent_at upto : ℕ) (found : NewReply)
-      → StartsWith longer log → k ≤ absent_at → length log ≤ upto → IsSome (start_of packet.segment packet.moment)
-      → IsFoundFor setup packet log absent_at found
-      → WouldBegin setup longer k packet found.translated found.reply upto
+  would_begin : (setup : Setup) (longer log : List Event) (packet : FlowPacket) (k absent_at upto : ℕ) (translated : Translated) (reply : Tuple)
+      → StartsWith longer log → k ≤ absent_at → absent_at ≤ upto → IsSome (start_of packet.segment packet.moment)
+      → At log absent_at (λ x. live_under packet.tuple x ≡ None)
+      → WasTranslated log (rule_for setup.rules.items packet.tuple) packet.tuple absent_at upto translated reply
+      → WouldBegin setup longer k packet translated reply upto
   unfolding absent_upto
-  would_begin setup longer log packet k absent_at upto found starts low high begins is = record {
+  would_begin setup longer log packet k absent_at upto translated reply starts low order begins absent was = record {
     starts = begins;
-    absent = absent_upto states events longer log k absent_at upto packet.tuple starts low (omega (arith, is.absent.within, high)) is.absent;
-    found = found_later longer (rule_for setup.rules.items packet.tuple) packet.tuple absent_at (length log) upto found.translated found.reply high
-        (translated_grows events states longer log starts (rule_for setup.rules.items packet.tuple) packet.tuple absent_at (length log) found.translated
-        found.reply is.translation);
+    absent = absent_upto states events longer log k absent_at upto packet.tuple starts low order absent;
+    found = translated_grows events states longer log starts (rule_for setup.rules.items packet.tuple) packet.tuple absent_at upto translated reply was;
   }
 
   -- what was found for the packet's flow stays so when more is seen
@@ -199,67 +213,194 @@ module _ (states : StatesStay) (events : EventsStay) where
         translated reply absent.within was;
   }
 
-  pub full : (setup : Setup) (old new : Sight) (packet : FlowPacket) (found : NewReply) (n absent_at at : ℕ) → n ≤ 4
-      → HoldsNothing old → IsFoundFor setup packet old.front absent_at found → IsSome (start_of packet.segment packet.moment)
-      → FindsFull old new at → Answers setup old new packet n absent_at (class.Full at)
-  full setup old new packet found n absent_at at few empty is starts finds =
-      silent states events setup old new packet n absent_at at (class.Full at) finds.looked.saw finds.looked.fact.within refl
+  -- what was found for the flow was so before the table was full
+  pub found_before : (setup : Setup) (old new : Sight) (packet : FlowPacket) (found : NewReply) (absent_at at : ℕ) → HoldsNothing old
+      → IsFoundFor setup packet old.front absent_at found → FindsFull old new at → IsFoundBefore setup packet new absent_at at found
+  found_before setup old new packet found absent_at at empty is finds =
+      let starts : StartsWith new.front old.front = finds.looked.saw.went.front in
+      let rule = rule_for setup.rules.items packet.tuple in
+      record {
+        order = omega (arith, is.absent.within, finds.looked.low);
+        absent = at_grows states new.front old.front absent_at (λ x. live_under packet.tuple x ≡ None) starts is.absent;
+        translation = found_later new.front rule packet.tuple absent_at (length old.front) at found.translated found.reply finds.looked.low
+            (translated_grows events states new.front old.front starts rule packet.tuple absent_at (length old.front) found.translated found.reply
+            is.translation);
+        full = full_at old new at empty finds;
+      }
+    where
+      full_at : (old new : Sight) (at : ℕ) → HoldsNothing old → FindsFull old new at → IsFullAt new.sizes new.front at
+      full_at old new at empty finds = record {
+        within = finds.looked.fact.within;
+        fact = subst (λ (z : Sizes). fewest_of_full z ≤ length (after new.front at).records) (sym finds.looked.saw.went.pass.sizes)
+            (omega (arith, finds.looked.fact.fact, ap length empty.held, ap length empty.owed));
+      }
+
+  -- the table was full, and no entry that could go was live throughout the scan
+  pub full_none : (setup : Setup) (old new : Sight) (packet : FlowPacket) (found : NewReply) (n absent_at full_at at : ℕ) → n ≤ 4
+      → IsFoundBefore setup packet old absent_at full_at found → IsSome (start_of packet.segment packet.moment)
+      → DropsNone (Dropped packet.moment) full_at old new at → Answers setup old new packet n absent_at (class.Full full_at at)
+  full_none setup old new packet found n absent_at full_at at few is starts none =
+      let front : StartsWith new.front old.front = none.saw.went.front in
+      silent_answer states events setup old new packet n absent_at (class.Full full_at at) none.saw
+      (omega (arith, none.low, none.within), (none.within, tt))
       (λ given mark kills flow count killed le.
-      flow_answer states events new.front old.front finds.looked.saw.went.front mark given packet kills [] _ flow (omega (arith, count)) killed
+      flow_answer states events new.front old.front front mark given packet kills [] _ flow (omega (arith, count)) killed
       (record {
+        dropped = None;
         own = refl;
         translated = found.translated;
         reply = found.reply;
-        begun = would_begin setup new.front old.front packet (mark_past mark kills) absent_at at found finds.looked.saw.went.front le
-            finds.looked.low starts is;
-        full = record {
-          within = finds.looked.fact.within;
-          fact = omega (arith, finds.looked.fact.fact, ap length empty.held, ap length empty.owed);
+        begun = would_begin setup new.front old.front packet (mark_past mark kills) absent_at full_at found.translated found.reply front le is.order starts
+            is.absent is.translation;
+        stays = record {
+          full = at_grows states new.front old.front full_at _ front is.full;
+          order = none.low;
+          within = none.within;
+          none = none.none;
         };
       }))
 
-  -- a packet confirmed the entry of its flow, after it was looked for among the expectations
-  pub made_answer : GoingOnAddsUp → (setup : Setup) (old mid new : Sight) (packet : FlowPacket) (part : Part) (found : NewReply) (n absent_at place id : ℕ)
+  -- the drop of a scan made room, before a point of a later front
+  drop_makes_room : (old mid new : Sight) (packet : FlowPacket) (full_at upto : ℕ) (row : Row) → IsFullAt old.sizes old.front full_at
+      → DropsOne (Dropped packet.moment) full_at old mid row → StartsWith new.front mid.front → length mid.front ≤ upto
+      → MakesRoom old.sizes new.front packet full_at (dropping row) upto
+  drop_makes_room old mid new packet full_at upto row full one starts high =
+      room_grows events states new.front mid.front starts old.sizes packet full_at (Some (dropping row)) upto (record {
+        full = at_grows states mid.front old.front full_at _ one.made.went.front full;
+        happened = record { event = one.made.happened; later = omega (arith, full.within, one.made.low) };
+        before = omega (arith, one.made.high, high);
+        found = one.found;
+        first = one.first;
+      })
+
+  -- a drop, and the table was full again
+  pub full_again : GoingOnAddsUp → (setup : Setup) (old mid new : Sight) (packet : FlowPacket) (found : NewReply) (n absent_at full_at at : ℕ) (row : Row)
+      → n ≤ 4 → HoldsNothing mid → IsFoundBefore setup packet old absent_at full_at found → IsSome (start_of packet.segment packet.moment)
+      → DropsOne (Dropped packet.moment) full_at old mid row → FindsFull mid new at
+      → Answers setup old new packet n absent_at (class.Full full_at at)
+  full_again going setup old mid new packet found n absent_at full_at at row few empty is starts one finds =
+      let went : WentOn old new (drop_by packet (dropping row) ∷ []) = going.before old mid new _ one.made.went finds.looked.saw in
+      let front : StartsWith new.front old.front = went.front in
+      record {
+        rest = drop_by packet (dropping row) ∷ [];
+        went = went;
+        few = omega arith;
+        points = (
+          omega (arith, is.full.within, starts_longer new.front old.front front),
+          (finds.looked.fact.within, tt),
+        );
+        fits = λ given mark kills flow count killed le.
+            flow_answer states events new.front old.front front mark given packet kills _ _ flow (omega (arith, count)) killed
+            (record {
+              dropped = Some (dropping row);
+              own = refl;
+              translated = found.translated;
+              reply = found.reply;
+              begun = would_begin setup new.front old.front packet (mark_past mark kills) absent_at full_at found.translated found.reply front le is.order
+                  starts is.absent is.translation;
+              stays = record {
+                room = drop_makes_room old mid new packet full_at at row is.full one finds.looked.saw.went.front finds.looked.low;
+                full = record {
+                  within = finds.looked.fact.within;
+                  fact = subst (λ (z : Sizes). fewest_of_full z ≤ length (after new.front at).records) one.made.went.pass.sizes
+                      (omega (arith, finds.looked.fact.fact, ap length empty.held, ap length empty.owed));
+                };
+              };
+            });
+      }
+
+  -- a free place was had
+  pub had_free : (setup : Setup) (old now : Sight) (packet : FlowPacket) (found : NewReply) (absent_at : ℕ) → WentOn old now []
+      → IsFoundFor setup packet old.front absent_at found → HadPlace setup packet old now absent_at found
+  had_free setup old now packet found absent_at went is =
+      let starts : StartsWith now.front old.front = went.front in
+      let rule = rule_for setup.rules.items packet.tuple in
+      record {
+        dropped = None;
+        went = went;
+        found_at = length old.front;
+        order = is.absent.within;
+        within = starts_longer now.front old.front starts;
+        absent = at_grows states now.front old.front absent_at (λ x. live_under packet.tuple x ≡ None) starts is.absent;
+        translation = translated_grows events states now.front old.front starts rule packet.tuple absent_at (length old.front) found.translated found.reply
+            is.translation;
+        room = starts_longer now.front old.front starts;
+      }
+
+  -- a place was had after a drop
+  pub had_dropped : GoingOnAddsUp → (setup : Setup) (old mid now : Sight) (packet : FlowPacket) (found : NewReply) (absent_at full_at : ℕ) (row : Row)
+      → IsFoundBefore setup packet old absent_at full_at found → DropsOne (Dropped packet.moment) full_at old mid row → WentOn mid now []
+      → HadPlace setup packet old now absent_at found
+  had_dropped going setup old mid now packet found absent_at full_at row is one then =
+      let went : WentOn old now (drop_by packet (dropping row) ∷ []) = going.twice old mid now _ [] one.made.went then in
+      let starts : StartsWith now.front old.front = went.front in
+      let rule = rule_for setup.rules.items packet.tuple in
+      record {
+        dropped = Some (dropping row);
+        went = went;
+        found_at = full_at;
+        order = is.order;
+        within = omega (arith, is.full.within, starts_longer now.front old.front starts);
+        absent = at_grows states now.front old.front absent_at (λ x. live_under packet.tuple x ≡ None) starts is.absent;
+        translation = translated_grows events states now.front old.front starts rule packet.tuple absent_at full_at found.translated found.reply
+            is.translation;
+        room = drop_makes_room old mid now packet full_at (length now.front) row is.full one then.front (starts_longer now.front mid.front then.front);
+      }
+
+  -- a packet confirmed the entry of its flow, after a place was had and it was looked for among the expectations
+  pub made_answer : GoingOnAddsUp → (setup : Setup) (first old mid new : Sight) (packet : FlowPacket) (part : Part) (found : NewReply) (n absent_at place id : ℕ)
       (answer : ClaimOutcome) → n ≤ 4 → start_of packet.segment packet.moment ≡ Some part
-      → IsFoundFor setup packet old.front absent_at found → LookedFor packet old mid answer
+      → HadPlace setup packet first old absent_at found → LookedFor packet old mid answer
       → Confirms place (flow_of packet part found.reply (is_helped setup found.reply) (claimed_master answer)) mid new id
-      → Answers setup old new packet n absent_at (class.Made id (id + 1) found.translated (unclaimed_at answer))
-  made_answer going setup old mid new packet part found n absent_at place id answer few starts is looked confirms =
+      → Answers setup first new packet n absent_at (class.Made id (id + 1) found.translated (unclaimed_at answer))
+  made_answer going setup first old mid new packet part found n absent_at place id answer few starts had looked confirms =
       let subject : Record =
       record_for (flow_of packet part found.reply (is_helped setup found.reply) (claimed_master answer)) id place in
       let note : Note = record { number = id; event = Confirm subject } in
       let made : MadeEvent mid new id (Confirm subject) = confirms.made in
-      let went : WentOn old new (looked.claims ++ note ∷ []) = going.twice old mid new looked.claims (note ∷ []) looked.went made.went in
-      let front : StartsWith new.front old.front = went.front in
+      let then : WentOn old new (looked.claims ++ note ∷ []) = going.twice old mid new looked.claims (note ∷ []) looked.went made.went in
+      let went : WentOn first new (drops_by packet had.dropped ++ (looked.claims ++ note ∷ [])) =
+      going.twice first old new (drops_by packet had.dropped) (looked.claims ++ note ∷ []) had.went then in
       let longer : length old.front ≤ length mid.front = starts_longer mid.front old.front looked.went.front in
       record {
-        rest = looked.claims ++ note ∷ [];
+        rest = drops_by packet had.dropped ++ (looked.claims ++ note ∷ []);
         went = went;
-        few = omega (arith, length-append looked.claims (note ∷ []), looked.few);
+        few = omega (
+          arith,
+          length-append (drops_by packet had.dropped) (looked.claims ++ note ∷ []),
+          drops_few packet had.dropped,
+          length-append looked.claims (note ∷ []),
+          looked.few,
+        );
         points = (
           omega (arith, made.high),
           both_points (length new.front) (unclaimed_at answer) (translated_points found.translated)
               (points_more (length mid.front) (length new.front) (option_to_list (unclaimed_at answer))
               (starts_longer new.front mid.front made.went.front) looked.points)
-              (points_more (length old.front) (length new.front) (translated_points found.translated)
-              (omega (arith, longer, made.low, made.high))
-              (found_points old.front (rule_for setup.rules.items packet.tuple) packet.tuple absent_at (length old.front) found.translated found.reply
-              is.translation)),
+              (points_more had.found_at (length new.front) (translated_points found.translated)
+              (omega (arith, had.within, longer, made.low, made.high))
+              (found_points old.front (rule_for setup.rules.items packet.tuple) packet.tuple absent_at had.found_at found.translated found.reply
+              had.translation)),
         );
         fits = λ given mark kills flows count killed le.
-            flow_answer states events new.front old.front front mark given packet kills _ _ flows (omega (arith, count)) killed
+            flow_answer states events new.front first.front went.front mark given packet kills _ _ flows (omega (arith, count)) killed
             (record {
               subject = subject;
-              claims = looked.claims;
-              own = refl;
-              happened = record { event = made.happened; later = omega (arith, le, is.absent.within, longer, made.low) };
+              happened = record { event = made.happened; later = omega (arith, le, had.absent.within, longer, made.low) };
               named = refl;
               started = record { original = refl; part = starts; helper = refl };
-              found_at = (length old.front);
-              begun = would_begin setup new.front old.front packet (mark_past mark kills) absent_at (length old.front) found front le (omega arith)
-                  (subst (λ (o : Option Part). IsSome o) (sym starts) refl) is;
-              claimed = claims_grows events states new.front mid.front made.went.front packet looked.claims (unclaimed_at answer)
-                  (claimed_master answer) (length old.front) id (looked.expected (length old.front) id (omega arith) made.low);
+              placed = record {
+                dropped = had.dropped;
+                claims = looked.claims;
+                own = refl;
+                found_at = had.found_at;
+                begun = would_begin setup new.front old.front packet (mark_past mark kills) absent_at had.found_at found.translated found.reply then.front
+                    le had.order (subst (λ (o : Option Part). IsSome o) (sym starts) refl) had.absent had.translation;
+                placed_at = length old.front;
+                room = room_grows events states new.front old.front then.front first.sizes packet had.found_at had.dropped (length old.front) had.room;
+                claimed = claims_grows events states new.front mid.front made.went.front packet looked.claims (unclaimed_at answer)
+                    (claimed_master answer) (length old.front) id (looked.expected (length old.front) id (omega arith) made.low);
+              };
               point = refl;
             });
       }
@@ -312,21 +453,22 @@ module _ (states : StatesStay) (events : EventsStay) where
       )))
       connection
 
-  meets : GoingOnAddsUp → AbsentTuplesAreNobodys → FreeIsAbsent → LateEntriesAreNew → (setup : Setup) (old mid new : Sight) (packet : FlowPacket) (flow : Flow)
+  meets : GoingOnAddsUp → AbsentTuplesAreNobodys → FreeIsAbsent → LateEntriesAreNew → (setup : Setup) (first old mid new : Sight) (packet : FlowPacket) (flow : Flow)
       (found : NewReply) (answer : ClaimOutcome) (absent_at id at : ℕ) (d : Direction) (both merged : Bool) → IsKnown new
-      → IsSome (start_of packet.segment packet.moment) → IsFoundFor setup packet old.front absent_at found
+      → IsSome (start_of packet.segment packet.moment) → (had : HadPlace setup packet first old absent_at found)
       → (seen : LookedFor packet old mid answer) → flow.original ≡ packet.tuple → flow.reply ≡ found.reply
       → Looked mid new at (IsWinner flow id d both) → At new.front at (λ s. length s.records < new.sizes.entries)
       → (same_proto packet.tuple.proto proto.Udp && both) ≡ merged
       → (mark : ℕ) (kills : List Note) → mark_past mark kills ≤ absent_at
-      → MeetsWinner setup old.sizes new.front (mark_past mark kills) packet seen.claims
+      → MeetsWinner setup first.sizes new.front (mark_past mark kills) packet (drops_by packet had.dropped ++ seen.claims)
       (record { id = id; at = at; translated = found.translated; merged = merged })
-  meets going nobodys is_free late setup old mid new packet flow found answer absent_at id at d both merged known begins is seen original reply looked room
+  meets going nobodys is_free late setup first old mid new packet flow found answer absent_at id at d both merged known begins had seen original reply looked room
       merges mark kills le =
       let w = looked.fact.fact in
       let went : WentOn old new seen.claims = going.before old mid new seen.claims seen.went looked.saw in
       let front : StartsWith new.front old.front = went.front in
-      let absent' = at_grows states new.front old.front absent_at (λ x. live_under packet.tuple x ≡ None) front is.absent in
+      let sizes : new.sizes ≡ first.sizes = went.pass.sizes ∙ had.went.pass.sizes in
+      let absent' = at_grows states new.front old.front absent_at (λ x. live_under packet.tuple x ≡ None) front had.absent in
       let longer : length old.front ≤ length mid.front = starts_longer mid.front old.front seen.went.front in
       let before : (length old.front) ≤ at = omega (arith, longer, looked.low) in
       let rule : Option Rule = rule_for setup.rules.items packet.tuple in
@@ -338,12 +480,20 @@ module _ (states : StatesStay) (events : EventsStay) where
       ∙ ap (λ (u : Tuple). has_original packet.tuple w.found.subject && has_reply u w.found.subject) reply in
       record {
         reply = found.reply;
-        found_at = (length old.front);
-        begun = would_begin setup new.front old.front packet (mark_past mark kills) absent_at (length old.front) found front le (omega arith) begins is;
         unclaimed = unclaimed_at answer;
         master = claimed_master answer;
-        claimed = claims_grows events states new.front mid.front looked.saw.went.front packet seen.claims (unclaimed_at answer)
-            (claimed_master answer) (length old.front) at (seen.expected (length old.front) at (omega arith) looked.low);
+        placed = record {
+          dropped = had.dropped;
+          claims = seen.claims;
+          own = ap (λ (l : List Note). drops_by packet had.dropped ++ l) (sym (append-nil seen.claims));
+          found_at = had.found_at;
+          begun = would_begin setup new.front old.front packet (mark_past mark kills) absent_at had.found_at found.translated found.reply front le
+              had.order begins had.absent had.translation;
+          placed_at = length old.front;
+          room = room_grows events states new.front old.front front first.sizes packet had.found_at had.dropped (length old.front) had.room;
+          claimed = claims_grows events states new.front mid.front looked.saw.went.front packet seen.claims (unclaimed_at answer)
+              (claimed_master answer) (length old.front) at (seen.expected (length old.front) at (omega arith) looked.low);
+        };
         silent = λ is_merged. not_merged packet both seen.claims seen.connection (merges ∙ is_merged);
         found = w.found;
         live = record { within = looked.fact.within; fact = wins };
@@ -352,57 +502,58 @@ module _ (states : StatesStay) (events : EventsStay) where
             (has_reply found.reply w.found.subject)
             ∙ ap (λ b. same_proto packet.tuple.proto proto.Udp && b) (sym same) ∙ merges;
         new = older (mark_past mark kills) absent_at found.translated packet.tuple w.found le
-            (new_winner nobodys is_free late new.sizes new.front rule found.translated packet.tuple found.reply absent_at (length old.front) at w.found known.legal
-            (omega (arith, is.absent.within, before)) before absent'.fact wins
-            (translated_grows events states new.front old.front front rule packet.tuple absent_at (length old.front) found.translated found.reply
-            is.translation));
-        room = subst (λ (z : Sizes). At new.front at (λ s. length s.records < z.entries)) went.pass.sizes room;
+            (new_winner nobodys is_free late new.sizes new.front rule found.translated packet.tuple found.reply absent_at had.found_at at w.found known.legal
+            (omega (arith, had.absent.within, before)) (omega (arith, had.within, before)) absent'.fact wins
+            (translated_grows events states new.front old.front front rule packet.tuple absent_at had.found_at found.translated found.reply
+            had.translation));
+        room = subst (λ (z : Sizes). At new.front at (λ s. length s.records < z.entries)) sizes room;
       }
 
   -- a packet met a winner, and its class says just this
-  meets_answer : GoingOnAddsUp → (setup : Setup) (old mid new : Sight) (packet : FlowPacket) (found : NewReply) (answer : ClaimOutcome) (n absent_at at : ℕ)
-      (k : Class) (P : FlowPacket → ℕ → List Note → Type 0) → n ≤ 4 → IsFoundFor setup packet old.front absent_at found
+  meets_answer : GoingOnAddsUp → (setup : Setup) (first old mid new : Sight) (packet : FlowPacket) (found : NewReply) (answer : ClaimOutcome) (n absent_at at : ℕ)
+      (k : Class) (P : FlowPacket → ℕ → List Note → Type 0) → n ≤ 4 → (had : HadPlace setup packet first old absent_at found)
       → (seen : LookedFor packet old mid answer) → Saw mid new → at ≤ length new.front
       → points_of k ≡ at ∷ translated_points found.translated
       → ((given : Given) (mark : ℕ) (own : List Note) → AnswersFlow new.front mark given own P
-      → FitsFrame setup old.sizes new.front mark given own k)
-      → ((mark : ℕ) (kills : List Note) → mark_past mark kills ≤ absent_at → P packet (mark_past mark kills) seen.claims)
-      → Answers setup old new packet n absent_at k
-  meets_answer going setup old mid new packet found answer n absent_at at k P few is seen saw within points fits meeting =
-      let went : WentOn old new seen.claims = going.before old mid new seen.claims seen.went saw in
-      let front : StartsWith new.front old.front = went.front in
+      → FitsFrame setup first.sizes new.front mark given own k)
+      → ((mark : ℕ) (kills : List Note) → mark_past mark kills ≤ absent_at → P packet (mark_past mark kills) (drops_by packet had.dropped ++ seen.claims))
+      → Answers setup first new packet n absent_at k
+  meets_answer going setup first old mid new packet found answer n absent_at at k P few had seen saw within points fits meeting =
+      let then : WentOn old new seen.claims = going.before old mid new seen.claims seen.went saw in
+      let went : WentOn first new (drops_by packet had.dropped ++ seen.claims) =
+      going.twice first old new (drops_by packet had.dropped) seen.claims had.went then in
       record {
-        rest = seen.claims;
+        rest = drops_by packet had.dropped ++ seen.claims;
         went = went;
-        few = omega (arith, seen.few);
+        few = omega (arith, length-append (drops_by packet had.dropped) seen.claims, drops_few packet had.dropped, seen.few);
         points = subst (AllByRecursion (λ p. p ≤ length new.front)) (sym points) (
           within,
-          points_more (length old.front) (length new.front) (translated_points found.translated)
-              (omega (arith, starts_longer new.front old.front front))
-              (found_points old.front (rule_for setup.rules.items packet.tuple) packet.tuple absent_at (length old.front) found.translated found.reply is.translation),
+          points_more had.found_at (length new.front) (translated_points found.translated)
+              (omega (arith, had.within, starts_longer new.front old.front then.front))
+              (found_points old.front (rule_for setup.rules.items packet.tuple) packet.tuple absent_at had.found_at found.translated found.reply had.translation),
         );
         fits = λ given mark kills flows count killed le.
-            fits given mark (kills ++ seen.claims)
-            (flow_answer states events new.front old.front front mark given packet kills seen.claims P flows (omega (arith, count)) killed
-            (meeting mark kills le));
+            fits given mark (kills ++ (drops_by packet had.dropped ++ seen.claims))
+            (flow_answer states events new.front first.front went.front mark given packet kills (drops_by packet had.dropped ++ seen.claims) P flows
+            (omega (arith, count)) killed (meeting mark kills le));
       }
 
-  pub winner_answer : GoingOnAddsUp → AbsentTuplesAreNobodys → FreeIsAbsent → LateEntriesAreNew → (setup : Setup) (old mid new : Sight) (packet : FlowPacket) (flow : Flow)
+  pub winner_answer : GoingOnAddsUp → AbsentTuplesAreNobodys → FreeIsAbsent → LateEntriesAreNew → (setup : Setup) (first old mid new : Sight) (packet : FlowPacket) (flow : Flow)
       (found : NewReply) (answer : ClaimOutcome) (n absent_at id at : ℕ) (d : Direction) (both : Bool) → n ≤ 4 → IsKnown new
-      → IsSome (start_of packet.segment packet.moment) → IsFoundFor setup packet old.front absent_at found
+      → IsSome (start_of packet.segment packet.moment) → (had : HadPlace setup packet first old absent_at found)
       → LookedFor packet old mid answer → flow.original ≡ packet.tuple → flow.reply ≡ found.reply
       → Looked mid new at (IsWinner flow id d both) → At new.front at (λ s. length s.records < new.sizes.entries) → (b : Bool)
       → (same_proto packet.tuple.proto proto.Udp && both) ≡ b
-      → Answers setup old new packet n absent_at (cond b (class.Merged id at found.translated) (class.Clash id at found.translated))
-  winner_answer going nobodys is_free late setup old mid new packet flow found answer n absent_at id at d both few known begins is seen original reply looked
+      → Answers setup first new packet n absent_at (cond b (class.Merged id at found.translated) (class.Clash id at found.translated))
+  winner_answer going nobodys is_free late setup first old mid new packet flow found answer n absent_at id at d both few known begins had seen original reply looked
       room true merges =
-      meets_answer going setup old mid new packet found answer n absent_at at (class.Merged id at found.translated) _ few is seen looked.saw
+      meets_answer going setup first old mid new packet found answer n absent_at at (class.Merged id at found.translated) _ few had seen looked.saw
       looked.fact.within refl (λ given mark own h. h)
-      (λ mark kills le. meets going nobodys is_free late setup old mid new packet flow found answer absent_at id at d both true known begins is seen original
+      (λ mark kills le. meets going nobodys is_free late setup first old mid new packet flow found answer absent_at id at d both true known begins had seen original
       reply looked room merges mark kills le)
-  winner_answer going nobodys is_free late setup old mid new packet flow found answer n absent_at id at d both few known begins is seen original reply looked
+  winner_answer going nobodys is_free late setup first old mid new packet flow found answer n absent_at id at d both few known begins had seen original reply looked
       room false merges =
-      meets_answer going setup old mid new packet found answer n absent_at at (class.Clash id at found.translated) _ few is seen looked.saw
+      meets_answer going setup first old mid new packet found answer n absent_at at (class.Clash id at found.translated) _ few had seen looked.saw
       looked.fact.within refl (λ given mark own h. h)
-      (λ mark kills le. meets going nobodys is_free late setup old mid new packet flow found answer absent_at id at d both false known begins is seen original
+      (λ mark kills le. meets going nobodys is_free late setup first old mid new packet flow found answer absent_at id at d both false known begins had seen original
       reply looked room merges mark kills le)

@@ -1,10 +1,12 @@
 -- A verdict that fits still fits when the history goes on: one case for each class.
-use Rattle.std.proofs.Common.{ℕ, ◌+◌, ◌≤◌, length, List, [], ◌∷◌, Option, Some, None, inl, inr, subst, sym, ⊎_elim}
+use Rattle.std.proofs.Common.{◌≡◌, ℕ, ◌+◌, ◌≤◌, length, Bool, true, List, [], ◌∷◌, Option, Some, None, inl, inr, subst, sym, ap, ◌∙◌, ⊎_elim, arith}
 use Rattle.tuple_core.specs.declared.Tuple.{Tuple}
 use Rattle.history_book.specs.Laws.{EventsStay, StatesStay}
 use Rattle.history_book.specs.Notes.{Happened}
 use Rattle.history_book.specs.Point.{At, StartsWith}
-use Rattle.history_book.specs.State.{Found, State}
+use Rattle.history_book.specs.State.{Found, State, record_of}
+use Rattle.history_book.specs.declared.record.Record.{Record}
+use Rattle.pool_visits.specs.Visit.{LivedThroughout, is_live_and}
 use Rattle.history_book.specs.declared.event.Event.{Event}
 use Rattle.history_book.specs.declared.event.Note.{Note}
 use Rattle.history_book.specs.declared.sizes.Sizes.{Sizes}
@@ -27,6 +29,8 @@ use Rattle.packet_path.specs.Passed.{IsPassing}
 use Rattle.packet_path.specs.Packet.{FlowPacket}
 use Rattle.packet_path.specs.Packet.{Given}
 use Rattle.packet_path.specs.declared.setup.Setup.{Setup}
+use Rattle.packet_path.specs.Placed.{HasPlace, Placing}
+use Rattle.packet_path.specs.Room.{Dropping, HasRoom, MakesRoom, StaysFull, may_go}
 use Rattle.packet_path.specs.Winner.{Meeting, MeetsWinner}
 use Rattle.packet_path.specs.Unchanged.{LeavesEntry}
 use Rattle.packet_path.specs.Error.{AnswersError, LooksUp}
@@ -210,15 +214,63 @@ module _ (events : EventsStay) (states : StatesStay) (longer log : List Event) (
       }))
       (λ r. inr r) p
 
+  -- what lived throughout in the longer history did so in the first
+  lived_shrinks : (test : Record → Bool) (from to id : ℕ) → to ≤ length log → LivedThroughout longer test from to id
+      → LivedThroughout log test from to id
+  lived_shrinks test from to id within lived p low high =
+      subst (λ (s : State). is_live_and test (record_of id s) ≡ true) (states longer log p starts (omega (arith, high, within))).1 (lived p low high)
+
+  makes_room_grows : (sizes : Sizes) (packet : FlowPacket) (from : ℕ) (d : Dropping) (upto : ℕ) → MakesRoom sizes log packet from d upto
+      → MakesRoom sizes longer packet from d upto
+  makes_room_grows sizes packet from d upto r = record {
+    full = at_grows states longer log _ _ starts r.full;
+    happened = happened_grows from _ r.happened;
+    before = r.before;
+    found = at_grows states longer log _ _ starts r.found;
+    first = λ id q live lower lived.
+        r.first id q (ap (λ (s : State). record_of id s) (sym (states longer log d.number starts r.found.within).1) ∙ live) lower
+        (lived_shrinks (may_go packet) from d.number id r.found.within lived);
+  }
+
+  pub room_grows : (sizes : Sizes) (packet : FlowPacket) (from : ℕ) (dropped : Option Dropping) (upto : ℕ)
+      → HasRoom sizes log packet from dropped upto → HasRoom sizes longer packet from dropped upto
+  room_grows sizes packet from None upto r = r
+  room_grows sizes packet from (Some d) upto r = makes_room_grows sizes packet from d upto r
+
+  stays_grows : (sizes : Sizes) (packet : FlowPacket) (from : ℕ) (dropped : Option Dropping) (at : ℕ)
+      → StaysFull sizes log packet from dropped at → StaysFull sizes longer packet from dropped at
+  stays_grows sizes packet from None at f = record {
+    full = at_grows states longer log _ _ starts f.full;
+    order = f.order;
+    within = longer_within at f.within;
+    none = λ id lived. f.none id (lived_shrinks (may_go packet) from at id f.within lived);
+  }
+  stays_grows sizes packet from (Some d) at f = record {
+    room = makes_room_grows sizes packet from d at f.room;
+    full = at_grows states longer log _ _ starts f.full;
+  }
+
+  placed_grows : (setup : Setup) (sizes : Sizes) (k : ℕ) (packet : FlowPacket) (rest last : List Note) (said : Placing)
+      → HasPlace setup sizes log k packet rest last said → HasPlace setup sizes longer k packet rest last said
+  placed_grows setup sizes k packet rest last said h = record {
+    dropped = h.dropped;
+    claims = h.claims;
+    own = h.own;
+    found_at = h.found_at;
+    begun = begun_grows setup k packet said.translated said.reply h.found_at h.begun;
+    placed_at = h.placed_at;
+    room = room_grows sizes packet h.found_at h.dropped h.placed_at h.room;
+    claimed = claims_grows packet h.claims said.unclaimed said.master h.placed_at said.upto h.claimed;
+  }
+
   winner_grows : (setup : Setup) (sizes : Sizes) (k : ℕ) (packet : FlowPacket) (rest : List Note) (said : Meeting)
       → MeetsWinner setup sizes log k packet rest said → MeetsWinner setup sizes longer k packet rest said
+  unfolding placed_grows
   winner_grows setup sizes k packet rest said m = record {
     reply = m.reply;
-    found_at = m.found_at;
-    begun = begun_grows setup k packet said.translated m.reply m.found_at m.begun;
     unclaimed = m.unclaimed;
     master = m.master;
-    claimed = claims_grows packet rest m.unclaimed m.master m.found_at said.at m.claimed;
+    placed = placed_grows setup sizes k packet rest [] _ m.placed;
     silent = m.silent;
     found = m.found;
     live = at_grows states longer log _ _ starts m.live;
@@ -265,14 +317,10 @@ module _ (events : EventsStay) (states : StatesStay) (longer log : List Event) (
       flow_grows mark given own _ _
       (λ packet k rest m. record {
         subject = m.subject;
-        claims = m.claims;
-        own = m.own;
         happened = happened_grows k _ m.happened;
         named = m.named;
         started = m.started;
-        found_at = m.found_at;
-        begun = begun_grows setup k packet translated m.subject.reply m.found_at m.begun;
-        claimed = claims_grows packet m.claims unclaimed m.subject.master m.found_at id m.claimed;
+        placed = placed_grows setup sizes k packet rest _ _ m.placed;
         point = m.point;
       }) f
   frame_grows setup sizes mark given own (class.Passed label id at ftp) f =
@@ -309,14 +357,15 @@ module _ (events : EventsStay) (states : StatesStay) (longer log : List Event) (
           taken = λ number allowed. some_point_grows from to _ (m.taken.taken number allowed);
         };
       }) f
-  frame_grows setup sizes mark given own (class.Full at) f =
+  frame_grows setup sizes mark given own (class.Full from at) f =
       flow_grows mark given own _ _
       (λ packet k rest m. record {
+        dropped = m.dropped;
         own = m.own;
         translated = m.translated;
         reply = m.reply;
-        begun = begun_grows setup k packet m.translated m.reply at m.begun;
-        full = at_grows states longer log _ _ starts m.full;
+        begun = begun_grows setup k packet m.translated m.reply from m.begun;
+        stays = stays_grows sizes packet from m.dropped at m.stays;
       }) f
   frame_grows setup sizes mark given own (class.Contended id at) f =
       record {

@@ -8,3 +8,4 @@ pub mod Claims
 pub mod Beginnings
 pub mod Meetings
 pub mod Handling
+pub mod Scanning

@@ -18,6 +18,7 @@ use Rattle.packet_path.specs.Error.{LooksUp}
 use Rattle.packet_path.specs.Absent.{WasAbsent}
 use Rattle.packet_path.specs.Begun.{WouldBegin}
 use Rattle.packet_path.specs.declared.setup.Setup.{Setup}
+use Rattle.packet_path.specs.Placed.{HasPlace, Placing}
 use Rattle.packet_path.specs.Winner.{IsNewWinner, Meeting, MeetsWinner}
 use Rattle.history_book.specs.declared.verdict.Translated.{Translated}
 use Rattle.history_book.specs.declared.verdict.Translated.TheVariants.{Chosen, Plain}
@@ -83,15 +84,27 @@ module _ (log : List Event) (m n : ℕ) (le : m ≤ n) where
     step = l.step;
   }
 
+  placed_lower : (setup : Setup) (sizes : Sizes) (j k : ℕ) (packet : FlowPacket) (rest last : List Note) (said : Placing) → j ≤ k
+      → HasPlace setup sizes log k packet rest last said → HasPlace setup sizes log j packet rest last said
+  placed_lower setup sizes j k packet rest last said lower h = record {
+    dropped = h.dropped;
+    claims = h.claims;
+    own = h.own;
+    found_at = h.found_at;
+    begun = begun_lower setup log j k packet said.translated said.reply h.found_at lower h.begun;
+    placed_at = h.placed_at;
+    room = h.room;
+    claimed = h.claimed;
+  }
+
   winner_lower : (setup : Setup) (sizes : Sizes) (j k : ℕ) (packet : FlowPacket) (rest : List Note) (said : Meeting) → j ≤ k
       → MeetsWinner setup sizes log k packet rest said → MeetsWinner setup sizes log j packet rest said
+  unfolding placed_lower
   winner_lower setup sizes j k packet rest said lower h = record {
     reply = h.reply;
-    found_at = h.found_at;
-    begun = begun_lower setup log j k packet said.translated h.reply h.found_at lower h.begun;
     unclaimed = h.unclaimed;
     master = h.master;
-    claimed = h.claimed;
+    placed = placed_lower setup sizes j k packet rest [] _ lower h.placed;
     silent = h.silent;
     found = h.found;
     live = h.live;
@@ -138,14 +151,10 @@ module _ (log : List Event) (m n : ℕ) (le : m ≤ n) where
       flow_lower given own _ _
       (λ packet j k rest lower h. record {
         subject = h.subject;
-        claims = h.claims;
-        own = h.own;
         happened = happened_lower log j k _ lower h.happened;
         named = h.named;
         started = h.started;
-        found_at = h.found_at;
-        begun = begun_lower setup log j k packet translated h.subject.reply h.found_at lower h.begun;
-        claimed = h.claimed;
+        placed = placed_lower setup sizes j k packet rest _ _ lower h.placed;
         point = h.point;
       }) f
   frame_lower setup sizes given own (class.Passed label id at ftp) f =
@@ -176,14 +185,15 @@ module _ (log : List Event) (m n : ℕ) (le : m ≤ n) where
         absent = absent_lower log j k packet.tuple from lower h.absent;
         taken = h.taken;
       }) f
-  frame_lower setup sizes given own (class.Full at) f =
+  frame_lower setup sizes given own (class.Full from at) f =
       flow_lower given own _ _
       (λ packet j k rest lower h. record {
+        dropped = h.dropped;
         own = h.own;
         translated = h.translated;
         reply = h.reply;
-        begun = begun_lower setup log j k packet h.translated h.reply at lower h.begun;
-        full = h.full;
+        begun = begun_lower setup log j k packet h.translated h.reply from lower h.begun;
+        stays = h.stays;
       }) f
   frame_lower setup sizes given own (class.Contended id at) f =
       record {

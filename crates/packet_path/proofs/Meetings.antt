@@ -222,6 +222,7 @@ suits (why.Reopened direction segment moment) s packet met at ends h =
 suits (why.Reset segment moment) s packet met at ends h = absurd ends
 suits (why.Deleted filter) s packet met at ends h = absurd ends
 suits why.Flushed s packet met at ends h = absurd ends
+suits (why.Dropped moment) s packet met at ends h = absurd ends
 
 -- a reason for which an entry ends is a packet's kill
 pub is_kill : (w : Why) (s : Sight) (packet : FlowPacket) (met : Met) (at : ℕ) (subject : Record) → EndsEntry packet met at w s
@@ -236,6 +237,7 @@ is_kill (why.Reopened direction segment moment) s packet met at subject ends =
 is_kill (why.Reset segment moment) s packet met at subject ends = absurd ends
 is_kill (why.Deleted filter) s packet met at subject ends = absurd ends
 is_kill why.Flushed s packet met at subject ends = absurd ends
+is_kill (why.Dropped moment) s packet met at subject ends = absurd ends
 
 module _ (states : StatesStay) (events : EventsStay) (again : FoundAreFoundAgain) where
   -- after four kills an entry that is to end stands
@@ -255,6 +257,7 @@ module _ (states : StatesStay) (events : EventsStay) (again : FoundAreFoundAgain
       within (why.Reset segment moment) e = absurd e
       within (why.Deleted filter) e = absurd e
       within why.Flushed e = absurd e
+      within (why.Dropped moment) e = absurd e
 
       to_end : (w : Why) → EndsEntry packet met at w s → (mark : ℕ) (kills : List Note) → mark_past mark kills ≤ from
           → IsToEnd s.front (mark_past mark kills) packet [] met.id at
@@ -265,6 +268,7 @@ module _ (states : StatesStay) (events : EventsStay) (again : FoundAreFoundAgain
       to_end (why.Reset segment moment) e mark kills le = absurd e
       to_end (why.Deleted filter) e mark kills le = absurd e
       to_end why.Flushed e mark kills le = absurd e
+      to_end (why.Dropped moment) e mark kills le = absurd e
 
   -- a packet leaves the entry that it met as it is, with a class that says just this of the step
   pub left_as_it_is : (setup : Setup) (o : Outcome) (k : Class) (old new : Sight) (packet : FlowPacket) (met : Met) (n at : ℕ) → n ≤ 4 → IsKnown new

@@ -40,7 +40,7 @@ module _ (setup : Setup) (sizes : Sizes) (log : List Event) (mark : ℕ) (given 
   untracked_only own (class.Merged id at translated) why is f = let e = f.flow.headers in cc
   untracked_only own (class.Clash id at translated) why is f = let e = f.flow.headers in cc
   untracked_only own (class.NoPort from to) why is f = let e = f.flow.headers in cc
-  untracked_only own (class.Full at) why is f = let e = f.flow.headers in cc
+  untracked_only own (class.Full from at) why is f = let e = f.flow.headers in cc
   untracked_only own (class.Contended id at) why is f = let e = f.stands.flow.headers in cc
 
   pub invalid_only : (own : List Note) (answer : Class) → given.packet ≡ packet.Invalid
@@ -58,7 +58,7 @@ module _ (setup : Setup) (sizes : Sizes) (log : List Event) (mark : ℕ) (given 
   invalid_only own (class.Merged id at translated) is f = let e = f.flow.headers in cc
   invalid_only own (class.Clash id at translated) is f = let e = f.flow.headers in cc
   invalid_only own (class.NoPort from to) is f = let e = f.flow.headers in cc
-  invalid_only own (class.Full at) is f = let e = f.flow.headers in cc
+  invalid_only own (class.Full from at) is f = let e = f.flow.headers in cc
   invalid_only own (class.Contended id at) is f = let e = f.stands.flow.headers in cc
 
   pub error_silent : (inner : Tuple) (outer : ℕ) (own : List Note) (answer : Class) → given.packet ≡ packet.Error inner outer
@@ -76,5 +76,5 @@ module _ (setup : Setup) (sizes : Sizes) (log : List Event) (mark : ℕ) (given 
   error_silent inner outer own (class.Merged id at translated) is f = let e = f.flow.headers in cc
   error_silent inner outer own (class.Clash id at translated) is f = let e = f.flow.headers in cc
   error_silent inner outer own (class.NoPort from to) is f = let e = f.flow.headers in cc
-  error_silent inner outer own (class.Full at) is f = let e = f.flow.headers in cc
+  error_silent inner outer own (class.Full from at) is f = let e = f.flow.headers in cc
   error_silent inner outer own (class.Contended id at) is f = let e = f.stands.flow.headers in cc

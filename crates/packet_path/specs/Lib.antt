@@ -4,6 +4,8 @@ pub mod Absent
 pub mod Begun
 pub mod Claim
 pub mod FtpPart
+pub mod Room
+pub mod Placed
 pub mod Made
 pub mod Winner
 pub mod Passed

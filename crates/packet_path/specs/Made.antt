@@ -1,5 +1,5 @@
 -- A packet that made a new entry.
-use Rattle.std.specs.Prelude.{◌≡◌, ℕ, ◌+◌, Bool, ◌==◌, ◌&&◌, Option, Some, List, [], ◌∷◌, ◌++◌}
+use Rattle.std.specs.Prelude.{◌≡◌, ℕ, ◌+◌, Bool, ◌==◌, ◌&&◌, Option, Some, List, [], ◌∷◌}
 use Rattle.std.specs.List.{list_any}
 use Rattle.tuple_core.specs.declared.Proto.TheVariants as proto
 use Rattle.tuple_core.specs.declared.Tuple.{Tuple}
@@ -7,13 +7,13 @@ use Rattle.history_book.specs.declared.event.Event.{Event}
 use Rattle.history_book.specs.declared.event.Event.TheVariants.{Confirm}
 use Rattle.history_book.specs.declared.event.Note.{Note}
 use Rattle.history_book.specs.declared.record.Record.{Record}
+use Rattle.history_book.specs.declared.sizes.Sizes.{Sizes}
 use Rattle.history_book.specs.declared.verdict.Translated.{Translated}
 use Rattle.history_book.specs.Legality.{same_proto}
 use Rattle.history_book.specs.Notes.{Happened}
 use Rattle.proto_rules.specs.Start.{start_of}
-use Rattle.packet_path.specs.Begun.{WouldBegin}
-use Rattle.packet_path.specs.Claim.{ClaimsIfExpected}
 use Rattle.packet_path.specs.Packet.{FlowPacket}
+use Rattle.packet_path.specs.Placed.{HasPlace}
 use Rattle.packet_path.specs.declared.setup.Setup.{Setup}
 
 -- an entry with this reply tuple has the helper: it is of TCP, and its server has one of the ports
@@ -34,17 +34,14 @@ pub record Making : Type 0 where
   pub translated : Translated
   pub unclaimed : Option ℕ
 
--- Its further events are a Claim, where it was expected, and the Confirm numbered id. Its reply tuple was found up
--- to a point, and from that on the packet was looked for among the expectations, before the Confirm.
-pub record Makes (setup : Setup) (log : List Event) (k : ℕ) (packet : FlowPacket) (rest : List Note)
+-- Its last further event is the Confirm numbered id. Before it a place was had for the flow, and the packet was looked
+-- for among the expectations.
+pub record Makes (setup : Setup) (sizes : Sizes) (log : List Event) (k : ℕ) (packet : FlowPacket) (rest : List Note)
     (said : Making) : Type 0 where
   pub subject : Record
-  pub claims : List Note
-  pub own : rest ≡ claims ++ record { number = said.id; event = Confirm subject } ∷ []
   pub happened : Happened log k (record { number = said.id; event = Confirm subject })
   pub named : subject.id ≡ said.id
   pub started : IsStarted setup packet subject
-  pub found_at : ℕ
-  pub begun : WouldBegin setup log k packet said.translated subject.reply found_at
-  pub claimed : ClaimsIfExpected log packet claims said.unclaimed subject.master found_at said.id
+  pub placed : HasPlace setup sizes log k packet rest (record { number = said.id; event = Confirm subject } ∷ [])
+      (record { translated = said.translated; reply = subject.reply; unclaimed = said.unclaimed; master = subject.master; upto = said.id })
   pub point : said.at ≡ said.id + 1

@@ -20,5 +20,5 @@ taken_by (class.Ignored id at) taken = taken
 taken_by (class.Merged id at translated) taken = risen taken
 taken_by (class.Clash id at translated) taken = risen taken
 taken_by (class.NoPort from to) taken = taken
-taken_by (class.Full at) taken = taken
+taken_by (class.Full from at) taken = taken
 taken_by (class.Contended id at) taken = taken

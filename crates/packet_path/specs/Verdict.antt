@@ -78,7 +78,7 @@ FitsFrame setup sizes log mark given own (class.ErrorAddress id at) =
 FitsFrame setup sizes log mark given own (class.Error direction id at) =
     AnswersError given own (λ inner outer. IsRelated log mark inner outer direction id at)
 FitsFrame setup sizes log mark given own (class.Made id at translated unclaimed) =
-    AnswersFlow log mark given own (λ p k rest. Makes setup log k p rest (record { id = id; at = at; translated = translated; unclaimed = unclaimed }))
+    AnswersFlow log mark given own (λ p k rest. Makes setup sizes log k p rest (record { id = id; at = at; translated = translated; unclaimed = unclaimed }))
 FitsFrame setup sizes log mark given own (class.Passed label id at ftp) =
     AnswersFlow log mark given own (λ p k rest. Passes sizes log k p rest (record { label = label; id = id; at = at; ftp = ftp }))
 FitsFrame setup sizes log mark given own (class.Ignored id at) =
@@ -89,7 +89,7 @@ FitsFrame setup sizes log mark given own (class.Clash id at translated) =
     AnswersFlow log mark given own (λ p k rest. MeetsWinner setup sizes log k p rest (record { id = id; at = at; translated = translated; merged = false }))
 FitsFrame setup sizes log mark given own (class.NoPort from to) =
     AnswersFlow log mark given own (λ p k rest. FindsNoNumber setup log k p rest from to)
-FitsFrame setup sizes log mark given own (class.Full at) =
-    AnswersFlow log mark given own (λ p k rest. FindsNoRoom setup sizes log k p rest at)
+FitsFrame setup sizes log mark given own (class.Full from at) =
+    AnswersFlow log mark given own (λ p k rest. FindsNoRoom setup sizes log k p rest from at)
 FitsFrame setup sizes log mark given own (class.Contended id at) =
     Contends log mark given own id at

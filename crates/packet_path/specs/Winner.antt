@@ -12,9 +12,8 @@ use Rattle.history_book.specs.Legality.{same_proto}
 use Rattle.history_book.specs.Point.{At}
 use Rattle.history_book.specs.Record.{has_original, has_reply, has_tuple}
 use Rattle.history_book.specs.State.{Found, winner}
-use Rattle.packet_path.specs.Begun.{WouldBegin}
-use Rattle.packet_path.specs.Claim.{ClaimsIfExpected}
 use Rattle.packet_path.specs.Packet.{FlowPacket}
+use Rattle.packet_path.specs.Placed.{HasPlace}
 use Rattle.packet_path.specs.declared.setup.Setup.{Setup}
 
 -- the flow is of UDP, and its two tuples are those of the entry, in this order: the packet is merged into it
@@ -35,19 +34,18 @@ pub record Meeting : Type 0 where
   pub translated : Translated
   pub merged : Bool
 
--- No further event but a Claim, where the packet was expected; one that is merged makes none. A flow would begin with
--- the packet, which was then looked for among the expectations; and later, at this point, the entry is the one that
--- has the packet's tuple, else the one that has the reply tuple. There a place was had for the flow, so fewer entries
--- are live than there are places. No entry is made, so the master is nobody's.
+-- No further event but a drop and a Claim, where a place was had so and the packet was expected; one that is merged
+-- makes no Claim. Later, at this point, the entry is the one that has the packet's tuple, else the one that has the reply
+-- tuple. There the flow still has its place, so fewer entries are live than there are places. No entry is made, so the
+-- master is nobody's.
 pub record MeetsWinner (setup : Setup) (sizes : Sizes) (log : List Event) (k : ℕ) (packet : FlowPacket) (rest : List Note)
     (said : Meeting) : Type 0 where
   pub reply : Tuple
-  pub found_at : ℕ
-  pub begun : WouldBegin setup log k packet said.translated reply found_at
   pub unclaimed : Option ℕ
   pub master : Option ℕ
-  pub claimed : ClaimsIfExpected log packet rest unclaimed master found_at said.at
-  pub silent : said.merged ≡ true → rest ≡ []
+  pub placed : HasPlace setup sizes log k packet rest []
+      (record { translated = said.translated; reply = reply; unclaimed = unclaimed; master = master; upto = said.at })
+  pub silent : said.merged ≡ true → placed.claims ≡ []
   pub found : Found
   pub live : At log said.at (λ s. winner packet.tuple reply s ≡ Some found)
   pub named : found.subject.id ≡ said.id

@@ -119,7 +119,7 @@ fn end_entry<R: Wait, D: Desk>(
     requires met { IsMet (flow_packet packet.now) met.now (D.sight desk.old) }
     requires few { kills ≤ 4 }
     requires ends { EndsEntry (flow_packet packet.now) met.now at why (D.sight desk.old) }
-    requires spare { 6 ≤ (D.sight desk.old).spare + kills }
+    requires spare { 7 ≤ (D.sight desk.old).spare + kills }
     requires knows { IsKnown (D.sight desk.old) }
     ensures says { (setup : Setup) (from : ℕ) → from ≤ at → from ≤ length (D.sight desk.old).front →
         AttemptSays setup (D.sight desk.old) (D.sight desk.new) (flow_packet packet.now) kills from result }
@@ -159,7 +159,7 @@ fn meet_entry<R: Wait, D: Desk>(
     requires classified { IsClassified (flow_packet packet.now) }
     requires met { IsMet (flow_packet packet.now) met.now (D.sight desk.old) }
     requires few { kills ≤ 4 }
-    requires spare { 6 ≤ (D.sight desk.old).spare + kills }
+    requires spare { 7 ≤ (D.sight desk.old).spare + kills }
     requires knows { IsKnown (D.sight desk.old) }
     ensures says { (setup : Setup) → AttemptSays setup (D.sight desk.old) (D.sight desk.new)
         (flow_packet packet.now) kills (length (D.sight desk.old).front) result }
@@ -226,7 +226,7 @@ pub fn try_packet<R: Wait, D: Desk>(
     requires classified { IsClassified (flow_packet packet.now) }
     requires empty { HoldsNothing (D.sight desk.old) }
     requires few { kills ≤ 4 }
-    requires spare { 6 ≤ (D.sight desk.old).spare + kills }
+    requires spare { 7 ≤ (D.sight desk.old).spare + kills }
     ensures says { AttemptSays setup.now (D.sight desk.old) (D.sight desk.new)
         (flow_packet packet.now) kills (length (D.sight desk.old).front) result }
     ensures empty { HoldsNothing (D.sight desk.new) }

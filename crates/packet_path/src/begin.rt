@@ -1,24 +1,25 @@
 //! A packet that would begin a flow: a reply tuple is found for it, and an entry is confirmed.
 
-ghost use Rattle.std.specs.Prelude.{◌≡◌, ℕ, ◌+◌, ◌<◌, ◌≤◌, ◌^◌, ◌&&◌, if◌then◌else◌, None, Some};
+ghost use Rattle.std.specs.Prelude.{◌≡◌, ℕ, ◌+◌, ◌<◌, ◌≤◌, ◌^◌, ◌&&◌, if◌then◌else◌, None, Some, length};
 ghost use Rattle.std.specs.List.{AllByRecursion};
 ghost use Rattle.tuple_core.specs.declared.Proto.TheVariants as proto;
 ghost use Rattle.history_book.specs.declared.verdict.Class.TheVariants.{Clash, Made, Merged};
 ghost use Rattle.history_book.specs.Legality.{same_proto};
 ghost use Rattle.history_book.specs.Point.{At};
-ghost use Rattle.history_book.specs.Sight.{IsKnown};
+ghost use Rattle.history_book.specs.Sight.{IsKnown, Sight};
 ghost use Rattle.history_book.specs.State.{live_under};
 ghost use Rattle.nat_setup.specs.Rule.{IsLawfulRule};
 ghost use Rattle.packet_path.specs.Internal.Attempt.{Answers, claimed_master, IsClassified};
 ghost use Rattle.history_book.specs.Places.{HoldsNothing, HoldsOne};
 ghost use Rattle.packet_path.specs.Packet.{flow_packet};
-ghost use Rattle.packet_path.specs.Internal.Attempt.{IsFoundFor, IsReplyOf, TookOne, unclaimed_at};
+ghost use Rattle.packet_path.specs.Internal.Attempt.{HadPlace, IsFoundBefore, IsFoundFor, IsReplyOf, TookOne, unclaimed_at};
 ghost use Rattle.packet_path.specs.Made.{is_helped};
 ghost use Rattle.packet_path.specs.Taken.{taken_by};
 ghost use Rattle.proto_rules.specs.Start.{start_of};
 
 use crate::laws::same_protocol_is_equality;
 use crate::packet::FlowView;
+use crate::scan::{Scan, drop_one};
 use crate::setup::Setup;
 use history_book::desk::Desk;
 use history_book::laws::{
@@ -87,9 +88,9 @@ fn confirm_flow<R: Wait, D: Desk>(
     requires valid { IsReplyOf packet.now.tuple found.now.reply }
     requires holds { HoldsOne (record { place = place; id = None }) (D.sight desk.old) }
     requires spare { 2 ≤ (D.sight desk.old).spare }
-    ensures answers { (killed : ℕ) → killed ≤ 4 →
-        IsFoundFor setup.now (flow_packet packet.now) (D.sight desk.old).front absent_at found.now →
-        Answers setup.now (D.sight desk.old) (D.sight desk.new) (flow_packet packet.now) killed absent_at result }
+    ensures answers { (first : Sight) (killed : ℕ) → killed ≤ 4 →
+        HadPlace setup.now (flow_packet packet.now) first (D.sight desk.old) absent_at found.now →
+        Answers setup.now first (D.sight desk.new) (flow_packet packet.now) killed absent_at result }
     ensures empty { HoldsNothing (D.sight desk.new) }
     ensures took { TookOne result }
     ensures taken { (D.sight desk.new).taken ≡ (D.sight desk.old).taken }
@@ -151,7 +152,48 @@ fn met_winner(packet: &FlowView, translated: Translated, id: u64, both: bool, at
     }
 }
 
-/// Takes a place for a new flow and confirms it there, if there is room.
+/// Drops an entry that may go, and confirms the new flow in the place that is free then, if one is. The table was full at
+/// the point `full_at`, and the reply tuple was found up to it.
+fn make_room<R: Wait, D: Desk>(
+    rt: &R,
+    desk: &mut D,
+    packet: &FlowView,
+    setup: &Setup,
+    part: Part,
+    found: &NewReply,
+    absent_at: u64,
+    full_at: u64,
+) -> Class
+    requires classified { IsClassified (flow_packet packet.now) }
+    requires starts { start_of packet.now.segment packet.now.moment ≡ Some part }
+    requires valid { IsReplyOf packet.now.tuple found.now.reply }
+    requires seen { full_at ≤ length (D.sight desk.old).front }
+    requires empty { HoldsNothing (D.sight desk.old) }
+    requires spare { 3 ≤ (D.sight desk.old).spare }
+    requires knows { IsKnown (D.sight desk.old) }
+    ensures answers { (killed : ℕ) → killed ≤ 4 →
+        IsFoundBefore setup.now (flow_packet packet.now) (D.sight desk.old) absent_at full_at found.now →
+        Answers setup.now (D.sight desk.old) (D.sight desk.new) (flow_packet packet.now) killed absent_at result }
+    ensures empty { HoldsNothing (D.sight desk.new) }
+    ensures taken { (D.sight desk.new).taken ≡ taken_by result (D.sight desk.old).taken }
+    ensures knows { IsKnown (D.sight desk.new) }
+{
+    events_stay();
+    going_on_adds_up();
+    seeing_adds_up();
+    states_stay();
+    match drop_one(rt, desk, packet.moment, full_at) {
+        Scan::Nothing { at } => Class::Full { from: full_at, at },
+        Scan::Dropped(_) => match desk.take(rt) {
+            TakeOutcome::Full { at } => Class::Full { from: full_at, at },
+            TakeOutcome::Taken { place } => {
+                confirm_flow(rt, desk, packet, setup, part, found, place, absent_at)
+            }
+        },
+    }
+}
+
+/// Takes a place for a new flow and confirms it there; in a full table an entry that may go is dropped for it.
 fn place_flow<R: Wait, D: Desk>(
     rt: &R,
     desk: &mut D,
@@ -165,7 +207,7 @@ fn place_flow<R: Wait, D: Desk>(
     requires starts { start_of packet.now.segment packet.now.moment ≡ Some part }
     requires valid { IsReplyOf packet.now.tuple found.now.reply }
     requires empty { HoldsNothing (D.sight desk.old) }
-    requires spare { 2 ≤ (D.sight desk.old).spare }
+    requires spare { 3 ≤ (D.sight desk.old).spare }
     ensures answers { (killed : ℕ) → killed ≤ 4 →
         IsFoundFor setup.now (flow_packet packet.now) (D.sight desk.old).front absent_at found.now →
         Answers setup.now (D.sight desk.old) (D.sight desk.new) (flow_packet packet.now) killed absent_at result }
@@ -178,7 +220,9 @@ fn place_flow<R: Wait, D: Desk>(
     seeing_adds_up();
     states_stay();
     match desk.take(rt) {
-        TakeOutcome::Full { at } => Class::Full { at },
+        TakeOutcome::Full { at } => {
+            make_room(rt, desk, packet, setup, part, found, absent_at, at)
+        }
         TakeOutcome::Taken { place } => {
             confirm_flow(rt, desk, packet, setup, part, found, place, absent_at)
         }
@@ -199,7 +243,7 @@ pub fn begin_flow<R: Wait, D: Desk>(
     requires absent { At (D.sight desk.old).front absent_at
         (λ s. live_under packet.now.tuple s ≡ None) }
     requires empty { HoldsNothing (D.sight desk.old) }
-    requires spare { 2 ≤ (D.sight desk.old).spare }
+    requires spare { 3 ≤ (D.sight desk.old).spare }
     requires knows { IsKnown (D.sight desk.old) }
     ensures answers { (killed : ℕ) → killed ≤ 4 → Answers setup.now
         (D.sight desk.old) (D.sight desk.new) (flow_packet packet.now) killed absent_at result }

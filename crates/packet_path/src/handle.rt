@@ -37,7 +37,7 @@ fn handle_flow<R: Wait, D: Desk>(rt: &R, desk: &mut D, packet: &FlowView, setup:
     requires lawful { AllByRecursion IsLawfulRule setup.now.rules.items }
     requires classified { IsClassified (flow_packet packet.now) }
     requires empty { HoldsNothing (D.sight desk.old) }
-    requires spare { 6 ≤ (D.sight desk.old).spare }
+    requires spare { 7 ≤ (D.sight desk.old).spare }
     requires knows { IsKnown (D.sight desk.old) }
     ensures handled { (given : Given) → IsFlow given (flow_packet packet.now) →
         Handled setup.now given (D.sight desk.old) (D.sight desk.new) result }
@@ -136,7 +136,7 @@ fn handle_packet<R: Wait, D: Desk>(
     requires inside { HasPayloadIn bytes.now packet.now }
     requires timely { moment ≤ 10 ^ 16 }
     requires empty { HoldsNothing (D.sight desk.old) }
-    requires spare { 6 ≤ (D.sight desk.old).spare }
+    requires spare { 7 ≤ (D.sight desk.old).spare }
     requires knows { IsKnown (D.sight desk.old) }
     ensures handled { Handled setup.now (given_by bytes.now packet.now moment)
         (D.sight desk.old) (D.sight desk.new) result }

@@ -7,4 +7,5 @@ pub mod handle;
 pub mod laws;
 pub mod packet;
 mod payload;
+mod scan;
 pub mod setup;

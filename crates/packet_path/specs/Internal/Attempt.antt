@@ -33,6 +33,7 @@ use Rattle.packet_path.specs.declared.payload.Wanted.{Wanted}
 use Rattle.packet_path.specs.declared.payload.Wanted.TheVariants.{Nothing, Foreign, End}
 use Rattle.packet_path.specs.FtpPart.{Asks, NamesNone, FtpFits}
 use Rattle.history_book.specs.Mark.{ftp_points, points_of}
+use Rattle.packet_path.specs.Room.{Dropping, HasRoom, IsFullAt, drops_by}
 use Rattle.packet_path.specs.Taken.{taken_by}
 use Rattle.packet_path.specs.Verdict.{FitsFrame, Kills, KillsAll}
 
@@ -56,6 +57,25 @@ pub record IsReplyOf (t reply : Tuple) : Type 0 where
 pub record IsFoundFor (setup : Setup) (packet : FlowPacket) (log : List Event) (absent_at : ℕ) (found : NewReply) : Type 0 where
   pub absent : At log absent_at (λ s. live_under packet.tuple s ≡ None)
   pub translation : WasTranslated log (rule_for setup.rules.items packet.tuple) packet.tuple absent_at (length log) found.translated found.reply
+
+-- the same up to a point at which the table was full
+pub record IsFoundBefore (setup : Setup) (packet : FlowPacket) (s : Sight) (absent_at full_at : ℕ) (found : NewReply) : Type 0 where
+  pub order : absent_at ≤ full_at
+  pub absent : At s.front absent_at (λ x. live_under packet.tuple x ≡ None)
+  pub translation : WasTranslated s.front (rule_for setup.rules.items packet.tuple) packet.tuple absent_at full_at found.translated found.reply
+  pub full : IsFullAt s.sizes s.front full_at
+
+-- a place was had for the packet's flow, where the table was full by a drop: from what the desk knew first to what it
+-- knows now
+pub record HadPlace (setup : Setup) (packet : FlowPacket) (first now : Sight) (absent_at : ℕ) (found : NewReply) : Type 0 where
+  pub dropped : Option Dropping
+  pub went : WentOn first now (drops_by packet dropped)
+  pub found_at : ℕ
+  pub order : absent_at ≤ found_at
+  pub within : found_at ≤ length now.front
+  pub absent : At now.front absent_at (λ x. live_under packet.tuple x ≡ None)
+  pub translation : WasTranslated now.front (rule_for setup.rules.items packet.tuple) packet.tuple absent_at found_at found.translated found.reply
+  pub room : HasRoom first.sizes now.front packet found_at dropped (length now.front)
 
 -- the point at which a packet was not expected, and the master of the expectation that it claimed
 abbrev pub unclaimed_at : ClaimOutcome → Option ℕ
@@ -91,13 +111,14 @@ EndsEntry packet met at (why.Reopened direction segment moment) s =
 EndsEntry packet met at (why.Reset segment moment) s = ⊥
 EndsEntry packet met at (why.Deleted filter) s = ⊥
 EndsEntry packet met at why.Flushed s = ⊥
+EndsEntry packet met at (why.Dropped moment) s = ⊥
 
 -- The packet's class, which fits whatever kills of this number came before, none of them later than this
 -- point.
 pub record Answers (setup : Setup) (old new : Sight) (packet : FlowPacket) (killed from : ℕ) (answer : Class) : Type 0 where
   pub rest : List Note
   pub went : WentOn old new rest
-  pub few : length rest ≤ 2
+  pub few : length rest ≤ 3
   pub points : AllByRecursion (λ p. p ≤ length new.front) (points_of answer)
   pub fits : (given : Given) (mark : ℕ) (kills : List Note) → IsFlow given packet → length kills ≡ killed
       → KillsAll old.front mark packet kills → mark_past mark kills ≤ from

@@ -16,19 +16,19 @@ use Rattle.packet_path.specs.Packet.{flow_packet}
 use Rattle.packet_path.proofs.begin.confirm_flow.Goals as goal
 
 pub returns-in-Confirmed-clause-answers : goal.returns-in-Confirmed-clause-answers
-returns-in-Confirmed-clause-answers g c = λ killed few is.
+returns-in-Confirmed-clause-answers g c = λ first killed few had.
     let s = g.D.Desk.sight c.args.desk.now in
     let mid = g.D.Desk.sight c.claim-claim.new.self in
     let after = g.D.Desk.sight c.confirm.new.self in
     let new = g.D.Desk.sight c.give_up.new.desk in
-    subst (λ (k : Class). Answers c.args.setup.now s new (flow_packet c.args.packet.now) killed c.args.absent_at k) (sym c.made.ensures)
+    subst (λ (k : Class). Answers c.args.setup.now first new (flow_packet c.args.packet.now) killed c.args.absent_at k) (sym c.made.ensures)
     (subst
-    (λ (o : Option ℕ). Answers c.args.setup.now s new (flow_packet c.args.packet.now) killed c.args.absent_at
+    (λ (o : Option ℕ). Answers c.args.setup.now first new (flow_packet c.args.packet.now) killed c.args.absent_at
     (class.Made c.in-Confirmed.id (c.in-Confirmed.id + 1) c.args.found.now.translated o))
     (sym c.unclaimed_at.ensures)
-    (answers_before c.states_stay.ensures c.events_stay.ensures c.going_on_adds_up.ensures.all c.seeing_adds_up.ensures.twice c.args.setup.now s after new (flow_packet c.args.packet.now) killed c.args.absent_at _
-    (made_answer c.states_stay.ensures c.events_stay.ensures c.going_on_adds_up.ensures.all c.args.setup.now s mid after (flow_packet c.args.packet.now) c.args.part c.args.found.now
-    killed c.args.absent_at c.args.place c.in-Confirmed.id c.claim-claim.result few c.requires.starts is
+    (answers_before c.states_stay.ensures c.events_stay.ensures c.going_on_adds_up.ensures.all c.seeing_adds_up.ensures.twice c.args.setup.now first after new (flow_packet c.args.packet.now) killed c.args.absent_at _
+    (made_answer c.states_stay.ensures c.events_stay.ensures c.going_on_adds_up.ensures.all c.args.setup.now first s mid after (flow_packet c.args.packet.now) c.args.part c.args.found.now
+    killed c.args.absent_at c.args.place c.in-Confirmed.id c.claim-claim.result few c.requires.starts had
     (looked_for c.events_may_happen.ensures (flow_packet c.args.packet.now) s mid c.claim-claim.result c.claim-claim.ensures.knows c.claim-claim.ensures.says)
     (subst
     (λ (h : Bool). Confirms c.args.place (flow_of (flow_packet c.args.packet.now) c.args.part c.args.found.now.reply h (Rattle.packet_path.specs.Internal.Attempt.claimed_master c.claim-claim.result)) mid after c.in-Confirmed.id)
@@ -39,16 +39,16 @@ returns-in-Confirmed-clause-answers g c = λ killed few is.
     c.give_up.ensures.saw))
 
 pub returns-in-Clash-clause-answers : goal.returns-in-Clash-clause-answers
-returns-in-Clash-clause-answers g c = λ killed few is.
+returns-in-Clash-clause-answers g c = λ first killed few had.
     let s = g.D.Desk.sight c.args.desk.now in
     let mid = g.D.Desk.sight c.claim-claim.new.self in
     let after = g.D.Desk.sight c.confirm.new.self in
     let new = g.D.Desk.sight c.give_up-in-Clash.new.desk in
-    subst (λ (k : Class). Answers c.args.setup.now s new (flow_packet c.args.packet.now) killed c.args.absent_at k) (sym c.met_winner.ensures)
-    (answers_before c.states_stay.ensures c.events_stay.ensures c.going_on_adds_up.ensures.all c.seeing_adds_up.ensures.twice c.args.setup.now s after new (flow_packet c.args.packet.now) killed c.args.absent_at _
+    subst (λ (k : Class). Answers c.args.setup.now first new (flow_packet c.args.packet.now) killed c.args.absent_at k) (sym c.met_winner.ensures)
+    (answers_before c.states_stay.ensures c.events_stay.ensures c.going_on_adds_up.ensures.all c.seeing_adds_up.ensures.twice c.args.setup.now first after new (flow_packet c.args.packet.now) killed c.args.absent_at _
     (winner_answer c.states_stay.ensures c.events_stay.ensures c.going_on_adds_up.ensures.all c.absent_tuples_are_nobodys.ensures c.free_is_absent.ensures c.late_entries_are_new.ensures
-    c.args.setup.now s mid after (flow_packet c.args.packet.now) _ c.args.found.now c.claim-claim.result killed c.args.absent_at c.in-Clash.id c.in-Clash.at
-    c.in-Clash.direction c.in-Clash.both few c.confirm.ensures.knows (subst (λ (o : Option Part). IsSome o) (sym c.requires.starts) refl) is
+    c.args.setup.now first s mid after (flow_packet c.args.packet.now) _ c.args.found.now c.claim-claim.result killed c.args.absent_at c.in-Clash.id c.in-Clash.at
+    c.in-Clash.direction c.in-Clash.both few c.confirm.ensures.knows (subst (λ (o : Option Part). IsSome o) (sym c.requires.starts) refl) had
     (looked_for c.events_may_happen.ensures (flow_packet c.args.packet.now) s mid c.claim-claim.result c.claim-claim.ensures.knows c.claim-claim.ensures.says)
     refl refl
     (winner_looked mid after _ c.args.place c.in-Clash.id c.in-Clash.at c.in-Clash.direction c.in-Clash.both c.in-Clash.ensures.says.0)

@@ -1,0 +1,57 @@
+//! Room in a full table: the places are looked at from the first on, and the first entry that may go is dropped.
+
+ghost use Rattle.std.specs.Prelude.{◌≡◌, ◌≤◌, length};
+ghost use Rattle.history_book.specs.declared.event.Why.TheVariants.{Dropped};
+ghost use Rattle.history_book.specs.Places.{HoldsNothing};
+ghost use Rattle.history_book.specs.Sight.{IsKnown};
+ghost use Rattle.packet_path.specs.Internal.Scan.{ScanSays};
+
+use history_book::answer::Row;
+use history_book::desk::Desk;
+use history_book::event::Why;
+use history_book::laws::{places_are_in_the_pool, states_stay};
+use history_book::sight_laws::{going_on_adds_up, seeing_adds_up};
+use pool_visits::laws::{all_visits_stay, lived_have_rows, visits_add_up};
+use pool_visits::place::{Visit, destroy_place};
+use std::sync::Wait;
+
+/// How the scan for an entry that may go ended.
+#[derive(Clone, Copy)]
+pub enum Scan {
+    /// The entry was dropped. The row is the entry as it was found, with the number of the event.
+    Dropped(Row),
+    /// None was dropped, up to this point.
+    Nothing { at: u64 },
+}
+
+/// Drops the first entry, in the order of places, that may go at the moment. The table was full at the point `full_at`.
+pub fn drop_one<R: Wait, D: Desk>(rt: &R, desk: &mut D, moment: u64, full_at: u64) -> Scan
+    requires seen { full_at ≤ length (D.sight desk.old).front }
+    requires empty { HoldsNothing (D.sight desk.old) }
+    requires spare { 1 ≤ (D.sight desk.old).spare }
+    requires knows { IsKnown (D.sight desk.old) }
+    ensures says { ScanSays (Dropped moment) full_at (D.sight desk.old) (D.sight desk.new) result }
+    ensures empty { HoldsNothing (D.sight desk.new) }
+    ensures knows { IsKnown (D.sight desk.new) }
+{
+    all_visits_stay();
+    going_on_adds_up();
+    lived_have_rows();
+    places_are_in_the_pool();
+    seeing_adds_up();
+    states_stay();
+    visits_add_up();
+    let places = desk.places();
+    let why = Why::Dropped { moment };
+    let mut at = full_at;
+    let mut next = 0;
+    'places: while next < places {
+        let place = next;
+        next += 1;
+        match destroy_place(rt, desk, why, place) {
+            Visit::Destroyed(row) => return Scan::Dropped(row),
+            Visit::Left { at: left } => at = left,
+        }
+    }
+    Scan::Nothing { at }
+}
