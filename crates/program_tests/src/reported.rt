@@ -87,7 +87,6 @@ impl Points {
             | Class::ErrorAddress { at, .. }
             | Class::Error { at, .. }
             | Class::Ignored { at, .. }
-            | Class::Full { at }
             | Class::Contended { at, .. } => self.see(*at),
             Class::Made {
                 at,
@@ -107,7 +106,7 @@ impl Points {
                 self.see(*at);
                 self.see_translated(translated);
             }
-            Class::NoPort { from, to } => {
+            Class::NoPort { from, to } | Class::Full { from, at: to } => {
                 self.see(*from);
                 self.see(*to);
             }

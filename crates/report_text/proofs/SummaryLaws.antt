@@ -36,7 +36,7 @@ texts_begin (class.Ignored id at) = refl
 texts_begin (class.Merged id at translated) = refl
 texts_begin (class.Clash id at translated) = refl
 texts_begin (class.NoPort from to) = refl
-texts_begin (class.Full at) = refl
+texts_begin (class.Full from at) = refl
 texts_begin (class.Contended id at) = refl
 
 -- what a verdict with this first word adds to the count of a word

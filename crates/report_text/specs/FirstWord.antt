@@ -78,5 +78,5 @@ first_word (class.Ignored id at) = first.Ignored
 first_word (class.Merged id at translated) = first.Merged
 first_word (class.Clash id at translated) = first.Clash
 first_word (class.NoPort from to) = first.NoPort
-first_word (class.Full at) = first.Full
+first_word (class.Full from at) = first.Full
 first_word (class.Contended id at) = first.Contended

@@ -10,7 +10,7 @@ use Rattle.tuple_core.specs.declared.Tuple.{Tuple}
 use Rattle.history_book.specs.declared.event.Event.{Event}
 use Rattle.history_book.specs.declared.event.Event.TheVariants.{Confirm, Touch, Destroy, Expect, Claim, Unexpect}
 use Rattle.history_book.specs.declared.event.Why.{Why}
-use Rattle.history_book.specs.declared.event.Why.TheVariants.{Expired, Reopened, Reset, Deleted, Flushed}
+use Rattle.history_book.specs.declared.event.Why.TheVariants.{Expired, Reopened, Reset, Deleted, Flushed, Dropped}
 use Rattle.history_book.specs.declared.record.Record.{Record}
 use Rattle.history_book.specs.declared.verdict.Class.{Class}
 use Rattle.history_book.specs.declared.verdict.Class.TheVariants as class
@@ -109,6 +109,7 @@ why_text (Reopened direction segment moment) = codes " reopened"
 why_text (Reset segment moment) = codes " reset"
 why_text (Deleted filter) = codes " deleted"
 why_text Flushed = codes " flushed"
+why_text (Dropped moment) = codes " dropped"
 
 -- a packet in this direction leaves the entry with this part
 unfoldable pub touched_text : ℕ → Direction → Part → List ℕ
@@ -213,5 +214,5 @@ class_text (class.Ignored id at) = codes "IGNORED" ++ entry_text id at
 class_text (class.Merged id at translated) = codes "MERGED" ++ entry_text id at
 class_text (class.Clash id at translated) = codes "CLASH" ++ entry_text id at
 class_text (class.NoPort from to) = codes "NOPORT" ++ point_text from ++ point_text to
-class_text (class.Full at) = codes "FULL" ++ point_text at
+class_text (class.Full from at) = codes "FULL" ++ point_text from ++ point_text at
 class_text (class.Contended id at) = codes "CONTENDED" ++ entry_text id at

@@ -194,6 +194,7 @@ impl<'b> Page<'b> {
             Why::Reset { .. } => self.text(b" reset"),
             Why::Deleted { .. } => self.text(b" deleted"),
             Why::Flushed => self.text(b" flushed"),
+            Why::Dropped { moment: _ } => self.text(b" dropped"),
         }
     }
 
@@ -488,7 +489,10 @@ impl<'b> Page<'b> {
                 self.words_at(b"NOPORT", from);
                 self.point(to);
             }
-            Class::Full { at } => self.words_at(b"FULL", at),
+            Class::Full { from, at } => {
+                self.words_at(b"FULL", from);
+                self.point(at);
+            }
             Class::Contended { id, at } => self.words_of(b"CONTENDED", id, at),
         }
     }

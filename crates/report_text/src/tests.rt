@@ -525,7 +525,7 @@ fn every_verdict() -> [Verdict; 24] {
         passed(Label::EstablishedReply, 4, Ftp::Clash { id: 7, at: 9 }),
         passed(Label::Established, 5, Ftp::Full { at: 10 }),
         passed(Label::Established, 6, Ftp::Gone { at: 11 }),
-        verdict(Class::Full { at: 12 }),
+        verdict(Class::Full { from: 11, at: 12 }),
         verdict(Class::Untracked(UntrackedWhy::Link)),
         verdict(Class::Untracked(UntrackedWhy::Fragment)),
         verdict(Class::Untracked(UntrackedWhy::Protocol)),
@@ -628,7 +628,7 @@ thread 1 packets 24
 5 ESTABLISHED_REPLY id=0 @4 ftp clash=7 @9
 6 ESTABLISHED id=0 @5 ftp full @10
 7 ESTABLISHED id=0 @6 ftp gone @11
-8 FULL @12
+8 FULL @11 @12
 9 UNTRACKED link
 10 UNTRACKED fragment
 11 UNTRACKED protocol

@@ -235,6 +235,7 @@ fn events_of_a_script(rt: HostRuntime) -> Result<(), Fail> {
         destroyed(1, 1, 0, Why::Deleted { filter }),
         destroyed(2, 12, 7, Why::Flushed),
         destroyed(3, 13, 8, Why::Expired { moment: MOMENT }),
+        destroyed(4, 14, 9, Why::Dropped { moment: MOMENT }),
     ];
     let report = report_of(alloc, &events, &[&[]])?;
     check(
@@ -242,11 +243,12 @@ fn events_of_a_script(rt: HostRuntime) -> Result<(), Fail> {
         alloc,
         &report,
         "\
-events 4
+events 5
 0 confirm 0.0 udp src=10.0.0.1 dst=10.0.0.2 sport=5000 dport=53 src=10.0.0.2 dst=10.0.0.1 sport=53 dport=5000 until=1030000000
 1 destroy s.1 id=0 deleted
 2 destroy s.12 id=7 flushed
 3 destroy s.13 id=8 expired
+4 destroy s.14 id=9 dropped
 thread 0 packets 0
 script 0
 ",
