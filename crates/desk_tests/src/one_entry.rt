@@ -28,7 +28,7 @@ fn sizes() -> Sizes
     }
 }
 
-/// Ends the one entry, which is expired at 31 s.
+/// Ends the one entry, which is expired at 32 s.
 fn end_entry<R: Wait + Abort>(rt: &R, desk: &mut PlainDesk) -> Result<(), NoMemory>
     requires held { desk.old.held ≡ [] }
     requires owed { desk.old.owed ≡ [] }
@@ -41,10 +41,10 @@ fn end_entry<R: Wait + Abort>(rt: &R, desk: &mut PlainDesk) -> Result<(), NoMemo
     let HoldOutcome::Held { id, at } = desk.hold(rt, 0) else {
         panic!(rt; "the place is empty");
     };
-    assert_eq!(rt; (id, at), (0, 1));
-    let why = Why::Expired { moment: 31_000_000 };
+    assert_eq!(rt; (id, at), (2, 3));
+    let why = Why::Expired { moment: 32_000_000 };
     let killed = desk.kill(rt, 0, why);
-    assert!(rt; matches!(killed, KillOutcome::Killed { number: 1, .. }));
+    assert!(rt; matches!(killed, KillOutcome::Killed { number: 3, .. }));
     let ReleaseOutcome::Last = desk.release(rt, 0) else {
         panic!(rt; "the place is kept");
     };
@@ -52,17 +52,32 @@ fn end_entry<R: Wait + Abort>(rt: &R, desk: &mut PlainDesk) -> Result<(), NoMemo
     Ok(())
 }
 
+/// A flow begins, and another one drops it.
+fn one_drops_another<R: Wait + Abort + AllocGlobal>(
+    rt: &R,
+    desk: &mut PlainDesk,
+) -> Result<(), NoMemory>
+    requires held { desk.old.held ≡ [] }
+    requires owed { desk.old.owed ≡ [] }
+    ensures held { desk.new.held ≡ [] }
+    ensures owed { desk.new.owed ≡ [] }
+{
+    let first = handled(rt, desk, &QUERY, 1_000_000)?;
+    assert!(rt; matches!(first.class, Class::Made { id: 0, at: 1, .. }));
+    let second = handled(rt, desk, &ANOTHER, 2_000_000)?;
+    assert!(rt; matches!(second.class, Class::Made { id: 2, at: 3, .. }));
+    assert_eq!(rt; (second.first, second.made), (1, 2));
+    Ok(())
+}
+
 #[test]
 fn an_entry_ended_by_hand_makes_room(rt: HostRuntime) -> Result<(), Fail> {
     let mut desk = PlainDesk::new(rt.alloc(), sizes())?;
     desk.ready(64)?;
-    let first = handled(&rt, &mut desk, &QUERY, 1_000_000)?;
-    assert!(rt; matches!(first.class, Class::Made { id: 0, at: 1, .. }));
-    let full = handled(&rt, &mut desk, &ANOTHER, 2_000_000)?;
-    assert!(rt; matches!(full.class, Class::Full { at: 1 }));
+    one_drops_another(&rt, &mut desk)?;
     end_entry(&rt, &mut desk)?;
-    let again = handled(&rt, &mut desk, &ANOTHER, 32_000_000)?;
-    assert!(rt; matches!(again.class, Class::Made { id: 2, at: 3, .. }));
-    assert_eq!(rt; (again.first, again.made), (2, 1));
+    let again = handled(&rt, &mut desk, &QUERY, 3_000_000)?;
+    assert!(rt; matches!(again.class, Class::Made { id: 4, at: 5, .. }));
+    assert_eq!(rt; (again.first, again.made), (4, 1));
     Ok(())
 }

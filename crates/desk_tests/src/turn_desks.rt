@@ -5,7 +5,7 @@ ghost use Rattle.history_book.specs.Places.{HoldsNothing, HoldsOne};
 ghost use Rattle.history_book.specs.Sizes.{AreWithinLimits};
 ghost use Rattle.history_book.specs.WentOn.{IsSamePass};
 
-use crate::packets::{ANOTHER, QUERY, SYN, handled};
+use crate::packets::{ANOTHER, ANSWER, QUERY, SYN, handled};
 use book_desk::desk::PlainDesk;
 use book_desk::turn_desk::TurnBook;
 use conntrack_cmd::command::Command;
@@ -44,8 +44,8 @@ fn sizes(entries: u8, passes: u8) -> Sizes
     }
 }
 
-/// A flow has the only place, and another finds none.
-fn one_flow_fills_it<R: Wait + Abort + AllocGlobal, D: Desk>(
+/// A flow has the only place, and another one drops it.
+fn one_flow_drops_another<R: Wait + Abort + AllocGlobal, D: Desk>(
     rt: &R,
     desk: &mut D,
 ) -> Result<(), NoMemory>
@@ -54,8 +54,9 @@ fn one_flow_fills_it<R: Wait + Abort + AllocGlobal, D: Desk>(
 {
     let first = handled(rt, desk, &QUERY, 1_000_000)?;
     assert!(rt; matches!(first.class, Class::Made { id: 0, at: 1, .. }));
-    let full = handled(rt, desk, &ANOTHER, 2_000_000)?;
-    assert!(rt; matches!(full.class, Class::Full { at: 1 }));
+    let second = handled(rt, desk, &ANOTHER, 2_000_000)?;
+    assert!(rt; matches!(second.class, Class::Made { id: 2, at: 3, .. }));
+    assert!(rt; second.made == 2);
     Ok(())
 }
 
@@ -68,7 +69,7 @@ fn its_end_makes_room<R: Wait + Abort + AllocGlobal, D: Desk>(
     ensures { HoldsNothing (D.sight desk.new) }
 {
     assert!(rt; desk.made() < 1000 && desk.places() == 1 && desk.expect_room() == 0);
-    let command = Command::Expire(31_000_000);
+    let command = Command::Expire(32_000_000);
     let answer = perform(rt, rt.alloc(), desk, &command, 0)?;
     let Said::Expired {
         entries,
@@ -79,17 +80,17 @@ fn its_end_makes_room<R: Wait + Abort + AllocGlobal, D: Desk>(
     };
     assert_eq!(rt;
         (entries, expectations, answer.from, answer.to),
-        (1, 0, 1, 2)
+        (1, 0, 3, 4)
     );
-    let again = handled(rt, desk, &ANOTHER, 32_000_000)?;
-    assert!(rt; matches!(again.class, Class::Made { id: 2, at: 3, .. }));
+    let again = handled(rt, desk, &ANOTHER, 33_000_000)?;
+    assert!(rt; matches!(again.class, Class::Made { id: 4, at: 5, .. }));
     Ok(())
 }
 
 #[test]
 fn expiry_makes_room_on_a_plain_desk(rt: HostRuntime) -> Result<(), Fail> {
     let mut desk = PlainDesk::new(rt.alloc(), sizes(1, 1))?;
-    one_flow_fills_it(&rt, &mut desk)?;
+    one_flow_drops_another(&rt, &mut desk)?;
     its_end_makes_room(&rt, &mut desk)?;
     Ok(())
 }
@@ -98,7 +99,7 @@ fn expiry_makes_room_on_a_plain_desk(rt: HostRuntime) -> Result<(), Fail> {
 fn expiry_makes_room_on_a_desk_of_turns(rt: HostRuntime) -> Result<(), Fail> {
     let (book, spot) = TurnBook::new(rt.alloc(), sizes(1, 1))?;
     let mut desk = book.desk(spot, &NoGate, 0);
-    one_flow_fills_it(&rt, &mut desk)?;
+    one_flow_drops_another(&rt, &mut desk)?;
     its_end_makes_room(&rt, &mut desk)?;
     Ok(())
 }
@@ -107,8 +108,67 @@ fn expiry_makes_room_on_a_desk_of_turns(rt: HostRuntime) -> Result<(), Fail> {
 fn expiry_makes_room_on_a_clerk(rt: HostRuntime) -> Result<(), Fail> {
     let (tracker, spot) = Tracker::new(rt.alloc(), sizes(1, 1))?;
     let mut desk = tracker.clerk(spot, &NoGate, 0);
-    one_flow_fills_it(&rt, &mut desk)?;
+    one_flow_drops_another(&rt, &mut desk)?;
     its_end_makes_room(&rt, &mut desk)?;
+    Ok(())
+}
+
+/// A flow has the only place, and goes both ways.
+fn one_flow_is_assured<R: Wait + Abort + AllocGlobal, D: Desk>(
+    rt: &R,
+    desk: &mut D,
+) -> Result<(), NoMemory>
+    requires { HoldsNothing (D.sight desk.old) }
+    ensures { HoldsNothing (D.sight desk.new) }
+{
+    let first = handled(rt, desk, &QUERY, 1_000_000)?;
+    assert!(rt; matches!(first.class, Class::Made { id: 0, at: 1, .. }));
+    handled(rt, desk, &ANSWER, 1_500_000)?;
+    let third = handled(rt, desk, &QUERY, 2_000_000)?;
+    assert!(rt; matches!(third.class, Class::Passed { id: 0, at: 3, .. }));
+    Ok(())
+}
+
+/// An assured flow is not dropped, until it is expired.
+fn it_goes_once_expired<R: Wait + Abort + AllocGlobal, D: Desk>(
+    rt: &R,
+    desk: &mut D,
+) -> Result<(), NoMemory>
+    requires { HoldsNothing (D.sight desk.old) }
+    ensures { HoldsNothing (D.sight desk.new) }
+{
+    let full = handled(rt, desk, &ANOTHER, 3_000_000)?;
+    assert!(rt; matches!(full.class, Class::Full { from: 3, at: 3 }));
+    assert!(rt; full.made == 0);
+    let made = handled(rt, desk, &ANOTHER, 122_000_000)?;
+    assert!(rt; matches!(made.class, Class::Made { id: 4, at: 5, .. }));
+    assert!(rt; made.first == 3 && made.made == 2);
+    Ok(())
+}
+
+#[test]
+fn an_assured_flow_stays_on_a_plain_desk(rt: HostRuntime) -> Result<(), Fail> {
+    let mut desk = PlainDesk::new(rt.alloc(), sizes(1, 1))?;
+    one_flow_is_assured(&rt, &mut desk)?;
+    it_goes_once_expired(&rt, &mut desk)?;
+    Ok(())
+}
+
+#[test]
+fn an_assured_flow_stays_on_a_desk_of_turns(rt: HostRuntime) -> Result<(), Fail> {
+    let (book, spot) = TurnBook::new(rt.alloc(), sizes(1, 1))?;
+    let mut desk = book.desk(spot, &NoGate, 0);
+    one_flow_is_assured(&rt, &mut desk)?;
+    it_goes_once_expired(&rt, &mut desk)?;
+    Ok(())
+}
+
+#[test]
+fn an_assured_flow_stays_on_a_clerk(rt: HostRuntime) -> Result<(), Fail> {
+    let (tracker, spot) = Tracker::new(rt.alloc(), sizes(1, 1))?;
+    let mut desk = tracker.clerk(spot, &NoGate, 0);
+    one_flow_is_assured(&rt, &mut desk)?;
+    it_goes_once_expired(&rt, &mut desk)?;
     Ok(())
 }
 

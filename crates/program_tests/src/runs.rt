@@ -274,20 +274,21 @@ fn writes_fail(rt: HostRuntime) -> Result<(), Fail> {
     all_hold(&rt, &FAILED_WRITES)
 }
 
-const FULL: &str = "\
+/// The flow in the first place is the newest one: it goes for the next one, and that for the one after it.
+const DROPPED: &str = "\
 65535 NEW id=65535 @65536
-65536 FULL @65536
-65537 FULL @65536
-65538 NEW id=0 @65537
+65536 NEW id=65537 @65538
+65537 NEW id=65539 @65540
+65538 NEW id=0 @65541
 script 0
 ";
 
 #[test]
-fn the_table_is_full_from_the_next_flow_on(rt: HostRuntime) -> Result<(), Fail> {
+fn a_full_table_drops_a_flow_for_the_next_one(rt: HostRuntime) -> Result<(), Fail> {
     static CASE: Case<'static> = Case {
         files: &[(NAME, Content::Clients(65_538))],
         room: 1 << 24,
-        out: Text::Around("events 65537\n", FULL),
+        out: Text::Around("events 65541\n", DROPPED),
         ..REPLAYED
     };
     holds(&rt, &CASE, 0)

@@ -3,7 +3,7 @@
 use super::confirms::is_reached;
 use super::threads::TURNS;
 use super::{REPLAYED, SCRIPT, SECOND};
-use crate::case::{Case, Text, holds_through};
+use crate::case::{Case, Number, Text, holds_through};
 use crate::content::Content;
 use ct_io::{Crossing, Gate};
 use std::sync::atomic::{AtomicU64, Ordering};
@@ -48,8 +48,8 @@ impl Gate for InTurn {
     }
 }
 
-/// Twenty of 62 flows find a place, each in a thread of its own. Once all are flushed no place is lost: twenty flows of another
-/// thread are confirmed.
+/// 62 flows want one of twenty places, each in a thread of its own: some drop others, some may find none to drop. Once all are
+/// flushed no place is lost: twenty flows of another thread are confirmed.
 #[test]
 fn no_place_is_lost(rt: HostRuntime) -> Result<(), Fail> {
     static CASE: Case<'static> = Case {
@@ -189,8 +189,13 @@ fn no_place_is_lost(rt: HostRuntime) -> Result<(), Fail> {
             ("61", Content::Asked(0x0a00_003e)),
             (SECOND, Content::Ports(0x0a01_0001, 20)),
         ],
-        out: Text::Is(
-            "summary threads=63 packets=144 events=60 live=20\nINVALID 62\nNEW 40\nFULL 42\n",
+        out: Text::Numbers(
+            "summary threads=63 packets=144 events=",
+            &[
+                (0, 4, Number::Is(20)),
+                (1, 1, Number::Is(62)),
+                (2, 1, Number::Within(40, 82)),
+            ],
         ),
         ..REPLAYED
     };

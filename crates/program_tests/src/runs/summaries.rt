@@ -57,6 +57,13 @@ const LATE_QUERY: Content<'static> = Content::Capture(
         ),
     ],
 );
+/// Two flows in one place: the later one drops the earlier, or finds that the other thread keeps the place, also once the
+/// entry in it was dropped.
+const ONE_PLACE: [&str; 3] = [
+    "summary threads=2 packets=2 events=3 live=1\nNEW 2\n",
+    "summary threads=2 packets=2 events=1 live=1\nNEW 1\nFULL 1\n",
+    "summary threads=2 packets=2 events=2 live=0\nNEW 1\nFULL 1\n",
+];
 
 static SUMMARIES: [Case<'static>; 10] = [
     Case {
@@ -92,7 +99,7 @@ static SUMMARIES: [Case<'static>; 10] = [
     Case {
         words: &["ctreplay", "--entries", "1", "--summary", NAME, SECOND],
         files: &[(NAME, ONE), (SECOND, OTHER)],
-        out: Text::Is("summary threads=2 packets=2 events=1 live=1\nNEW 1\nFULL 1\n"),
+        out: Text::OneOf(&ONE_PLACE),
         ..REPLAYED
     },
     // What the script does counts, and its answers are not printed.

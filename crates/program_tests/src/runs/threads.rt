@@ -1,10 +1,12 @@
 //! Threads that work beside each other.
 
 use super::{CAPTURE, NAME, REPLAYED, SCRIPT, SECOND};
-use crate::case::{Case, Text, holds, holds_through};
+use crate::case::{Case, Number, Text, holds, holds_through, report_of};
 use crate::content::{Content, PLAIN};
 use crate::packet::{ANSWER, Ends, Packet, QUERY};
 use ct_io::{Crossing, Gate};
+use history_book::report::Report;
+use history_book::verdict::Class;
 use std::process::Abort;
 use std::sync::Wait;
 use std::sync::atomic::{AtomicU64, Ordering};
@@ -293,7 +295,24 @@ fn four_threads_have_one_flow(rt: HostRuntime) -> Result<(), Fail> {
     Ok(())
 }
 
-/// Two threads have fifty flows each, and there is one place: whichever is the first takes it, and it is never free again.
+/// How many packets began an entry, and how many found no place.
+fn made_and_full(report: &Report) -> (u32, u32) {
+    let mut made = 0u32;
+    let mut full = 0u32;
+    for thread in report.threads.as_slice() {
+        for verdict in thread.as_slice() {
+            if matches!(verdict.class, Class::Made { .. }) {
+                made = made.wrapping_add(1);
+            } else if matches!(verdict.class, Class::Full { .. }) {
+                full = full.wrapping_add(1);
+            }
+        }
+    }
+    (made, full)
+}
+
+/// Two threads have fifty flows each, and there is one place: each flow drops the one that has it, or finds that the other
+/// thread keeps the place.
 #[test]
 fn two_threads_have_one_place(rt: HostRuntime) -> Result<(), Fail> {
     static CASE: Case<'static> = Case {
@@ -302,11 +321,22 @@ fn two_threads_have_one_place(rt: HostRuntime) -> Result<(), Fail> {
             (NAME, Content::Ports(0x0a00_0001, 50)),
             (SECOND, Content::Ports(0x0a01_0001, 50)),
         ],
-        out: Text::Is("summary threads=2 packets=100 events=1 live=1\nNEW 1\nFULL 99\n"),
+        out: Text::Numbers(
+            "summary threads=2 packets=100 events=",
+            &[(0, 4, Number::Within(0, 1)), (1, 1, Number::Within(1, 100))],
+        ),
         ..REPLAYED
     };
     for number in 0..50 {
         holds(&rt, &CASE, number)?;
+        let Some(report) = report_of(&rt, &CASE)? else {
+            panic!(&rt; "no report of run {number}");
+        };
+        let (made, full) = made_and_full(&report);
+        assert!(rt;
+            made >= 1 && made.wrapping_add(full) == 100,
+            "{made} and {full}"
+        );
     }
     Ok(())
 }

@@ -51,19 +51,6 @@ const OF_A_CLIENT_AND_THE_ROUTER: [Sent<'static>; 2] = [
     ),
 ];
 
-/// A query of the client and one of its neighbour.
-const OF_TWO_CLIENTS: [Sent<'static>; 2] = [
-    (1, 0, Packet::Udp(QUERY)),
-    (
-        2,
-        0,
-        Packet::Udp(Ends {
-            src: CLIENT + 1,
-            ..QUERY
-        }),
-    ),
-];
-
 #[test]
 fn a_flow_whose_reply_tuple_is_taken(rt: HostRuntime) -> Result<(), Fail> {
     static CASE: Case<'static> = Case {
@@ -77,16 +64,58 @@ fn a_flow_whose_reply_tuple_is_taken(rt: HostRuntime) -> Result<(), Fail> {
     holds(&rt, &CASE, 0)
 }
 
+/// The answer to the client's query, as the router gets it.
+const ANSWERED: Packet<'static> = Packet::Udp(Ends {
+    src: SERVER,
+    sport: 53,
+    dst: ROUTER,
+    dport: 5000,
+});
+
+/// The client's flow goes both ways, and then there is a query of the router itself.
+const OF_AN_ASSURED_FLOW_AND_THE_ROUTER: [Sent<'static>; 4] = [
+    (1, 0, Packet::Udp(QUERY)),
+    (1, 500_000, ANSWERED),
+    (2, 0, Packet::Udp(QUERY)),
+    (
+        3,
+        0,
+        Packet::Udp(Ends {
+            src: ROUTER,
+            ..QUERY
+        }),
+    ),
+];
+
+/// The same with a query of the client's neighbour.
+const OF_AN_ASSURED_FLOW_AND_A_NEIGHBOUR: [Sent<'static>; 4] = [
+    (1, 0, Packet::Udp(QUERY)),
+    (1, 500_000, ANSWERED),
+    (2, 0, Packet::Udp(QUERY)),
+    (
+        3,
+        0,
+        Packet::Udp(Ends {
+            src: CLIENT + 1,
+            ..QUERY
+        }),
+    ),
+];
+
 const NO_ROOM_FOR_A_SECOND_FLOW: &str = "\
-events 1
+events 3
 0 confirm 0.0 udp src=10.0.0.1 dst=198.51.100.1 sport=5000 dport=53 src=198.51.100.1 dst=192.0.2.1 sport=53 dport=5000 until=31000000
-thread 0 packets 2
+1 touch 0.1 id=0 reply until=121500000 replied
+2 touch 0.2 id=0 original until=122000000 replied assured
+thread 0 packets 4
 0 NEW id=0 @1
-1 FULL @1
+1 ESTABLISHED_REPLY id=0 @2
+2 ESTABLISHED id=0 @3
+3 FULL @3 @3
 script 0
 ";
 
-/// A run of two flows that a rule translates, in a table of one place.
+/// A run of two flows that a rule translates, the first of which is assured, in a table of one place.
 const IN_ONE_PLACE: Case<'static> = Case {
     words: &["ctreplay", "--rules", RULES, "--entries", "1", NAME],
     out: Text::Is(NO_ROOM_FOR_A_SECOND_FLOW),
@@ -99,14 +128,20 @@ static NO_PLACE: [Case<'static>; 2] = [
     Case {
         files: &[
             (RULES, Content::Text("snat -s 10.0.0.0/8 to 192.0.2.1\n")),
-            (NAME, Content::Capture(PLAIN, &OF_TWO_CLIENTS)),
+            (
+                NAME,
+                Content::Capture(PLAIN, &OF_AN_ASSURED_FLOW_AND_A_NEIGHBOUR),
+            ),
         ],
         ..IN_ONE_PLACE
     },
     Case {
         files: &[
             (RULES, Content::Text("snat -s 10.0.0.0/8 to 192.0.2.1\n")),
-            (NAME, Content::Capture(PLAIN, &OF_A_CLIENT_AND_THE_ROUTER)),
+            (
+                NAME,
+                Content::Capture(PLAIN, &OF_AN_ASSURED_FLOW_AND_THE_ROUTER),
+            ),
         ],
         ..IN_ONE_PLACE
     },

@@ -609,7 +609,7 @@ static SMALL_TABLES: [Case<'static>; 2] = [
         files: &[(NAME, TWO_FLOWS)],
         out: Text::Around(
             "",
-            "thread 0 packets 2\n0 NEW id=0 @1\n1 FULL @1\nscript 0\n",
+            "thread 0 packets 2\n0 NEW id=0 @1\n1 NEW id=2 @3\nscript 0\n",
         ),
         ..REPLAYED
     },
