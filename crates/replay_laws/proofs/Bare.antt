@@ -8,7 +8,7 @@ use Rattle.history_book.specs.declared.event.Event.TheVariants.{Confirm, Touch, 
 use Rattle.history_book.specs.declared.record.Record.{Record}
 use Rattle.history_book.specs.History.{run}
 use Rattle.history_book.specs.Record.{has_id, has_original, has_reply, has_tuple}
-use Rattle.history_book.specs.State.{Found, State, first_found, is_free, live_under, next, original_first, winner, with_part}
+use Rattle.history_book.specs.State.{Found, State, first_found, is_free, live_under, next, original_first, record_of, winner, with_part}
 use Rattle.proto_rules.specs.declared.Part.{Part}
 use Rattle.replay_laws.specs.OneAnswer.{unplaced}
 
@@ -68,6 +68,10 @@ winner_bare t u s = ap₂ first_found (live_bare t s) (live_bare u s) ∙ first_
 
 pub free_bare : (t : Tuple) (s : State) → is_free t (bare s) ≡ is_free t s
 free_bare t s = ap not (any_bare (has_tuple t) (λ r. refl) s.records)
+
+-- the record of an id is so in the bare state, without its place
+pub record_bare : (id : ℕ) (s : State) → record_of id (bare s) ≡ option_map bare_record (record_of id s)
+record_bare id s = find_bare (has_id id) (λ r. refl) s.records
 
 pub length_bare : (s : State) → length (bare s).records ≡ length s.records
 length_bare s = length-map s.records bare_record

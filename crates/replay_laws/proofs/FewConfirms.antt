@@ -24,7 +24,7 @@ use Rattle.proto_rules.specs.declared.Outcome.TheVariants as outcome
 use Rattle.proto_rules.specs.declared.Part.{Part}
 use Rattle.proto_rules.specs.Start.{start_of}
 use Rattle.proto_rules.specs.Step.{step_of}
-use Rattle.replay_laws.specs.Reaction.{Adds, Begins, Configuration, EndsAll, HasNoRoom, HasRoom, IsRead, IsTouched, Meets, MeetsOrEnters, Reaction, ReactsTo, ReactsToFlow, ReactsToPacket, Situation, Steps, behind, claims_of, end_of, entry_of, expected_now, silent}
+use Rattle.replay_laws.specs.Reaction.{Adds, Begins, Configuration, Drops, EndsAll, HasNoRoom, HasRoom, IsFullAgain, IsRead, IsTouched, Meets, MeetsOrEnters, Reaction, ReactsTo, ReactsToFlow, ReactsToPacket, Situation, Steps, behind, claims_of, drop_of, end_of, entry_of, expected_now, silent}
 use Rattle.replay_laws.proofs.Counting.{confirms, confirms-append, confirms_of}
 
 -- a reaction with these events confirms one entry at most, if they do
@@ -58,12 +58,30 @@ module _ (tracker : Configuration) (now : Situation) where
         confirms-append (claims_of now.packet expected) (Confirm (entry_of tracker now part reply expected place) ∷ []),
       ))
 
-  placed_few : (part : Part) (translated : Translated) (reply : Tuple) (reaction : Reaction)
-      → HasRoom tracker now part translated reply reaction ⊎ HasNoRoom tracker now reaction → confirms reaction.events ≤ 1
-  placed_few part translated reply reaction (inl room) =
+  room_few : (part : Part) (translated : Translated) (reply : Tuple) (reaction : Reaction)
+      → HasRoom tracker now part translated reply reaction → confirms reaction.events ≤ 1
+  room_few part translated reply reaction room =
       enters_few part translated reply (expected_now now)
       (winner now.packet.tuple reply (run now.state (claims_of now.packet (expected_now now)))) reaction room.then
-  placed_few part translated reply reaction (inr full) = silent_few reaction _ full.said
+
+-- a drop confirms none
+dropped_few : (tracker : Configuration) (now : Situation) (part : Part) (translated : Translated) (reply : Tuple) (from : ℕ) (reaction : Reaction)
+    → HasRoom tracker now part translated reply reaction ⊎ IsFullAgain tracker from now reaction → confirms reaction.events ≤ 1
+dropped_few tracker now part translated reply from reaction (inl room) = room_few tracker now part translated reply reaction room
+dropped_few tracker now part translated reply from reaction (inr full) = silent_few reaction _ full.said
+
+module _ (tracker : Configuration) (now : Situation) where
+  placed_few : (part : Part) (translated : Translated) (reply : Tuple) (reaction : Reaction)
+      → HasRoom tracker now part translated reply reaction ⊎ HasNoRoom tracker now reaction ⊎ Drops tracker now part translated reply reaction
+      → confirms reaction.events ≤ 1
+  placed_few part translated reply reaction (inl room) = room_few tracker now part translated reply reaction room
+  placed_few part translated reply reaction (inr (inl full)) = silent_few reaction _ full.said
+  placed_few part translated reply reaction (inr (inr d)) =
+      of_events reaction (drop_of now.packet d.subject ∷ d.rest) d.all
+      (omega (
+        arith,
+        dropped_few tracker (behind now (drop_of now.packet d.subject)) part translated reply now.at (record { events = d.rest; class = reaction.class }) d.then,
+      ))
 
   begins_few : (part : Option Part) (reaction : Reaction) → Begins tracker now part reaction → confirms reaction.events ≤ 1
   begins_few None reaction e = silent_few reaction _ e

@@ -1,5 +1,6 @@
 -- The first event of a packet that fits its verdict is no earlier than the mark: one case for each class.
 use Rattle.std.proofs.Common.{◌≡◌, ℕ, ◌≤◌, List, [], ◌∷◌, ◌++◌, Option, Some, None, ap, refl, sym, ◌∙◌, arith, ⊎_elim}
+use Rattle.std.proofs.lemmas.List.{append-nil}
 use Rattle.history_book.specs.declared.event.Event.{Event}
 use Rattle.history_book.specs.declared.event.Event.TheVariants.{Confirm}
 use Rattle.history_book.specs.declared.event.Note.{Note}
@@ -12,6 +13,8 @@ use Rattle.packet_path.specs.Absent.{WasAbsent}
 use Rattle.packet_path.specs.Claim.{claim_by, ClaimsIfExpected}
 use Rattle.packet_path.specs.Made.{Makes, Making}
 use Rattle.packet_path.specs.Packet.{FlowPacket, Given}
+use Rattle.packet_path.specs.Placed.{HasPlace, Placing}
+use Rattle.packet_path.specs.Room.{Dropping, HasRoom, StaysFull, drop_by, drops_by}
 use Rattle.packet_path.specs.Unchanged.{LeavesEntry}
 use Rattle.packet_path.specs.Verdict.{AnswersFlow, FitsFrame, KillsAll}
 use Rattle.packet_path.specs.Winner.{Meeting, MeetsWinner}
@@ -69,16 +72,41 @@ module _ (log : List Event) (mark : ℕ) (given : Given) (note : Note) (own : Li
   leaves_first packet k rest id at outcome l begins = never_begun (k ≤ note.number) rest own note begins l.own
 
   module _ (setup : Setup) (sizes : Sizes) where
-    makes_first : (packet : FlowPacket) (k : ℕ) (rest : List Note) (said : Making) → Makes setup log k packet rest said
+    -- the drop, where there is one, is no earlier than the point at which the tuple was absent; nor is what is behind it
+    placed_first : (packet : FlowPacket) (k : ℕ) (rest last : List Note) (said : Placing) (h : HasPlace setup sizes log k packet rest last said)
+        → (h.claims ++ last ≡ note ∷ own → WasAbsent log k packet.tuple h.placed_at → k ≤ note.number)
+        → (o : Option Dropping) → rest ≡ drops_by packet o ++ (h.claims ++ last) → HasRoom sizes log packet h.found_at o h.placed_at
+        → rest ≡ note ∷ own → k ≤ note.number
+    placed_first packet k rest last said h then None all room begins =
+        then (sym all ∙ begins)
+        (record { at = h.begun.absent.at; from = h.begun.absent.from; before = omega (arith, h.begun.absent.before, room); absent = h.begun.absent.absent })
+    placed_first packet k rest last said h then (Some d) all room begins =
+        let same : d.number ≡ note.number = head_number (drop_by packet d) note (h.claims ++ last) own (sym all ∙ begins) in
+        omega (arith, same, h.begun.absent.from, h.begun.absent.before, room.happened.later)
+
+    makes_first : (packet : FlowPacket) (k : ℕ) (rest : List Note) (said : Making) → Makes setup sizes log k packet rest said
         → rest ≡ note ∷ own → k ≤ note.number
     makes_first packet k rest said h begins =
-        made_later log k packet h.claims (record { number = said.id; event = Confirm h.subject }) own said.unclaimed h.subject.master
-        h.found_at said.id note h.begun.absent h.claimed h.happened.later (sym h.own ∙ begins)
+        let last : Note = record { number = said.id; event = Confirm h.subject } in
+        placed_first packet k rest (last ∷ []) _ h.placed
+        (λ all absent. made_later log k packet h.placed.claims last own said.unclaimed h.subject.master h.placed.placed_at said.id note absent
+        h.placed.claimed h.happened.later all)
+        h.placed.dropped h.placed.own h.placed.room begins
 
     meets_first : (packet : FlowPacket) (k : ℕ) (rest : List Note) (said : Meeting) → MeetsWinner setup sizes log k packet rest said
         → rest ≡ note ∷ own → k ≤ note.number
     meets_first packet k rest said h begins =
-        claim_later log k packet rest own h.unclaimed h.master h.found_at said.at note h.begun.absent h.claimed begins
+        placed_first packet k rest [] _ h.placed
+        (λ all absent. claim_later log k packet h.placed.claims own h.unclaimed h.master h.placed.placed_at said.at note absent h.placed.claimed
+        (sym (append-nil h.placed.claims) ∙ all))
+        h.placed.dropped h.placed.own h.placed.room begins
+
+    full_first : (packet : FlowPacket) (k : ℕ) (rest : List Note) (from at : ℕ) (o : Option Dropping) → rest ≡ drops_by packet o
+        → StaysFull sizes log packet from o at → k ≤ from → rest ≡ note ∷ own → k ≤ note.number
+    full_first packet k rest from at None all stays low begins = never_begun (k ≤ note.number) rest own note begins all
+    full_first packet k rest from at (Some d) all stays low begins =
+        let same : d.number ≡ note.number = head_number (drop_by packet d) note [] own (sym all ∙ begins) in
+        omega (arith, same, low, stays.room.happened.later)
 
     pub first_is_later : (verdict : Class) → FitsFrame setup sizes log mark given (note ∷ own) verdict → mark ≤ note.number
     first_is_later (class.Untracked why) f = never_begun (mark ≤ note.number) (note ∷ own) own note refl f.1
@@ -103,8 +131,10 @@ module _ (log : List Event) (mark : ℕ) (given : Given) (note : Note) (own : Li
         first_of_flow _ (λ packet k rest h begins. meets_first packet k rest _ h begins) f
     first_is_later (class.NoPort from to) f =
         first_of_flow _ (λ packet k rest h begins. never_begun (k ≤ note.number) rest own note begins h.own) f
-    first_is_later (class.Full at) f =
-        first_of_flow _ (λ packet k rest h begins. never_begun (k ≤ note.number) rest own note begins h.own) f
+    first_is_later (class.Full from at) f =
+        first_of_flow _
+        (λ packet k rest h begins. full_first packet k rest from at h.dropped h.own h.stays
+        (omega (arith, h.begun.absent.from, h.begun.absent.before)) begins) f
     first_is_later (class.Contended id at) f =
         first_of_flow _
         (λ packet k rest h begins.

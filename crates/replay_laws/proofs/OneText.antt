@@ -9,9 +9,9 @@ no_rule_chose : (log other : List Event) → ChoseTheSame [] log other
 no_rule_chose log other n r q here there some = absurd (cc)
 
 pub one_text : OnePacketOneAnswer → SameReportsPrintTheSame → OneCaptureOneText
-one_text answer print tracker twin frames wait report other alike ruleless formed formed_other never =
+one_text answer print tracker twin frames wait report other alike ruleless formed formed_other never undropped =
     let log : List Event = events_of report.history.items in
     let logged : List Event = events_of other.history.items in
     print report other
-    (answer tracker twin frames wait report other alike formed formed_other never
+    (answer tracker twin frames wait report other alike formed formed_other never undropped
     (subst (λ (rules : List Rule). ChoseTheSame rules log logged) (sym ruleless) (no_rule_chose log logged)))

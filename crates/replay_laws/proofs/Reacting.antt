@@ -160,10 +160,10 @@ module _ (may : EventsMayHappen) (again : FoundAreFoundAgain) (room : UnusedPlac
       flow_reacts may again expired tracker.sizes log legal tracker n given own (class.NoPort from to) _
       (λ p k ended more total count h.
       no_port_meets may tracker log legal p k ended more from to (omega (arith, total, points.1.0)) h) f
-  reacts log n own given (class.Full at) legal f points =
-      flow_reacts may again expired tracker.sizes log legal tracker n given own (class.Full at) _
+  reacts log n own given (class.Full from at) legal f points =
+      flow_reacts may again expired tracker.sizes log legal tracker n given own (class.Full from at) _
       (λ p k ended more total count h.
-      full_meets may tracker log legal p k ended more at (omega (arith, total, points.0)) h) f
+      full_meets may tracker log legal p k ended more from at (omega (arith, total, points.1.0)) h) f
   reacts log n own given (class.Contended id at) legal f points =
       flow_reacts may again expired tracker.sizes log legal tracker n given own (class.Contended id at) _
       (λ p k ended more total count h.

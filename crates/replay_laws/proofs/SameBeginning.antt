@@ -22,8 +22,8 @@ use Rattle.tuple_core.specs.Inverse.{inverse, inverse_a, inverse_b}
 use Rattle.tuple_core.specs.declared.Proto.{Proto}
 use Rattle.tuple_core.specs.declared.Proto.TheVariants.{Icmp, Tcp, Udp}
 use Rattle.tuple_core.specs.declared.Tuple.{Tuple}
-use Rattle.replay_laws.specs.OneAnswer.{ChoseTheSame, unplaced}
-use Rattle.replay_laws.specs.Reaction.{Begins, Configuration, FindsReply, HasNoNumber, HasNoRoom, HasReply, HasRoom, IsChosen, MeetsOrEnters, Reaction, Situation, claims_of, entry_of, expected_now, taken_at}
+use Rattle.replay_laws.specs.OneAnswer.{ChoseTheSame, NoneIsDropped, unplaced}
+use Rattle.replay_laws.specs.Reaction.{Begins, Configuration, Drops, FindsReply, HasNoNumber, HasNoRoom, HasReply, HasRoom, IsChosen, MeetsOrEnters, Reaction, Situation, claims_of, entry_of, expected_now, taken_at}
 
 -- the same events, but for places, and the same class
 pub record IsSame (reaction other : Reaction) : Type 0 where
@@ -146,27 +146,34 @@ module _ (absent : FreeIsAbsent) (tracker : Configuration) (now : Situation) (pa
       alike a b
 
   placed_same : (tracker.full ≤ length now.state.records → tracker.entries ≤ length now.state.records)
+      → NoneIsDropped reaction.events
       → (a : FindsReply tracker now part reaction) (b : FindsReply tracker now part other)
-      → HasRoom tracker now part a.translated a.reply reaction ⊎ HasNoRoom tracker now reaction
-      → HasRoom tracker now part b.translated b.reply other ⊎ HasNoRoom tracker now other
+      → HasRoom tracker now part a.translated a.reply reaction ⊎ HasNoRoom tracker now reaction ⊎ Drops tracker now part a.translated a.reply reaction
+      → HasRoom tracker now part b.translated b.reply other ⊎ HasNoRoom tracker now other ⊎ Drops tracker now part b.translated b.reply other
       → IsSame reaction other
-  placed_same room a b (inl x) (inl y) =
+  placed_same room undropped a b (inl x) (inl y) =
       rooms_same (rule_for tracker.rules now.packet.tuple) a.translated b.translated a.reply b.reply refl a.has b.has x y
-  placed_same room a b (inl x) (inr y) = absurd (omega (arith, room y.full, x.room))
-  placed_same room a b (inr x) (inl y) = absurd (omega (arith, room x.full, y.room))
-  placed_same room a b (inr x) (inr y) = same_of reaction other (x.said ∙ sym y.said)
+  placed_same room undropped a b (inl x) (inr (inl y)) = absurd (omega (arith, room y.full, x.room))
+  placed_same room undropped a b (inl x) (inr (inr y)) = absurd (omega (arith, room y.full, x.room))
+  placed_same room undropped a b (inr (inl x)) (inl y) = absurd (omega (arith, room x.full, y.room))
+  placed_same room undropped a b (inr (inl x)) (inr (inl y)) = same_of reaction other (x.said ∙ sym y.said)
+  placed_same room undropped a b (inr (inl x)) (inr (inr y)) =
+      absurd (true≢false (sym y.goes ∙ x.none y.subject.id y.subject y.live))
+  placed_same room undropped a b (inr (inr x)) y =
+      absurd (undropped 0 x.subject.id now.packet.moment (ap (λ (es : List Event). slice_get es 0) x.all))
 
 -- what begins with a packet under whose tuple nothing is live
 pub begins_same : FreeIsAbsent → (tracker : Configuration) (now : Situation) (part : Option Part) (reaction other : Reaction)
     → live_under now.packet.tuple now.state ≡ None
     → ChoseTheSame tracker.rules reaction.events other.events
     → (tracker.full ≤ length now.state.records → tracker.entries ≤ length now.state.records)
+    → NoneIsDropped reaction.events
     → Begins tracker now part reaction → Begins tracker now part other → IsSame reaction other
-begins_same absent tracker now None reaction other none same room a b = same_of reaction other (a ∙ sym b)
-begins_same absent tracker now (Some part) reaction other none same room (inl a) (inl b) = same_of reaction other (a.said ∙ sym b.said)
-begins_same absent tracker now (Some part) reaction other none same room (inl a) (inr b) =
+begins_same absent tracker now None reaction other none same room undropped a b = same_of reaction other (a ∙ sym b)
+begins_same absent tracker now (Some part) reaction other none same room undropped (inl a) (inl b) = same_of reaction other (a.said ∙ sym b.said)
+begins_same absent tracker now (Some part) reaction other none same room undropped (inl a) (inr b) =
     absurd (no_number_chosen tracker now reaction a b.translated b.reply b.has)
-begins_same absent tracker now (Some part) reaction other none same room (inr a) (inl b) =
+begins_same absent tracker now (Some part) reaction other none same room undropped (inr a) (inl b) =
     absurd (no_number_chosen tracker now other b a.translated a.reply a.has)
-begins_same absent tracker now (Some part) reaction other none same room (inr a) (inr b) =
-    placed_same absent tracker now part reaction other none same room a b a.placed b.placed
+begins_same absent tracker now (Some part) reaction other none same room undropped (inr a) (inr b) =
+    placed_same absent tracker now part reaction other none same room undropped a b a.placed b.placed

@@ -17,7 +17,7 @@ use Rattle.proto_rules.specs.declared.Outcome.{Outcome}
 use Rattle.proto_rules.specs.declared.Outcome.TheVariants as outcome
 use Rattle.proto_rules.specs.Start.{start_of}
 use Rattle.proto_rules.specs.Step.{step_of}
-use Rattle.replay_laws.specs.OneAnswer.{ChoseTheSame, unplaced}
+use Rattle.replay_laws.specs.OneAnswer.{ChoseTheSame, NoneIsDropped, unplaced}
 use Rattle.replay_laws.specs.Reaction.{Configuration, Ends, EndsAll, Meets, Reaction, ReactsTo, ReactsToFlow, ReactsToPacket, Situation, Steps, end_of, silent}
 use Rattle.replay_laws.proofs.Bare.{bare, length_run}
 use Rattle.replay_laws.proofs.SameBeginning.{IsSame, begins_same, same_of}
@@ -92,10 +92,11 @@ meets_same : NamedEndsAreUnique → FreeIsAbsent → (tracker : Configuration) (
     (reaction other : Reaction) → live_under now.packet.tuple now.state ≡ found
     → ChoseTheSame tracker.rules reaction.events other.events
     → (tracker.full ≤ length now.state.records → tracker.entries ≤ length now.state.records)
+    → NoneIsDropped reaction.events
     → Meets tracker now ended found reaction → Meets tracker now ended found other → IsSame reaction other
-meets_same unique absent tracker now ended None reaction other is same room a b =
-    begins_same absent tracker now (start_of now.packet.segment now.packet.moment) reaction other is same room a b
-meets_same unique absent tracker now ended (Some found) reaction other is same room a b =
+meets_same unique absent tracker now ended None reaction other is same room undropped a b =
+    begins_same absent tracker now (start_of now.packet.segment now.packet.moment) reaction other is same room undropped a b
+meets_same unique absent tracker now ended (Some found) reaction other is same room undropped a b =
     same_of reaction other
     (steps_same unique tracker now ended found
     (step_of found.subject.part found.direction now.packet.segment now.packet.moment) reaction other a b)
@@ -107,7 +108,8 @@ slice_get-past (x ∷ xs) ys i = ap (slice_get (x ∷ xs ++ ys)) (suc-add (lengt
 module _ (unique : NamedEndsAreUnique) (absent : FreeIsAbsent) (tracker : Configuration) (s : State) (number : ℕ) (reaction other : Reaction)
     (same : ChoseTheSame tracker.rules reaction.events other.events)
     (room : (j : ℕ) → j ≤ length reaction.events → tracker.full ≤ length (run s (take j reaction.events)).records
-    → tracker.entries ≤ length (run s (take j reaction.events)).records) where
+    → tracker.entries ≤ length (run s (take j reaction.events)).records)
+    (undropped : NoneIsDropped reaction.events) where
   room_behind : (ends rest : List Event) → reaction.events ≡ ends ++ rest
       → tracker.full ≤ length (run s ends).records → tracker.entries ≤ length (run s ends).records
   room_behind ends rest e full =
@@ -124,6 +126,11 @@ module _ (unique : NamedEndsAreUnique) (absent : FreeIsAbsent) (tracker : Config
       (ap (λ (es : List Event). slice_get es (length ends + n)) e ∙ slice_get-past ends rest n ∙ x)
       (ap (λ (es : List Event). slice_get es (length ends + n)) f ∙ slice_get-past ends more n ∙ y) ruled
 
+  undropped_behind : (ends rest : List Event) → reaction.events ≡ ends ++ rest → NoneIsDropped rest
+  undropped_behind ends rest e n id moment x =
+      undropped (length ends + n) id moment
+      (ap (λ (es : List Event). slice_get es (length ends + n)) e ∙ slice_get-past ends rest n ∙ x)
+
   -- the rests are the same, behind the same ends
   rests_same : (packet : FlowPacket) (ends rest more : List Event) → reaction.events ≡ ends ++ rest → other.events ≡ ends ++ more
       → Meets tracker (record { packet = packet; state = run s ends; at = number + length ends }) (length ends)
@@ -134,7 +141,7 @@ module _ (unique : NamedEndsAreUnique) (absent : FreeIsAbsent) (tracker : Config
   rests_same packet ends rest more e f a b =
       let behind = meets_same unique absent tracker (record { packet = packet; state = run s ends; at = number + length ends }) (length ends)
       (live_under packet.tuple (run s ends)) (record { events = rest; class = reaction.class }) (record { events = more; class = other.class })
-      refl (chose_behind ends rest more e f) (room_behind ends rest e) a b in
+      refl (chose_behind ends rest more e f) (room_behind ends rest e) (undropped_behind ends rest e) a b in
       record {
         events = ap (map unplaced) e ∙ map-append unplaced ends rest
             ∙ ap (λ (xs : List Event). map unplaced ends ++ xs) behind.events
@@ -169,13 +176,15 @@ pub one_reaction : NamedEndsAreUnique → FreeIsAbsent → (tracker : Configurat
     → bare s ≡ bare q → ReactsTo tracker s number given reaction → ReactsTo tracker q number given other
     → ((j : ℕ) → j ≤ length reaction.events → tracker.full ≤ length (run s (take j reaction.events)).records
     → tracker.entries ≤ length (run s (take j reaction.events)).records)
+    → NoneIsDropped reaction.events
     → ChoseTheSame tracker.rules reaction.events other.events
     → IsSame reaction other
-one_reaction unique absent tracker s q number given reaction other e a b room same =
+one_reaction unique absent tracker s q number given reaction other e a b room undropped same =
     packet_same unique absent tracker (bare s) number reaction other same
     (λ j within full.
     let live : length (run (bare s) (take j reaction.events)).records ≡ length (run s (take j reaction.events)).records =
     length_run s (take j reaction.events) in
     omega (arith, live, room j within (omega (arith, live, full))))
+    undropped
     given.packet given.moment given.payload (reacts_bare tracker s number given reaction a)
     (subst (λ (x : State). ReactsTo tracker x number given other) (sym e) (reacts_bare tracker q number given other b))

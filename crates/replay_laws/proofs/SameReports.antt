@@ -56,7 +56,7 @@ named_alone tracker frames wait report verdicts h a e =
     ((subst (λ (vs : List (Roomed Verdict)). AreNamedInEach 0 report.history.items (spans_of vs report.answers.items)) e h.named).0)
 
 pub one_packet_one_answer : NamedEndsAreUnique → FreeIsAbsent → OneThreadFollows → OnePacketOneAnswer
-one_packet_one_answer unique absent follow tracker twin frames wait report other alike h k room same =
+one_packet_one_answer unique absent follow tracker twin frames wait report other alike h k room undropped same =
     let left : IsFollowed tracker frames report = follow tracker frames wait report h in
     let right : IsFollowed twin frames other = follow twin frames wait other k in
     let followed : Follows (configuration_of tracker) empty_state 0 frames (events_of other.history.items) right.verdicts.items =
@@ -69,7 +69,7 @@ one_packet_one_answer unique absent follow tracker twin frames wait report other
     let both : (map unplaced (events_of ns) ≡ map unplaced (events_of ms)) × (left.verdicts.items ≡ right.verdicts.items) =
     two_follow unique absent (configuration_of tracker) empty_state empty_state 0 frames (events_of ns) (events_of ms)
     left.verdicts.items right.verdicts.items refl left.follows followed
-    (room_after tracker (events_of ns) room) same in
+    (room_after tracker (events_of ns) room) undropped same in
     let long : length ns ≡ length ms =
     sym (length-map ns (λ (n : Numbered). n.event)) ∙ sym (length-map (events_of ns) unplaced)
     ∙ ap (λ (x : List Event). length x) both.0

@@ -11,7 +11,7 @@ use Rattle.history_book.specs.StateLaws.{FreeIsAbsent}
 use Rattle.nat_setup.specs.declared.rule.Rule.{Rule}
 use Rattle.packet_path.specs.Packet.{Given}
 use Rattle.replay_laws.specs.Reaction.{Configuration}
-use Rattle.replay_laws.specs.OneAnswer.{ChoseTheSame, Follows, unplaced}
+use Rattle.replay_laws.specs.OneAnswer.{ChoseTheSame, Follows, NoneIsDropped, unplaced}
 use Rattle.replay_laws.proofs.Bare.{bare, run_same}
 use Rattle.replay_laws.proofs.Follow.{run-append}
 use Rattle.replay_laws.proofs.SameBeginning.{IsSame}
@@ -44,6 +44,12 @@ get_append [] ys i x h = cc
 get_append (y ∷ xs) ys zero x h = h
 get_append (y ∷ xs) ys (suc i) x h = get_append xs ys i x h
 
+undropped_front : (es fs : List Event) → NoneIsDropped (es ++ fs) → NoneIsDropped es
+undropped_front es fs none n id moment x = none n id moment (get_append es fs n _ x)
+
+undropped_back : (es fs : List Event) → NoneIsDropped (es ++ fs) → NoneIsDropped fs
+undropped_back es fs none n id moment x = none (length es + n) id moment (slice_get-past es fs n ∙ x)
+
 chose_front : (rules : List Rule) (es fs ds gs : List Event) → ChoseTheSame rules (es ++ fs) (ds ++ gs) → ChoseTheSame rules es ds
 chose_front rules es fs ds gs same n r q x y ruled = same n r q (get_append es fs n _ x) (get_append ds gs n _ y) ruled
 
@@ -59,24 +65,26 @@ same_verdict v w e f g = λ i. record { class = e i; first = f i; made = g i }
 module _ (unique : NamedEndsAreUnique) (absent : FreeIsAbsent) (tracker : Configuration) where
   pub two_follow : (s q : State) (number : ℕ) (frames : List Given) (es fs : List Event) (vs ws : List Verdict) → bare s ≡ bare q
       → Follows tracker s number frames es vs → Follows tracker q number frames fs ws
-      → KeepsRoom tracker s es → ChoseTheSame tracker.rules es fs
+      → KeepsRoom tracker s es → NoneIsDropped es → ChoseTheSame tracker.rules es fs
       → (map unplaced es ≡ map unplaced fs) × (vs ≡ ws)
-  two_follow s q number [] es fs [] [] e a b room same = (ap (map unplaced) (a ∙ sym b), refl)
-  two_follow s q number [] es fs [] (w ∷ ws) e a b room same = absurd b
-  two_follow s q number [] es fs (v ∷ vs) ws e a b room same = absurd a
-  two_follow s q number (g ∷ gs) es fs [] ws e a b room same = absurd a
-  two_follow s q number (g ∷ gs) es fs (v ∷ vs) [] e a b room same = absurd b
-  two_follow s q number (g ∷ gs) es fs (v ∷ vs) (w ∷ ws) e (at, count, reacts, a) (to, counted, reacted, b) room same =
+  two_follow s q number [] es fs [] [] e a b room undropped same = (ap (map unplaced) (a ∙ sym b), refl)
+  two_follow s q number [] es fs [] (w ∷ ws) e a b room undropped same = absurd b
+  two_follow s q number [] es fs (v ∷ vs) ws e a b room undropped same = absurd a
+  two_follow s q number (g ∷ gs) es fs [] ws e a b room undropped same = absurd a
+  two_follow s q number (g ∷ gs) es fs (v ∷ vs) [] e a b room undropped same = absurd b
+  two_follow s q number (g ∷ gs) es fs (v ∷ vs) (w ∷ ws) e (at, count, reacts, a) (to, counted, reacted, b) room undropped same =
       let left : take v.made es ++ drop v.made es ≡ es = take-append-drop v.made es in
       let right : take w.made fs ++ drop w.made fs ≡ fs = take-append-drop w.made fs in
       let rooms : KeepsRoom tracker s (take v.made es ++ drop v.made es) =
       subst (λ (x : List Event). KeepsRoom tracker s x) (sym left) room in
+      let none : NoneIsDropped (take v.made es ++ drop v.made es) = subst NoneIsDropped (sym left) undropped in
       let chose : ChoseTheSame tracker.rules (take v.made es ++ drop v.made es) (take w.made fs ++ drop w.made fs) =
       subst₂ (λ (x y : List Event). ChoseTheSame tracker.rules x y) (sym left) (sym right) same in
       let here : IsSame (record { events = take v.made es; class = v.class }) (record { events = take w.made fs; class = w.class }) =
       one_reaction unique absent tracker s q number g (record { events = take v.made es; class = v.class })
       (record { events = take w.made fs; class = w.class }) e reacts reacted
       (room_front tracker s (take v.made es) (drop v.made es) rooms)
+      (undropped_front (take v.made es) (drop v.made es) none)
       (chose_front tracker.rules (take v.made es) (drop v.made es) (take w.made fs) (drop w.made fs) chose) in
       let long : length (take v.made es) ≡ length (take w.made fs) =
       sym (length-map (take v.made es) unplaced) ∙ ap (λ (x : List Event). length x) here.events ∙ length-map (take w.made fs) unplaced in
@@ -86,6 +94,7 @@ module _ (unique : NamedEndsAreUnique) (absent : FreeIsAbsent) (tracker : Config
       (run_same s q (take v.made es) (take w.made fs) e here.events) a
       (subst (λ (n : ℕ). Follows tracker (run q (take w.made fs)) (number + n) gs (drop w.made fs) ws) (sym made) b)
       (room_back tracker s (take v.made es) (drop v.made es) rooms)
+      (undropped_back (take v.made es) (drop v.made es) none)
       (chose_back tracker.rules (take v.made es) (drop v.made es) (take w.made fs) (drop w.made fs) long chose) in (
         ap (map unplaced) (sym left) ∙ map-append unplaced (take v.made es) (drop v.made es)
             ∙ ap₂ (λ (x y : List Event). x ++ y) here.events rest.0

@@ -1,5 +1,5 @@
 -- What a tracker makes of a frame in a state it makes in the bare state too.
-use Rattle.std.proofs.Common.{◌≡◌, ℕ, ◌+◌, ◌<◌, Bool, true, false, ◌&&◌, ◌==◌, List, [], ◌∷◌, map, length, refl, sym, ap, ap₂, subst, ◌∙◌, Option, Some, None, option_map, inl, inr, ⊎_elim, arith}
+use Rattle.std.proofs.Common.{◌≡◌, ◌⊎◌, ℕ, ◌+◌, ◌<◌, Bool, true, false, ◌&&◌, ◌==◌, List, [], ◌∷◌, map, length, refl, sym, ap, ap₂, subst, ◌∙◌, Option, Some, None, option_map, inl, inr, ⊎_elim, arith}
 use Rattle.expect_table.specs.declared.expectation.Want.{Want}
 use Rattle.expect_table.specs.declared.expectation.Expectation.{Expectation}
 use Rattle.expect_table.specs.declared.table.AddOutcome.{AddOutcome}
@@ -13,7 +13,7 @@ use Rattle.history_book.specs.declared.verdict.Translated.{Translated}
 use Rattle.history_book.specs.History.{run}
 use Rattle.history_book.specs.Label.{label_of}
 use Rattle.history_book.specs.Legality.{same_proto}
-use Rattle.history_book.specs.State.{Found, State, live_under, next, winner}
+use Rattle.history_book.specs.State.{Found, State, live_under, next, record_of, winner}
 use Rattle.nat_setup.specs.declared.rule.Rule.{Rule}
 use Rattle.nat_setup.specs.Reply.{own_number, reply_with}
 use Rattle.nat_setup.specs.Rule.{rule_for}
@@ -32,9 +32,10 @@ use Rattle.tuple_core.specs.declared.Direction.{Direction}
 use Rattle.tuple_core.specs.declared.Direction.TheVariants.{Original, Reply}
 use Rattle.tuple_core.specs.declared.Proto.TheVariants as proto
 use Rattle.tuple_core.specs.declared.Tuple.{Tuple}
+use Rattle.packet_path.specs.Room.{may_go}
 use Rattle.replay_laws.specs.OneAnswer.{unplaced}
-use Rattle.replay_laws.specs.Reaction.{Adds, Begins, Configuration, Ends, EndsAll, HasNoRoom, HasReply, HasRoom, IsRead, IsTouched, Meets, MeetsOrEnters, Reaction, ReactsTo, ReactsToFlow, ReactsToPacket, Situation, Steps, behind, claims_of, end_of, error_class, expected_now}
-use Rattle.replay_laws.proofs.Bare.{bare, bare_found, bare_record, free_bare, length_bare, live_bare, next_bare, run_bare, winner_bare}
+use Rattle.replay_laws.specs.Reaction.{Adds, Begins, Configuration, Drops, Ends, EndsAll, HasNoRoom, HasReply, HasRoom, IsFullAgain, IsRead, IsTouched, Meets, MeetsOrEnters, Reaction, ReactsTo, ReactsToFlow, ReactsToPacket, Situation, Steps, behind, claims_of, drop_of, end_of, error_class, expected_now}
+use Rattle.replay_laws.proofs.Bare.{bare, bare_found, bare_record, free_bare, length_bare, live_bare, next_bare, record_bare, run_bare, winner_bare}
 
 -- the situation with the bare state
 abbrev pub bare_now : Situation → Situation
@@ -139,7 +140,44 @@ room_bare tracker now part translated reply reaction h =
 
 no_room_bare : (tracker : Configuration) (now : Situation) (reaction : Reaction) → HasNoRoom tracker now reaction
     → HasNoRoom tracker (bare_now now) reaction
-no_room_bare tracker now reaction h = record { full = omega (arith, length_bare now.state, h.full); said = h.said }
+no_room_bare tracker now reaction h = record {
+  full = omega (arith, length_bare now.state, h.full);
+  none = λ id r live. none_goes id r (record_of id now.state) refl (sym (record_bare id now.state) ∙ live);
+  said = h.said;
+}
+  where
+    none_goes : (id : ℕ) (r : Record) (o : Option Record) → record_of id now.state ≡ o → option_map bare_record o ≡ Some r
+        → may_go now.packet r ≡ false
+    none_goes id r None is e = cc
+    none_goes id r (Some q) is e =
+        subst (λ (x : Record). may_go now.packet x ≡ false) (some_same e) (h.none id q is)
+      where
+        some_same : {x y : Record} → Some x ≡ Some y → x ≡ y
+        some_same e = cc
+
+-- the situation behind a drop has the bare state of the situation behind it
+drop_bare : (now : Situation) (r : Record)
+    → behind (bare_now now) (drop_of now.packet (bare_record r)) ≡ bare_now (behind now (drop_of now.packet r))
+drop_bare now r =
+    ap (λ (x : State). record { packet = now.packet; state = x; at = now.at + 1 }) (next_bare now.state (drop_of now.packet r))
+
+drops_bare : (tracker : Configuration) (now : Situation) (part : Part) (translated : Translated) (reply : Tuple) (reaction : Reaction)
+    → Drops tracker now part translated reply reaction → Drops tracker (bare_now now) part translated reply reaction
+drops_bare tracker now part translated reply reaction h =
+    let further : Reaction = record { events = h.rest; class = reaction.class } in
+    let next : Situation = behind now (drop_of now.packet h.subject) in
+    record {
+      full = omega (arith, length_bare now.state, h.full);
+      subject = bare_record h.subject;
+      live = record_bare h.subject.id now.state ∙ ap (option_map bare_record) h.live;
+      goes = h.goes;
+      rest = h.rest;
+      all = h.all;
+      then = subst (λ (x : Situation). HasRoom tracker x part translated reply further ⊎ IsFullAgain tracker now.at x further)
+          (sym (drop_bare now h.subject))
+          (⊎_elim (λ r. inl (room_bare tracker next part translated reply further r))
+          (λ f. inr (record { full = omega (arith, length_bare next.state, f.full); said = f.said })) h.then);
+    }
 
 begins_bare : (tracker : Configuration) (now : Situation) (part : Option Part) (reaction : Reaction)
     → Begins tracker now part reaction → Begins tracker (bare_now now) part reaction
@@ -155,7 +193,8 @@ begins_bare tracker now (Some part) reaction (inr h) = inr (record {
   reply = h.reply;
   has = has_bare now (rule_for tracker.rules now.packet.tuple) h.translated h.reply h.has;
   placed = ⊎_elim (λ p. inl (room_bare tracker now part h.translated h.reply reaction p))
-      (λ p. inr (no_room_bare tracker now reaction p)) h.placed;
+      (λ q. ⊎_elim (λ p. inr (inl (no_room_bare tracker now reaction p)))
+      (λ p. inr (inr (drops_bare tracker now part h.translated h.reply reaction p))) q) h.placed;
 })
 
 meets_bare : (tracker : Configuration) (now : Situation) (ended : ℕ) (found : Option Found) (reaction : Reaction)

@@ -1,5 +1,5 @@
 -- No packet is answered behind a command behind `wait`.
-use Rattle.std.proofs.Common.{◌≡◌, ℕ, zero, suc, ◌+◌, ◌<◌, ◌≤◌, Bool, true, false, cond, ◌==◌, List, [], ◌∷◌, ◌++◌, length, take, drop, max, refl, sym, ap, subst, ◌∙◌, arith}
+use Rattle.std.proofs.Common.{◌≡◌, ℕ, zero, suc, ◌+◌, ◌<◌, ◌≤◌, Bool, true, false, cond, ◌==◌, List, [], ◌∷◌, ◌++◌, length, take, drop, max, refl, sym, subst, arith}
 use Rattle.std.specs.List.{AllByRecursion}
 use Rattle.std.proofs.lemmas.Bool.{eq-eqb}
 use Rattle.std.proofs.lemmas.List.{take-append-drop}
@@ -9,17 +9,16 @@ use Rattle.history_book.specs.declared.answer.Answer.{Answer}
 use Rattle.history_book.specs.declared.event.Event.{Event}
 use Rattle.history_book.specs.declared.event.Note.{Note}
 use Rattle.history_book.specs.declared.event.Numbered.{Numbered}
-use Rattle.history_book.specs.declared.report.Report.{Report}
 use Rattle.history_book.specs.declared.verdict.Verdict.{Verdict}
 use Rattle.history_book.specs.Mark.{mark_at, mark_past, points_of}
 use Rattle.history_book.specs.Numbered.{events_of, notes_of}
 use Rattle.packet_path.specs.Packet.{Given}
-use Rattle.replay_runs.specs.Report.{AnswersFit, at_start, captures_end, IsWellFormed, made_by, mark_before, past_command, past_packet, past_verdicts, Progress, run_of, ScriptRun, ThreadsFit, TrackerSetup, VerdictsFit, Work}
+use Rattle.replay_runs.specs.Report.{AnswersFit, at_start, captures_end, IsWellFormed, made_by, mark_before, past_command, past_packet, past_verdicts, Progress, run_of, ScriptRun, ThreadsFit, TrackerSetup, VerdictsFit}
 use Rattle.history_book.specs.declared.record.Record.{Record}
 use Rattle.history_book.specs.declared.verdict.Class.{Class}
 use Rattle.history_book.specs.declared.verdict.Class.TheVariants.{ErrorLost, NoEntry}
 use Rattle.replay_laws.specs.Late.{flush_behind_wait, flushed_before, LateAnswersAreRefused}
-use Rattle.replay_laws.specs.Waiting.{AreFrom, behind_wait, IsDivided, WaitDividesPackets}
+use Rattle.replay_laws.specs.Waiting.{AreFrom, behind_wait, WaitDividesPackets}
 
 -- A mark never falls.
 past_ge : (mark : ℕ) (own : List Note) → mark ≤ mark_past mark own

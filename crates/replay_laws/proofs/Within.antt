@@ -22,6 +22,7 @@ use Rattle.packet_path.specs.FtpPart.{FtpFits}
 use Rattle.packet_path.specs.Made.{Makes, Making}
 use Rattle.packet_path.specs.Packet.{FlowPacket, Given}
 use Rattle.packet_path.specs.Passed.{IsPassing, Passes, Passing}
+use Rattle.packet_path.specs.Room.{Dropping, StaysFull}
 use Rattle.packet_path.specs.Unchanged.{IsToEnd}
 use Rattle.packet_path.specs.Verdict.{AnswersFlow, FitsFrame}
 use Rattle.packet_path.specs.declared.setup.Setup.{Setup}
@@ -59,21 +60,21 @@ module _ (log : List Event) where
       → AnswersFlow log mark given own P → AreWithin (length log) points
   flow_within mark given own P points then f = then f.packet (mark_past mark f.kills) f.rest f.fits
 
-  makes_within : (setup : Setup) (k : ℕ) (packet : FlowPacket) (rest : List Note) (said : Making) → Makes setup log k packet rest said
+  makes_within : (setup : Setup) (sizes : Sizes) (k : ℕ) (packet : FlowPacket) (rest : List Note) (said : Making) → Makes setup sizes log k packet rest said
       → AreWithin (length log) (said.at ∷ (option_to_list said.unclaimed ++ translated_points said.translated))
-  makes_within setup k packet rest said h =
+  makes_within setup sizes k packet rest said h =
       let below : said.id < length log = slice_get_within log said.id (Confirm h.subject) h.happened.event in (
         omega (arith, below, h.point),
         within_append (length log) (option_to_list said.unclaimed) (translated_points said.translated)
-            (claimed_within packet h.claims said.unclaimed h.subject.master h.found_at said.id h.claimed)
-            (translated_within _ packet.tuple h.begun.absent.at h.found_at said.translated h.subject.reply h.begun.found),
+            (claimed_within packet h.placed.claims said.unclaimed h.subject.master h.placed.placed_at said.id h.placed.claimed)
+            (translated_within _ packet.tuple h.placed.begun.absent.at h.placed.found_at said.translated h.subject.reply h.placed.begun.found),
       )
 
   meets_within : (setup : Setup) (sizes : Sizes) (k : ℕ) (packet : FlowPacket) (rest : List Note) (said : Meeting)
       → MeetsWinner setup sizes log k packet rest said → AreWithin (length log) (said.at ∷ translated_points said.translated)
   meets_within setup sizes k packet rest said h = (
     h.live.within,
-    translated_within _ packet.tuple h.begun.absent.at h.found_at said.translated h.reply h.begun.found,
+    translated_within _ packet.tuple h.placed.begun.absent.at h.placed.found_at said.translated h.reply h.placed.begun.found,
   )
 
   ftp_within : (sizes : Sizes) (packet : FlowPacket) (found : Found) (touched : ℕ) (further : List Note) (said : Ftp)
@@ -104,6 +105,11 @@ module _ (log : List Event) where
   ends_within k packet rest id at (inl h) = (h.live.within, tt)
   ends_within k packet rest id at (inr h) = (h.live.within, tt)
 
+  stays_within : (sizes : Sizes) (packet : FlowPacket) (from : ℕ) (o : Option Dropping) (at : ℕ) → StaysFull sizes log packet from o at
+      → AreWithin (length log) (from ∷ at ∷ [])
+  stays_within sizes packet from None at h = (h.full.within, (h.within, tt))
+  stays_within sizes packet from (Some d) at h = (h.room.full.within, (h.full.within, tt))
+
   module _ (setup : Setup) (sizes : Sizes) (mark : ℕ) (given : Given) (own : List Note) where
     pub points_within : (verdict : Class) → FitsFrame setup sizes log mark given own verdict
         → AllByRecursion (λ (p : ℕ). p ≤ length log) (points_of verdict)
@@ -116,7 +122,7 @@ module _ (log : List Event) where
     points_within (class.Error direction id at) f = (f.fits.looked.live.within, tt)
     points_within (class.Made id at translated unclaimed) f =
         flow_within mark given own _ (at ∷ (option_to_list unclaimed ++ translated_points translated))
-        (λ packet k rest h. makes_within setup k packet rest _ h) f
+        (λ packet k rest h. makes_within setup sizes k packet rest _ h) f
     points_within (class.Passed label id at ftp) f =
         flow_within mark given own _ (at ∷ ftp_points ftp) (λ packet k rest h. passes_within sizes k packet rest _ h) f
     points_within (class.Ignored id at) f = flow_within mark given own _ (at ∷ []) (λ packet k rest h. (h.live.within, tt)) f
@@ -127,6 +133,8 @@ module _ (log : List Event) where
     points_within (class.NoPort from to) f =
         flow_within mark given own _ (from ∷ to ∷ [])
         (λ packet k rest h. (omega (arith, h.taken.ordered, h.taken.within), (h.taken.within, tt))) f
-    points_within (class.Full at) f = flow_within mark given own _ (at ∷ []) (λ packet k rest h. (h.full.within, tt)) f
+    points_within (class.Full from at) f =
+        flow_within mark given own _ (from ∷ at ∷ [])
+        (λ packet k rest h. stays_within sizes packet from h.dropped at h.stays) f
     points_within (class.Contended id at) f =
         flow_within mark given own _ (at ∷ []) (λ packet k rest h. ends_within k packet rest id at h) f.stands

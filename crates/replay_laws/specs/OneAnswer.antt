@@ -1,10 +1,11 @@
 -- Where one capture is replayed alone, each packet has one answer, and one text is printed: as far as rules choose the
--- same, and while the table is not nearly full.
+-- same, while the table is not nearly full, and while no entry is dropped.
 use Rattle.std.specs.Prelude.{◌≡◌, ℕ, ◌+◌, ◌<◌, ◌≤◌, List, [], ◌∷◌, length, map, take, drop, slice_get, Some, IsSome}
 use Rattle.room_list.specs.Roomed.{Roomed}
 use Rattle.history_book.specs.declared.event.Event.{Event}
 use Rattle.history_book.specs.declared.event.Event.TheVariants.{Confirm, Touch, Destroy, Expect, Claim, Unexpect}
 use Rattle.history_book.specs.declared.event.Numbered.{Numbered}
+use Rattle.history_book.specs.declared.event.Why.TheVariants.{Dropped}
 use Rattle.history_book.specs.declared.record.Record.{Record}
 use Rattle.history_book.specs.declared.report.Report.{Report}
 use Rattle.history_book.specs.declared.sizes.Sizes.{Sizes}
@@ -57,6 +58,10 @@ abbrev pub NeverNearlyFull : Sizes → List Event → Type 0
 NeverNearlyFull sizes log =
     (p : ℕ) → p ≤ length log → fewest_of_full sizes ≤ length (after log p).records → sizes.entries ≤ length (after log p).records
 
+-- no event of the history is a drop
+abbrev pub NoneIsDropped : List Event → Type 0
+NoneIsDropped log = (n id moment : ℕ) → slice_get log n ≡ Some (Destroy id (Dropped moment)) → ⊥
+
 -- in a tracker of one pass no table is nearly full
 abbrev pub OnePassIsNeverNearlyFull : Type 0
 OnePassIsNeverNearlyFull = (sizes : Sizes) (log : List Event) → sizes.passes ≡ 1 → NeverNearlyFull sizes log
@@ -98,13 +103,14 @@ pub record IsSameReport (report other : Report) : Type 0 where
 abbrev pub AreAlike : TrackerSetup → TrackerSetup → Type 0
 AreAlike tracker other = configuration_of tracker ≡ configuration_of other
 
--- one capture has one report with trackers that are alike, where the rules chose the same, and the table was never nearly
--- full
+-- one capture has one report with trackers that are alike, where the rules chose the same, the table was never nearly
+-- full, and one of the reports has no drop
 abbrev pub OnePacketOneAnswer : Type 0
 OnePacketOneAnswer =
     (tracker twin : TrackerSetup) (frames : List Given) (wait : ℕ) (report other : Report) → AreAlike tracker twin
     → IsWellFormed tracker (alone frames wait) report → IsWellFormed twin (alone frames wait) other
     → NeverNearlyFull tracker.sizes (events_of report.history.items)
+    → NoneIsDropped (events_of report.history.items)
     → ChoseTheSame tracker.setup.rules.items (events_of report.history.items) (events_of other.history.items)
     → IsSameReport report other
 
@@ -119,10 +125,12 @@ pub record IsSameText (report other : Report) : Type 0 where
 abbrev pub SameReportsPrintTheSame : Type 0
 SameReportsPrintTheSame = (report other : Report) → IsSameReport report other → IsSameText report other
 
--- without rules one capture has one text with trackers that are alike, where the table was never nearly full
+-- without rules one capture has one text with trackers that are alike, where the table was never nearly full and no
+-- entry was dropped
 abbrev pub OneCaptureOneText : Type 0
 OneCaptureOneText =
     (tracker twin : TrackerSetup) (frames : List Given) (wait : ℕ) (report other : Report) → AreAlike tracker twin
     → tracker.setup.rules.items ≡ []
     → IsWellFormed tracker (alone frames wait) report → IsWellFormed twin (alone frames wait) other
-    → NeverNearlyFull tracker.sizes (events_of report.history.items) → IsSameText report other
+    → NeverNearlyFull tracker.sizes (events_of report.history.items)
+    → NoneIsDropped (events_of report.history.items) → IsSameText report other

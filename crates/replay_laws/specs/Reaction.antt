@@ -1,6 +1,7 @@
 -- What a tracker that one thread alone uses makes of a packet, by the state that the packet finds: the tracker of one
--- thread itself. It chooses a number that a rule allows, and a place, which has to be free in a legal history. Where it
--- has further passes and its table is nearly full, it may say FULL or not. All else is determined. A packet of one thread
+-- thread itself. It chooses a number that a rule allows, a place, which has to be free in a legal history, and where its
+-- table is full which of the entries that may go it drops. Where it has further passes and its table is nearly full, it
+-- may find it full or not. All else is determined. A packet of one thread
 -- is never merged, and its entry is there when its payload is read, so neither has a case here.
 use Rattle.std.specs.Prelude.{◌≡◌, ◌⊎◌, ℕ, ◌+◌, ◌<◌, ◌≤◌, Bool, true, false, ◌==◌, ◌&&◌, Option, Some, None, List, [], ◌∷◌, ◌++◌, length}
 use Rattle.expect_table.specs.Expectations.{add_outcome, matching}
@@ -28,7 +29,7 @@ use Rattle.history_book.specs.History.{run}
 use Rattle.history_book.specs.Label.{label_of}
 use Rattle.history_book.specs.Legality.{same_proto}
 use Rattle.history_book.specs.Sizes.{fewest_of_full}
-use Rattle.history_book.specs.State.{Found, State, is_free, live_under, next, winner}
+use Rattle.history_book.specs.State.{Found, State, is_free, live_under, next, record_of, winner}
 use Rattle.nat_setup.specs.declared.rule.Rule.{Rule}
 use Rattle.nat_setup.specs.Reply.{is_allowed, own_number, reply_with}
 use Rattle.nat_setup.specs.Rule.{rule_for}
@@ -38,6 +39,7 @@ use Rattle.packet_headers.specs.declared.packet.Packet.TheVariants as packet
 use Rattle.packet_path.specs.FtpPart.{Asks, NamesNone}
 use Rattle.packet_path.specs.Packet.{FlowPacket, Given, cause_of}
 use Rattle.packet_path.specs.Passed.{reset_by, touch_by}
+use Rattle.packet_path.specs.Room.{may_go}
 use Rattle.proto_rules.specs.declared.Outcome.{Outcome}
 use Rattle.proto_rules.specs.declared.Outcome.TheVariants as outcome
 use Rattle.proto_rules.specs.declared.Part.{Part}
@@ -170,17 +172,46 @@ pub record HasRoom (tracker : Configuration) (now : Situation) (part : Part) (tr
   pub then : MeetsOrEnters tracker now part translated reply (expected_now now)
       (winner now.packet.tuple reply (run now.state (claims_of now.packet (expected_now now)))) reaction
 
--- so many entries are live that it may say FULL: where it has one pass, as many as there are places
+-- so many entries are live that it may say FULL: where it has one pass, as many as there are places; and none may go
 pub record HasNoRoom (tracker : Configuration) (now : Situation) (reaction : Reaction) : Type 0 where
   pub full : tracker.full ≤ length now.state.records
-  pub said : reaction ≡ silent (class.Full now.at)
+  pub none : (id : ℕ) (r : Record) → record_of id now.state ≡ Some r → may_go now.packet r ≡ false
+  pub said : reaction ≡ silent (class.Full now.at now.at)
 
--- a reply tuple is found for the flow, and then there is room for it or not
+-- the situation after an event
+abbrev pub behind : Situation → Event → Situation
+behind now event = record { packet = now.packet; state = next now.state event; at = now.at + 1 }
+
+-- the packet's drop of this entry
+abbrev pub drop_of : FlowPacket → Record → Event
+drop_of packet r = Destroy r.id (why.Dropped packet.moment)
+
+-- behind a drop, so many entries are live that it may say FULL again; the table was full first at this point
+pub record IsFullAgain (tracker : Configuration) (from : ℕ) (now : Situation) (reaction : Reaction) : Type 0 where
+  pub full : tracker.full ≤ length now.state.records
+  pub said : reaction ≡ silent (class.Full from now.at)
+
+-- So many entries are live that it may say FULL, and one that may go is dropped; then there is room for the flow, or
+-- not. Which one is dropped goes by places, of which nothing is said here.
+pub record Drops (tracker : Configuration) (now : Situation) (part : Part) (translated : Translated) (reply : Tuple)
+    (reaction : Reaction) : Type 0 where
+  pub full : tracker.full ≤ length now.state.records
+  pub subject : Record
+  pub live : record_of subject.id now.state ≡ Some subject
+  pub goes : may_go now.packet subject ≡ true
+  pub rest : List Event
+  pub all : reaction.events ≡ drop_of now.packet subject ∷ rest
+  pub then : HasRoom tracker (behind now (drop_of now.packet subject)) part translated reply (record { events = rest; class = reaction.class })
+      ⊎ IsFullAgain tracker now.at (behind now (drop_of now.packet subject)) (record { events = rest; class = reaction.class })
+
+-- a reply tuple is found for the flow, and then there is room for it, or none, or an entry is dropped for it
 pub record FindsReply (tracker : Configuration) (now : Situation) (part : Part) (reaction : Reaction) : Type 0 where
   pub translated : Translated
   pub reply : Tuple
   pub has : HasReply now (rule_for tracker.rules now.packet.tuple) translated reply
-  pub placed : HasRoom tracker now part translated reply reaction ⊎ HasNoRoom tracker now reaction
+  pub placed : HasRoom tracker now part translated reply reaction
+      ⊎ HasNoRoom tracker now reaction
+      ⊎ Drops tracker now part translated reply reaction
 
 -- nothing is live under the packet's tuple: an entry begins with this part, or none begins with the segment
 abbrev pub Begins : Configuration → Situation → Option Part → Reaction → Type 0
@@ -212,10 +243,6 @@ IsRead room now found further said =
     NamesNone now.packet found × (further ≡ []) × (said ≡ ftp.Nothing)
     ⊎ Asks now.packet found None × (further ≡ []) × (said ≡ ftp.Address)
     ⊎ IsAsked room now found further said
-
--- the situation after an event
-abbrev pub behind : Situation → Event → Situation
-behind now event = record { packet = now.packet; state = next now.state event; at = now.at + 1 }
 
 -- the entry accepts the packet and goes on with this part, and then the payload is read
 pub record IsTouched (tracker : Configuration) (now : Situation) (found : Found) (after : Part) (reaction : Reaction) : Type 0 where

@@ -30,7 +30,7 @@ pub fn one_thread_follows()
 }
 
 /// Two reports of one capture alone, of trackers that are alike, are the same but for the places of entries: where rules chose
-/// the same reply tuples, and the table was never nearly full.
+/// the same reply tuples, the table was never nearly full, and no entry was dropped.
 pub fn one_packet_one_answer()
     ensures { OnePacketOneAnswer }
 {
@@ -57,7 +57,7 @@ pub fn same_reports_print_the_same()
 {}
 
 /// Without rules two reports of one capture alone, of trackers that are alike, have the same text, where the table was never
-/// nearly full.
+/// nearly full and no entry was dropped.
 pub fn one_capture_one_text()
     ensures { OneCaptureOneText }
 {
