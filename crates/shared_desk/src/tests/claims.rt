@@ -1,7 +1,8 @@
 //! The entry of one clerk expects a connection again and again, while another clerk claims it, each on a thread of its own.
 
-ghost use Rattle.std.specs.Prelude.{◌≡◌, ◌+◌, ◌≤◌, true, Some, []};
+ghost use Rattle.std.specs.Prelude.{◌≡◌, ◌+◌, ◌≤◌, true, Some, [], None};
 ghost use Rattle.history_book.specs.Entry.{is_helped_entry};
+ghost use Rattle.history_book.specs.Held.{is_held, without};
 ghost use Rattle.history_book.specs.Places.{HoldsNothing, HoldsOne};
 ghost use Rattle.history_book.specs.WentOn.{IsSamePass};
 ghost use Rattle.shared_desk.specs.Sights.{sight_of};
@@ -40,6 +41,20 @@ fn expect_rounds<R: Wait>(rt: &R, clerk: &mut Clerk<NoGate>, place: u32, id: u64
     }
 }
 
+/// A clerk makes an entry in the one place that it has taken, which expects the connection in each round.
+fn confirm_and_expect<R: Wait>(rt: &R, clerk: &mut Clerk<NoGate>, place: u32)
+    requires one { HoldsOne (record { place = place; id = None }) (sight_of clerk.old) }
+    requires spare { 100001 ≤ (sight_of clerk.old).spare }
+    ensures held { is_held place (sight_of clerk.new).held ≡ true }
+    ensures only { without place (sight_of clerk.new).held ≡ [] }
+    ensures owed { (sight_of clerk.new).owed ≡ [] }
+    ensures same { IsSamePass (sight_of clerk.old) (sight_of clerk.new) }
+{
+    if let ConfirmOutcome::Confirmed { id } = clerk.confirm(rt, place, &master(5000)) {
+        expect_rounds(rt, clerk, place, id);
+    }
+}
+
 /// A clerk makes an entry, which expects the connection in each round, and gives its place up.
 fn expect_all<R: Wait>(rt: &R, clerk: &mut Clerk<NoGate>) -> Result<(), NoMemory>
     requires nothing { HoldsNothing (sight_of clerk.old) }
@@ -51,9 +66,7 @@ fn expect_all<R: Wait>(rt: &R, clerk: &mut Clerk<NoGate>) -> Result<(), NoMemory
     let TakeOutcome::Taken { place } = clerk.take(rt) else {
         return Ok(());
     };
-    if let ConfirmOutcome::Confirmed { id } = clerk.confirm(rt, place, &master(5000)) {
-        expect_rounds(rt, clerk, place, id);
-    }
+    confirm_and_expect(rt, clerk, place);
     give_up(rt, clerk, place);
     Ok(())
 }

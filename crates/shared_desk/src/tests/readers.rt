@@ -1,8 +1,9 @@
 //! Two clerks look for flows, each on a thread of its own, while two others confirm and destroy them in the same buckets.
 
-ghost use Rattle.std.specs.Prelude.{◌≡◌, ◌+◌, ◌≤◌, ◌<◌, true, []};
+ghost use Rattle.std.specs.Prelude.{◌≡◌, ◌+◌, ◌≤◌, ◌<◌, true, [], None};
 ghost use Rattle.history_book.specs.Entry.{is_flow_of_one_protocol};
-ghost use Rattle.history_book.specs.Places.{HoldsNothing};
+ghost use Rattle.history_book.specs.Held.{is_held, without};
+ghost use Rattle.history_book.specs.Places.{HoldsNothing, HoldsOne};
 ghost use Rattle.history_book.specs.Sizes.{AreWithinLimits};
 ghost use Rattle.history_book.specs.WentOn.{IsSamePass};
 ghost use Rattle.shared_desk.specs.Sights.{sight_of};
@@ -79,6 +80,22 @@ fn tuple_of(flow: &Flow, direction: Direction) -> Tuple {
     }
 }
 
+/// Confirms a flow in the one place that the clerk has taken, and destroys it again.
+fn confirm_and_kill<R: Wait>(rt: &R, clerk: &mut Clerk<NoGate>, place: u32, flow: &Flow)
+    requires one { HoldsOne (record { place = place; id = None }) (sight_of clerk.old) }
+    requires protocol { is_flow_of_one_protocol flow.now ≡ true }
+    requires spare { 2 ≤ (sight_of clerk.old).spare }
+    ensures held { is_held place (sight_of clerk.new).held ≡ true }
+    ensures only { without place (sight_of clerk.new).held ≡ [] }
+    ensures owed { (sight_of clerk.new).owed ≡ [] }
+    ensures same { IsSamePass (sight_of clerk.old) (sight_of clerk.new) }
+    ensures spare { (sight_of clerk.old).spare ≤ (sight_of clerk.new).spare + 2 }
+{
+    if let ConfirmOutcome::Confirmed { .. } = clerk.confirm(rt, place, flow) {
+        let _ = clerk.kill(rt, place, Why::Flushed);
+    }
+}
+
 /// Confirms a flow and destroys it again.
 fn write_once<R: Wait>(rt: &R, clerk: &mut Clerk<NoGate>, flow: &Flow)
     requires nothing { HoldsNothing (sight_of clerk.old) }
@@ -91,9 +108,7 @@ fn write_once<R: Wait>(rt: &R, clerk: &mut Clerk<NoGate>, flow: &Flow)
     let TakeOutcome::Taken { place } = clerk.take(rt) else {
         return;
     };
-    if let ConfirmOutcome::Confirmed { .. } = clerk.confirm(rt, place, flow) {
-        let _ = clerk.kill(rt, place, Why::Flushed);
-    }
+    confirm_and_kill(rt, clerk, place, flow);
     give_up(rt, clerk, place);
 }
 
