@@ -1,7 +1,7 @@
 -- A call that makes no phase OWNED takes no place.
 use Rattle.std.specs.Prelude.{◌==◌, ◌&&◌, ◌||◌, ◌-◌, ◌^◌, min, nat_le, nat_lt, not}
 use Rattle.std.proofs.Common.{◌≡◌, ◌≢◌, ℕ, ◌+◌, ◌*◌, ◌<◌, ◌≤◌, Bool, true, false, List, [], ◌∷◌, ◌++◌, refl, sym, ap, ◌∙◌, arith}
-use Rattle.std.proofs.lemmas.Bool.{and_left, and_parts, and_right, eqb-true, false≢true, leb-true, ltb-true, ne_eqb, or_from}
+use Rattle.std.proofs.lemmas.Bool.{and_left, and_parts, and_right, eqb-true, false≢true, leb-true, ltb-true, ne_eqb}
 use Rattle.history_book.specs.declared.outcome.ClaimOutcome.{ClaimOutcome}
 use Rattle.history_book.specs.declared.outcome.ConfirmOutcome.{ConfirmOutcome}
 use Rattle.history_book.specs.declared.outcome.ConfirmOutcome.TheVariants as confirm
@@ -19,11 +19,10 @@ use Rattle.track_rule.specs.Links.{kind_of}
 use Rattle.track_rule.specs.Sights.{PassSight, sizes_of}
 use Rattle.track_rule.specs.Sums.{bit}
 use Rattle.track_rule.specs.declared.view.Reading.{Reading}
-use Rattle.track_rule.specs.declared.view.View.{View}
 use Rattle.track_rule.proofs.Changing.{NamesNo, below_places, of_kind, or_elim}
 use Rattle.bucket_table.specs.Following.{bucket_in}
 use Rattle.entry_pool.specs.Take.{recycle_words}
-use Rattle.shared_desk.specs.Changed.{claim_words, commit_words, confirm_words, destroy_words, end_words, enter_words, expect_words, find_words, flow_gens, flow_heads, give_words, hold_words, is_claimed, is_expected, is_removed, is_touched, kill_words, killed_words, touch_words, unexpect_words}
+use Rattle.shared_desk.specs.Changed.{claim_words, commit_words, confirm_words, destroy_words, end_words, enter_words, expect_words, flow_gens, flow_heads, give_words, hold_words, is_claimed, is_expected, is_removed, is_touched, kill_words, killed_words, touch_words, unexpect_words}
 use Rattle.shared_desk.specs.Killing.{flow_of}
 use Rattle.shared_desk.specs.Sights.{taken_by}
 

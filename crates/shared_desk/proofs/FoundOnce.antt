@@ -4,7 +4,7 @@ use Rattle.history_book.specs.Sight.{Sight}
 use Rattle.history_book.specs.declared.outcome.FindOutcome.TheVariants as find
 use Rattle.shared_desk.specs.Sights.{taken_by}
 use Rattle.std.specs.Prelude.{◌==◌}
-use Rattle.std.proofs.Common.{◌≡◌, ℕ, ◌+◌, ◌≤◌, true, Option, Some, None, List, [], ◌++◌, length, map, refl, sym, ap, subst, ◌∙◌, arith, ⊎_elim, length-append, append-nil}
+use Rattle.std.proofs.Common.{◌≡◌, ℕ, ◌+◌, ◌≤◌, true, Option, Some, None, List, [], length, map, refl, sym, ap, subst, ◌∙◌, arith, ⊎_elim, length-append, append-nil}
 use Rattle.std.proofs.lemmas.Bool.{or_right}
 use Rattle.std.proofs.lemmas.List.{length-map}
 use Rattle.room_list.specs.Roomed.{Roomed}
@@ -19,7 +19,6 @@ use Rattle.history_book.specs.WentOn.{Looked, Saw}
 use Rattle.history_book.specs.declared.event.Event.{Event}
 use Rattle.history_book.specs.declared.event.Note.{Note}
 use Rattle.track_rule.specs.Free.{is_among}
-use Rattle.track_rule.specs.Readings.{added}
 use Rattle.track_rule.specs.References.{is_at}
 use Rattle.track_rule.specs.Sights.{PassSight, sizes_of}
 use Rattle.track_rule.specs.Steps.{AreAll}

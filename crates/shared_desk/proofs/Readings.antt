@@ -1,9 +1,9 @@
 -- The laws of the tests of words.
-use Rattle.std.specs.Prelude.{◌==◌, ◌&&◌, ◌||◌, nat_le, drop, ◌⊎◌}
-use Rattle.std.proofs.Common.{◌≡◌, ℕ, ◌+◌, ◌*◌, ◌<◌, ◌≤◌, Bool, true, false, List, [], ◌∷◌, ◌++◌, length, refl, ap, ◌∙◌, arith, inl, inr, ⊎_elim}
+use Rattle.std.specs.Prelude.{◌==◌, nat_le, drop, ◌⊎◌}
+use Rattle.std.proofs.Common.{◌≡◌, ℕ, ◌+◌, ◌*◌, ◌<◌, ◌≤◌, false, List, [], ◌∷◌, ◌++◌, length, refl, arith, inl, inr, ⊎_elim}
 use Rattle.std.proofs.lemmas.Bool.{and_from, and_left, and_parts, and_right, eq-eqb, eqb-true, le-leb, leb-true, ltb-true, ne_eqb, or_from}
 use Rattle.history_book.specs.declared.sizes.Sizes.{Sizes}
-use Rattle.track_rule.specs.ChangesOnly.{is_of_kind, is_some_phase, is_some_refs}
+use Rattle.track_rule.specs.ChangesOnly.{is_of_kind}
 use Rattle.track_rule.specs.Layout.{phase_word, refs_word, turn_word}
 use Rattle.track_rule.specs.Links.{kind_of}
 use Rattle.track_rule.specs.Readings.{stored}

@@ -9,14 +9,14 @@ use Rattle.history_book.specs.declared.event.Event.TheVariants.{Confirm, Touch, 
 use Rattle.history_book.specs.declared.record.Flow.{Flow}
 use Rattle.history_book.specs.declared.record.Record.{Record}
 use Rattle.history_book.specs.declared.sizes.Sizes.{Sizes}
-use Rattle.track_rule.specs.ChangesOnly.{ChangesAndFrees, ChangesWords, either, frees_what_it_gave, has_change, is_expect_turn, is_free_turn, is_freeing, is_gen_of, is_head_of, is_history, is_last_given, is_live_of, is_next_of, is_of_kind, is_phase_of, is_refs_of, is_some_next, is_some_phase, is_some_refs, is_tuple_of, is_turn_of, no_word, where_so}
-use Rattle.track_rule.specs.CommitSteps.{HasAdded, subject_of}
+use Rattle.track_rule.specs.ChangesOnly.{ChangesAndFrees, ChangesWords, either, has_change, is_expect_turn, is_free_turn, is_freeing, is_gen_of, is_history, is_last_given, is_live_of, is_next_of, is_of_kind, is_phase_of, is_refs_of, is_some_next, is_some_phase, is_some_refs, is_tuple_of, is_turn_of, no_word, where_so}
+use Rattle.track_rule.specs.CommitSteps.{HasAdded}
 use Rattle.track_rule.specs.ExpectSteps.{HasClaimed, HasExpected, HasUnexpected, claim_in, expect_in, unexpect_in}
-use Rattle.track_rule.specs.History.{IsNumber, packed}
+use Rattle.track_rule.specs.History.{IsNumber}
 use Rattle.track_rule.specs.KillSteps.{HasDestroyed, MakesDestroy, OfDying, destroy_in}
 use Rattle.track_rule.specs.Links.{kind_of}
-use Rattle.track_rule.specs.Layout.{first_word, gen_word, phase_word, place_of, refs_word, second_word, turn_word}
-use Rattle.track_rule.specs.Readings.{added, found, stored}
+use Rattle.track_rule.specs.Layout.{first_word, phase_word, place_of, refs_word, second_word, turn_word}
+use Rattle.track_rule.specs.Readings.{added, stored}
 use Rattle.track_rule.specs.Sights.{PassSight, sizes_of}
 use Rattle.track_rule.specs.TouchSteps.{HasTouched, touch_in}
 use Rattle.track_rule.specs.ExpectTurns.{gave_expected}
@@ -26,7 +26,7 @@ use Rattle.track_rule.specs.declared.view.Middle.{Middle}
 use Rattle.track_rule.specs.declared.view.Middle.TheVariants.{Calm, Born, Dying}
 use Rattle.track_rule.specs.declared.view.Reading.{Reading}
 use Rattle.track_rule.specs.declared.view.View.{View}
-use Rattle.track_rule.proofs.Changing.{Within, or_elim, by_loads, by_own, by_pass, by_reading, by_view, freeing_none, frees_joined, frees_weaker, of_kind, unchanged, word_is, in_either, in_none, in_one, in_other, joined, weaker, weaker_at}
+use Rattle.track_rule.proofs.Changing.{Within, or_elim, by_loads, by_own, by_pass, by_reading, by_view, freeing_none, frees_weaker, of_kind, word_is, in_none, in_one, in_other, joined, weaker, weaker_at}
 use Rattle.bucket_table.specs.Following.{bucket_in}
 use Rattle.bucket_table.specs.LockedChain.{link_words, unlink_words}
 use Rattle.bucket_table.specs.Locks.{Buckets, buckets_of}

@@ -2,7 +2,7 @@
 use Rattle.std.specs.Prelude.{◌≡◌, ℕ, ◌+◌, ◌*◌, ◌<◌, true, false}
 use Rattle.history_book.specs.declared.sizes.Sizes.{Sizes}
 use Rattle.track_rule.specs.ChangesOnly.{is_some_next, is_some_phase, is_some_refs, is_tuple_of, is_turn_of}
-use Rattle.track_rule.specs.Layout.{first_word, next_word, phase_word, place_of, refs_word, second_word}
+use Rattle.track_rule.specs.Layout.{phase_word, refs_word}
 use Rattle.track_rule.specs.Readings.{stored}
 use Rattle.track_rule.specs.declared.view.Reading.{Reading}
 

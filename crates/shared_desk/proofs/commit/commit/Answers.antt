@@ -4,7 +4,6 @@ use Rattle.track_rule.proofs.Changing.{by_pass, in_one, in_other, joined, weaker
 use Rattle.track_rule.specs.ChangesOnly.{either, is_history, is_live_of, is_next_of, is_refs_of}
 use Rattle.track_rule.specs.Readings.{stored}
 use Rattle.track_rule.specs.Layout.{phase_word}
-use Rattle.history_book.specs.Entry.{record_for}
 use Rattle.track_rule.specs.Chains.{bucket_of}
 use Rattle.shared_desk.specs.Changed.{commit_words, flow_heads}
 use Rattle.std.proofs.Common.{refl}

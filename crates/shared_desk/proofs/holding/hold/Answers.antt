@@ -1,4 +1,4 @@
-use Rattle.std.proofs.Common.{refl, rules}
+use Rattle.std.proofs.Common.{refl}
 use Rattle.track_rule.proofs.Changing.{frees_joined, unchanged}
 use Rattle.track_rule.specs.ChangesOnly.{no_word}
 use Rattle.shared_desk.specs.Changed.{hold_words}

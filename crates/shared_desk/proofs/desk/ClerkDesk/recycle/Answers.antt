@@ -7,8 +7,6 @@ use Rattle.shared_desk.proofs.Resting.{clerk_at, now_of}
 use Rattle.std.proofs.Common.{ap, ◌∙◌}
 use Rattle.history_book.specs.Held.{is_owed}
 use Rattle.shared_desk.specs.Sights.{ClerkSight}
-use Rattle.track_rule.specs.Readings.{added}
-use Rattle.track_rule.specs.Sights.{sizes_of}
 use Rattle.shared_desk.proofs.GivingUp.{recycle_says, rest_recycled}
 use Rattle.shared_desk.proofs.desk.ClerkDesk.recycle.Goals as goal
 
