@@ -1,20 +1,39 @@
-"""Reads what ctreplay reads and prints: captures, files of rules and reports. Nothing here is proved."""
+"""Reads what ctreplay reads and prints: captures, files of rules and reports. Nothing here is proved.
+
+`Work` is a report with its captures, `lives_of` and `rows_at` say which entries it had when, and `Table` goes through
+its history point by point and knows who holds which number of a rule. Each takes time in proportion to the report times
+its logarithm, so that a report of some hundred thousand lines is read in seconds.
+"""
+import datetime
+import functools
+import os
 import signal
 import struct
+import subprocess
 import sys
+from bisect import bisect_left, bisect_right
 from collections import namedtuple
 
-Frame = namedtuple("Frame", "moment link data")
-Event = namedtuple("Event", "number kind thread index entry text fields")
+import refusal_hints as hints
+
+Frame = namedtuple("Frame", "moment link data length")
+Event = namedtuple("Event", "number kind thread index entry text fields flows")
 Report = namedtuple("Report", "events threads script")
-Rule = namedtuple("Rule", "line side options address low high text")
+Verdict = namedtuple("Verdict", "word why entry point")
+Rule = namedtuple("Rule", "line side options address low high text test")
 Packet = namedtuple("Packet", "kind why proto source target first second flags payload", defaults=[None] * 8)
+# As the program has it: of TCP and UDP `first` and `second` are the ports; of ICMP the identifier, and type and code.
+Flow = namedtuple("Flow", "proto source target first second")
 
 PROTOCOLS = {1: "icmp", 6: "tcp", 17: "udp"}
+PROTOCOL_NUMBERS = {name: number for number, name in PROTOCOLS.items()}
 ICMP_PAIRS = {8: 0, 0: 8, 13: 14, 14: 13, 15: 16, 16: 15, 17: 18, 18: 17}
 ICMP_ERRORS = (3, 4, 5, 11, 12)
 FLAG_LETTERS = ((0x02, "SYN"), (0x01, "FIN"), (0x04, "RST"), (0x08, "PSH"), (0x10, "ACK"), (0x20, "URG"))
 VALID_FLAGS = {0x02, 0x04, 0x10, 0x11, 0x12, 0x14, 0x22, 0x30, 0x31}
+LINKS = (1, 101)
+REFUSED = ("FULL", "NOPORT", "CLASH")
+LONGEST_FRAME = 262_144
 
 
 class Trouble(Exception):
@@ -42,37 +61,99 @@ def read_bytes(name):
         raise Trouble(f"{name}: {error.strerror}") from error
 
 
+def replay(words, output):
+    """Runs the program on these words, with its report in a file that is open."""
+    program = os.path.join(os.path.dirname(os.path.realpath(__file__)), "..", "ctreplay")
+    ran = subprocess.run([program, *words], stdout=output, stdin=subprocess.DEVNULL, stderr=subprocess.PIPE, text=True, errors="replace", check=False)
+    if ran.returncode:
+        said = ran.stderr.strip().splitlines()
+        raise Trouble(said[-1] if said else f"ctreplay ended with status {ran.returncode}")
+
+
 def read_lines(name):
     return read_bytes(name).decode("utf-8", "replace").splitlines()
+
+
+def time_text(moment):
+    when = datetime.datetime.fromtimestamp(moment // 1_000_000, datetime.timezone.utc)
+    return f"{when:%Y-%m-%d %H:%M:%S}.{moment % 1_000_000:06d} UTC"
+
+
+def moment_of_text(text):
+    """A moment in microseconds from a number of them, or from a date and a time of UTC with a fraction or without."""
+    if text.isdigit():
+        return int(text)
+    plain = text.removesuffix("Z").removesuffix(" UTC").replace(" ", "T")
+    try:
+        when = datetime.datetime.fromisoformat(plain)
+    except ValueError:
+        raise Trouble(f"{text} is no time: microseconds, or 2026-11-28T23:48:53Z with a fraction or without") from None
+    if when.tzinfo is None:
+        when = when.replace(tzinfo=datetime.timezone.utc)
+    return (when - datetime.datetime(1970, 1, 1, tzinfo=datetime.timezone.utc)) // datetime.timedelta(microseconds=1)
 
 
 # Captures
 
 
 def read_capture(name):
-    """The frames of a classic pcap file, as docs/FORMATS.md has them."""
+    """The frames of a classic pcap file, as docs/FORMATS.md has them; its faults are those of that document."""
     data = read_bytes(name)
     orders = {b"\xd4\xc3\xb2\xa1": ("<", 1), b"\xa1\xb2\xc3\xd4": (">", 1), b"\x4d\x3c\xb2\xa1": ("<", 1000), b"\xa1\xb2\x3c\x4d": (">", 1000)}
-    if len(data) < 24 or data[:4] not in orders:
-        raise Trouble(f"{name}: no capture that ctreplay reads")
+    if len(data) < 24 and data[:2] not in hints.PACKED:
+        raise refused_capture(name, "short header", data)
+    if data[:4] not in orders:
+        raise Trouble(f"{name}: bad magic; {hints.unpacked_hint(name, data)}")
     order, divisor = orders[data[:4]]
+    if struct.unpack_from(order + "HH", data, 4) != (2, 4):
+        raise refused_capture(name, "bad version", data)
     link = struct.unpack_from(order + "I", data, 20)[0] & 0xFFFF
-    frames, at = [], 24
+    if link not in LINKS:
+        raise refused_capture(name, f"link type {link}", data)
+    frames, at, header = [], 24, struct.Struct(order + "IIII")
     while at < len(data):
-        if at + 16 > len(data):
-            raise Trouble(f"{name}: record {len(frames)} is cut")
-        seconds, fraction, captured, _ = struct.unpack_from(order + "IIII", data, at)
-        if at + 16 + captured > len(data):
-            raise Trouble(f"{name}: record {len(frames)} is cut")
-        frames.append(Frame(seconds * 1_000_000 + fraction // divisor, link, data[at + 16 : at + 16 + captured]))
-        at += 16 + captured
+        frames.append(frame_at(name, data, at, len(frames), (header, divisor, link)))
+        at += 16 + len(frames[-1].data)
     return frames
 
 
+def frame_at(name, data, at, index, form):
+    header, divisor, link = form
+    if at + 16 > len(data):
+        raise refused_capture(name, f"record {index} cut at offset {at}", data)
+    seconds, fraction, captured, length = header.unpack_from(data, at)
+    if captured > LONGEST_FRAME:
+        raise refused_capture(name, f"record {index} too long", data)
+    if fraction >= 1_000_000 * divisor:
+        raise refused_capture(name, f"record {index} fraction", data)
+    if at + 16 + captured > len(data):
+        raise refused_capture(name, f"record {index} cut at offset {at}", data)
+    return Frame(seconds * 1_000_000 + fraction // divisor, link, data[at + 16 : at + 16 + captured], length)
+
+
+def refused_capture(name, fault, data):
+    return Trouble(f"{name}: {fault}; {hints.capture_hint(name, fault, data)}")
+
+
+def write_capture(name, frames, link):
+    """A capture of these frames with times in microseconds."""
+    pieces = [struct.pack("<IHHIIII", 0xA1B2C3D4, 2, 4, 0, 0, LONGEST_FRAME, link)]
+    for frame in frames:
+        seconds, fraction = divmod(frame.moment, 1_000_000)
+        pieces += [struct.pack("<IIII", seconds, fraction, len(frame.data), frame.length), frame.data]
+    try:
+        with open(name, "wb") as file:
+            file.write(b"".join(pieces))
+    except OSError as error:
+        raise Trouble(f"{name}: {error.strerror}") from error
+
+
+@functools.lru_cache(maxsize=1 << 17)
 def address_text(number):
     return ".".join(str(number >> shift & 255) for shift in (24, 16, 8, 0))
 
 
+@functools.lru_cache(maxsize=1 << 17)
 def address_number(text):
     parts = text.split(".")
     if len(parts) != 4 or not all(part.isdigit() and int(part) < 256 for part in parts):
@@ -112,8 +193,7 @@ def packet_of(frame):
         return Packet("fragment", "it is a fragment of an IP packet", name, source, target)
     if not name:
         return Packet("protocol", f"its IP protocol is {data[9]}, and not ICMP, TCP or UDP", None, source, target)
-    reader = {"icmp": read_icmp, "tcp": read_tcp, "udp": read_udp}[name]
-    return reader(data[header:total], total - header, source, target)
+    return READERS[name](data[header:total], total - header, source, target)
 
 
 def read_udp(body, length, source, target):
@@ -145,6 +225,22 @@ def read_icmp(body, length, source, target):
         return Packet("invalid", "the packet that the ICMP error repeats is cut", "icmp", source, target)
     about = packet_text_short(inner)
     return Packet("error", f"an ICMP error of type {body[0]} code {body[1]} about {about}", "icmp", source, target, payload=inner)
+
+
+READERS = {"icmp": read_icmp, "tcp": read_tcp, "udp": read_udp}
+
+
+def inner_flow(packet):
+    """The flow of the packet that an ICMP error repeats, as that packet had it, or None."""
+    inner = packet.payload
+    header, name = (inner[0] & 15) * 4, PROTOCOLS.get(inner[9])
+    if not name or header < 20 or len(inner) < header + (6 if name == "icmp" else 4):
+        return None
+    source, target = struct.unpack_from(">II", inner, 12)
+    if name == "icmp":
+        kind, code, _, identifier = struct.unpack_from(">BBHH", inner, header)
+        return Flow(name, source, target, identifier, kind * 256 + code) if kind in ICMP_PAIRS else None
+    return Flow(name, source, target, *struct.unpack_from(">HH", inner, header))
 
 
 def packet_text_short(inner):
@@ -179,20 +275,54 @@ def packet_text(frame):
     source, target = address_text(packet.source), address_text(packet.target)
     if packet.kind != "flow":
         return f"{packet.proto or 'ip'} {source} > {target}: {packet.why}"
-    if packet.proto == "icmp":
-        return f"icmp {source} > {target} type {packet.second // 256} code {packet.second % 256} id {packet.first}"
-    text = f"{packet.proto} {source}:{packet.first} > {target}:{packet.second}"
+    text = ends_text(flow_of(packet))
     if packet.proto == "tcp":
         text += f" {flag_text(packet.flags)}"
     return text + (f", {len(packet.payload)} bytes of data" if packet.payload else "")
 
 
-def tuple_text(packet):
-    """The tuple of a packet of a flow, as a report prints it, with the protocol before it."""
-    source, target = address_text(packet.source), address_text(packet.target)
-    if packet.proto == "icmp":
-        return f"icmp src={source} dst={target} type={packet.second // 256} code={packet.second % 256} id={packet.first}"
-    return f"{packet.proto} src={source} dst={target} sport={packet.first} dport={packet.second}"
+# Flows
+
+
+def flow_of(packet):
+    """The tuple of a packet of a flow."""
+    return Flow(packet.proto, packet.source, packet.target, packet.first, packet.second)
+
+
+def inverse(flow):
+    """The tuple of the packets that go the other way."""
+    if flow.proto == "icmp":
+        return Flow("icmp", flow.target, flow.source, flow.first, ICMP_PAIRS[flow.second >> 8] * 256 + flow.second % 256)
+    return Flow(flow.proto, flow.target, flow.source, flow.second, flow.first)
+
+
+def pair_of(flow):
+    """A name of a flow that is the same in both directions."""
+    return min(flow, inverse(flow))
+
+
+def ends_text(flow):
+    source, target = address_text(flow.source), address_text(flow.target)
+    if flow.proto == "icmp":
+        return f"icmp {source} > {target} type {flow.second >> 8} code {flow.second & 255} id {flow.first}"
+    return f"{flow.proto} {source}:{flow.first} > {target}:{flow.second}"
+
+
+def tuple_text(flow):
+    """A tuple as a report prints it."""
+    ends = f"src={address_text(flow.source)} dst={address_text(flow.target)}"
+    if flow.proto == "icmp":
+        return f"{ends} type={flow.second >> 8} code={flow.second & 255} id={flow.first}"
+    return f"{ends} sport={flow.first} dport={flow.second}"
+
+
+def flow_of_words(proto, words):
+    """The tuple of these words of a report."""
+    values = [word.split("=", 1)[1] for word in words]
+    source, target = address_number(values[0]), address_number(values[1])
+    if proto == "icmp":
+        return Flow(proto, source, target, int(values[4]), int(values[2]) * 256 + int(values[3]))
+    return Flow(proto, source, target, int(values[2]), int(values[3]))
 
 
 # Reports
@@ -205,7 +335,7 @@ def read_report(name):
         raise Trouble(f"{name}: no report of ctreplay (a report begins with 'events N'; --summary prints none)")
     try:
         return split_report(lines)
-    except (IndexError, ValueError) as error:
+    except (IndexError, ValueError, KeyError, Trouble) as error:
         raise Trouble(f"{name}: the report is cut or changed") from error
 
 
@@ -227,44 +357,246 @@ def split_report(lines):
 
 def event_of(line):
     words = line.split()
-    thread, index = words[2].split(".")
-    fields = dict(word.split("=", 1) for word in words[3:] if "=" in word and not word.startswith(("src=", "dst=")))
-    number, kind = int(words[0]), words[1]
+    number, kind, (thread, index) = int(words[0]), words[1], words[2].split(".")
+    flows, rest = None, words[3:]
+    if kind == "confirm":
+        width = 5 if words[3] == "icmp" else 4
+        flows = (flow_of_words(words[3], words[4 : 4 + width]), flow_of_words(words[3], words[4 + width : 4 + 2 * width]))
+        rest = words[4 + 2 * width :]
+    fields = dict(word.split("=", 1) for word in rest if "=" in word)
     entry = number if kind == "confirm" else int(fields.get("id", fields.get("master", -1)))
-    return Event(number, kind, thread if thread == "s" else int(thread), int(index), entry, line, fields)
-
-
-def tuples_of(event):
-    """Both tuples of a confirm, each with its protocol before it."""
-    words = event.text.split()
-    width = 5 if words[3] == "icmp" else 4
-    pieces = words[4 : 4 + 2 * width]
-    return tuple(" ".join([words[3], *pieces[at : at + width]]) for at in (0, width))
-
-
-def fields_of(flow):
-    return dict(word.split("=") for word in flow.split()[1:])
+    return Event(number, kind, thread if thread == "s" else int(thread), int(index), entry, line, fields, flows)
 
 
 def until_of(event):
     return int(event.fields["until"])
 
 
-def moment_of(event, captures):
-    """When an event was: its packet's time; of a command of the script, the latest time of all frames."""
-    if event.thread == "s":
-        return max((frame.moment for frames in captures for frame in frames), default=0)
-    return captures[event.thread][event.index].moment
+def verdict_of(text):
+    """A verdict: its first word, its second where that is a reason, the entry, and the first point."""
+    words = text.split()
+    entry = point = why = None
+    for word in words[1:]:
+        if word[0] == "@":
+            point = int(word[1:])
+            break
+        if word.startswith("id="):
+            entry = int(word[3:])
+        else:
+            why = word
+    return Verdict(words[0], why, entry, point)
 
 
-def read_work(report_name, capture_names):
+class Work:
     """A report with its captures, of which each has to have a frame for each verdict."""
-    report = read_report(report_name)
-    captures = [read_capture(name) for name in capture_names]
-    wanted, found = [len(verdicts) for verdicts in report.threads], [len(frames) for frames in captures]
-    if wanted != found:
-        raise Trouble(f"{report_name} is a report of other captures: it has {wanted} packets, and these have {found}")
-    return report, captures
+
+    def __init__(self, report_name, names):
+        self.report, self.names = read_report(report_name), names
+        self.captures = [read_capture(name) for name in names]
+        wanted, found = [len(verdicts) for verdicts in self.report.threads], [len(frames) for frames in self.captures]
+        if wanted != found:
+            raise Trouble(f"{report_name} is a report of other captures: it has {wanted} packets, and these have {found}")
+
+    @functools.cached_property
+    def packets(self):
+        return [[packet_of(frame) for frame in frames] for frames in self.captures]
+
+    @functools.cached_property
+    def verdicts(self):
+        return [[verdict_of(text) for text in texts] for texts in self.report.threads]
+
+    @functools.cached_property
+    def start(self):
+        return min((frame.moment for frames in self.captures for frame in frames), default=0)
+
+    @functools.cached_property
+    def end(self):
+        return max((frame.moment for frames in self.captures for frame in frames), default=0)
+
+    def moment_of(self, event):
+        """When an event was: its packet's time; of a command of the script, the latest time of all frames."""
+        return self.end if event.thread == "s" else self.captures[event.thread][event.index].moment
+
+    def judged(self):
+        """Thread, index, frame, packet and verdict of each packet."""
+        for thread, frames in enumerate(self.captures):
+            yield from (
+                (thread, index, frame, packet, verdict)
+                for index, (frame, packet, verdict) in enumerate(zip(frames, self.packets[thread], self.verdicts[thread]))
+            )
+
+    def name_of(self, thread, index, first=0):
+        """What to call a packet, or the maker of an event; with several captures the capture is named."""
+        if thread == "s":
+            return f"command {index} of the script"
+        where = f" of capture {thread}" if len(self.captures) > 1 else ""
+        return f"packet {index + first}{where}"
+
+
+# Lives: when each entry was there
+
+
+class Life:
+    """An entry: its confirm, when it began, when and why it ended or None, and its parts in order.
+
+    A part is the moment from which it held, the deadline that it had from then on, and the event that gave it. Times of
+    several captures need not rise along the history; no part begins before the one that it follows.
+    """
+
+    def __init__(self, confirm, begun):
+        self.confirm, self.begun, self.ended, self.why, self.parts = confirm, begun, None, None, []
+
+    def part_at(self, moment):
+        """The last part at a moment, or None where there is none yet."""
+        at = bisect_right(self.parts, moment, key=lambda part: part[0])
+        return self.parts[at - 1] if at else None
+
+
+def lives_of(work):
+    """The life of each entry, by its id, in order of the ids."""
+    lives = {}
+    for event in work.report.events:
+        if event.kind not in ("confirm", "touch", "destroy"):
+            continue
+        moment = work.moment_of(event)
+        if event.kind == "confirm":
+            lives[event.number] = Life(event, moment)
+        life = lives[event.entry]
+        moment = max(moment, life.parts[-1][0] if life.parts else moment)
+        if event.kind == "destroy":
+            life.ended, life.why = moment, event.text.split()[-1]
+        else:
+            life.parts.append((moment, until_of(event), event))
+    return lives
+
+
+def rows_at(lives, moment):
+    """The rows of conntrack -L at a moment: the entries that were there and not past their deadline, with seconds left."""
+    for number, life in lives.items():
+        part = life.part_at(moment) if life.begun <= moment and (life.ended is None or life.ended > moment) else None
+        if part and part[1] > moment:
+            yield number, row_text(life, part, moment)
+
+
+def row_text(life, part, moment):
+    original, reply = life.confirm.flows
+    words = part[2].text.split()
+    state = part[2].fields.get("state")
+    pieces = [f"{original.proto:<8} {PROTOCOL_NUMBERS[original.proto]} {(part[1] - moment) // 1_000_000}"]
+    pieces += [state] if state else []
+    pieces += [tuple_text(original)] + ([] if "replied" in words else ["[UNREPLIED]"]) + [tuple_text(reply)]
+    pieces += ["[ASSURED]"] if "assured" in words else []
+    zone = life.confirm.fields.get("zone")
+    return " ".join(pieces + ([f"zone={zone}"] if zone else []))
+
+
+# The history, point by point
+
+
+class Tally:
+    """How many of some deadlines lie at or before a moment, while deadlines come and go: a tree of partial sums."""
+
+    def __init__(self, order):
+        self.order, self.sums, self.count = order, {}, 0
+
+    def change(self, deadline, by):
+        self.count += by
+        place, sums = bisect_left(self.order, deadline) + 1, self.sums
+        while place <= len(self.order):
+            sums[place] = sums.get(place, 0) + by
+            place += place & -place
+
+    def past(self, moment):
+        place, total = bisect_right(self.order, moment), 0
+        while place:
+            total += self.sums.get(place, 0)
+            place &= place - 1
+        return total
+
+
+class Table:
+    """The live entries of a history, at a point that only goes forward, and who holds the numbers that are asked for.
+
+    wanted are pairs of a rule and a flow that it is for: of each, `held` tells how many of the rule's numbers for that
+    flow are held, and how many of these by entries past their deadline.
+    """
+
+    def __init__(self, events, wanted=()):
+        self.events, self.point, self.live, self.places = events, 0, {}, {}
+        self.order = sorted({until_of(event) for event in events if "until" in event.fields})
+        self.all = Tally(self.order)
+        for rule, flow in wanted:
+            end, low, high = place_of(rule, flow)
+            self.places.setdefault(end, {}).setdefault((low, high), Tally(self.order))
+
+    def move_to(self, point):
+        for event in self.events[self.point : point]:
+            if event.kind == "confirm":
+                tallies = [self.all, *self.tallies_of(event)]
+                self.set_deadline(event.number, (event, until_of(event), tallies), None)
+            elif event.kind == "touch":
+                before = self.live[event.entry]
+                self.set_deadline(event.entry, (before[0], until_of(event), before[2]), before)
+            elif event.kind == "destroy":
+                self.set_deadline(event.entry, None, self.live[event.entry])
+        self.point = max(point, self.point)
+
+    def set_deadline(self, number, after, before):
+        for tally in (after or before)[2]:
+            if before:
+                tally.change(before[1], -1)
+            if after:
+                tally.change(after[1], 1)
+        if after:
+            self.live[number] = after
+        else:
+            del self.live[number]
+
+    def tallies_of(self, confirm):
+        """The tallies of the numbers that a new entry holds: both its tuples are taken for any other entry."""
+        for flow in set(confirm.flows):
+            for end, number in ends_held(flow):
+                for (low, high), tally in self.places.get(end, {}).items():
+                    if low <= number <= high:
+                        yield tally
+
+    def held(self, rule, flow):
+        end, low, high = place_of(rule, flow)
+        return self.places[end][low, high]
+
+
+def ends_held(flow):
+    """For what ends of a translation a tuple that is live takes a number, and which: as `place_of` names these ends."""
+    if flow.proto == "icmp":
+        yield ("icmp", "snat", flow.target, flow.source, flow.second), flow.first
+        yield ("icmp", "dnat", flow.source, flow.target, flow.second), flow.first
+    else:
+        yield (flow.proto, "snat", flow.target, flow.source, flow.first), flow.second
+        yield (flow.proto, "dnat", flow.source, flow.target, flow.second), flow.first
+
+
+def place_of(rule, flow):
+    """What the numbers of a rule are shared by for this flow: all flows of one end that differ in the number alone."""
+    low, high = numbers_of(rule, flow)
+    other = inverse(flow)
+    if flow.proto == "icmp":
+        fixed = other.second
+    else:
+        fixed = other.first if rule.side == "snat" else other.second
+    remote = other.source if rule.side == "snat" else other.target
+    return (flow.proto, rule.side, rule.address, remote, fixed), low, high
+
+
+def holders_at(events, point, rule, flow):
+    """Each number that this rule may give this flow and that is held after so many events: its confirm and deadline."""
+    end, low, high = place_of(rule, flow)
+    held = {}
+    for confirm, until in live_at(events, point).values():
+        for known in confirm.flows:
+            for it, number in ends_held(known):
+                if it == end and low <= number <= high:
+                    held[number] = (confirm, until)
+    return held, high - low + 1
 
 
 def live_at(events, point):
@@ -280,6 +612,53 @@ def live_at(events, point):
     return live
 
 
+# Flows that were refused
+
+
+class Refusal:
+    """A flow that was refused or dropped: its first such packet, and how many packets of it came behind without an entry."""
+
+    def __init__(self, word, flow, thread, index, moment, point):
+        self.word, self.flow, self.thread, self.index, self.moment, self.point = word, flow, thread, index, moment, point
+        self.later, self.last = 0, moment
+
+
+def refusals_of(work):
+    """The flows that were FULL, NOPORT or CLASH, or that early drop ended, in order of their first such packets.
+
+    A flow's later packets each try again, so that one flow has many verdicts. They are its own until one gets an entry.
+    """
+    found, dropped = [], dropped_by(work.report.events)
+    waiting = {}
+    for thread, index, frame, packet, verdict in work.judged():
+        for event, confirm in dropped.get((thread, index), ()):
+            refusal = Refusal("dropped", confirm.flows[0], thread, index, frame.moment, event.number)
+            found.append(refusal)
+            waiting.update({(thread, pair_of(flow)): refusal for flow in confirm.flows})
+        if packet.kind != "flow":
+            continue
+        key = (thread, pair_of(flow_of(packet)))
+        if verdict.word in REFUSED or verdict.entry is None:
+            if key in waiting:
+                waiting[key].later += 1
+                waiting[key].last = frame.moment
+            elif verdict.word in REFUSED:
+                waiting[key] = Refusal(verdict.word, flow_of(packet), thread, index, frame.moment, verdict.point)
+                found.append(waiting[key])
+        else:
+            waiting.pop(key, None)
+    return found
+
+
+def dropped_by(events):
+    """The entries that a packet's early drop ended, by the packet: pairs of the destroy and the confirm."""
+    found = {}
+    for event in events:
+        if event.kind == "destroy" and event.text.endswith(" dropped"):
+            found.setdefault((event.thread, event.index), []).append((event, events[event.entry]))
+    return found
+
+
 # Rules
 
 
@@ -292,7 +671,7 @@ def read_rules(name):
             continue
         try:
             rules.append(rule_of(number, words))
-        except (IndexError, ValueError) as error:
+        except (IndexError, ValueError, Trouble) as error:
             raise Trouble(f"{name}: line {number} is no rule") from error
     return rules
 
@@ -304,65 +683,51 @@ def rule_of(number, words):
     address, _, ports = words[-1].partition(":")
     low, _, high = ports.partition("-")
     low, high = (int(low), int(high or low)) if ports else (None, None)
-    return Rule(number, words[0], options, address, low, high, " ".join(words))
+    return Rule(number, words[0], options, address_number(address), low, high, " ".join(words), test_of(options))
 
 
-def in_block(address, block):
-    base, _, length = block.partition("/")
-    shift = 32 - int(length or 32)
-    return address_number(address) >> shift == address_number(base) >> shift
+def test_of(options):
+    """The options of a rule in the form in which flows are compared with them."""
+    pieces = [options.get("-p")]
+    for name in ("-s", "-d"):
+        base, _, length = options.get(name, "0.0.0.0/0").partition("/")
+        shift = 32 - int(length or 32)
+        pieces += [address_number(base) >> shift, shift]
+    return (*pieces, *(int(options[name]) if name in options else None for name in ("--sport", "--dport")))
+
+
+def is_for(rule, flow):
+    proto, source, source_shift, target, target_shift, first, second = rule.test
+    return (
+        (proto is None or proto == flow.proto)
+        and flow.source >> source_shift == source
+        and flow.target >> target_shift == target
+        and (first is None or first == flow.first)
+        and (second is None or second == flow.second)
+    )
 
 
 def rule_for(rules, flow):
     """The first rule for a tuple, or None."""
-    fields, proto = fields_of(flow), flow.split()[0]
     for rule in rules:
-        wants = rule.options
-        if (
-            wants.get("-p", proto) == proto
-            and in_block(fields["src"], wants.get("-s", "0.0.0.0/0"))
-            and in_block(fields["dst"], wants.get("-d", "0.0.0.0/0"))
-            and wants.get("--sport") in (None, fields.get("sport"))
-            and wants.get("--dport") in (None, fields.get("dport"))
-        ):
+        if is_for(rule, flow):
             return rule
     return None
 
 
 def numbers_of(rule, flow):
     """The lowest and the highest number that a rule may give a flow: a port, or of ICMP the identifier."""
-    fields, proto = fields_of(flow), flow.split()[0]
-    if proto == "icmp":
+    if flow.proto == "icmp":
         return 0, 65535
     if rule.low is not None:
         return rule.low, rule.high
     if rule.side == "dnat":
-        return int(fields["dport"]), int(fields["dport"])
-    port = int(fields["sport"])
-    return (1, 511) if port < 512 else (600, 1023) if port < 1024 else (1024, 65535)
+        return flow.second, flow.second
+    return (1, 511) if flow.first < 512 else (600, 1023) if flow.first < 1024 else (1024, 65535)
 
 
-def number_field(rule, flow):
-    """Where in the reply tuple the number stands that a rule chose."""
-    if flow.startswith("icmp"):
-        return "id"
-    return "dport" if rule.side == "snat" else "sport"
-
-
-def held_numbers(rule, flow, live, moment):
-    """Of the numbers that a rule may give this flow: those that entries hold, with the latest deadline of each."""
-    low, high = numbers_of(rule, flow)
-    wanted, proto, field = fields_of(flow), flow.split()[0], number_field(rule, flow)
-    reply_source, reply_target = (wanted["dst"], rule.address) if rule.side == "snat" else (rule.address, wanted["src"])
-    other = ("sport", wanted.get("dport")) if rule.side == "snat" else ("dport", wanted.get("sport"))
-    held = {}
-    for event, until in live.values():
-        for known in tuples_of(event):
-            fields = fields_of(known)
-            if (fields["src"], fields["dst"]) != (reply_source, reply_target) or known.split()[0] != proto:
-                continue
-            if proto != "icmp" and fields[other[0]] != other[1]:
-                continue
-            if low <= int(fields[field]) <= high:
-                held[int(fields[field])] = max(until, held.get(int(fields[field]), 0))
-    return held, sum(1 for until in held.values() if until <= moment), high - low + 1
+def number_given(rule, flow, reply):
+    """The number that a flow came with, and the one that its reply tuple has for it."""
+    if flow.proto == "icmp":
+        return flow.first, reply.first
+    return (flow.first, reply.second) if rule.side == "snat" else (flow.second, reply.first)
