@@ -2,9 +2,9 @@
 # Shows what this machine's kernel does where docs/KERNEL.md says that it differs: one paragraph for each row that can be
 # shown in half a minute, in the network namespaces of examples/net.sh. For measuring alone; nothing is compared.
 #
-# usage: kernel_rows.sh [--full]
-# With --full the table is filled too, for which the kernel's limit of entries, which all namespaces share, is 40 for some
-# seconds. Status 77 and one line where this machine does not let it.
+# usage: kernel_rows.sh [ROW..]
+# A ROW is a function below; without one it is all but full_table, for which the kernel's limit of entries, which all
+# namespaces share, is 40 for some seconds. Status 77 and one line where this machine does not let it.
 programs='ip ss iptables conntrack tcpdump curl dig dnsmasq vsftpd ping python3 sysctl'
 # shellcheck source=examples/net.sh
 . "$(dirname "$0")/../examples/net.sh"
@@ -80,7 +80,7 @@ active() {
     start "$router" tcpdump -Z root -U -i out0 -w "$room/active.out" port 21
     sleep 1
     fetch --disable-eprt --ftp-port - ftp://198.51.100.21/numbers
-    sleep 0.5
+    sleep 1.5
     for side in in out; do
         printf '%s: ' "$side"
         grep -aoE 'PORT [0-9,]+' "$room/active.$side" || echo none
@@ -99,7 +99,7 @@ passive_inside() {
     start "$router" tcpdump -Z root -U -i out0 -w "$room/passive.out" port 21
     sleep 1
     in_space "$outside" curl -s -m 5 -o /dev/null --disable-epsv --interface 198.51.100.80 ftp://203.0.113.5/numbers || echo "curl ended with status $?"
-    sleep 0.5
+    sleep 1.5
     for side in in out; do
         printf '%s: ' "$side"
         grep -aoE '227 [^(]*\([0-9,]+' "$room/passive.$side" || echo none
@@ -152,7 +152,7 @@ for port in range(42000, 42060):
 PYTHON
     sysctl -qw "net.netfilter.nf_conntrack_max=$before"
     entries | wc -l
-    sleep 0.5
+    sleep 1.5
     tcpdump -nr "$room/full.out" 2>/dev/null | wc -l
     in_space "$router" conntrack -S 2>/dev/null | grep -o 'early_drop=[0-9]*' | sort | uniq -c
 }
@@ -160,11 +160,10 @@ PYTHON
 uname -r
 make_net
 start_servers
-for row in syn_again unacknowledged udp_assured active passive_inside fragments hairpin taken; do
-    flush
-    "$row"
+for row in "${@:-syn_again unacknowledged udp_assured active passive_inside fragments hairpin taken}"; do
+    # shellcheck disable=SC2086
+    for name in $row; do
+        flush
+        "$name"
+    done
 done
-if [ "${1:-}" = --full ]; then
-    flush
-    full_table
-fi
