@@ -63,7 +63,7 @@ def inside_flows(name):
     for frame in files.read_capture(os.path.join(EXAMPLES, f"{name}.in.pcap")):
         packet = files.packet_of(frame)
         if packet.kind == "flow":
-            flows.setdefault(files.pair_of(files.flow_of(packet)), files.flow_of(packet))
+            flows.setdefault(files.pair_of(packet.flow), packet.flow)
     return set(flows.values())
 
 
@@ -72,7 +72,7 @@ def outside_packets(frames, originals):
     found = {}
     for frame in frames:
         packet = files.packet_of(frame)
-        flow = originals.get(files.flow_of(packet)) if packet.kind == "flow" else None
+        flow = originals.get(packet.flow) if packet.kind == "flow" else None
         if packet.kind == "error" and (about := files.inner_flow(packet)):
             flow = originals.get(files.inverse(about))
         if flow:
@@ -230,7 +230,7 @@ def check_rounds(room):
 
     def flips(_options, _name, _frames, sent):
         runs.append(len(sent))
-        flow = files.flow_of(files.packet_of(files.read_capture(inside)[0]))
+        flow = files.packet_of(files.read_capture(inside)[0]).flow
         reply = files.inverse(flow)._replace(target=files.address_number(OUTER), second=1024 + len(runs) % 2)
         return maker.Round({0: files.Verdict("NEW", None, 0, 1)}, {0: (flow, reply)}, {})
 

@@ -6,6 +6,7 @@ its logarithm, so that a report of some hundred thousand lines is read in second
 """
 import datetime
 import functools
+import gc
 import os
 import signal
 import struct
@@ -17,11 +18,10 @@ from collections import namedtuple
 import refusal_hints as hints
 
 Frame = namedtuple("Frame", "moment link data length")
-Event = namedtuple("Event", "number kind thread index entry text fields flows")
 Report = namedtuple("Report", "events threads script")
 Verdict = namedtuple("Verdict", "word why entry point")
 Rule = namedtuple("Rule", "line side options address low high text test")
-Packet = namedtuple("Packet", "kind why proto source target first second flags payload", defaults=[None] * 8)
+Packet = namedtuple("Packet", "kind why proto source target first second flags payload flow", defaults=[None] * 9)
 # As the program has it: of TCP and UDP `first` and `second` are the ports; of ICMP the identifier, and type and code.
 Flow = namedtuple("Flow", "proto source target first second")
 
@@ -32,6 +32,7 @@ ICMP_ERRORS = (3, 4, 5, 11, 12)
 FLAG_LETTERS = ((0x02, "SYN"), (0x01, "FIN"), (0x04, "RST"), (0x08, "PSH"), (0x10, "ACK"), (0x20, "URG"))
 VALID_FLAGS = {0x02, 0x04, 0x10, 0x11, 0x12, 0x14, 0x22, 0x30, 0x31}
 LINKS = (1, 101)
+IP_HEADER = struct.Struct(">HxxHxBxxII")
 REFUSED = ("FULL", "NOPORT", "CLASH")
 LONGEST_FRAME = 262_144
 
@@ -43,6 +44,8 @@ class Trouble(Exception):
 def run_tool(name, main):
     """Runs a tool: a trouble is one line and status 2, and a reader that has gone away ends it quietly."""
     signal.signal(signal.SIGPIPE, signal.SIG_DFL)
+    # Some hundred thousand records are made and kept to the end: to look for those that are not needed any more is in vain.
+    gc.disable()
     try:
         status = main(sys.argv[1:])
     except Trouble as trouble:
@@ -110,25 +113,18 @@ def read_capture(name):
     link = struct.unpack_from(order + "I", data, 20)[0] & 0xFFFF
     if link not in LINKS:
         raise refused_capture(name, f"link type {link}", data)
-    frames, at, header = [], 24, struct.Struct(order + "IIII")
-    while at < len(data):
-        frames.append(frame_at(name, data, at, len(frames), (header, divisor, link)))
-        at += 16 + len(frames[-1].data)
+    frames, at, header, size = [], 24, struct.Struct(order + "IIII"), len(data)
+    while at < size:
+        if at + 16 > size:
+            raise refused_capture(name, f"record {len(frames)} cut at offset {at}", data)
+        seconds, fraction, captured, length = header.unpack_from(data, at)
+        end = at + 16 + captured
+        if captured > LONGEST_FRAME or fraction >= 1_000_000 * divisor or end > size:
+            what = "too long" if captured > LONGEST_FRAME else f"cut at offset {at}" if fraction < 1_000_000 * divisor else "fraction"
+            raise refused_capture(name, f"record {len(frames)} {what}", data)
+        frames.append(Frame(seconds * 1_000_000 + fraction // divisor, link, data[at + 16 : end], length))
+        at = end
     return frames
-
-
-def frame_at(name, data, at, index, form):
-    header, divisor, link = form
-    if at + 16 > len(data):
-        raise refused_capture(name, f"record {index} cut at offset {at}", data)
-    seconds, fraction, captured, length = header.unpack_from(data, at)
-    if captured > LONGEST_FRAME:
-        raise refused_capture(name, f"record {index} too long", data)
-    if fraction >= 1_000_000 * divisor:
-        raise refused_capture(name, f"record {index} fraction", data)
-    if at + 16 + captured > len(data):
-        raise refused_capture(name, f"record {index} cut at offset {at}", data)
-    return Frame(seconds * 1_000_000 + fraction // divisor, link, data[at + 16 : at + 16 + captured], length)
 
 
 def refused_capture(name, fault, data):
@@ -184,15 +180,14 @@ def packet_of(frame):
         return data
     if len(data) < 20 or data[0] >> 4 != 4 or data[0] & 15 < 5:
         return Packet("invalid", "the IP header is cut, or is none of version 4")
-    header, (total, _, offset) = (data[0] & 15) * 4, struct.unpack_from(">HHH", data, 2)
-    source, target = struct.unpack_from(">II", data, 12)
-    name = PROTOCOLS.get(data[9])
+    total, offset, number, source, target = IP_HEADER.unpack_from(data, 2)
+    header, name = (data[0] & 15) * 4, PROTOCOLS.get(number)
     if total < header:
         return Packet("invalid", "the IP total length is less than its header")
     if offset & 0x3FFF:
         return Packet("fragment", "it is a fragment of an IP packet", name, source, target)
     if not name:
-        return Packet("protocol", f"its IP protocol is {data[9]}, and not ICMP, TCP or UDP", None, source, target)
+        return Packet("protocol", f"its IP protocol is {number}, and not ICMP, TCP or UDP", None, source, target)
     return READERS[name](data[header:total], total - header, source, target)
 
 
@@ -200,7 +195,7 @@ def read_udp(body, length, source, target):
     if length < 8 or len(body) < 6 or not 8 <= struct.unpack_from(">H", body, 4)[0] <= length:
         return Packet("invalid", "the UDP header is cut, or its length is wrong", "udp", source, target)
     first, second = struct.unpack_from(">HH", body)
-    return Packet("flow", None, "udp", source, target, first, second, payload=body[8:])
+    return Packet("flow", None, "udp", source, target, first, second, None, body[8:], Flow("udp", source, target, first, second))
 
 
 def read_tcp(body, length, source, target):
@@ -209,15 +204,16 @@ def read_tcp(body, length, source, target):
     first, second = struct.unpack_from(">HH", body)
     if body[13] & 0x37 not in VALID_FLAGS:
         return Packet("invalid", f"no connection has the flags {flag_text(body[13])}", "tcp", source, target, first, second, body[13])
-    return Packet("flow", None, "tcp", source, target, first, second, body[13], body[(body[12] >> 4) * 4 :])
+    flow = Flow("tcp", source, target, first, second)
+    return Packet("flow", None, "tcp", source, target, first, second, body[13], body[(body[12] >> 4) * 4 :], flow)
 
 
 def read_icmp(body, length, source, target):
     if length < 8 or len(body) < 6:
         return Packet("invalid", "the ICMP header is cut", "icmp", source, target)
     if body[0] in ICMP_PAIRS:
-        identifier = struct.unpack_from(">H", body, 4)[0]
-        return Packet("flow", None, "icmp", source, target, identifier, body[0] * 256 + body[1])
+        identifier, second = struct.unpack_from(">H", body, 4)[0], body[0] * 256 + body[1]
+        return Packet("flow", None, "icmp", source, target, identifier, second, flow=Flow("icmp", source, target, identifier, second))
     if body[0] not in ICMP_ERRORS:
         return Packet("invalid", f"ICMP type {body[0]} is neither a query, an answer nor an error", "icmp", source, target)
     inner = body[8:]
@@ -275,18 +271,13 @@ def packet_text(frame):
     source, target = address_text(packet.source), address_text(packet.target)
     if packet.kind != "flow":
         return f"{packet.proto or 'ip'} {source} > {target}: {packet.why}"
-    text = ends_text(flow_of(packet))
+    text = ends_text(packet.flow)
     if packet.proto == "tcp":
         text += f" {flag_text(packet.flags)}"
     return text + (f", {len(packet.payload)} bytes of data" if packet.payload else "")
 
 
 # Flows
-
-
-def flow_of(packet):
-    """The tuple of a packet of a flow."""
-    return Flow(packet.proto, packet.source, packet.target, packet.first, packet.second)
 
 
 def inverse(flow):
@@ -296,6 +287,7 @@ def inverse(flow):
     return Flow(flow.proto, flow.target, flow.source, flow.second, flow.first)
 
 
+@functools.lru_cache(maxsize=1 << 18)
 def pair_of(flow):
     """A name of a flow that is the same in both directions."""
     return min(flow, inverse(flow))
@@ -318,11 +310,10 @@ def tuple_text(flow):
 
 def flow_of_words(proto, words):
     """The tuple of these words of a report."""
-    values = [word.split("=", 1)[1] for word in words]
-    source, target = address_number(values[0]), address_number(values[1])
+    source, target = address_number(words[0][4:]), address_number(words[1][4:])
     if proto == "icmp":
-        return Flow(proto, source, target, int(values[4]), int(values[2]) * 256 + int(values[3]))
-    return Flow(proto, source, target, int(values[2]), int(values[3]))
+        return Flow(proto, source, target, int(words[4][3:]), int(words[2][5:]) * 256 + int(words[3][5:]))
+    return Flow(proto, source, target, int(words[2][6:]), int(words[3][6:]))
 
 
 # Reports
@@ -355,26 +346,40 @@ def split_report(lines):
     return Report(events, threads, lines[at:])
 
 
+class Event:
+    """An event of the history: its number, its kind, who made it, the entry that it is of, its line, the deadline that it gives
+    that entry or None, and of a confirm both tuples."""
+
+    __slots__ = ("number", "kind", "thread", "index", "entry", "text", "until", "flows")
+
+    @property
+    def fields(self):
+        """What stands behind the tuples as NAME=VALUE."""
+        return dict(word.split("=", 1) for word in self.text.split() if "=" in word)
+
+
 def event_of(line):
-    words = line.split()
-    number, kind, (thread, index) = int(words[0]), words[1], words[2].split(".")
-    flows, rest = None, words[3:]
-    if kind == "confirm":
+    words, event = line.split(), Event()
+    event.number, event.kind, event.text, event.until, event.flows = int(words[0]), words[1], line, None, None
+    thread, _, index = words[2].partition(".")
+    event.thread, event.index = thread if thread == "s" else int(thread), int(index)
+    if event.kind == "touch":
+        event.entry, event.until = int(words[3][3:]), int(words[5][6:])
+    elif event.kind == "confirm":
         width = 5 if words[3] == "icmp" else 4
-        flows = (flow_of_words(words[3], words[4 : 4 + width]), flow_of_words(words[3], words[4 + width : 4 + 2 * width]))
-        rest = words[4 + 2 * width :]
-    fields = dict(word.split("=", 1) for word in rest if "=" in word)
-    entry = number if kind == "confirm" else int(fields.get("id", fields.get("master", -1)))
-    return Event(number, kind, thread if thread == "s" else int(thread), int(index), entry, line, fields, flows)
-
-
-def until_of(event):
-    return int(event.fields["until"])
+        event.flows = (flow_of_words(words[3], words[4 : 4 + width]), flow_of_words(words[3], words[4 + width : 4 + 2 * width]))
+        event.entry, event.until = event.number, int(words[4 + 2 * width][6:])
+    else:
+        fields = event.fields
+        event.entry = int(fields.get("id", fields.get("master", -1)))
+    return event
 
 
 def verdict_of(text):
     """A verdict: its first word, its second where that is a reason, the entry, and the first point."""
     words = text.split()
+    if len(words) == 3 and words[1][:3] == "id=":
+        return Verdict(words[0], None, int(words[1][3:]), int(words[2][1:]))
     entry = point = why = None
     for word in words[1:]:
         if word[0] == "@":
@@ -466,7 +471,7 @@ def lives_of(work):
         if event.kind == "destroy":
             life.ended, life.why = moment, event.text.split()[-1]
         else:
-            life.parts.append((moment, until_of(event), event))
+            life.parts.append((moment, event.until, event))
     return lives
 
 
@@ -498,11 +503,12 @@ class Tally:
 
     def __init__(self, order):
         self.order, self.sums, self.count = order, {}, 0
+        self.size = len(order)
 
     def change(self, deadline, by):
         self.count += by
         place, sums = bisect_left(self.order, deadline) + 1, self.sums
-        while place <= len(self.order):
+        while place <= self.size:
             sums[place] = sums.get(place, 0) + by
             place += place & -place
 
@@ -518,12 +524,12 @@ class Table:
     """The live entries of a history, at a point that only goes forward, and who holds the numbers that are asked for.
 
     wanted are pairs of a rule and a flow that it is for: of each, `held` tells how many of the rule's numbers for that
-    flow are held, and how many of these by entries past their deadline.
+    flow are held, and how many of these by entries past their deadline; `all` tells that of all entries, if it is_whole.
     """
 
-    def __init__(self, events, wanted=()):
-        self.events, self.point, self.live, self.places = events, 0, {}, {}
-        self.order = sorted({until_of(event) for event in events if "until" in event.fields})
+    def __init__(self, events, wanted=(), is_whole=True):
+        self.events, self.point, self.live, self.places, self.is_whole = events, 0, {}, {}, is_whole
+        self.order = sorted({event.until for event in events if event.until is not None})
         self.all = Tally(self.order)
         for rule, flow in wanted:
             end, low, high = place_of(rule, flow)
@@ -532,11 +538,11 @@ class Table:
     def move_to(self, point):
         for event in self.events[self.point : point]:
             if event.kind == "confirm":
-                tallies = [self.all, *self.tallies_of(event)]
-                self.set_deadline(event.number, (event, until_of(event), tallies), None)
+                tallies = [*([self.all] if self.is_whole else []), *self.tallies_of(event)]
+                self.set_deadline(event.number, (event, event.until, tallies), None)
             elif event.kind == "touch":
                 before = self.live[event.entry]
-                self.set_deadline(event.entry, (before[0], until_of(event), before[2]), before)
+                self.set_deadline(event.entry, (before[0], event.until, before[2]), before)
             elif event.kind == "destroy":
                 self.set_deadline(event.entry, None, self.live[event.entry])
         self.point = max(point, self.point)
@@ -604,9 +610,9 @@ def live_at(events, point):
     live = {}
     for event in events[:point]:
         if event.kind == "confirm":
-            live[event.number] = (event, until_of(event))
+            live[event.number] = (event, event.until)
         elif event.kind == "touch":
-            live[event.entry] = (live[event.entry][0], until_of(event))
+            live[event.entry] = (live[event.entry][0], event.until)
         elif event.kind == "destroy":
             del live[event.entry]
     return live
@@ -637,13 +643,13 @@ def refusals_of(work):
             waiting.update({(thread, pair_of(flow)): refusal for flow in confirm.flows})
         if packet.kind != "flow":
             continue
-        key = (thread, pair_of(flow_of(packet)))
+        key = (thread, pair_of(packet.flow))
         if verdict.word in REFUSED or verdict.entry is None:
             if key in waiting:
                 waiting[key].later += 1
                 waiting[key].last = frame.moment
             elif verdict.word in REFUSED:
-                waiting[key] = Refusal(verdict.word, flow_of(packet), thread, index, frame.moment, verdict.point)
+                waiting[key] = Refusal(verdict.word, packet.flow, thread, index, frame.moment, verdict.point)
                 found.append(waiting[key])
         else:
             waiting.pop(key, None)
