@@ -239,7 +239,7 @@ def check_rounds(room):
     status = maker.main(["--rules", write(room, "made.rules", RULES), "--to", f"{room}/met.pcap", inside])
     said = "\n".join(lines)
     count("tools/from-inside: eight rounds at most", (status, len(runs)) == (1, 8), f"{status} {runs}")
-    count("tools/from-inside: names what still changes", "still changing after 8 rounds: 1 flows\n  packet 1 udp 198.51.100.1:53" in said, said)
+    count("tools/from-inside: names what still changes", "still changing after 8 rounds: 1 flow\n  packet 1 udp 198.51.100.1:53" in said, said)
 
 
 # Flows that were refused
@@ -313,13 +313,13 @@ def check_compare(room):
     ran = tool("compare", one, other, *names)
     wants("tools/compare: another order of the history", ran, 0, "no flow, verdict or translation differs\n")
     other = write(room, "other.report", OTHER.replace("src=198.51.100.1 dst=10.0.0.2 sport=53 dport=1 until", "src=198.51.100.1 dst=192.0.2.1 sport=53 dport=9 until"))
-    texts = ("1 packets of 1 flows differ; 1 flows have another translation", "NEW in both, another entry", "udp 10.0.0.2:1 > 198.51.100.1:53: 1 packets", "dst=10.0.0.2 sport=53 dport=1 -> src=198.51.100.1 dst=192.0.2.1 sport=53 dport=9", "at the end only in the second report: 1 entries")
+    texts = ("1 packet of 1 flow got something else; 1 flow another translation", "NEW in both, another entry", "udp 10.0.0.2:1 > 198.51.100.1:53: 1 packet\n", "dst=10.0.0.2 sport=53 dport=1 -> src=198.51.100.1 dst=192.0.2.1 sport=53 dport=9", "at the end only in the second report: 1 of the entries")
     wants("tools/compare: another translation", tool("compare", one, other, *names), 1, *texts)
     capture, rules = refused_capture(room), write(room, "two.rules", "snat -p udp to 192.0.2.1:1024-1025\n")
     first = report_of(room, "--rules", rules, capture, name="first.report")
     second = report_of(room, "--rules", write(room, "three.rules", "snat -p udp to 192.0.2.1:1024-1026\n"), capture, name="second.report")
     words = [line.split()[1] for line in read(second).split("thread")[1].splitlines()[1:8]]
-    wants("tools/compare: more ports", tool("compare", first, second, capture), 1, "udp 10.0.0.3:5000 > 198.51.100.1:53: 4 packets", "packets of 1 flows: NOPORT -> NEW", "packet 2: NOPORT -> NEW, replies")
+    wants("tools/compare: more ports", tool("compare", first, second, capture), 1, "udp 10.0.0.3:5000 > 198.51.100.1:53: 4 packets", " 4 of 1 flow: NOPORT -> NEW", "packet 2: NOPORT -> NEW (replies")
     count("tools/compare: which they are", words == ["NEW"] * 6 + ["NOPORT"], words)
     third = report_of(room, "--rules", rules, "--buckets", "1", capture, name="third.report")
     wants("tools/compare: another number of buckets", tool("compare", first, third, capture), 0, "no flow, verdict")

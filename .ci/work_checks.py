@@ -80,7 +80,7 @@ def check_counted(room):
 
 def check_large(room):
     """Reports of 300,000 lines, two thirds of which are of packets that were refused."""
-    capture = capture_of(room, "large", 190_000, 40_000)
+    capture = capture_of(room, "large", 212_000, 45_000)
     rules = write(room, "large.rules", "snat -p udp to 192.0.2.1:2000-2099\n")
     report = report_of(room, "--rules", rules, capture, name="large")
     with open(report, encoding="utf-8") as file:

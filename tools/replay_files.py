@@ -77,6 +77,10 @@ def read_lines(name):
     return read_bytes(name).decode("utf-8", "replace").splitlines()
 
 
+def counted(number, word):
+    return f"{number} {word}{'' if number == 1 else 's'}"
+
+
 def time_text(moment):
     when = datetime.datetime.fromtimestamp(moment // 1_000_000, datetime.timezone.utc)
     return f"{when:%Y-%m-%d %H:%M:%S}.{moment % 1_000_000:06d} UTC"
