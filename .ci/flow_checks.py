@@ -274,12 +274,10 @@ def check_refused(room):
 
 def check_dropped(room, capture):
     """A report with an early drop and with zones: an entry that made room for another is a flow that was dropped."""
-    text = read(report_of(room, capture)).splitlines()
-    events = [line for line in text[1:] if " confirm " in line or " touch " in line]
+    events = [line for line in read(report_of(room, capture)).splitlines() if " confirm " in line]
     events.insert(2, "2 destroy 0.2 id=0 dropped")
     renumbered = [re.sub(r"^\d+", str(at), line) + (" zone=7" if " confirm " in line else "") for at, line in enumerate(events)]
-    renumbered = [re.sub(r" id=2 ", " id=3 ", line) for line in renumbered if " touch " not in line]
-    verdicts = ["0 NEW id=0 @1", "1 NEW id=1 @2", "2 NEW id=3 @4", *(f"{at} NEW id=3 @4" for at in (3, 4, 5)), "6 NEW id=4 @5"]
+    verdicts = ["0 NEW id=0 @1", "1 NEW id=1 @2", "2 NEW id=3 @4", "3 NEW id=3 @4", "4 NEW id=3 @4", "5 NEW id=4 @5", "6 NEW id=5 @6"]
     made_report = [f"events {len(renumbered)}", *renumbered, "thread 0 packets 7", *verdicts, "script 0"]
     name = write(room, "dropped.report", "\n".join(made_report) + "\n")
     wants("tools/refused: an early drop, and a zone", tool("refused", name, capture), 1, "1 dropped, no rule", "zone 7", "dropped packet 2 ", "udp 10.0.0.1:5000 > 198.51.100.1:53; 2 places were held")
@@ -350,10 +348,12 @@ def check_other_ports(room):
     """Of what both sides of a router saw, answers to ports that a replay gave otherwise are told at once."""
     report = report_of(room, "--rules", "range.rules", "range.pcap")
     ran = tool("check", "--rules", "range.rules", report, "range.pcap")
-    wants("tools/check: ports that the router gave otherwise", ran, 1, "answer clients of the rule in line 2", "tools/from-inside --rules FILE")
+    texts = ("packets of", "to 203.0.113.9, the address of a snat rule, answer its clients", "tools/from-inside --rules FILE")
+    wants("tools/check: ports that the router gave otherwise", ran, 1, *texts)
+    wants("tools/check: the same without rules", tool("check", report, "range.pcap"), 1, *texts)
     replayed(room, "range")
     ran = tool("check", "--rules", "range.rules", f"{room}/range.made.report", f"{room}/range.made.pcap")
-    count("tools/check: none after from-inside", "answer clients" not in ran.stdout and "4 packets of 4 flows are NOPORT" in ran.stdout, ran.stdout)
+    count("tools/check: none after from-inside", "snat rule" not in ran.stdout and "4 packets of 4 flows are NOPORT" in ran.stdout, ran.stdout)
 
 
 def check_pictures_of(room):

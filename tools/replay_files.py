@@ -396,6 +396,30 @@ def verdict_of(text):
     return Verdict(words[0], why, entry, point)
 
 
+def check_history(report, sizes):
+    """Each event has its number, was made by a packet that is there, and is of an entry that is live."""
+    live = set()
+    for at, event in enumerate(report.events):
+        if event.number != at or event.thread != "s" and not 0 <= event.index < sizes[event.thread]:
+            raise ValueError("an event of no packet, or with another number")
+        if event.kind == "confirm":
+            live.add(at)
+        elif event.kind in ("touch", "destroy", "expect", "claim") and event.entry not in live:
+            raise ValueError("an event of no live entry")
+        if event.kind == "destroy":
+            live.remove(event.entry)
+
+
+def check_verdicts(events, threads):
+    """Each verdict is of an entry that was confirmed, and of a point that was reached."""
+    for verdicts in threads:
+        for verdict in verdicts:
+            if verdict.entry is not None and events[verdict.entry].kind != "confirm" or (verdict.point or 0) > len(events):
+                raise ValueError("a verdict of no entry, or of no point")
+            if verdict.point is None and verdict.word in REFUSED:
+                raise ValueError("a verdict without its point")
+
+
 class Work:
     """A report with its captures, of which each has to have a frame for each verdict."""
 
@@ -405,14 +429,16 @@ class Work:
         wanted, found = [len(verdicts) for verdicts in self.report.threads], [len(frames) for frames in self.captures]
         if wanted != found:
             raise Trouble(f"{report_name} is a report of other captures: it has {wanted} packets, and these have {found}")
+        try:
+            check_history(self.report, found)
+            self.verdicts = [[verdict_of(text) for text in texts] for texts in self.report.threads]
+            check_verdicts(self.report.events, self.verdicts)
+        except (IndexError, ValueError, KeyError) as error:
+            raise Trouble(f"{report_name}: the report is cut or changed") from error
 
     @functools.cached_property
     def packets(self):
         return [[packet_of(frame) for frame in frames] for frames in self.captures]
-
-    @functools.cached_property
-    def verdicts(self):
-        return [[verdict_of(text) for text in texts] for texts in self.report.threads]
 
     @functools.cached_property
     def start(self):
@@ -690,6 +716,8 @@ def rule_of(number, words):
     if words[0] not in ("snat", "dnat") or words[-2] != "to":
         raise ValueError("no rule")
     options = dict(zip(words[1:-2:2], words[2:-2:2]))
+    if len(words) % 2 == 0 or not options.keys() <= {"-p", "-s", "-d", "--sport", "--dport"}:
+        raise ValueError("no rule")
     address, _, ports = words[-1].partition(":")
     low, _, high = ports.partition("-")
     low, high = (int(low), int(high or low)) if ports else (None, None)
