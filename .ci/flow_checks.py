@@ -188,6 +188,16 @@ def check_made(room):
     count("tools/from-inside: with room for all none is refused", "got no port" not in ran.stdout, ran.stdout)
 
 
+def check_no_address(room):
+    """A dnat that names no address can't be put back: told with its line."""
+    steps = [made.tcp("198.51.100.7", 5555, "10.0.0.9", 80, "S"), made.tcp("10.0.0.9", 80, "198.51.100.7", 5555, "SA")]
+    inside = made.write(f"{room}/inside.pcap", [(START + at, packet) for at, packet in enumerate(steps)])
+    rules = write(room, "bare.rules", "# by its interface alone\ndnat -p tcp --dport 8080 to 10.0.0.9:80\n")
+    ran = tool("from-inside", "--rules", rules, "--to", f"{room}/met.pcap", inside)
+    wants("tools/from-inside: a dnat that names no address", ran, 0, "as they stand: 1 flow to the target of the rule in line 2")
+    count("tools/from-inside: whose flow stands", [frame.data for frame in files.read_capture(f"{room}/met.pcap")] == steps)
+
+
 def check_cut(room):
     """Packets of which the capture has the front alone keep the checksum of the whole."""
     long = b"x" * 400
@@ -377,6 +387,7 @@ def check_pictures_of(room):
 def check_all(room):
     check_kernel(room)
     check_made(room)
+    check_no_address(room)
     check_cut(room)
     check_ftp(room)
     check_rounds(room)

@@ -1,7 +1,9 @@
 """Checks of rules-from-iptables: nft's two forms, docker's chains, and what is no ruleset. Used by .ci/tools."""
 import json
+import os
+import shutil
 
-from checking import EXAMPLES, count, read, refuses, tool, wants
+from checking import EXAMPLES, count, read, refuses, run, tool, wants
 
 NFT = """table ip filter {
 	chain forward { # handle 1
@@ -180,6 +182,26 @@ def check_docker():
     wants("tools/rules-from-iptables: a rule for both sides is told", ran, 0, "snat to 192.0.2.1\n# line 1: this rule is for flows of both sides")
 
 
+def check_live():
+    """What this machine's nft prints of rules that it took, in both its forms."""
+    space = f"ctreplay-rules-{os.getpid()}"
+    if not shutil.which("nft") or not shutil.which("ip") or run(["ip", "netns", "add", space]).returncode:
+        print("skipped: tools/rules-from-iptables of this machine's nft: there is no nft, or no network namespace")
+        return
+    try:
+        for name in ("range.nft", "docker"):
+            text = DOCKER_NFT if name == "docker" else read(EXAMPLES, name)
+            loaded = run(["ip", "netns", "exec", space, "nft", "-f", "-"], stdin=None, input="flush ruleset\n" + text)
+            wanted = FROM_DOCKER if name == "docker" else read(EXAMPLES, "range.rules").splitlines()
+            for form in ("-a", "-j"):
+                printed = run(["ip", "netns", "exec", space, "nft", form, "list", "ruleset"]).stdout
+                ran = tool("rules-from-iptables", *WORDS, stdin=None, input=printed)
+                rules = [line for line in ran.stdout.splitlines() if not line.startswith("#")]
+                count(f"tools/rules-from-iptables: this machine's nft {form}, {name}", rules == wanted, loaded.stderr + ran.stdout + ran.stderr)
+    finally:
+        run(["ip", "netns", "del", space])
+
+
 def check_none():
     """What is no ruleset is refused with a sentence, and never with nothing."""
     cases = [
@@ -203,4 +225,5 @@ def check_none():
 def check_all(_room):
     check_nft()
     check_docker()
+    check_live()
     check_none()
