@@ -165,14 +165,14 @@ def network_packet(frame):
     """The bytes of the IP packet, or the Packet that says why there is none."""
     data = frame.data
     if frame.link == 1:
+        if data[12:14] == b"\x08\x00":
+            return data[14:]
         if len(data) < 14:
             return Packet("invalid", "the Ethernet header is cut")
         kind = struct.unpack_from(">H", data, 12)[0]
-        if kind != 0x0800:
-            names = {0x8100: "a VLAN tag", 0x88A8: "a VLAN tag", 0x86DD: "IPv6", 0x0806: "ARP"}
-            return Packet("link", f"its Ethernet type is 0x{kind:04x}, {names.get(kind, 'which is not IPv4')}")
-        data = data[14:]
-    elif data and data[0] >> 4 == 6:
+        names = {0x8100: "a VLAN tag", 0x88A8: "a VLAN tag", 0x86DD: "IPv6", 0x0806: "ARP"}
+        return Packet("link", f"its Ethernet type is 0x{kind:04x}, {names.get(kind, 'which is not IPv4')}")
+    if data and data[0] >> 4 == 6:
         return Packet("link", "it is IPv6")
     return data
 
@@ -673,8 +673,11 @@ def refusals_of(work):
             waiting.update({(thread, pair_of(flow)): refusal for flow in confirm.flows})
         if packet.kind != "flow":
             continue
+        is_let_in = verdict.entry is not None and verdict.word not in REFUSED
+        if is_let_in and not waiting:
+            continue
         key = (thread, pair_of(packet.flow))
-        if verdict.word in REFUSED or verdict.entry is None:
+        if not is_let_in:
             if key in waiting:
                 waiting[key].later += 1
                 waiting[key].last = frame.moment
