@@ -232,6 +232,21 @@ def check_ftp(room):
     wants("tools/from-inside: which is RELATED", ran, 0, "\n4 RELATED id=")
 
 
+def check_passive(room):
+    """Passive FTP of a server behind a dnat: the client's connection comes to the outer address, and is expected there."""
+    client, server = "198.51.100.7", "10.0.0.9"
+    steps = [
+        made.tcp(client, 5555, server, 21, "S"), made.tcp(server, 21, client, 5555, "SA"), made.tcp(client, 5555, server, 21, "A"),
+        made.tcp(server, 21, client, 5555, "AP", b"227 Entering Passive Mode (10,0,0,9,156,65).\r\n"), made.tcp(client, 5556, server, 40001, "S"),
+    ]
+    inside = made.write(f"{room}/inside.pcap", [(START + at, packet) for at, packet in enumerate(steps)])
+    rules = write(room, "ftp.rules", "dnat -d 192.0.2.1 -p tcp --dport 21 to 10.0.0.9\n")
+    tool("from-inside", "--rules", rules, "--to", f"{room}/met.pcap", inside)
+    wanted = made.tcp(client, 5556, OUTER, 40001, "S")
+    count("tools/from-inside: passive FTP of a server inside", files.read_capture(f"{room}/met.pcap")[-1].data == wanted)
+    wants("tools/from-inside: which is RELATED too", run([PROGRAM, "--rules", rules, f"{room}/met.pcap"]), 0, "\n4 RELATED id=")
+
+
 def check_rounds(room):
     """A program that says another port each time: eight rounds, and the flow is named."""
     steps = [made.udp("10.0.0.1", 1024, SERVER, 53), made.udp(SERVER, 53, "10.0.0.1", 1024)]
@@ -390,6 +405,7 @@ def check_all(room):
     check_no_address(room)
     check_cut(room)
     check_ftp(room)
+    check_passive(room)
     check_rounds(room)
     check_refused(room)
     check_compare(room)

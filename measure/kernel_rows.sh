@@ -136,6 +136,50 @@ taken() {
     entries -p udp
 }
 
+# A server that has closed, and a client that has not.
+half_closed() {
+    title 'a connection that one end has closed: its seconds left'
+    in_space "$inside" python3 - "$room/half" <<'PYTHON' &
+import socket, sys, time
+call = socket.create_connection(("198.51.100.80", 80), 5, ("192.168.1.10", 40094))
+call.sendall(b"GET /numbers HTTP/1.0\r\n\r\n")
+while call.recv(4096):
+    pass
+open(sys.argv[1], "w").close()
+time.sleep(1)
+PYTHON
+    local client=$!
+    for _ in $(seq 100); do
+        [ -e "$room/half" ] && break
+        sleep 0.05
+    done
+    sleep 0.3
+    entries -p tcp --orig-port-src 40094
+    wait "$client" || true
+}
+
+# A reply to PASV, and no connection to the end that it names.
+expectation() {
+    title 'what FTP lets expect: its seconds left'
+    in_space "$router" iptables -t raw -A PREROUTING -p tcp --dport 21 -j CT --helper ftp
+    in_space "$inside" python3 - "$room/pasv" <<'PYTHON' &
+import ftplib, sys, time
+call = ftplib.FTP("198.51.100.21", timeout=5)
+call.login()
+call.sendcmd("PASV")
+open(sys.argv[1], "w").close()
+time.sleep(1)
+PYTHON
+    local client=$!
+    for _ in $(seq 100); do
+        [ -e "$room/pasv" ] && break
+        sleep 0.05
+    done
+    sleep 0.3
+    in_space "$router" conntrack -L expect 2>/dev/null || true
+    wait "$client" || true
+}
+
 full_table() {
     title 'sixty queries that nobody answers, with room for forty entries: entries, and queries that came out'
     local before
@@ -160,7 +204,7 @@ PYTHON
 uname -r
 make_net
 start_servers
-for row in "${@:-syn_again unacknowledged udp_assured active passive_inside fragments hairpin taken}"; do
+for row in "${@:-syn_again unacknowledged udp_assured active passive_inside fragments hairpin taken half_closed expectation}"; do
     # shellcheck disable=SC2086
     for name in $row; do
         flush
