@@ -284,17 +284,27 @@ def check_refused(room):
     ran = tool("refused", "--rules", rules, report, capture)
     texts = (
         "2 flows refused or dropped, and 3 later packets of theirs without an entry", "      2 NOPORT", "      1 10.0.0.3",
-        "2 NOPORT, line 1: snat -p udp to 192.0.2.1:1024-1025", "held then by 10.0.0.1 1, 10.0.0.2 1; 0 of 2 past their deadline",
-        "      1 0 s to 5 s", "      1 40 s to 45 s", "udp 10.0.0.3:5000 > 198.51.100.1:53, 3 later; 2 numbers were held\n",
-        "NOPORT packet 6 2001-09-09 01:47:21.000000 UTC udp 10.0.0.4:5000 > 198.51.100.1:53; 2 numbers were held, 2 of them by entries past their deadline",
+        "2 NOPORT, line 1: snat -p udp to 192.0.2.1:1024-1025", "the first at 2001-09-09 01:46:42.000000 UTC: 2 numbers held by 10.0.0.1 (1), 10.0.0.2 (1)\n",
+        "      1 0 s to 5 s", "      1 40 s to 45 s", "udp 10.0.0.3:5000 > 198.51.100.1:53, 3 later; 2 numbers held by 10.0.0.1 (1), 10.0.0.2 (1)\n",
+        "NOPORT packet 6 2001-09-09 01:47:21.000000 UTC udp 10.0.0.4:5000 > 198.51.100.1:53; 2 numbers held by 10.0.0.1 (1), 10.0.0.2 (1), 2 past their deadline",
     )
     wants("tools/refused: flows, and not packets", ran, 1, *texts)
     words = report_of(room, "--entries", "2", capture)
-    wants("tools/refused: a full table", tool("refused", words, capture), 1, "2 FULL, no rule", "2 places were held, 2 of them by entries past their deadline")
+    wants("tools/refused: a full table", tool("refused", words, capture), 1, "2 FULL, no rule", "2 places held by 10.0.0.1 (1), 10.0.0.2 (1), 2 past their deadline")
     wants("tools/check: says so in flows", tool("check", words, capture), 1, "5 packets of 2 flows are FULL, 2 of these packets while")
     wants("tools/refused: an answer of the other side", tool("refused", report_of(room, "--rules", "office.rules", "office.in.pcap"), "office.in.pcap"), 1, "CLASH", "entry 0 had its tuple")
     wants("tools/refused: none", tool("refused", "office.report", "office.pcap"), 0, "no flow was refused or dropped\n")
+    check_let_in(room)
     check_dropped(room, capture)
+
+
+def check_let_in(room):
+    """A flow that was refused, was let in and is refused again is two: its packets in between are not refused ones."""
+    steps = [("10.0.0.1", "S"), ("10.0.0.2", "S"), ("10.0.0.2", "S"), ("10.0.0.1", "R"), ("10.0.0.2", "S"), ("10.0.0.2", "R"), ("10.0.0.1", "S"), ("10.0.0.2", "S")]
+    packets = [(START + at, made.tcp(source, 5000, SERVER, 80, flags)) for at, (source, flags) in enumerate(steps)]
+    capture = made.write(f"{room}/let-in.pcap", packets)
+    ran = tool("refused", report_of(room, "--entries", "1", capture), capture)
+    wants("tools/refused: let in between", ran, 1, "2 flows refused or dropped, and 1 later packet of", "FULL packet 1 ", "FULL packet 7 ")
 
 
 def check_dropped(room, capture):
@@ -305,7 +315,7 @@ def check_dropped(room, capture):
     verdicts = ["0 NEW id=0 @1", "1 NEW id=1 @2", "2 NEW id=3 @4", "3 NEW id=3 @4", "4 NEW id=3 @4", "5 NEW id=4 @5", "6 NEW id=5 @6"]
     made_report = [f"events {len(renumbered)}", *renumbered, "thread 0 packets 7", *verdicts, "script 0"]
     name = write(room, "dropped.report", "\n".join(made_report) + "\n")
-    wants("tools/refused: an early drop, and a zone", tool("refused", name, capture), 1, "1 dropped, no rule", "zone 7", "dropped packet 2 ", "udp 10.0.0.1:5000 > 198.51.100.1:53; 2 places were held")
+    wants("tools/refused: an early drop, and a zone", tool("refused", name, capture), 1, "1 dropped, no rule", "zone 7", "dropped packet 2 ", "udp 10.0.0.1:5000 > 198.51.100.1:53; 2 places held by 10.0.0.1 (1), 10.0.0.2 (1)")
 
 
 # Two reports of one capture

@@ -623,11 +623,11 @@ def place_of(rule, flow):
     return (flow.proto, rule.side, rule.address, remote, fixed), low, high
 
 
-def holders_at(events, point, rule, flow):
-    """Each number that this rule may give this flow and that is held after so many events: its confirm and deadline."""
+def holders_of(live, rule, flow):
+    """Each number that this rule may give this flow and that one of these entries holds: its confirm and deadline."""
     end, low, high = place_of(rule, flow)
     held = {}
-    for confirm, until in live_at(events, point).values():
+    for confirm, until, *_ in live.values():
         for known in confirm.flows:
             for it, number in ends_held(known):
                 if it == end and low <= number <= high:
