@@ -386,6 +386,13 @@ def check_other_ports(room):
     texts = ("packets of", "to 203.0.113.9, the address of a snat rule, answer its clients", "tools/from-inside --rules FILE")
     wants("tools/check: ports that the router gave otherwise", ran, 1, *texts)
     wants("tools/check: the same without rules", tool("check", report, "range.pcap"), 1, *texts)
+    answers = [
+        (START, made.udp("10.0.0.1", 5000, SERVER, 53)), (START + 1, made.udp(SERVER, 53, OUTER, 1030)), (START + 2, made.tcp("10.0.0.1", 5000, SERVER, 80, "S")),
+        (START + 3, made.tcp(SERVER, 80, OUTER, 1031, "SA")), (START + 4, made.udp("198.51.100.99", 53, OUTER, 1032)),
+    ]
+    capture, rules = made.write(f"{room}/answers.pcap", answers), write(room, "two.rules", "snat -s 10.0.0.0/8 -p udp to 192.0.2.1:1024\nsnat -s 10.0.0.0/8 -p tcp to 192.0.2.1:1024\n")
+    ran = tool("check", "--rules", rules, report_of(room, "--rules", rules, capture), capture)
+    wants("tools/check: answers that begin entries, and those that begin none", ran, 1, "answers.pcap: 2 packets of 2 flows to 192.0.2.1, the address")
     replayed(room, "range")
     ran = tool("check", "--rules", "range.rules", f"{room}/range.made.report", f"{room}/range.made.pcap")
     count("tools/check: none after from-inside", "snat rule" not in ran.stdout and "4 packets of 4 flows are NOPORT" in ran.stdout, ran.stdout)
