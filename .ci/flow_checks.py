@@ -5,6 +5,7 @@ import re
 
 import made_packets as made
 import replay_files as files
+import replay_history as history
 from checking import EXAMPLES, PROGRAM, count, module, read, report_of, run, tool, wants, write
 
 START = 1_000_000_000_000_000
@@ -82,7 +83,7 @@ def outside_packets(frames, originals):
 
 def check_kernel(room):
     ran, work, rows = replayed(room, "range")
-    new, refused = set(kernel_flows("range", "NEW")), {it.flow for it in files.refusals_of(work)}
+    new, refused = set(kernel_flows("range", "NEW")), {it.flow for it in history.refusals_of(work)}
     count("tools/from-inside, examples/range: settles", ran.returncode == 0 and "still changing" not in ran.stdout, ran.stdout)
     count("tools/from-inside, examples/range: the kernel's translated flows", len(new) >= 12 and set(began(work)) == new, set(began(work)) ^ new)
     lost = inside_flows("range") - new
@@ -104,7 +105,7 @@ def check_again(room):
     """Ports of closed connections are taken again by a kernel; all else is alike."""
     _, work, _ = replayed(room, "again")
     new, mine = set(kernel_flows("again", "NEW")), set(began(work))
-    refused, lost = {it.flow for it in files.refusals_of(work)}, inside_flows("again") - new
+    refused, lost = {it.flow for it in history.refusals_of(work)}, inside_flows("again") - new
     count("tools/from-inside, examples/again: what is let out here the kernel let out", mine and mine < new, mine - new)
     count("tools/from-inside, examples/again: what the kernel refused is refused here", lost and lost < refused, lost - refused)
     lines = [line for line in read(EXAMPLES, "again.events").splitlines() if re.search(r"\[DESTROY\] tcp +6 \d+ (TIME_WAIT|CLOSE) ", line)]
@@ -292,7 +293,8 @@ def check_refused(room):
     words = report_of(room, "--entries", "2", capture)
     wants("tools/refused: a full table", tool("refused", words, capture), 1, "2 FULL, no rule", "2 places held by 10.0.0.1 (1), 10.0.0.2 (1), 2 past their deadline")
     wants("tools/check: says so in flows", tool("check", words, capture), 1, "5 packets of 2 flows are FULL, 2 of these packets while")
-    wants("tools/refused: an answer of the other side", tool("refused", report_of(room, "--rules", "office.rules", "office.in.pcap"), "office.in.pcap"), 1, "CLASH", "entry 0 had its tuple")
+    words = report_of(room, "--rules", "office.rules", "office.in.pcap")
+    wants("tools/refused: an answer of the other side", tool("refused", words, "office.in.pcap"), 1, "CLASH", "entry 0 had its tuple")
     wants("tools/refused: none", tool("refused", "office.report", "office.pcap"), 0, "no flow was refused or dropped\n")
     check_let_in(room)
     check_dropped(room, capture)
@@ -315,7 +317,8 @@ def check_dropped(room, capture):
     verdicts = ["0 NEW id=0 @1", "1 NEW id=1 @2", "2 NEW id=3 @4", "3 NEW id=3 @4", "4 NEW id=3 @4", "5 NEW id=4 @5", "6 NEW id=5 @6"]
     made_report = [f"events {len(renumbered)}", *renumbered, "thread 0 packets 7", *verdicts, "script 0"]
     name = write(room, "dropped.report", "\n".join(made_report) + "\n")
-    wants("tools/refused: an early drop, and a zone", tool("refused", name, capture), 1, "1 dropped, no rule", "zone 7", "dropped packet 2 ", "udp 10.0.0.1:5000 > 198.51.100.1:53; 2 places held by 10.0.0.1 (1), 10.0.0.2 (1)")
+    texts = ("1 dropped, no rule", "zone 7", "dropped packet 2 ")
+    wants("tools/refused: an early drop, and a zone", tool("refused", name, capture), 1, *texts, "udp 10.0.0.1:5000 > 198.51.100.1:53; 2 places held by 10.0.0.1 (1), 10.0.0.2 (1)")
 
 
 # Two reports of one capture
@@ -346,13 +349,18 @@ def check_compare(room):
     ran = tool("compare", one, other, *names)
     wants("tools/compare: another order of the history", ran, 0, "no flow, verdict or translation differs\n")
     other = write(room, "other.report", OTHER.replace("src=198.51.100.1 dst=10.0.0.2 sport=53 dport=1 until", "src=198.51.100.1 dst=192.0.2.1 sport=53 dport=9 until"))
-    texts = ("1 packet of 1 flow got something else; 1 flow another translation", "NEW in both, another entry", "udp 10.0.0.2:1 > 198.51.100.1:53: 1 packet\n", "dst=10.0.0.2 sport=53 dport=1 -> src=198.51.100.1 dst=192.0.2.1 sport=53 dport=9", "at the end only in the second report: 1 of the entries")
+    texts = (
+        "1 packet of 1 flow got something else; 1 flow another translation", "NEW in both, another entry",
+        "udp 10.0.0.2:1 > 198.51.100.1:53: 1 packet\n", "at the end only in the second report: 1 of the entries",
+        "dst=10.0.0.2 sport=53 dport=1 -> src=198.51.100.1 dst=192.0.2.1 sport=53 dport=9",
+    )
     wants("tools/compare: another translation", tool("compare", one, other, *names), 1, *texts)
     capture, rules = refused_capture(room), write(room, "two.rules", "snat -p udp to 192.0.2.1:1024-1025\n")
     first = report_of(room, "--rules", rules, capture, name="first.report")
     second = report_of(room, "--rules", write(room, "three.rules", "snat -p udp to 192.0.2.1:1024-1026\n"), capture, name="second.report")
     words = [line.split()[1] for line in read(second).split("thread")[1].splitlines()[1:8]]
-    wants("tools/compare: more ports", tool("compare", first, second, capture), 1, "udp 10.0.0.3:5000 > 198.51.100.1:53: 4 packets", " 4 of 1 flow: NOPORT -> NEW", "packet 2: NOPORT -> NEW (replies")
+    texts = ("udp 10.0.0.3:5000 > 198.51.100.1:53: 4 packets", " 4 of 1 flow: NOPORT -> NEW", "packet 2: NOPORT -> NEW (replies")
+    wants("tools/compare: more ports", tool("compare", first, second, capture), 1, *texts)
     count("tools/compare: which they are", words == ["NEW"] * 6 + ["NOPORT"], words)
     third = report_of(room, "--rules", rules, "--buckets", "1", capture, name="third.report")
     wants("tools/compare: another number of buckets", tool("compare", first, third, capture), 0, "no flow, verdict")
@@ -375,8 +383,8 @@ def check_table(room):
     kept = tool("table", "--at", "2026-11-28T23:48:53Z", "late.report", "late.pcap").stdout
     wanted = "udp      17 2 src=192.168.1.10 dst=198.51.100.54 sport=40003 dport=53 [UNREPLIED] src=198.51.100.54 dst=203.0.113.5 sport=53 dport=40003\n"
     count("tools/table: seconds left from its own time, and none past its deadline", kept.endswith(wanted) and kept.count("\n") == 2, kept)
-    same = tool("table", "--at", "2026-11-28 23:48:53", "late.report", "late.pcap").stdout, tool("table", "--at", "1795909733000000", "late.report", "late.pcap").stdout
-    count("tools/table: the forms of a time", same == (kept, kept), same)
+    same = [tool("table", "--at", time, "late.report", "late.pcap").stdout for time in ("2026-11-28 23:48:53", "1795909733000000")]
+    count("tools/table: the forms of a time", same == [kept, kept], same)
 
 
 def check_other_ports(room):
@@ -409,10 +417,10 @@ def check_pictures_of(room):
     rows = draw.steps(draw.Scale(work), draw.table_changes(panels[2].lives))
     count("tools/draw: a port that another rule's entry holds", draw.top_of(rows) == 2 and len(panels[2].refused) == 1, rows)
     wants("tools/why: the same", tool("why", "--rules", rules, "--report", report, capture, "--", "2"), 0, "has 2 numbers for it, of which 2 were held")
-    again = [(START, made.udp("10.0.0.1", 1, SERVER, 53)), (START, made.udp("10.0.0.2", 1, SERVER, 53)), (START + 31 * SECOND, made.udp("10.0.0.1", 1, SERVER, 53))]
+    again = [(START + at * SECOND, made.udp(source, 1, SERVER, 53)) for at, source in ((0, "10.0.0.1"), (0, "10.0.0.2"), (31, "10.0.0.1"))]
     capture = made.write(f"{room}/again.pcap", again)
     work = files.Work(report_of(room, "--entries", "2", capture), [capture])
-    rows = draw.steps(draw.Scale(work), draw.table_changes(files.lives_of(work).values()))
+    rows = draw.steps(draw.Scale(work), draw.table_changes(history.lives_of(work).values()))
     count("tools/draw: what ends and what begins at one moment is one step", len(work.report.events) == 4 and rows == [("0.000000", 0), ("0.000000", 2), ("31.000000", 2)], rows)
 
 

@@ -7,7 +7,6 @@ import json
 import re
 import shlex
 
-import replay_files as files
 from replay_files import Trouble
 
 LONG = {
