@@ -61,13 +61,21 @@ def read_bytes(name):
         raise Trouble(f"{name}: {error.strerror}") from error
 
 
+BUILDING = ("ctreplay: building", "ctreplay: linking", "ctreplay: built")
+
+
 def replay(words, output):
-    """Runs the program on these words, with its report in a file that is open."""
+    """Runs the program on these words, with its report in a file that is open. A build that it begins with is told as it goes."""
     program = os.path.join(os.path.dirname(os.path.realpath(__file__)), "..", "ctreplay")
-    ran = subprocess.run([program, *words], stdout=output, stdin=subprocess.DEVNULL, stderr=subprocess.PIPE, text=True, errors="replace", check=False)
+    last = ""
+    with subprocess.Popen([program, *words], stdout=output, stdin=subprocess.DEVNULL, stderr=subprocess.PIPE, text=True, errors="replace") as ran:
+        for line in ran.stderr:
+            if line.startswith(BUILDING) or " is checked, " in line:
+                print(line, end="", file=sys.stderr, flush=True)
+            else:
+                last = line.rstrip()
     if ran.returncode:
-        said = ran.stderr.strip().splitlines()
-        raise Trouble(said[-1] if said else f"ctreplay ended with status {ran.returncode}")
+        raise Trouble(last or f"ctreplay ended with status {ran.returncode}")
 
 
 def read_lines(name):
