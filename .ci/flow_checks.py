@@ -189,6 +189,29 @@ def check_made(room):
     count("tools/from-inside: with room for all none is refused", "got no port" not in ran.stdout, ran.stdout)
 
 
+def bare(packet):
+    """A packet of UDP without a checksum."""
+    return packet[:26] + b"\0\0" + packet[28:]
+
+
+def check_fronts(room):
+    """A capture that begins within a connection, a client that asks an inner server by its own address, and UDP without a checksum."""
+    inner = made.tcp("10.0.0.5", 6000, "10.0.0.9", 80, "S")
+    chosen = [
+        (made.tcp(SERVER, 80, "10.0.0.1", 40000, "SA"), None),
+        (made.tcp("10.0.0.1", 40000, SERVER, 80, "A"), made.tcp("10.0.0.1", 40000, SERVER, 80, "A")),
+        (made.tcp(SERVER, 80, "10.0.0.1", 40000, "AP", b"x"), made.tcp(SERVER, 80, OUTER, 2000, "AP", b"x")),
+        (inner, inner),
+        (bare(made.udp("10.0.0.1", 1024, SERVER, 53)), bare(made.udp("10.0.0.1", 1024, SERVER, 53))),
+        (bare(made.udp(SERVER, 53, "10.0.0.1", 1024)), bare(made.udp(SERVER, 53, OUTER, 1024))),
+    ]
+    inside = made.write(f"{room}/inside.pcap", [(START + at, packet) for at, (packet, _) in enumerate(chosen)])
+    ran = tool("from-inside", "--rules", write(room, "made.rules", RULES), "--to", f"{room}/met.pcap", inside)
+    found = [frame.data for frame in files.read_capture(f"{room}/met.pcap")]
+    count("tools/from-inside: fronts of captures, inner servers, no checksum", found == [met for _, met in chosen if met], found)
+    wants("tools/from-inside: an answer whose flow is older", ran, 0, "left out: 1 answers whose flow began before the capture")
+
+
 def check_no_address(room):
     """A dnat that names no address can't be put back: told with its line."""
     steps = [made.tcp("198.51.100.7", 5555, "10.0.0.9", 80, "S"), made.tcp("10.0.0.9", 80, "198.51.100.7", 5555, "SA")]
@@ -296,17 +319,29 @@ def check_refused(room):
     words = report_of(room, "--rules", "office.rules", "office.in.pcap")
     wants("tools/refused: an answer of the other side", tool("refused", words, "office.in.pcap"), 1, "CLASH", "entry 0 had its tuple")
     wants("tools/refused: none", tool("refused", "office.report", "office.pcap"), 0, "no flow was refused or dropped\n")
+    check_holders(room)
     check_let_in(room)
     check_dropped(room, capture)
+
+
+def check_holders(room):
+    """Of the numbers that a flow wanted those that are held then, and those held past a deadline that is the last one given."""
+    rules = write(room, "ranges.rules", "snat -s 10.0.0.0/30 -p udp to 192.0.2.1:1024-1025\nsnat -p udp to 192.0.2.1:1026-1030\n")
+    for last, again, past in ((10, 1, ""), (30, 1, ", 1 past their deadline"), (30, None, ", 2 past their deadline"), (29, None, "")):
+        steps = [(0, 1), (0, 2), (0, 4), (1, 5), *([(again, 2)] if again else []), (last, 3)]
+        capture = made.write(f"{room}/holders.pcap", [(START + at * SECOND, made.udp(f"10.0.0.{host}", 5000, SERVER, 53)) for at, host in steps])
+        ran = tool("refused", "--rules", rules, report_of(room, "--rules", rules, capture), capture)
+        wants(f"tools/refused: what is held after {last} s{past}", ran, 1, f"10.0.0.3:5000 > 198.51.100.1:53; 2 numbers held by 10.0.0.1 (1), 10.0.0.2 (1){past}\n")
 
 
 def check_let_in(room):
     """A flow that was refused, was let in and is refused again is two: its packets in between are not refused ones."""
     steps = [("10.0.0.1", "S"), ("10.0.0.2", "S"), ("10.0.0.2", "S"), ("10.0.0.1", "R"), ("10.0.0.2", "S"), ("10.0.0.2", "R"), ("10.0.0.1", "S"), ("10.0.0.2", "S")]
     packets = [(START + at, made.tcp(source, 5000, SERVER, 80, flags)) for at, (source, flags) in enumerate(steps)]
+    packets.append((START + 9, made.tcp(SERVER, 80, "10.0.0.2", 5000, "SA")))
     capture = made.write(f"{room}/let-in.pcap", packets)
     ran = tool("refused", report_of(room, "--entries", "1", capture), capture)
-    wants("tools/refused: let in between", ran, 1, "2 flows refused or dropped, and 1 later packet of", "FULL packet 1 ", "FULL packet 7 ")
+    wants("tools/refused: let in between", ran, 1, "2 flows refused or dropped, and 2 later packets of", "FULL packet 1 ", "FULL packet 7 ")
 
 
 def check_dropped(room, capture):
@@ -362,6 +397,9 @@ def check_compare(room):
     texts = ("udp 10.0.0.3:5000 > 198.51.100.1:53: 4 packets", " 4 of 1 flow: NOPORT -> NEW", "packet 2: NOPORT -> NEW (replies")
     wants("tools/compare: more ports", tool("compare", first, second, capture), 1, *texts)
     count("tools/compare: which they are", words == ["NEW"] * 6 + ["NOPORT"], words)
+    script = write(room, "flush.script", "wait\n-F\n")
+    third = report_of(room, "--rules", rules, "--script", script, capture, name="third.report")
+    wants("tools/compare: a script that ends the entries", tool("compare", first, third, capture), 0, "no flow, verdict")
     third = report_of(room, "--rules", rules, "--buckets", "1", capture, name="third.report")
     wants("tools/compare: another number of buckets", tool("compare", first, third, capture), 0, "no flow, verdict")
 
@@ -427,6 +465,7 @@ def check_pictures_of(room):
 def check_all(room):
     check_kernel(room)
     check_made(room)
+    check_fronts(room)
     check_no_address(room)
     check_cut(room)
     check_ftp(room)

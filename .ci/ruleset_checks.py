@@ -178,6 +178,14 @@ def check_docker():
         wants(f"tools/rules-from-iptables: two addresses of the machine, of {name}", ran, 1, "dnat -d 203.0.113.10 -p tcp --dport 8080 to 172.17.0.2:80")
         ran = tool("rules-from-iptables", "--ignore-interfaces", stdin=None, input=text)
         wants(f"tools/rules-from-iptables: no address, of {name}", ran, 1, "MASQUERADE names no address", "it is for this machine's addresses")
+    nested = (
+        "-A PREROUTING -d 203.0.113.9/32 -j MINE\n-A PREROUTING -d 203.0.113.0/24 ! -d 127.0.0.0/8 -j MINE\n-A PREROUTING ! -d 203.0.113.9/32 -j MINE\n"
+        "-A MINE -d 203.0.113.0/24 -p tcp -m tcp --dport 80 -j DNAT --to-destination 10.0.0.1\n-A MINE -d 198.18.0.0/15 -p udp -j DNAT --to-destination 10.0.0.2\n"
+    )
+    ran = tool("rules-from-iptables", stdin=None, input=nested)
+    wanted = ["dnat -d 203.0.113.9/32 -p tcp --dport 80 to 10.0.0.1", "dnat -d 203.0.113.0/24 -p tcp --dport 80 to 10.0.0.1", "dnat -d 198.18.0.0/15 -p udp to 10.0.0.2"]
+    rules = [line for line in ran.stdout.splitlines() if not line.startswith("#")]
+    count("tools/rules-from-iptables: conditions of jumps", rules == wanted and ran.stdout.count("! -d cannot be said") == 1, ran.stdout)
     ran = tool("rules-from-iptables", "--ignore-interfaces", stdin=None, input="-A POSTROUTING -o eth0 -j SNAT --to-source 192.0.2.1\n")
     wants("tools/rules-from-iptables: a rule for both sides is told", ran, 0, "snat to 192.0.2.1\n# line 1: this rule is for flows of both sides")
 
