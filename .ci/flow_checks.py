@@ -115,10 +115,10 @@ def check_again(room):
 
 # Packets made by hand: the capture of the inside, and what the router meets of it
 
-RULES = """snat -s 10.0.0.0/8 -p udp to 192.0.2.1:1024-1025
+RULES = """dnat -d 192.0.2.1 -p tcp --dport 8080 to 10.0.0.9:80
+snat -s 10.0.0.0/8 -p udp to 192.0.2.1:1024-1025
 snat -s 10.0.0.0/8 -p tcp to 192.0.2.1:2000
 snat -s 10.0.0.0/8 to 192.0.2.1
-dnat -d 192.0.2.1 -p tcp --dport 8080 to 10.0.0.9:80
 """
 SERVER, OUTER = "198.51.100.1", "192.0.2.1"
 
