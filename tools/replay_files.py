@@ -1,20 +1,37 @@
-"""Reads what ctreplay reads and prints: captures, files of rules and reports. Nothing here is proved."""
+"""Reads what ctreplay reads and prints: captures, files of rules and reports. Nothing here is proved.
+
+`Work` is a report with its captures; what its history says of entries, numbers and refused flows is in replay_history.py.
+"""
+import datetime
+import functools
+import gc
+import os
 import signal
 import struct
+import subprocess
 import sys
 from collections import namedtuple
 
-Frame = namedtuple("Frame", "moment link data")
-Event = namedtuple("Event", "number kind thread index entry text fields")
+import refusal_hints as hints
+
+Frame = namedtuple("Frame", "moment link data length")
 Report = namedtuple("Report", "events threads script")
-Rule = namedtuple("Rule", "line side options address low high text")
-Packet = namedtuple("Packet", "kind why proto source target first second flags payload", defaults=[None] * 8)
+Verdict = namedtuple("Verdict", "word why entry point")
+Rule = namedtuple("Rule", "line side options address low high text test")
+Packet = namedtuple("Packet", "kind why proto source target first second flags payload flow", defaults=[None] * 9)
+# As the program has it: of TCP and UDP `first` and `second` are the ports; of ICMP the identifier, and type and code.
+Flow = namedtuple("Flow", "proto source target first second")
 
 PROTOCOLS = {1: "icmp", 6: "tcp", 17: "udp"}
+PROTOCOL_NUMBERS = {name: number for number, name in PROTOCOLS.items()}
 ICMP_PAIRS = {8: 0, 0: 8, 13: 14, 14: 13, 15: 16, 16: 15, 17: 18, 18: 17}
 ICMP_ERRORS = (3, 4, 5, 11, 12)
 FLAG_LETTERS = ((0x02, "SYN"), (0x01, "FIN"), (0x04, "RST"), (0x08, "PSH"), (0x10, "ACK"), (0x20, "URG"))
 VALID_FLAGS = {0x02, 0x04, 0x10, 0x11, 0x12, 0x14, 0x22, 0x30, 0x31}
+LINKS = (1, 101)
+IP_HEADER = struct.Struct(">HxxHxBxxII")
+REFUSED = ("FULL", "NOPORT", "CLASH")
+LONGEST_FRAME = 262_144
 
 
 class Trouble(Exception):
@@ -24,6 +41,8 @@ class Trouble(Exception):
 def run_tool(name, main):
     """Runs a tool: a trouble is one line and status 2, and a reader that has gone away ends it quietly."""
     signal.signal(signal.SIGPIPE, signal.SIG_DFL)
+    # Some hundred thousand records are made and kept to the end: to look for those that are not needed any more is in vain.
+    gc.disable()
     try:
         status = main(sys.argv[1:])
     except Trouble as trouble:
@@ -42,37 +61,104 @@ def read_bytes(name):
         raise Trouble(f"{name}: {error.strerror}") from error
 
 
+BUILDING = ("ctreplay: building", "ctreplay: linking", "ctreplay: built")
+
+
+def replay(words, output):
+    """Runs the program on these words, with its report in a file that is open. A build that it begins with is told as it goes."""
+    program = os.path.join(os.path.dirname(os.path.realpath(__file__)), "..", "ctreplay")
+    last = ""
+    with subprocess.Popen([program, *words], stdout=output, stdin=subprocess.DEVNULL, stderr=subprocess.PIPE, text=True, errors="replace") as ran:
+        for line in ran.stderr:
+            if line.startswith(BUILDING) or " is checked, " in line:
+                print(line, end="", file=sys.stderr, flush=True)
+            else:
+                last = line.rstrip()
+    if ran.returncode:
+        raise Trouble(last or f"ctreplay ended with status {ran.returncode}")
+
+
 def read_lines(name):
     return read_bytes(name).decode("utf-8", "replace").splitlines()
+
+
+def counted(number, word):
+    return f"{number} {word}{'' if number == 1 else 's'}"
+
+
+def time_text(moment):
+    when = datetime.datetime.fromtimestamp(moment // 1_000_000, datetime.timezone.utc)
+    return f"{when:%Y-%m-%d %H:%M:%S}.{moment % 1_000_000:06d} UTC"
+
+
+def moment_of_text(text):
+    """A moment in microseconds from a number of them, or from a date and a time of UTC with a fraction or without."""
+    if text.isdigit():
+        return int(text)
+    plain = text.removesuffix("Z").removesuffix(" UTC").replace(" ", "T")
+    try:
+        when = datetime.datetime.fromisoformat(plain)
+    except ValueError:
+        raise Trouble(f"{text} is no time: microseconds, or 2026-11-28T23:48:53Z with a fraction or without") from None
+    if when.tzinfo is None:
+        when = when.replace(tzinfo=datetime.timezone.utc)
+    return (when - datetime.datetime(1970, 1, 1, tzinfo=datetime.timezone.utc)) // datetime.timedelta(microseconds=1)
 
 
 # Captures
 
 
 def read_capture(name):
-    """The frames of a classic pcap file, as docs/FORMATS.md has them."""
+    """The frames of a classic pcap file, as docs/FORMATS.md has them; its faults are those of that document."""
     data = read_bytes(name)
     orders = {b"\xd4\xc3\xb2\xa1": ("<", 1), b"\xa1\xb2\xc3\xd4": (">", 1), b"\x4d\x3c\xb2\xa1": ("<", 1000), b"\xa1\xb2\x3c\x4d": (">", 1000)}
-    if len(data) < 24 or data[:4] not in orders:
-        raise Trouble(f"{name}: no capture that ctreplay reads")
+    if len(data) < 24 and data[:2] not in hints.PACKED:
+        raise refused_capture(name, "short header", data)
+    if data[:4] not in orders:
+        raise Trouble(f"{name}: bad magic; {hints.unpacked_hint(name, data)}")
     order, divisor = orders[data[:4]]
+    if struct.unpack_from(order + "HH", data, 4) != (2, 4):
+        raise refused_capture(name, "bad version", data)
     link = struct.unpack_from(order + "I", data, 20)[0] & 0xFFFF
-    frames, at = [], 24
-    while at < len(data):
-        if at + 16 > len(data):
-            raise Trouble(f"{name}: record {len(frames)} is cut")
-        seconds, fraction, captured, _ = struct.unpack_from(order + "IIII", data, at)
-        if at + 16 + captured > len(data):
-            raise Trouble(f"{name}: record {len(frames)} is cut")
-        frames.append(Frame(seconds * 1_000_000 + fraction // divisor, link, data[at + 16 : at + 16 + captured]))
-        at += 16 + captured
+    if link not in LINKS:
+        raise refused_capture(name, f"link type {link}", data)
+    frames, at, header, size = [], 24, struct.Struct(order + "IIII"), len(data)
+    while at < size:
+        if at + 16 > size:
+            raise refused_capture(name, f"record {len(frames)} cut at offset {at}", data)
+        seconds, fraction, captured, length = header.unpack_from(data, at)
+        end = at + 16 + captured
+        if captured > LONGEST_FRAME or fraction >= 1_000_000 * divisor or end > size:
+            what = "too long" if captured > LONGEST_FRAME else f"cut at offset {at}" if fraction < 1_000_000 * divisor else "fraction"
+            raise refused_capture(name, f"record {len(frames)} {what}", data)
+        frames.append(Frame(seconds * 1_000_000 + fraction // divisor, link, data[at + 16 : end], length))
+        at = end
     return frames
 
 
+def refused_capture(name, fault, data):
+    return Trouble(f"{name}: {fault}; {hints.capture_hint(name, fault, data)}")
+
+
+def write_capture(name, frames, link):
+    """A capture of these frames with times in microseconds."""
+    pieces = [struct.pack("<IHHIIII", 0xA1B2C3D4, 2, 4, 0, 0, LONGEST_FRAME, link)]
+    for frame in frames:
+        seconds, fraction = divmod(frame.moment, 1_000_000)
+        pieces += [struct.pack("<IIII", seconds, fraction, len(frame.data), frame.length), frame.data]
+    try:
+        with open(name, "wb") as file:
+            file.write(b"".join(pieces))
+    except OSError as error:
+        raise Trouble(f"{name}: {error.strerror}") from error
+
+
+@functools.lru_cache(maxsize=1 << 17)
 def address_text(number):
     return ".".join(str(number >> shift & 255) for shift in (24, 16, 8, 0))
 
 
+@functools.lru_cache(maxsize=1 << 17)
 def address_number(text):
     parts = text.split(".")
     if len(parts) != 4 or not all(part.isdigit() and int(part) < 256 for part in parts):
@@ -84,14 +170,14 @@ def network_packet(frame):
     """The bytes of the IP packet, or the Packet that says why there is none."""
     data = frame.data
     if frame.link == 1:
+        if data[12:14] == b"\x08\x00":
+            return data[14:]
         if len(data) < 14:
             return Packet("invalid", "the Ethernet header is cut")
         kind = struct.unpack_from(">H", data, 12)[0]
-        if kind != 0x0800:
-            names = {0x8100: "a VLAN tag", 0x88A8: "a VLAN tag", 0x86DD: "IPv6", 0x0806: "ARP"}
-            return Packet("link", f"its Ethernet type is 0x{kind:04x}, {names.get(kind, 'which is not IPv4')}")
-        data = data[14:]
-    elif data and data[0] >> 4 == 6:
+        names = {0x8100: "a VLAN tag", 0x88A8: "a VLAN tag", 0x86DD: "IPv6", 0x0806: "ARP"}
+        return Packet("link", f"its Ethernet type is 0x{kind:04x}, {names.get(kind, 'which is not IPv4')}")
+    if data and data[0] >> 4 == 6:
         return Packet("link", "it is IPv6")
     return data
 
@@ -103,24 +189,22 @@ def packet_of(frame):
         return data
     if len(data) < 20 or data[0] >> 4 != 4 or data[0] & 15 < 5:
         return Packet("invalid", "the IP header is cut, or is none of version 4")
-    header, (total, _, offset) = (data[0] & 15) * 4, struct.unpack_from(">HHH", data, 2)
-    source, target = struct.unpack_from(">II", data, 12)
-    name = PROTOCOLS.get(data[9])
+    total, offset, number, source, target = IP_HEADER.unpack_from(data, 2)
+    header, name = (data[0] & 15) * 4, PROTOCOLS.get(number)
     if total < header:
         return Packet("invalid", "the IP total length is less than its header")
     if offset & 0x3FFF:
         return Packet("fragment", "it is a fragment of an IP packet", name, source, target)
     if not name:
-        return Packet("protocol", f"its IP protocol is {data[9]}, and not ICMP, TCP or UDP", None, source, target)
-    reader = {"icmp": read_icmp, "tcp": read_tcp, "udp": read_udp}[name]
-    return reader(data[header:total], total - header, source, target)
+        return Packet("protocol", f"its IP protocol is {number}, and not ICMP, TCP or UDP", None, source, target)
+    return READERS[name](data[header:total], total - header, source, target)
 
 
 def read_udp(body, length, source, target):
     if length < 8 or len(body) < 6 or not 8 <= struct.unpack_from(">H", body, 4)[0] <= length:
         return Packet("invalid", "the UDP header is cut, or its length is wrong", "udp", source, target)
     first, second = struct.unpack_from(">HH", body)
-    return Packet("flow", None, "udp", source, target, first, second, payload=body[8:])
+    return Packet("flow", None, "udp", source, target, first, second, None, body[8:], Flow("udp", source, target, first, second))
 
 
 def read_tcp(body, length, source, target):
@@ -129,15 +213,16 @@ def read_tcp(body, length, source, target):
     first, second = struct.unpack_from(">HH", body)
     if body[13] & 0x37 not in VALID_FLAGS:
         return Packet("invalid", f"no connection has the flags {flag_text(body[13])}", "tcp", source, target, first, second, body[13])
-    return Packet("flow", None, "tcp", source, target, first, second, body[13], body[(body[12] >> 4) * 4 :])
+    flow = Flow("tcp", source, target, first, second)
+    return Packet("flow", None, "tcp", source, target, first, second, body[13], body[(body[12] >> 4) * 4 :], flow)
 
 
 def read_icmp(body, length, source, target):
     if length < 8 or len(body) < 6:
         return Packet("invalid", "the ICMP header is cut", "icmp", source, target)
     if body[0] in ICMP_PAIRS:
-        identifier = struct.unpack_from(">H", body, 4)[0]
-        return Packet("flow", None, "icmp", source, target, identifier, body[0] * 256 + body[1])
+        identifier, second = struct.unpack_from(">H", body, 4)[0], body[0] * 256 + body[1]
+        return Packet("flow", None, "icmp", source, target, identifier, second, flow=Flow("icmp", source, target, identifier, second))
     if body[0] not in ICMP_ERRORS:
         return Packet("invalid", f"ICMP type {body[0]} is neither a query, an answer nor an error", "icmp", source, target)
     inner = body[8:]
@@ -145,6 +230,22 @@ def read_icmp(body, length, source, target):
         return Packet("invalid", "the packet that the ICMP error repeats is cut", "icmp", source, target)
     about = packet_text_short(inner)
     return Packet("error", f"an ICMP error of type {body[0]} code {body[1]} about {about}", "icmp", source, target, payload=inner)
+
+
+READERS = {"icmp": read_icmp, "tcp": read_tcp, "udp": read_udp}
+
+
+def inner_flow(packet):
+    """The flow of the packet that an ICMP error repeats, as that packet had it, or None."""
+    inner = packet.payload
+    header, name = (inner[0] & 15) * 4, PROTOCOLS.get(inner[9])
+    if not name or header < 20 or len(inner) < header + (6 if name == "icmp" else 4):
+        return None
+    source, target = struct.unpack_from(">II", inner, 12)
+    if name == "icmp":
+        kind, code, _, identifier = struct.unpack_from(">BBHH", inner, header)
+        return Flow(name, source, target, identifier, kind * 256 + code) if kind in ICMP_PAIRS else None
+    return Flow(name, source, target, *struct.unpack_from(">HH", inner, header))
 
 
 def packet_text_short(inner):
@@ -179,20 +280,49 @@ def packet_text(frame):
     source, target = address_text(packet.source), address_text(packet.target)
     if packet.kind != "flow":
         return f"{packet.proto or 'ip'} {source} > {target}: {packet.why}"
-    if packet.proto == "icmp":
-        return f"icmp {source} > {target} type {packet.second // 256} code {packet.second % 256} id {packet.first}"
-    text = f"{packet.proto} {source}:{packet.first} > {target}:{packet.second}"
+    text = ends_text(packet.flow)
     if packet.proto == "tcp":
         text += f" {flag_text(packet.flags)}"
     return text + (f", {len(packet.payload)} bytes of data" if packet.payload else "")
 
 
-def tuple_text(packet):
-    """The tuple of a packet of a flow, as a report prints it, with the protocol before it."""
-    source, target = address_text(packet.source), address_text(packet.target)
-    if packet.proto == "icmp":
-        return f"icmp src={source} dst={target} type={packet.second // 256} code={packet.second % 256} id={packet.first}"
-    return f"{packet.proto} src={source} dst={target} sport={packet.first} dport={packet.second}"
+# Flows
+
+
+def inverse(flow):
+    """The tuple of the packets that go the other way."""
+    if flow.proto == "icmp":
+        return Flow("icmp", flow.target, flow.source, flow.first, ICMP_PAIRS[flow.second >> 8] * 256 + flow.second % 256)
+    return Flow(flow.proto, flow.target, flow.source, flow.second, flow.first)
+
+
+@functools.lru_cache(maxsize=1 << 18)
+def pair_of(flow):
+    """A name of a flow that is the same in both directions."""
+    return min(flow, inverse(flow))
+
+
+def ends_text(flow):
+    source, target = address_text(flow.source), address_text(flow.target)
+    if flow.proto == "icmp":
+        return f"icmp {source} > {target} type {flow.second >> 8} code {flow.second & 255} id {flow.first}"
+    return f"{flow.proto} {source}:{flow.first} > {target}:{flow.second}"
+
+
+def tuple_text(flow):
+    """A tuple as a report prints it."""
+    ends = f"src={address_text(flow.source)} dst={address_text(flow.target)}"
+    if flow.proto == "icmp":
+        return f"{ends} type={flow.second >> 8} code={flow.second & 255} id={flow.first}"
+    return f"{ends} sport={flow.first} dport={flow.second}"
+
+
+def flow_of_words(proto, words):
+    """The tuple of these words of a report."""
+    source, target = address_number(words[0][4:]), address_number(words[1][4:])
+    if proto == "icmp":
+        return Flow(proto, source, target, int(words[4][3:]), int(words[2][5:]) * 256 + int(words[3][5:]))
+    return Flow(proto, source, target, int(words[2][6:]), int(words[3][6:]))
 
 
 # Reports
@@ -205,7 +335,7 @@ def read_report(name):
         raise Trouble(f"{name}: no report of ctreplay (a report begins with 'events N'; --summary prints none)")
     try:
         return split_report(lines)
-    except (IndexError, ValueError) as error:
+    except (IndexError, ValueError, KeyError, Trouble) as error:
         raise Trouble(f"{name}: the report is cut or changed") from error
 
 
@@ -225,59 +355,122 @@ def split_report(lines):
     return Report(events, threads, lines[at:])
 
 
+class Event:
+    """An event of the history: its number, its kind, who made it, the entry that it is of, its line, the deadline that it gives
+    that entry or None, and of a confirm both tuples."""
+
+    __slots__ = ("number", "kind", "thread", "index", "entry", "text", "until", "flows")
+
+    @property
+    def fields(self):
+        """What stands behind the tuples as NAME=VALUE."""
+        return dict(word.split("=", 1) for word in self.text.split() if "=" in word)
+
+
 def event_of(line):
-    words = line.split()
-    thread, index = words[2].split(".")
-    fields = dict(word.split("=", 1) for word in words[3:] if "=" in word and not word.startswith(("src=", "dst=")))
-    number, kind = int(words[0]), words[1]
-    entry = number if kind == "confirm" else int(fields.get("id", fields.get("master", -1)))
-    return Event(number, kind, thread if thread == "s" else int(thread), int(index), entry, line, fields)
+    words, event = line.split(), Event()
+    event.number, event.kind, event.text, event.until, event.flows = int(words[0]), words[1], line, None, None
+    thread, _, index = words[2].partition(".")
+    event.thread, event.index = thread if thread == "s" else int(thread), int(index)
+    if event.kind == "touch":
+        event.entry, event.until = int(words[3][3:]), int(words[5][6:])
+    elif event.kind == "confirm":
+        width = 5 if words[3] == "icmp" else 4
+        event.flows = (flow_of_words(words[3], words[4 : 4 + width]), flow_of_words(words[3], words[4 + width : 4 + 2 * width]))
+        event.entry, event.until = event.number, int(words[4 + 2 * width][6:])
+    else:
+        fields = event.fields
+        event.entry = int(fields.get("id", fields.get("master", -1)))
+    return event
 
 
-def tuples_of(event):
-    """Both tuples of a confirm, each with its protocol before it."""
-    words = event.text.split()
-    width = 5 if words[3] == "icmp" else 4
-    pieces = words[4 : 4 + 2 * width]
-    return tuple(" ".join([words[3], *pieces[at : at + width]]) for at in (0, width))
+def verdict_of(text):
+    """A verdict: its first word, its second where that is a reason, the entry, and the first point."""
+    words = text.split()
+    if len(words) == 3 and words[1][:3] == "id=":
+        return Verdict(words[0], None, int(words[1][3:]), int(words[2][1:]))
+    entry = point = why = None
+    for word in words[1:]:
+        if word[0] == "@":
+            point = int(word[1:])
+            break
+        if word.startswith("id="):
+            entry = int(word[3:])
+        else:
+            why = word
+    return Verdict(words[0], why, entry, point)
 
 
-def fields_of(flow):
-    return dict(word.split("=") for word in flow.split()[1:])
-
-
-def until_of(event):
-    return int(event.fields["until"])
-
-
-def moment_of(event, captures):
-    """When an event was: its packet's time; of a command of the script, the latest time of all frames."""
-    if event.thread == "s":
-        return max((frame.moment for frames in captures for frame in frames), default=0)
-    return captures[event.thread][event.index].moment
-
-
-def read_work(report_name, capture_names):
-    """A report with its captures, of which each has to have a frame for each verdict."""
-    report = read_report(report_name)
-    captures = [read_capture(name) for name in capture_names]
-    wanted, found = [len(verdicts) for verdicts in report.threads], [len(frames) for frames in captures]
-    if wanted != found:
-        raise Trouble(f"{report_name} is a report of other captures: it has {wanted} packets, and these have {found}")
-    return report, captures
-
-
-def live_at(events, point):
-    """The confirm and the deadline of each entry that is live after so many events."""
-    live = {}
-    for event in events[:point]:
+def check_history(report, sizes):
+    """Each event has its number, was made by a packet that is there, and is of an entry that is live."""
+    live = set()
+    for at, event in enumerate(report.events):
+        if event.number != at or event.thread != "s" and not 0 <= event.index < sizes[event.thread]:
+            raise ValueError("an event of no packet, or with another number")
         if event.kind == "confirm":
-            live[event.number] = (event, until_of(event))
-        elif event.kind == "touch":
-            live[event.entry] = (live[event.entry][0], until_of(event))
-        elif event.kind == "destroy":
-            del live[event.entry]
-    return live
+            live.add(at)
+        elif event.kind in ("touch", "destroy", "expect", "claim") and event.entry not in live:
+            raise ValueError("an event of no live entry")
+        if event.kind == "destroy":
+            live.remove(event.entry)
+
+
+def check_verdicts(events, threads):
+    """Each verdict is of an entry that was confirmed, and of a point that was reached."""
+    for verdicts in threads:
+        for verdict in verdicts:
+            if verdict.entry is not None and events[verdict.entry].kind != "confirm" or (verdict.point or 0) > len(events):
+                raise ValueError("a verdict of no entry, or of no point")
+            if verdict.point is None and verdict.word in REFUSED:
+                raise ValueError("a verdict without its point")
+
+
+class Work:
+    """A report with its captures, of which each has to have a frame for each verdict."""
+
+    def __init__(self, report_name, names):
+        self.report, self.names = read_report(report_name), names
+        self.captures = [read_capture(name) for name in names]
+        wanted, found = [len(verdicts) for verdicts in self.report.threads], [len(frames) for frames in self.captures]
+        if wanted != found:
+            raise Trouble(f"{report_name} is a report of other captures: it has {wanted} packets, and these have {found}")
+        try:
+            check_history(self.report, found)
+            self.verdicts = [[verdict_of(text) for text in texts] for texts in self.report.threads]
+            check_verdicts(self.report.events, self.verdicts)
+        except (IndexError, ValueError, KeyError) as error:
+            raise Trouble(f"{report_name}: the report is cut or changed") from error
+
+    @functools.cached_property
+    def packets(self):
+        return [[packet_of(frame) for frame in frames] for frames in self.captures]
+
+    @functools.cached_property
+    def start(self):
+        return min((frame.moment for frames in self.captures for frame in frames), default=0)
+
+    @functools.cached_property
+    def end(self):
+        return max((frame.moment for frames in self.captures for frame in frames), default=0)
+
+    def moment_of(self, event):
+        """When an event was: its packet's time; of a command of the script, the latest time of all frames."""
+        return self.end if event.thread == "s" else self.captures[event.thread][event.index].moment
+
+    def judged(self):
+        """Thread, index, frame, packet and verdict of each packet."""
+        for thread, frames in enumerate(self.captures):
+            yield from (
+                (thread, index, frame, packet, verdict)
+                for index, (frame, packet, verdict) in enumerate(zip(frames, self.packets[thread], self.verdicts[thread]))
+            )
+
+    def name_of(self, thread, index, first=0):
+        """What to call a packet, or the maker of an event; with several captures the capture is named."""
+        if thread == "s":
+            return f"command {index} of the script"
+        where = f" of capture {thread}" if len(self.captures) > 1 else ""
+        return f"packet {index + first}{where}"
 
 
 # Rules
@@ -292,7 +485,7 @@ def read_rules(name):
             continue
         try:
             rules.append(rule_of(number, words))
-        except (IndexError, ValueError) as error:
+        except (IndexError, ValueError, Trouble) as error:
             raise Trouble(f"{name}: line {number} is no rule") from error
     return rules
 
@@ -301,68 +494,56 @@ def rule_of(number, words):
     if words[0] not in ("snat", "dnat") or words[-2] != "to":
         raise ValueError("no rule")
     options = dict(zip(words[1:-2:2], words[2:-2:2]))
+    if len(words) % 2 == 0 or not options.keys() <= {"-p", "-s", "-d", "--sport", "--dport"}:
+        raise ValueError("no rule")
     address, _, ports = words[-1].partition(":")
     low, _, high = ports.partition("-")
     low, high = (int(low), int(high or low)) if ports else (None, None)
-    return Rule(number, words[0], options, address, low, high, " ".join(words))
+    return Rule(number, words[0], options, address_number(address), low, high, " ".join(words), test_of(options))
 
 
-def in_block(address, block):
-    base, _, length = block.partition("/")
-    shift = 32 - int(length or 32)
-    return address_number(address) >> shift == address_number(base) >> shift
+def test_of(options):
+    """The options of a rule in the form in which flows are compared with them."""
+    pieces = [options.get("-p")]
+    for name in ("-s", "-d"):
+        base, _, length = options.get(name, "0.0.0.0/0").partition("/")
+        shift = 32 - int(length or 32)
+        pieces += [address_number(base) >> shift, shift]
+    return (*pieces, *(int(options[name]) if name in options else None for name in ("--sport", "--dport")))
+
+
+def is_for(rule, flow):
+    proto, source, source_shift, target, target_shift, first, second = rule.test
+    return (
+        (proto is None or proto == flow.proto)
+        and flow.source >> source_shift == source
+        and flow.target >> target_shift == target
+        and (first is None or first == flow.first)
+        and (second is None or second == flow.second)
+    )
 
 
 def rule_for(rules, flow):
     """The first rule for a tuple, or None."""
-    fields, proto = fields_of(flow), flow.split()[0]
     for rule in rules:
-        wants = rule.options
-        if (
-            wants.get("-p", proto) == proto
-            and in_block(fields["src"], wants.get("-s", "0.0.0.0/0"))
-            and in_block(fields["dst"], wants.get("-d", "0.0.0.0/0"))
-            and wants.get("--sport") in (None, fields.get("sport"))
-            and wants.get("--dport") in (None, fields.get("dport"))
-        ):
+        if is_for(rule, flow):
             return rule
     return None
 
 
 def numbers_of(rule, flow):
     """The lowest and the highest number that a rule may give a flow: a port, or of ICMP the identifier."""
-    fields, proto = fields_of(flow), flow.split()[0]
-    if proto == "icmp":
+    if flow.proto == "icmp":
         return 0, 65535
     if rule.low is not None:
         return rule.low, rule.high
     if rule.side == "dnat":
-        return int(fields["dport"]), int(fields["dport"])
-    port = int(fields["sport"])
-    return (1, 511) if port < 512 else (600, 1023) if port < 1024 else (1024, 65535)
+        return flow.second, flow.second
+    return (1, 511) if flow.first < 512 else (600, 1023) if flow.first < 1024 else (1024, 65535)
 
 
-def number_field(rule, flow):
-    """Where in the reply tuple the number stands that a rule chose."""
-    if flow.startswith("icmp"):
-        return "id"
-    return "dport" if rule.side == "snat" else "sport"
-
-
-def held_numbers(rule, flow, live, moment):
-    """Of the numbers that a rule may give this flow: those that entries hold, with the latest deadline of each."""
-    low, high = numbers_of(rule, flow)
-    wanted, proto, field = fields_of(flow), flow.split()[0], number_field(rule, flow)
-    reply_source, reply_target = (wanted["dst"], rule.address) if rule.side == "snat" else (rule.address, wanted["src"])
-    other = ("sport", wanted.get("dport")) if rule.side == "snat" else ("dport", wanted.get("sport"))
-    held = {}
-    for event, until in live.values():
-        for known in tuples_of(event):
-            fields = fields_of(known)
-            if (fields["src"], fields["dst"]) != (reply_source, reply_target) or known.split()[0] != proto:
-                continue
-            if proto != "icmp" and fields[other[0]] != other[1]:
-                continue
-            if low <= int(fields[field]) <= high:
-                held[int(fields[field])] = max(until, held.get(int(fields[field]), 0))
-    return held, sum(1 for until in held.values() if until <= moment), high - low + 1
+def number_given(rule, flow, reply):
+    """The number that a flow came with, and the one that its reply tuple has for it."""
+    if flow.proto == "icmp":
+        return flow.first, reply.first
+    return (flow.first, reply.second) if rule.side == "snat" else (flow.second, reply.first)

@@ -1,0 +1,478 @@
+"""Checks of what the tools say of flows: from-inside against a kernel and against packets made by hand, refused, compare, and
+the table at a time. Used by .ci/tools."""
+import os
+import re
+
+import made_packets as made
+import replay_files as files
+import replay_history as history
+from checking import EXAMPLES, PROGRAM, count, module, read, report_of, run, tool, wants, write
+
+START = 1_000_000_000_000_000
+SECOND = 1_000_000
+
+
+def kernel_flows(name, kind):
+    """Protocol and original tuple of each event of a kind that a kernel printed, in order."""
+    found = []
+    for line in read(EXAMPLES, f"{name}.events").splitlines():
+        if f"[{kind}]" in line:
+            proto = line.split("]", 2)[2].split()[0]
+            width = 5 if proto == "icmp" else 4
+            words = [word for word in line.split() if re.match(r"(src|dst|sport|dport|type|code|id)=", word)]
+            found.append(files.flow_of_words(proto, words[:width]))
+    return found
+
+
+def kernel_replies(name):
+    """The original tuple of each reply tuple that a kernel's new entries had, and the other way round."""
+    replies = {}
+    for line in read(EXAMPLES, f"{name}.events").splitlines():
+        if "[NEW]" in line:
+            proto = line.split("]", 2)[2].split()[0]
+            width = 5 if proto == "icmp" else 4
+            words = [word for word in line.split() if re.match(r"(src|dst|sport|dport|type|code|id)=", word)]
+            replies[files.flow_of_words(proto, words[width:])] = files.flow_of_words(proto, words[:width])
+    return replies
+
+
+def table_of(lines):
+    """Protocol, state, original tuple and flags of rows of conntrack -L: all but the reply tuple, whose port may be any."""
+    rows = set()
+    for line in lines:
+        found = re.match(r"(\w+) +\d+ \d+ (?:([A-Z_0-9]+) )?(src=.*)", line)
+        words, width = found[3].split(), 5 if found[1] == "icmp" else 4
+        rows.add((found[1], found[2], *words[:width], *sorted(set(words) & {"[UNREPLIED]", "[ASSURED]"})))
+    return rows
+
+
+def replayed(room, name):
+    """from-inside of an example, and the work of its replay, and the rows of the table at its end."""
+    ran = tool("from-inside", "--rules", f"{name}.rules", "--to", f"{room}/{name}.made.pcap", "--all", f"{name}.in.pcap")
+    words = ["--rules", f"{name}.rules", "--script", "table.script", f"{room}/{name}.made.pcap"]
+    report = report_of(room, *words, name=f"{name}.made.report")
+    return ran, files.Work(report, [f"{room}/{name}.made.pcap"]), read(report).split("\nscript 1\n")[1].splitlines()[1:]
+
+
+def began(work):
+    return [event.flows[0] for event in work.report.events if event.kind == "confirm"]
+
+
+def inside_flows(name):
+    """The flows of a capture of the inside, each as its first packet has it."""
+    flows = {}
+    for frame in files.read_capture(os.path.join(EXAMPLES, f"{name}.in.pcap")):
+        packet = files.packet_of(frame)
+        if packet.kind == "flow":
+            flows.setdefault(files.pair_of(packet.flow), packet.flow)
+    return set(flows.values())
+
+
+def outside_packets(frames, originals):
+    """Of each flow what came for it to the router from outside: flags and payload of each packet, by the flow's original tuple."""
+    found = {}
+    for frame in frames:
+        packet = files.packet_of(frame)
+        flow = originals.get(packet.flow) if packet.kind == "flow" else None
+        if packet.kind == "error" and (about := files.inner_flow(packet)):
+            flow = originals.get(files.inverse(about))
+        if flow:
+            found.setdefault(flow, []).append((packet.kind, packet.flags, (packet.payload or b"")[28 if packet.kind == "error" else 0 :]))
+    return found
+
+
+def check_kernel(room):
+    ran, work, rows = replayed(room, "range")
+    new, refused = set(kernel_flows("range", "NEW")), {it.flow for it in history.refusals_of(work)}
+    count("tools/from-inside, examples/range: settles", ran.returncode == 0 and "still changing" not in ran.stdout, ran.stdout)
+    count("tools/from-inside, examples/range: the kernel's translated flows", len(new) >= 12 and set(began(work)) == new, set(began(work)) ^ new)
+    lost = inside_flows("range") - new
+    count("tools/from-inside, examples/range: the kernel's refused flows", len(lost) == 4 and refused == lost, refused ^ lost)
+    table = table_of(read(EXAMPLES, "range.table").splitlines())
+    count("tools/from-inside, examples/range: the kernel's table at the end", len(table) >= 12 and table == table_of(rows), table ^ table_of(rows))
+    seen = outside_packets(files.read_capture(os.path.join(EXAMPLES, "range.out.pcap")), kernel_replies("range"))
+    replies = {event.flows[1]: event.flows[0] for event in work.report.events if event.kind == "confirm"}
+    met = outside_packets(work.captures[0], replies)
+    count("tools/from-inside, examples/range: what the outer interface saw", sum(map(len, seen.values())) > 40 and seen == met, set(seen) ^ set(met))
+    check_again(room)
+    ran, work, _ = replayed(room, "office")
+    kept = re.sub(r" until=\d+", "", read(EXAMPLES, "office.report").split("\nscript")[0])
+    mine = re.sub(r" until=\d+", "", read(room, "office.made.report").split("\nscript")[0])
+    count("tools/from-inside, examples/office: the report of both sides, a dnat and FTP in it", mine == kept, mine[:300])
+
+
+def check_again(room):
+    """Ports of closed connections are taken again by a kernel; all else is alike."""
+    _, work, _ = replayed(room, "again")
+    new, mine = set(kernel_flows("again", "NEW")), set(began(work))
+    refused, lost = {it.flow for it in history.refusals_of(work)}, inside_flows("again") - new
+    count("tools/from-inside, examples/again: what is let out here the kernel let out", mine and mine < new, mine - new)
+    count("tools/from-inside, examples/again: what the kernel refused is refused here", lost and lost < refused, lost - refused)
+    lines = [line for line in read(EXAMPLES, "again.events").splitlines() if re.search(r"\[DESTROY\] tcp +6 \d+ (TIME_WAIT|CLOSE) ", line)]
+    between = len(refused & new)
+    count("tools/from-inside, examples/again: for the others it ended closed entries", 0 < between <= len(lines), f"{between} {len(lines)}")
+
+
+# Packets made by hand: the capture of the inside, and what the router meets of it
+
+RULES = """dnat -d 192.0.2.1 -p tcp --dport 8080 to 10.0.0.9:80
+snat -s 10.0.0.0/8 -p udp to 192.0.2.1:1024-1025
+snat -s 10.0.0.0/8 -p tcp to 192.0.2.1:2000
+snat -s 10.0.0.0/8 to 192.0.2.1
+"""
+SERVER, OUTER = "198.51.100.1", "192.0.2.1"
+
+
+def pairs():
+    """Packets of the inside, each with what the router meets of it, or None where that cannot come."""
+    query = made.udp("10.0.0.1", 1024, SERVER, 53, b"who")
+    yield query, query
+    yield made.udp(SERVER, 53, "10.0.0.1", 1024, b"me!"), made.udp(SERVER, 53, OUTER, 1024, b"me!")
+    query = made.udp("10.0.0.2", 1024, SERVER, 53, b"odd")
+    yield query, query
+    yield made.udp(SERVER, 53, "10.0.0.2", 1024, b"even"), made.udp(SERVER, 53, OUTER, 1025, b"even")
+    yield made.error("198.51.100.9", "10.0.0.2", query), made.error("198.51.100.9", OUTER, made.udp(OUTER, 1025, SERVER, 53, b"odd"))
+    refused = made.udp("10.0.0.3", 1024, SERVER, 53, b"no port")
+    yield refused, refused
+    yield made.udp(SERVER, 53, "10.0.0.3", 1024, b"left out"), None
+    yield made.error("198.51.100.9", "10.0.0.3", refused), None
+    answer_error = made.error("10.0.0.1", SERVER, made.udp(SERVER, 53, "10.0.0.1", 1024, b"me!"))
+    yield answer_error, answer_error
+    yield from connection("10.0.0.1", 40000, 2000)
+    yield from connection("10.0.0.2", 40001, None)
+    echo = made.echo("10.0.0.1", SERVER, 8, 77)
+    yield echo, echo
+    yield made.echo(SERVER, "10.0.0.1", 0, 77), made.echo(SERVER, OUTER, 0, 77)
+    yield from page_of_inside()
+
+
+def connection(client, port, given):
+    """A connection of a client that got this port, or none: of that one only the SYN comes."""
+    for flags, is_own, data in (("S", True, b""), ("SA", False, b""), ("A", True, b""), ("AP", True, b"GET"), ("AP", False, b"page" * 99), ("FA", False, b"")):
+        if is_own:
+            packet = made.tcp(client, port, SERVER, 80, flags, data)
+            yield packet, packet if given or flags == "S" else None
+        else:
+            met = made.tcp(SERVER, 80, OUTER, given, flags, data) if given else None
+            yield made.tcp(SERVER, 80, client, port, flags, data), met
+
+
+def page_of_inside():
+    """A connection that began outside, through the dnat, and an error about one of its answers."""
+    outside = ("198.51.100.7", 5555)
+    yield made.tcp(*outside, "10.0.0.9", 80, "S"), made.tcp(*outside, OUTER, 8080, "S")
+    answer = made.tcp("10.0.0.9", 80, *outside, "SA")
+    yield answer, answer
+    yield made.tcp(*outside, "10.0.0.9", 80, "A"), made.tcp(*outside, OUTER, 8080, "A")
+    yield made.error("198.51.100.7", "10.0.0.9", answer), made.error("198.51.100.7", OUTER, made.tcp(OUTER, 8080, *outside, "SA"))
+
+
+def ethernet(data):
+    return bytes(range(12)) + b"\x08\x00" + data
+
+
+def check_made(room):
+    chosen = list(pairs())
+    rules = write(room, "made.rules", RULES)
+    for link, wrap in ((101, bytes), (1, ethernet)):
+        inside = made.write(f"{room}/inside.pcap", [(START + at * 1000, wrap(packet)) for at, (packet, _) in enumerate(chosen)], link)
+        ran = tool("from-inside", "--rules", rules, "--to", f"{room}/met.pcap", inside)
+        wanted = [(START + at * 1000, wrap(met)) for at, (_, met) in enumerate(chosen) if met is not None]
+        found = [(frame.moment, frame.data) for frame in files.read_capture(f"{room}/met.pcap")]
+        wrong = [at for at, (one, other) in enumerate(zip(wanted, found)) if one != other]
+        count(f"tools/from-inside: each packet as the router meets it, link type {link}", found == wanted, f"{wrong} {ran.stdout}{ran.stderr}")
+    texts = ("got no port or no place: 2 flows", "udp 10.0.0.3:1024 > 198.51.100.1:53, 2 packets left out", "tcp 10.0.0.2:40001 > 198.51.100.1:80, 5 packets left out")
+    wants("tools/from-inside: names the flows that got no port", ran, 0, *texts)
+    wider = write(room, "wider.rules", RULES.replace("1024-1025", "1024-1029").replace("2000", "2000-2009"))
+    ran = tool("from-inside", "--rules", wider, "--to", f"{room}/met.pcap", inside)
+    wants("tools/from-inside: other rules for the same capture", ran, 0, f"{len(chosen)} of {len(chosen)} packets")
+    count("tools/from-inside: with room for all none is refused", "got no port" not in ran.stdout, ran.stdout)
+
+
+def bare(packet):
+    """A packet of UDP without a checksum."""
+    return packet[:26] + b"\0\0" + packet[28:]
+
+
+def check_fronts(room):
+    """A capture that begins within a connection, a client that asks an inner server by its own address, and UDP without a checksum."""
+    inner = made.tcp("10.0.0.5", 6000, "10.0.0.9", 80, "S")
+    chosen = [
+        (made.tcp(SERVER, 80, "10.0.0.1", 40000, "SA"), None),
+        (made.tcp("10.0.0.1", 40000, SERVER, 80, "A"), made.tcp("10.0.0.1", 40000, SERVER, 80, "A")),
+        (made.tcp(SERVER, 80, "10.0.0.1", 40000, "AP", b"x"), made.tcp(SERVER, 80, OUTER, 2000, "AP", b"x")),
+        (inner, inner),
+        (bare(made.udp("10.0.0.1", 1024, SERVER, 53)), bare(made.udp("10.0.0.1", 1024, SERVER, 53))),
+        (bare(made.udp(SERVER, 53, "10.0.0.1", 1024)), bare(made.udp(SERVER, 53, OUTER, 1024))),
+    ]
+    inside = made.write(f"{room}/inside.pcap", [(START + at, packet) for at, (packet, _) in enumerate(chosen)])
+    ran = tool("from-inside", "--rules", write(room, "made.rules", RULES), "--to", f"{room}/met.pcap", inside)
+    found = [frame.data for frame in files.read_capture(f"{room}/met.pcap")]
+    count("tools/from-inside: fronts of captures, inner servers, no checksum", found == [met for _, met in chosen if met], found)
+    wants("tools/from-inside: an answer whose flow is older", ran, 0, "left out: 1 answers whose flow began before the capture")
+
+
+def check_no_address(room):
+    """A dnat that names no address can't be put back: told with its line."""
+    steps = [made.tcp("198.51.100.7", 5555, "10.0.0.9", 80, "S"), made.tcp("10.0.0.9", 80, "198.51.100.7", 5555, "SA")]
+    inside = made.write(f"{room}/inside.pcap", [(START + at, packet) for at, packet in enumerate(steps)])
+    rules = write(room, "bare.rules", "# by its interface alone\ndnat -p tcp --dport 8080 to 10.0.0.9:80\n")
+    ran = tool("from-inside", "--rules", rules, "--to", f"{room}/met.pcap", inside)
+    wants("tools/from-inside: a dnat that names no address", ran, 0, "as they stand: 1 flow to the target of the rule in line 2")
+    count("tools/from-inside: whose flow stands", [frame.data for frame in files.read_capture(f"{room}/met.pcap")] == steps)
+
+
+def check_cut(room):
+    """Packets of which the capture has the front alone keep the checksum of the whole."""
+    long = b"x" * 400
+    chosen = [
+        (made.udp("10.0.0.2", 1024, SERVER, 53, long), None),
+        (made.udp("10.0.0.1", 1024, SERVER, 53, long), None),
+        (made.udp(SERVER, 53, "10.0.0.1", 1024, long), made.udp(SERVER, 53, OUTER, 1025, long)),
+        (made.tcp("10.0.0.1", 40000, SERVER, 80, "S"), None),
+        (made.tcp(SERVER, 80, "10.0.0.1", 40000, "SA"), made.tcp(SERVER, 80, OUTER, 2000, "SA")),
+        (made.tcp(SERVER, 80, "10.0.0.1", 40000, "AP", long), made.tcp(SERVER, 80, OUTER, 2000, "AP", long)),
+    ]
+    inside = made.write(f"{room}/inside.pcap", [(START + at, packet[:60]) for at, (packet, _) in enumerate(chosen)])
+    tool("from-inside", "--rules", write(room, "made.rules", RULES), "--to", f"{room}/met.pcap", inside)
+    found = [frame.data for frame in files.read_capture(f"{room}/met.pcap")]
+    count("tools/from-inside: packets that are cut", found == [(met or packet)[:60] for packet, met in chosen], found)
+
+
+def check_ftp(room):
+    """Active FTP: the server's connection comes to the rule's address, and is expected there."""
+    text = b"PORT 10,0,0,1,156,65\r\n"
+    steps = [
+        made.tcp("10.0.0.1", 2000, SERVER, 21, "S"), made.tcp(SERVER, 21, "10.0.0.1", 2000, "SA"), made.tcp("10.0.0.1", 2000, SERVER, 21, "A"),
+        made.tcp("10.0.0.1", 2000, SERVER, 21, "AP", text), made.tcp(SERVER, 20, "10.0.0.1", 40001, "S"),
+    ]
+    inside = made.write(f"{room}/inside.pcap", [(START + at, packet) for at, packet in enumerate(steps)])
+    rules = write(room, "made.rules", RULES)
+    tool("from-inside", "--rules", rules, "--to", f"{room}/met.pcap", inside)
+    found = files.read_capture(f"{room}/met.pcap")
+    count("tools/from-inside: the server's connection of active FTP", found[-1].data == made.tcp(SERVER, 20, OUTER, 40001, "S"), found[-1].data)
+    count("tools/from-inside: FTP's text stands", text in found[3].data)
+    ran = run([PROGRAM, "--rules", rules, f"{room}/met.pcap"])
+    wants("tools/from-inside: which is RELATED", ran, 0, "\n4 RELATED id=")
+
+
+def check_passive(room):
+    """Passive FTP of a server behind a dnat: the client's connection comes to the outer address, and is expected there."""
+    client, server = "198.51.100.7", "10.0.0.9"
+    steps = [
+        made.tcp(client, 5555, server, 21, "S"), made.tcp(server, 21, client, 5555, "SA"), made.tcp(client, 5555, server, 21, "A"),
+        made.tcp(server, 21, client, 5555, "AP", b"227 Entering Passive Mode (10,0,0,9,156,65).\r\n"), made.tcp(client, 5556, server, 40001, "S"),
+    ]
+    inside = made.write(f"{room}/inside.pcap", [(START + at, packet) for at, packet in enumerate(steps)])
+    rules = write(room, "ftp.rules", "dnat -d 192.0.2.1 -p tcp --dport 21 to 10.0.0.9\n")
+    tool("from-inside", "--rules", rules, "--to", f"{room}/met.pcap", inside)
+    wanted = made.tcp(client, 5556, OUTER, 40001, "S")
+    count("tools/from-inside: passive FTP of a server inside", files.read_capture(f"{room}/met.pcap")[-1].data == wanted)
+    wants("tools/from-inside: which is RELATED too", run([PROGRAM, "--rules", rules, f"{room}/met.pcap"]), 0, "\n4 RELATED id=")
+
+
+def check_rounds(room):
+    """A program that says another port each time: eight rounds, and the flow is named."""
+    steps = [made.udp("10.0.0.1", 1024, SERVER, 53), made.udp(SERVER, 53, "10.0.0.1", 1024)]
+    inside = made.write(f"{room}/inside.pcap", [(START + at, packet) for at, packet in enumerate(steps)])
+    maker, runs, lines = module("from-inside"), [], []
+
+    def flips(_options, _name, _frames, sent):
+        runs.append(len(sent))
+        flow = files.packet_of(files.read_capture(inside)[0]).flow
+        reply = files.inverse(flow)._replace(target=files.address_number(OUTER), second=1024 + len(runs) % 2)
+        return maker.Round({0: files.Verdict("NEW", None, 0, 1)}, {0: (flow, reply)}, {})
+
+    maker.run_program = flips
+    maker.print = lambda *words: lines.append(" ".join(words))
+    status = maker.main(["--rules", write(room, "made.rules", RULES), "--to", f"{room}/met.pcap", inside])
+    said = "\n".join(lines)
+    count("tools/from-inside: eight rounds at most", (status, len(runs)) == (1, 8), f"{status} {runs}")
+    count("tools/from-inside: names what still changes", "still changing after 8 rounds: 1 flow\n  packet 1 udp 198.51.100.1:53" in said, said)
+
+
+# Flows that were refused
+
+
+def refused_capture(room):
+    """Three clients and two ports; the third comes four times, the last time when the first two are past their deadline."""
+    packets = [(START + at * SECOND, made.udp(f"10.0.0.{at + 1}", 5000, SERVER, 53)) for at in range(3)]
+    packets += [(START + at * SECOND, made.udp("10.0.0.3", 5000, SERVER, 53)) for at in (4, 5, 40)]
+    packets += [(START + 41 * SECOND, made.udp("10.0.0.4", 5000, SERVER, 53))]
+    return made.write(f"{room}/refused.pcap", packets)
+
+
+def check_refused(room):
+    capture, rules = refused_capture(room), write(room, "two.rules", "snat -p udp to 192.0.2.1:1024-1025\n")
+    report = report_of(room, "--rules", rules, capture)
+    ran = tool("refused", "--rules", rules, report, capture)
+    texts = (
+        "2 flows refused or dropped, and 3 later packets of theirs without an entry", "      2 NOPORT", "      1 10.0.0.3",
+        "2 NOPORT, line 1: snat -p udp to 192.0.2.1:1024-1025", "the first at 2001-09-09 01:46:42.000000 UTC: 2 numbers held by 10.0.0.1 (1), 10.0.0.2 (1)\n",
+        "      1 0 s to 5 s", "      1 40 s to 45 s", "udp 10.0.0.3:5000 > 198.51.100.1:53, 3 later; 2 numbers held by 10.0.0.1 (1), 10.0.0.2 (1)\n",
+        "NOPORT packet 6 2001-09-09 01:47:21.000000 UTC udp 10.0.0.4:5000 > 198.51.100.1:53; 2 numbers held by 10.0.0.1 (1), 10.0.0.2 (1), 2 past their deadline",
+    )
+    wants("tools/refused: flows, and not packets", ran, 1, *texts)
+    words = report_of(room, "--entries", "2", capture)
+    wants("tools/refused: a full table", tool("refused", words, capture), 1, "2 FULL, no rule", "2 places held by 10.0.0.1 (1), 10.0.0.2 (1), 2 past their deadline")
+    wants("tools/check: says so in flows", tool("check", words, capture), 1, "5 packets of 2 flows are FULL, 2 of these packets while")
+    words = report_of(room, "--rules", "office.rules", "office.in.pcap")
+    wants("tools/refused: an answer of the other side", tool("refused", words, "office.in.pcap"), 1, "CLASH", "entry 0 had its tuple")
+    wants("tools/refused: none", tool("refused", "office.report", "office.pcap"), 0, "no flow was refused or dropped\n")
+    check_holders(room)
+    check_let_in(room)
+    check_dropped(room, capture)
+
+
+def check_holders(room):
+    """Of the numbers that a flow wanted those that are held then, and those held past a deadline that is the last one given."""
+    rules = write(room, "ranges.rules", "snat -s 10.0.0.0/30 -p udp to 192.0.2.1:1024-1025\nsnat -p udp to 192.0.2.1:1026-1030\n")
+    for last, again, past in ((10, 1, ""), (30, 1, ", 1 past their deadline"), (30, None, ", 2 past their deadline"), (29, None, "")):
+        steps = [(0, 1), (0, 2), (0, 4), (1, 5), *([(again, 2)] if again else []), (last, 3)]
+        capture = made.write(f"{room}/holders.pcap", [(START + at * SECOND, made.udp(f"10.0.0.{host}", 5000, SERVER, 53)) for at, host in steps])
+        ran = tool("refused", "--rules", rules, report_of(room, "--rules", rules, capture), capture)
+        wants(f"tools/refused: what is held after {last} s{past}", ran, 1, f"10.0.0.3:5000 > 198.51.100.1:53; 2 numbers held by 10.0.0.1 (1), 10.0.0.2 (1){past}\n")
+
+
+def check_let_in(room):
+    """A flow that was refused, was let in and is refused again is two: its packets in between are not refused ones."""
+    steps = [("10.0.0.1", "S"), ("10.0.0.2", "S"), ("10.0.0.2", "S"), ("10.0.0.1", "R"), ("10.0.0.2", "S"), ("10.0.0.2", "R"), ("10.0.0.1", "S"), ("10.0.0.2", "S")]
+    packets = [(START + at, made.tcp(source, 5000, SERVER, 80, flags)) for at, (source, flags) in enumerate(steps)]
+    packets.append((START + 9, made.tcp(SERVER, 80, "10.0.0.2", 5000, "SA")))
+    capture = made.write(f"{room}/let-in.pcap", packets)
+    ran = tool("refused", report_of(room, "--entries", "1", capture), capture)
+    wants("tools/refused: let in between", ran, 1, "2 flows refused or dropped, and 2 later packets of", "FULL packet 1 ", "FULL packet 7 ")
+
+
+def check_dropped(room, capture):
+    """A report with an early drop and with zones: an entry that made room for another is a flow that was dropped."""
+    events = [line for line in read(report_of(room, capture)).splitlines() if " confirm " in line]
+    events.insert(2, "2 destroy 0.2 id=0 dropped")
+    renumbered = [re.sub(r"^\d+", str(at), line) + (" zone=7" if " confirm " in line else "") for at, line in enumerate(events)]
+    verdicts = ["0 NEW id=0 @1", "1 NEW id=1 @2", "2 NEW id=3 @4", "3 NEW id=3 @4", "4 NEW id=3 @4", "5 NEW id=4 @5", "6 NEW id=5 @6"]
+    made_report = [f"events {len(renumbered)}", *renumbered, "thread 0 packets 7", *verdicts, "script 0"]
+    name = write(room, "dropped.report", "\n".join(made_report) + "\n")
+    texts = ("1 dropped, no rule", "zone 7", "dropped packet 2 ")
+    wants("tools/refused: an early drop, and a zone", tool("refused", name, capture), 1, *texts, "udp 10.0.0.1:5000 > 198.51.100.1:53; 2 places held by 10.0.0.1 (1), 10.0.0.2 (1)")
+
+
+# Two reports of one capture
+
+ONE = """events 2
+0 confirm 0.0 udp src=10.0.0.1 dst=198.51.100.1 sport=1 dport=53 src=198.51.100.1 dst=10.0.0.1 sport=53 dport=1 until=31000000
+1 confirm 1.0 udp src=10.0.0.2 dst=198.51.100.1 sport=1 dport=53 src=198.51.100.1 dst=10.0.0.2 sport=53 dport=1 until=31000000
+thread 0 packets 1
+0 NEW id=0 @1
+thread 1 packets 1
+0 NEW id=1 @2
+script 0
+"""
+OTHER = """events 2
+0 confirm 1.0 udp src=10.0.0.2 dst=198.51.100.1 sport=1 dport=53 src=198.51.100.1 dst=10.0.0.2 sport=53 dport=1 until=31000000
+1 confirm 0.0 udp src=10.0.0.1 dst=198.51.100.1 sport=1 dport=53 src=198.51.100.1 dst=10.0.0.1 sport=53 dport=1 until=31000000
+thread 0 packets 1
+0 NEW id=1 @2
+thread 1 packets 1
+0 NEW id=0 @1
+script 0
+"""
+
+
+def check_compare(room):
+    names = [made.write(f"{room}/{at}.pcap", [(SECOND, made.udp(f"10.0.0.{at}", 1, "198.51.100.1", 53))]) for at in (1, 2)]
+    one, other = write(room, "one.report", ONE), write(room, "other.report", OTHER)
+    ran = tool("compare", one, other, *names)
+    wants("tools/compare: another order of the history", ran, 0, "no flow, verdict or translation differs\n")
+    other = write(room, "other.report", OTHER.replace("src=198.51.100.1 dst=10.0.0.2 sport=53 dport=1 until", "src=198.51.100.1 dst=192.0.2.1 sport=53 dport=9 until"))
+    texts = (
+        "1 packet of 1 flow got something else; 1 flow another translation", "NEW in both, another entry",
+        "udp 10.0.0.2:1 > 198.51.100.1:53: 1 packet\n", "at the end only in the second report: 1 of the entries",
+        "dst=10.0.0.2 sport=53 dport=1 -> src=198.51.100.1 dst=192.0.2.1 sport=53 dport=9",
+    )
+    wants("tools/compare: another translation", tool("compare", one, other, *names), 1, *texts)
+    capture, rules = refused_capture(room), write(room, "two.rules", "snat -p udp to 192.0.2.1:1024-1025\n")
+    first = report_of(room, "--rules", rules, capture, name="first.report")
+    second = report_of(room, "--rules", write(room, "three.rules", "snat -p udp to 192.0.2.1:1024-1026\n"), capture, name="second.report")
+    words = [line.split()[1] for line in read(second).split("thread")[1].splitlines()[1:8]]
+    texts = ("udp 10.0.0.3:5000 > 198.51.100.1:53: 4 packets", " 4 of 1 flow: NOPORT -> NEW", "packet 2: NOPORT -> NEW (replies")
+    wants("tools/compare: more ports", tool("compare", first, second, capture), 1, *texts)
+    count("tools/compare: which they are", words == ["NEW"] * 6 + ["NOPORT"], words)
+    script = write(room, "flush.script", "wait\n-F\n")
+    third = report_of(room, "--rules", rules, "--script", script, capture, name="third.report")
+    wants("tools/compare: a script that ends the entries", tool("compare", first, third, capture), 0, "no flow, verdict")
+    third = report_of(room, "--rules", rules, "--buckets", "1", capture, name="third.report")
+    wants("tools/compare: another number of buckets", tool("compare", first, third, capture), 0, "no flow, verdict")
+
+
+# The table at a time
+
+
+def check_table(room):
+    """At three points the table is the program's own list of the packets up to there, but for what is past its deadline."""
+    frames = files.read_capture(os.path.join(EXAMPLES, "office.pcap"))
+    for size in (7, 40, 108):
+        prefix, end = f"{room}/prefix.pcap", frames[size - 1].moment
+        files.write_capture(prefix, frames[:size], frames[0].link)
+        script = write(room, "end.script", f"wait\nexpire {end}\n-L\n")
+        ran = run([PROGRAM, "--rules", "office.rules", "--script", script, prefix])
+        wanted = [re.sub(r" @\d+$", "", line) for line in ran.stdout.splitlines() if re.match(r"(udp|tcp|icmp) ", line)]
+        found = tool("table", "--at", str(end), "office.report", "office.pcap").stdout.splitlines()
+        count(f"tools/table: the program's own list after {size} packets", len(wanted) > 1 and found == wanted, found)
+    kept = tool("table", "--at", "2026-11-28T23:48:53Z", "late.report", "late.pcap").stdout
+    wanted = "udp      17 2 src=192.168.1.10 dst=198.51.100.54 sport=40003 dport=53 [UNREPLIED] src=198.51.100.54 dst=203.0.113.5 sport=53 dport=40003\n"
+    count("tools/table: seconds left from its own time, and none past its deadline", kept.endswith(wanted) and kept.count("\n") == 2, kept)
+    same = [tool("table", "--at", time, "late.report", "late.pcap").stdout for time in ("2026-11-28 23:48:53", "1795909733000000")]
+    count("tools/table: the forms of a time", same == [kept, kept], same)
+
+
+def check_other_ports(room):
+    """Of what both sides of a router saw, answers to ports that a replay gave otherwise are told at once."""
+    report = report_of(room, "--rules", "range.rules", "range.pcap")
+    ran = tool("check", "--rules", "range.rules", report, "range.pcap")
+    texts = ("packets of", "to 203.0.113.9, the address of a snat rule, answer its clients", "tools/from-inside --rules FILE")
+    wants("tools/check: ports that the router gave otherwise", ran, 1, *texts)
+    wants("tools/check: the same without rules", tool("check", report, "range.pcap"), 1, *texts)
+    answers = [
+        (START, made.udp("10.0.0.1", 5000, SERVER, 53)), (START + 1, made.udp(SERVER, 53, OUTER, 1030)), (START + 2, made.tcp("10.0.0.1", 5000, SERVER, 80, "S")),
+        (START + 3, made.tcp(SERVER, 80, OUTER, 1031, "SA")), (START + 4, made.udp("198.51.100.99", 53, OUTER, 1032)),
+    ]
+    capture, rules = made.write(f"{room}/answers.pcap", answers), write(room, "two.rules", "snat -s 10.0.0.0/8 -p udp to 192.0.2.1:1024\nsnat -s 10.0.0.0/8 -p tcp to 192.0.2.1:1024\n")
+    ran = tool("check", "--rules", rules, report_of(room, "--rules", rules, capture), capture)
+    wants("tools/check: answers that begin entries, and those that begin none", ran, 1, "answers.pcap: 2 packets of 2 flows to 192.0.2.1, the address")
+    replayed(room, "range")
+    ran = tool("check", "--rules", "range.rules", f"{room}/range.made.report", f"{room}/range.made.pcap")
+    count("tools/check: none after from-inside", "snat rule" not in ran.stdout and "4 packets of 4 flows are NOPORT" in ran.stdout, ran.stdout)
+
+
+def check_pictures_of(room):
+    """What a picture of ports counts is what why counts: all that holds a number of the rule, whichever rule gave it."""
+    rules = write(room, "two.rules", "snat -s 10.0.0.1 -p udp to 192.0.2.1:1024\nsnat -p udp to 192.0.2.1:1024-1025\n")
+    packets = [(START + at * SECOND, made.udp(f"10.0.0.{at + 1}", 5000, SERVER, 53)) for at in range(3)]
+    capture = made.write(f"{room}/held.pcap", packets)
+    report = report_of(room, "--rules", rules, capture)
+    draw, work = module("draw"), files.Work(report, [capture])
+    panels = {panel.rule.line: panel for panel in draw.panels_of(work, files.read_rules(rules))}
+    rows = draw.steps(draw.Scale(work), draw.table_changes(panels[2].lives))
+    count("tools/draw: a port that another rule's entry holds", draw.top_of(rows) == 2 and len(panels[2].refused) == 1, rows)
+    wants("tools/why: the same", tool("why", "--rules", rules, "--report", report, capture, "--", "2"), 0, "has 2 numbers for it, of which 2 were held")
+    again = [(START + at * SECOND, made.udp(source, 1, SERVER, 53)) for at, source in ((0, "10.0.0.1"), (0, "10.0.0.2"), (31, "10.0.0.1"))]
+    capture = made.write(f"{room}/again.pcap", again)
+    work = files.Work(report_of(room, "--entries", "2", capture), [capture])
+    rows = draw.steps(draw.Scale(work), draw.table_changes(history.lives_of(work).values()))
+    count("tools/draw: what ends and what begins at one moment is one step", len(work.report.events) == 4 and rows == [("0.000000", 0), ("0.000000", 2), ("31.000000", 2)], rows)
+
+
+def check_all(room):
+    check_kernel(room)
+    check_made(room)
+    check_fronts(room)
+    check_no_address(room)
+    check_cut(room)
+    check_ftp(room)
+    check_passive(room)
+    check_rounds(room)
+    check_refused(room)
+    check_compare(room)
+    check_table(room)
+    check_other_ports(room)
+    check_pictures_of(room)

@@ -1,0 +1,237 @@
+"""Checks of rules-from-iptables: nft's two forms, docker's chains, and what is no ruleset. Used by .ci/tools."""
+import json
+import os
+import shutil
+
+from checking import EXAMPLES, count, read, refuses, run, tool, wants
+
+NFT = """table ip filter {
+	chain forward { # handle 1
+		type filter hook forward priority filter; policy accept;
+		tcp dport 22 drop # handle 2
+	}
+}
+table ip nat { # handle 4
+	chain postrouting { # handle 1
+		type nat hook postrouting priority srcnat; policy accept;
+		oifname "out0" ip saddr 192.168.1.0/24 tcp dport { 21, 80 } counter packets 5 bytes 300 snat to 203.0.113.9:41000-41003 # handle 8
+		oifname "out0" ip saddr { 10.1.0.0/16, 10.2.0.0/16 } meta l4proto { tcp, udp } masquerade to :1024-2000 comment "all of them" # handle 9
+		oifname "out0" masquerade random # handle 10
+		ip saddr 10.3.0.0/16 udp sport 1-9 snat to 203.0.113.9 # handle 11
+		ip daddr 10.4.0.1 return # handle 12
+	}
+	chain extra { # handle 2
+		tcp dport 99 dnat to 192.168.1.11:9900 # handle 13
+		ip daddr 198.18.0.1 tcp dport 98 dnat to 192.168.1.11 # handle 14
+	}
+	chain prerouting { # handle 3
+		type nat hook prerouting priority dstnat; policy accept;
+		ip daddr 203.0.113.9 tcp dport 8080 dnat to 192.168.1.10:8000 # handle 15
+		fib daddr type local udp dport 53 dnat to 192.168.1.53 # handle 16
+		ip daddr 203.0.113.0/24 jump extra # handle 17
+		dnat to tcp dport map { 25 : 192.168.1.20 } # handle 18
+	}
+}
+table ip6 nat {
+	chain prerouting {
+		type nat hook prerouting priority dstnat; policy accept;
+		tcp dport 80 dnat to fd00::1
+	}
+}
+"""
+FROM_NFT = """dnat -d 203.0.113.9 -p tcp --dport 8080 to 192.168.1.10:8000
+dnat -d 203.0.113.9 -p udp --dport 53 to 192.168.1.53
+dnat -d 203.0.113.0/24 -p tcp --dport 99 to 192.168.1.11:9900
+# line 25: dnat to tcp dport map { 25 : 192.168.1.20 }
+#   not said: dnat by a map cannot be said
+snat -s 192.168.1.0/24 -p tcp --dport 21 to 203.0.113.9:41000-41003
+snat -s 192.168.1.0/24 -p tcp --dport 80 to 203.0.113.9:41000-41003
+snat -s 10.1.0.0/16 -p tcp to 203.0.113.9:1024-2000
+snat -s 10.1.0.0/16 -p udp to 203.0.113.9:1024-2000
+snat -s 10.2.0.0/16 -p tcp to 203.0.113.9:1024-2000
+snat -s 10.2.0.0/16 -p udp to 203.0.113.9:1024-2000
+# line 12: oifname "out0" masquerade random
+#   not said: random: here the own port is kept where it is free
+# line 13: ip saddr 10.3.0.0/16 udp sport 1-9 snat to 203.0.113.9
+#   not said: --sport 1-9: one port can be said, and not a range
+# line 14: ip daddr 10.4.0.1 return
+#   not said: RETURN: no rule says that a flow is left as it is
+# The first rule for a flow decides here: where a line above is not said, a later rule may take its flows.
+"""
+
+
+def payload(protocol, field, right, op="=="):
+    return {"match": {"op": op, "left": {"payload": {"protocol": protocol, "field": field}}, "right": right}}
+
+
+def meta(key, right, op="=="):
+    return {"match": {"op": op, "left": {"meta": {"key": key}}, "right": right}}
+
+
+def network(address, length):
+    return {"prefix": {"addr": address, "len": length}}
+
+
+def json_ruleset():
+    """What nft -j prints of some rules of NFT, and one that it has of iptables."""
+    def chain(name, **more):
+        return {"chain": {"family": "ip", "table": "nat", "name": name, "handle": 1, **more}}
+
+    def rule(name, handle, *expr):
+        return {"rule": {"family": "ip", "table": "nat", "chain": name, "handle": handle, "expr": list(expr)}}
+
+    local = {"match": {"op": "==", "left": {"fib": {"result": "type", "flags": ["daddr"]}}, "right": "local"}}
+    return json.dumps({"nftables": [
+        {"metainfo": {"version": "1.0.6", "json_schema_version": 1}},
+        chain("postrouting", type="nat", hook="postrouting", prio=100, policy="accept"),
+        chain("extra"),
+        chain("prerouting", type="nat", hook="prerouting", prio=-100, policy="accept"),
+        rule("postrouting", 8, meta("oifname", "out0"), payload("ip", "saddr", network("192.168.1.0", 24)), payload("tcp", "dport", {"set": [21, 80]}),
+             {"counter": {"packets": 5, "bytes": 300}}, {"snat": {"addr": "203.0.113.9", "port": {"range": [41000, 41003]}}}),
+        rule("postrouting", 9, payload("ip", "saddr", {"set": [network("10.1.0.0", 16), network("10.2.0.0", 16)]}), meta("l4proto", {"set": ["tcp", "udp"]}),
+             {"masquerade": {"port": {"range": [1024, 2000]}}}),
+        rule("postrouting", 10, meta("oifname", "out0"), {"masquerade": {"flags": "random"}}),
+        rule("postrouting", 11, meta("oifname", "docker0", "!="), {"xt": {"type": "target", "name": "MASQUERADE"}}),
+        rule("postrouting", 12, payload("ip", "daddr", "10.4.0.1"), {"return": None}),
+        rule("extra", 13, payload("tcp", "dport", 99), {"dnat": {"addr": "192.168.1.11", "port": 9900}}),
+        rule("prerouting", 15, payload("ip", "daddr", "203.0.113.9"), payload("tcp", "dport", 8080), {"dnat": {"addr": "192.168.1.10", "port": 8000}}),
+        rule("prerouting", 16, local, payload("udp", "dport", 53), {"dnat": {"addr": "192.168.1.53"}}),
+        rule("prerouting", 17, payload("ip", "daddr", network("203.0.113.0", 24)), {"jump": {"target": "extra"}}),
+    ]})
+
+
+FROM_JSON = """dnat -d 203.0.113.9 -p tcp --dport 8080 to 192.168.1.10:8000
+dnat -d 203.0.113.9 -p udp --dport 53 to 192.168.1.53
+dnat -d 203.0.113.0/24 -p tcp --dport 99 to 192.168.1.11:9900
+snat -s 192.168.1.0/24 -p tcp --dport 21 to 203.0.113.9:41000-41003
+snat -s 192.168.1.0/24 -p tcp --dport 80 to 203.0.113.9:41000-41003
+snat -s 10.1.0.0/16 -p tcp to 203.0.113.9:1024-2000
+snat -s 10.1.0.0/16 -p udp to 203.0.113.9:1024-2000
+snat -s 10.2.0.0/16 -p tcp to 203.0.113.9:1024-2000
+snat -s 10.2.0.0/16 -p udp to 203.0.113.9:1024-2000
+# handle 10: meta oifname out0 masquerade random
+#   not said: random: here the own port is kept where it is free
+# handle 11: meta oifname != docker0 xt target MASQUERADE
+#   not said: iptables made it, and nft's JSON has not all of its words: iptables-save -t nat or nft -a list ruleset has
+# handle 12: ip daddr 10.4.0.1 return
+#   not said: RETURN: no rule says that a flow is left as it is
+# The first rule for a flow decides here: where a line above is not said, a later rule may take its flows.
+"""
+DOCKER = """# Generated by iptables-save v1.8.9 (nf_tables)
+*nat
+:PREROUTING ACCEPT [0:0]
+:INPUT ACCEPT [0:0]
+:OUTPUT ACCEPT [0:0]
+:POSTROUTING ACCEPT [0:0]
+:DOCKER - [0:0]
+-A PREROUTING -m addrtype --dst-type LOCAL -j DOCKER
+-A OUTPUT ! -d 127.0.0.0/8 -m addrtype --dst-type LOCAL -j DOCKER
+-A POSTROUTING -s 172.17.0.0/16 ! -o docker0 -j MASQUERADE
+-A DOCKER -i docker0 -j RETURN
+-A DOCKER ! -i docker0 -p tcp -m tcp --dport 8080 -j DNAT --to-destination 172.17.0.2:80
+COMMIT
+"""
+DOCKER_NFT = """table ip nat {
+	chain DOCKER {
+		iifname "docker0" counter packets 0 bytes 0 return
+		iifname != "docker0" tcp dport 8080 counter packets 0 bytes 0 dnat to 172.17.0.2:80
+	}
+
+	chain PREROUTING {
+		type nat hook prerouting priority dstnat; policy accept;
+		fib daddr type local counter packets 0 bytes 0 jump DOCKER
+	}
+
+	chain OUTPUT {
+		type nat hook output priority -100; policy accept;
+		ip daddr != 127.0.0.0/8 fib daddr type local counter packets 0 bytes 0 jump DOCKER
+	}
+
+	chain POSTROUTING {
+		type nat hook postrouting priority srcnat; policy accept;
+		oifname != "docker0" ip saddr 172.17.0.0/16 counter packets 0 bytes 0 masquerade
+	}
+}
+"""
+FROM_DOCKER = ["dnat -d 203.0.113.9 -p tcp --dport 8080 to 172.17.0.2:80", "snat -s 172.17.0.0/16 to 203.0.113.9"]
+WORDS = ("--ignore-interfaces", "--masquerade", "203.0.113.9")
+
+
+def check_nft():
+    for name, text, wanted in (("nft -a list ruleset", NFT, FROM_NFT), ("nft -j list ruleset", json_ruleset(), FROM_JSON)):
+        ran = tool("rules-from-iptables", *WORDS, stdin=None, input=text)
+        count(f"tools/rules-from-iptables: {name}", ran.stdout == wanted and ran.returncode == 1, ran.stdout + ran.stderr)
+    for name in ("range", "again"):
+        ran = tool("rules-from-iptables", "--ignore-interfaces", f"{name}.nft")
+        count(f"tools/rules-from-iptables: {name}", ran.stdout == read(EXAMPLES, f"{name}.rules") and ran.returncode == 0, ran.stdout)
+    ran = tool("rules-from-iptables", stdin=None, input=NFT)
+    wants("tools/rules-from-iptables: nft, and interfaces count", ran, 1, "oifname out0: a capture knows no interface")
+
+
+def check_docker():
+    for name, text in (("iptables-save", DOCKER), ("nft", DOCKER_NFT)):
+        ran = tool("rules-from-iptables", *WORDS, stdin=None, input=text)
+        rules = [line for line in ran.stdout.splitlines() if not line.startswith("#")]
+        count(f"tools/rules-from-iptables: docker's chains, of {name}", rules == FROM_DOCKER, ran.stdout)
+        wants(f"tools/rules-from-iptables: what is left out of these, of {name}", ran, 1, "line 11" if text is DOCKER else "line 3", "RETURN: no rule says")
+        ran = tool("rules-from-iptables", "--ignore-interfaces", "--masquerade", "203.0.113.9", "--local", "203.0.113.9,203.0.113.10", stdin=None, input=text)
+        wants(f"tools/rules-from-iptables: two addresses of the machine, of {name}", ran, 1, "dnat -d 203.0.113.10 -p tcp --dport 8080 to 172.17.0.2:80")
+        ran = tool("rules-from-iptables", "--ignore-interfaces", stdin=None, input=text)
+        wants(f"tools/rules-from-iptables: no address, of {name}", ran, 1, "MASQUERADE names no address", "it is for this machine's addresses")
+    nested = (
+        "-A PREROUTING -d 203.0.113.9/32 -j MINE\n-A PREROUTING -d 203.0.113.0/24 ! -d 127.0.0.0/8 -j MINE\n-A PREROUTING ! -d 203.0.113.9/32 -j MINE\n"
+        "-A MINE -d 203.0.113.0/24 -p tcp -m tcp --dport 80 -j DNAT --to-destination 10.0.0.1\n-A MINE -d 198.18.0.0/15 -p udp -j DNAT --to-destination 10.0.0.2\n"
+    )
+    ran = tool("rules-from-iptables", stdin=None, input=nested)
+    wanted = ["dnat -d 203.0.113.9/32 -p tcp --dport 80 to 10.0.0.1", "dnat -d 203.0.113.0/24 -p tcp --dport 80 to 10.0.0.1", "dnat -d 198.18.0.0/15 -p udp to 10.0.0.2"]
+    rules = [line for line in ran.stdout.splitlines() if not line.startswith("#")]
+    count("tools/rules-from-iptables: conditions of jumps", rules == wanted and ran.stdout.count("! -d cannot be said") == 1, ran.stdout)
+    ran = tool("rules-from-iptables", "--ignore-interfaces", stdin=None, input="-A POSTROUTING -o eth0 -j SNAT --to-source 192.0.2.1\n")
+    wants("tools/rules-from-iptables: a rule for both sides is told", ran, 0, "snat to 192.0.2.1\n# line 1: this rule is for flows of both sides")
+
+
+def check_live():
+    """What this machine's nft prints of rules that it took, in both its forms."""
+    space = f"ctreplay-rules-{os.getpid()}"
+    if not shutil.which("nft") or not shutil.which("ip") or run(["ip", "netns", "add", space]).returncode:
+        print("skipped: tools/rules-from-iptables of this machine's nft: there is no nft, or no network namespace")
+        return
+    try:
+        for name in ("range.nft", "docker"):
+            text = DOCKER_NFT if name == "docker" else read(EXAMPLES, name)
+            loaded = run(["ip", "netns", "exec", space, "nft", "-f", "-"], stdin=None, input="flush ruleset\n" + text)
+            wanted = FROM_DOCKER if name == "docker" else read(EXAMPLES, "range.rules").splitlines()
+            for form in ("-a", "-j"):
+                printed = run(["ip", "netns", "exec", space, "nft", form, "list", "ruleset"]).stdout
+                ran = tool("rules-from-iptables", *WORDS, stdin=None, input=printed)
+                rules = [line for line in ran.stdout.splitlines() if not line.startswith("#")]
+                count(f"tools/rules-from-iptables: this machine's nft {form}, {name}", rules == wanted, loaded.stderr + ran.stdout + ran.stderr)
+    finally:
+        run(["ip", "netns", "del", space])
+
+
+def check_none():
+    """What is no ruleset is refused with a sentence, and never with nothing."""
+    cases = [
+        ("a capture", ["late.pcap"], None, "it is a capture"),
+        ("an empty text", [], "", "it is empty"),
+        ("'use nft'", [], "# Table `nat' is incompatible, use 'nft' tool.\n", "nft -a list ruleset"),
+        ("another text", [], "nothing of the kind\n", "neither of iptables-save nor of nft"),
+        ("iptables -L", [], "Chain PREROUTING (policy ACCEPT)\ntarget prot opt source destination\n", "iptables -L"),
+        ("another table", [], "*filter\n-A INPUT -j DROP\nCOMMIT\n", "no table nat"),
+        ("other JSON", [], '{"rules": []}', "not what nft -j"),
+        ("no file", ["none.save"], None, "none.save: No such file"),
+    ]
+    for name, names, text, said in cases:
+        how = {} if text is None else {"stdin": None, "input": text}
+        refuses(f"tools/rules-from-iptables: {name}", tool("rules-from-iptables", *names, **how), said)
+    ran = tool("rules-from-iptables", stdin=None, input="*nat\n:PREROUTING ACCEPT [0:0]\nCOMMIT\n")
+    # An empty table nat is no trouble, and says so.
+    wants("tools/rules-from-iptables: a table without rules", ran, 0, "# No rule of NAT stands in it.")
+
+
+def check_all(_room):
+    check_nft()
+    check_docker()
+    check_live()
+    check_none()

@@ -1,0 +1,59 @@
+"""What the user of a file that is refused most likely wants: for `hint`, and for the tools that read captures.
+
+Nothing here is proved.
+"""
+import re
+import shlex
+
+COOKED = {113: 16, 276: 20}
+PACKED = {b"\x1f\x8b": "gzip -dc", b"\x28\xb5": "zstd -dc", b"\xfd7": "xz -dc", b"BZ": "bzip2 -dc"}
+
+
+def stem(name):
+    return re.sub(r"\.(pcapng|pcap|cap|gz)$", "", name)
+
+
+def magic_hint(name, data):
+    """What a file is whose first bytes are these, and what brings it into form."""
+    word = shlex.quote(name)
+    if data[:4] == b"\x0a\x0d\x0d\x0a":
+        return f"it is pcapng: editcap -F pcap {word} {shlex.quote(stem(name))}.pcap"
+    if data[:2] in PACKED:
+        return f"it is compressed: {PACKED[data[:2]]} {word} | ./ctreplay /dev/stdin"
+    if data[:4] in (b"\x34\xcd\xb2\xa1", b"\xa1\xb2\xcd\x34"):
+        return f"it is an older kind of pcap: editcap -F pcap {word} {shlex.quote(stem(name))}-2.pcap"
+    return "it is no capture of a kind that tcpdump writes; file NAME tells what it is"
+
+
+def unpacked_hint(name, data):
+    """The same for a tool, which reads its captures more than once and takes no pipe."""
+    if data[:2] in PACKED:
+        return f"it is compressed: {PACKED[data[:2]]} {shlex.quote(name)} >{shlex.quote(stem(stem(name)))}.pcap"
+    return magic_hint(name, data)
+
+
+def link_hint(name, number):
+    word, made = shlex.quote(name), shlex.quote(stem(name)) + "-raw.pcap"
+    if number in COOKED:
+        return (
+            f"it was taken with -i any: editcap -L -C {COOKED[number]} -F pcap -T rawip {word} {made};"
+            " on a router each packet is then there twice"
+        )
+    if number == 0:
+        return f"it was taken at the loopback interface of macOS or a BSD: editcap -L -C 4 -F pcap -T rawip {word} {made}"
+    if number in (105, 119, 127):
+        return "it is of a wireless interface in monitor mode: take it again from one interface that is not"
+    return "link types 1 (Ethernet) and 101 (raw IP) are read: take it again from one interface; see docs/RECIPES.md"
+
+
+def capture_hint(name, fault, data):
+    """What helps where a capture has this fault of docs/FORMATS.md; data are its first bytes."""
+    if fault == "bad magic":
+        return magic_hint(name, data)
+    if fault.startswith("link type"):
+        return link_hint(name, int(fault.split()[2]))
+    if " cut at " in fault:
+        return f"its last record is cut; this keeps those before it: tcpdump -r {shlex.quote(name)} -w {shlex.quote(stem(name))}-whole.pcap"
+    if fault == "short header":
+        return "it is empty, or its front is cut off; tcpdump -U writes each packet at once"
+    return f"it is damaged: tcpdump -r {shlex.quote(name)} shows how far it can be read"

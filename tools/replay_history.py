@@ -1,0 +1,239 @@
+"""What a history says: which entries there were when, who held which number of a rule, which flows were refused.
+
+`lives_of` and `rows_at` are the table at any time, `Table` goes through a history point by point, and `refusals_of` has the
+flows that got no entry. Each takes time in proportion to the report times its logarithm, so that a report of some hundred
+thousand lines is read in seconds. Nothing here is proved.
+"""
+from bisect import bisect_left, bisect_right
+
+import replay_files as files
+
+
+# Lives: when each entry was there
+
+
+class Life:
+    """An entry: its confirm, when it began, when and why it ended or None, and its parts in order.
+
+    A part is the moment from which it held, the deadline that it had from then on, and the event that gave it. Times of
+    several captures need not rise along the history; no part begins before the one that it follows.
+    """
+
+    def __init__(self, confirm, begun):
+        self.confirm, self.begun, self.ended, self.why, self.parts = confirm, begun, None, None, []
+
+    def part_at(self, moment):
+        """The last part at a moment, or None where there is none yet."""
+        at = bisect_right(self.parts, moment, key=lambda part: part[0])
+        return self.parts[at - 1] if at else None
+
+
+def lives_of(work):
+    """The life of each entry, by its id, in order of the ids."""
+    lives = {}
+    for event in work.report.events:
+        if event.kind not in ("confirm", "touch", "destroy"):
+            continue
+        moment = work.moment_of(event)
+        if event.kind == "confirm":
+            lives[event.number] = Life(event, moment)
+        life = lives[event.entry]
+        moment = max(moment, life.parts[-1][0] if life.parts else moment)
+        if event.kind == "destroy":
+            life.ended, life.why = moment, event.text.split()[-1]
+        else:
+            life.parts.append((moment, event.until, event))
+    return lives
+
+
+def rows_at(lives, moment):
+    """The rows of conntrack -L at a moment: the entries that were there and not past their deadline, with seconds left."""
+    for number, life in lives.items():
+        part = life.part_at(moment) if life.begun <= moment and (life.ended is None or life.ended > moment) else None
+        if part and part[1] > moment:
+            yield number, row_text(life, part, moment)
+
+
+def row_text(life, part, moment):
+    original, reply = life.confirm.flows
+    words = part[2].text.split()
+    state = part[2].fields.get("state")
+    pieces = [f"{original.proto:<8} {files.PROTOCOL_NUMBERS[original.proto]} {(part[1] - moment) // 1_000_000}"]
+    pieces += [state] if state else []
+    pieces += [files.tuple_text(original)] + ([] if "replied" in words else ["[UNREPLIED]"]) + [files.tuple_text(reply)]
+    pieces += ["[ASSURED]"] if "assured" in words else []
+    zone = life.confirm.fields.get("zone")
+    return " ".join(pieces + ([f"zone={zone}"] if zone else []))
+
+
+# The history, point by point
+
+
+class Tally:
+    """How many of some deadlines lie at or before a moment, while deadlines come and go: a tree of partial sums."""
+
+    def __init__(self, order):
+        self.order, self.sums, self.count = order, {}, 0
+        self.size = len(order)
+
+    def change(self, deadline, by):
+        self.count += by
+        place, sums = bisect_left(self.order, deadline) + 1, self.sums
+        while place <= self.size:
+            sums[place] = sums.get(place, 0) + by
+            place += place & -place
+
+    def past(self, moment):
+        place, total = bisect_right(self.order, moment), 0
+        while place:
+            total += self.sums.get(place, 0)
+            place &= place - 1
+        return total
+
+
+class Table:
+    """The live entries of a history, at a point that only goes forward, and who holds the numbers that are asked for.
+
+    wanted are pairs of a rule and a flow that it is for: of each, `held` tells how many of the rule's numbers for that
+    flow are held, and how many of these by entries past their deadline; `all` tells that of all entries, if it is_whole.
+    """
+
+    def __init__(self, events, wanted=(), is_whole=True):
+        self.events, self.point, self.live, self.places, self.is_whole = events, 0, {}, {}, is_whole
+        self.order = sorted({event.until for event in events if event.until is not None})
+        self.all = Tally(self.order)
+        for rule, flow in wanted:
+            end, low, high = place_of(rule, flow)
+            self.places.setdefault(end, {}).setdefault((low, high), Tally(self.order))
+
+    def move_to(self, point):
+        for event in self.events[self.point : point]:
+            if event.kind == "confirm":
+                tallies = [*([self.all] if self.is_whole else []), *self.tallies_of(event)]
+                self.set_deadline(event.number, (event, event.until, tallies), None)
+            elif event.kind == "touch":
+                before = self.live[event.entry]
+                self.set_deadline(event.entry, (before[0], event.until, before[2]), before)
+            elif event.kind == "destroy":
+                self.set_deadline(event.entry, None, self.live[event.entry])
+        self.point = max(point, self.point)
+
+    def set_deadline(self, number, after, before):
+        for tally in (after or before)[2]:
+            if before:
+                tally.change(before[1], -1)
+            if after:
+                tally.change(after[1], 1)
+        if after:
+            self.live[number] = after
+        else:
+            del self.live[number]
+
+    def tallies_of(self, confirm):
+        """The tallies of the numbers that a new entry holds: both its tuples are taken for any other entry."""
+        for flow in set(confirm.flows):
+            for end, number in ends_held(flow):
+                for (low, high), tally in self.places.get(end, {}).items():
+                    if low <= number <= high:
+                        yield tally
+
+    def held(self, rule, flow):
+        end, low, high = place_of(rule, flow)
+        return self.places[end][low, high]
+
+
+def ends_held(flow):
+    """For what ends of a translation a tuple that is live takes a number, and which: as `place_of` names these ends."""
+    if flow.proto == "icmp":
+        yield ("icmp", "snat", flow.target, flow.source, flow.second), flow.first
+        yield ("icmp", "dnat", flow.source, flow.target, flow.second), flow.first
+    else:
+        yield (flow.proto, "snat", flow.target, flow.source, flow.first), flow.second
+        yield (flow.proto, "dnat", flow.source, flow.target, flow.second), flow.first
+
+
+def place_of(rule, flow):
+    """What the numbers of a rule are shared by for this flow: all flows of one end that differ in the number alone."""
+    low, high = files.numbers_of(rule, flow)
+    other = files.inverse(flow)
+    if flow.proto == "icmp":
+        fixed = other.second
+    else:
+        fixed = other.first if rule.side == "snat" else other.second
+    remote = other.source if rule.side == "snat" else other.target
+    return (flow.proto, rule.side, rule.address, remote, fixed), low, high
+
+
+def holders_of(live, rule, flow):
+    """Each number that this rule may give this flow and that one of these entries holds: its confirm and deadline."""
+    end, low, high = place_of(rule, flow)
+    held = {}
+    for confirm, until, *_ in live.values():
+        for known in confirm.flows:
+            for it, number in ends_held(known):
+                if it == end and low <= number <= high:
+                    held[number] = (confirm, until)
+    return held, high - low + 1
+
+
+def live_at(events, point):
+    """The confirm and the deadline of each entry that is live after so many events."""
+    live = {}
+    for event in events[:point]:
+        if event.kind == "confirm":
+            live[event.number] = (event, event.until)
+        elif event.kind == "touch":
+            live[event.entry] = (live[event.entry][0], event.until)
+        elif event.kind == "destroy":
+            del live[event.entry]
+    return live
+
+
+# Flows that were refused
+
+
+class Refusal:
+    """A flow that was refused or dropped: its first such packet, and how many packets of it came behind without an entry."""
+
+    def __init__(self, word, flow, thread, index, moment, point):
+        self.word, self.flow, self.thread, self.index, self.moment, self.point = word, flow, thread, index, moment, point
+        self.later, self.last = 0, moment
+
+
+def refusals_of(work):
+    """The flows that were FULL, NOPORT or CLASH, or that early drop ended, in order of their first such packets.
+
+    A flow's later packets each try again, so that one flow has many verdicts. They are its own until one gets an entry.
+    """
+    found, dropped = [], dropped_by(work.report.events)
+    waiting = {}
+    for thread, index, frame, packet, verdict in work.judged():
+        for event, confirm in dropped.get((thread, index), ()):
+            refusal = Refusal("dropped", confirm.flows[0], thread, index, frame.moment, event.number)
+            found.append(refusal)
+            waiting.update({(thread, files.pair_of(flow)): refusal for flow in confirm.flows})
+        if packet.kind != "flow":
+            continue
+        is_let_in = verdict.entry is not None and verdict.word not in files.REFUSED
+        if is_let_in and not waiting:
+            continue
+        key = (thread, files.pair_of(packet.flow))
+        if not is_let_in:
+            if key in waiting:
+                waiting[key].later += 1
+                waiting[key].last = frame.moment
+            elif verdict.word in files.REFUSED:
+                waiting[key] = Refusal(verdict.word, packet.flow, thread, index, frame.moment, verdict.point)
+                found.append(waiting[key])
+        else:
+            waiting.pop(key, None)
+    return found
+
+
+def dropped_by(events):
+    """The entries that a packet's early drop ended, by the packet: pairs of the destroy and the confirm."""
+    found = {}
+    for event in events:
+        if event.kind == "destroy" and event.text.endswith(" dropped"):
+            found.setdefault((event.thread, event.index), []).append((event, events[event.entry]))
+    return found
