@@ -158,6 +158,30 @@ fn expectations_that_clash(rt: HostRuntime) -> Result<(), Fail> {
     rages(&rt, &CASE)
 }
 
+/// Four threads have sixty flows each, two and two the same, in a table of forty places: flows drop each other, and clash
+/// with, or touch, entries that are dropped meanwhile.
+#[test]
+fn flows_that_drop_each_other(rt: HostRuntime) -> Result<(), Fail> {
+    static CASE: Case<'static> = Case {
+        words: &[
+            "ctreplay",
+            "--entries=40",
+            "--summary",
+            NAME,
+            SECOND,
+            NAME,
+            SECOND,
+        ],
+        files: &[
+            (NAME, Content::Ports(0x0a00_0001, 60)),
+            (SECOND, Content::Ports(0x0a00_0002, 60)),
+        ],
+        out: Text::Around("summary threads=4 packets=240 events=", "\n"),
+        ..REPLAYED
+    };
+    rages(&rt, &CASE)
+}
+
 /// As many captures as there may be, all of one flow.
 #[test]
 fn one_flow_on_all_threads(rt: HostRuntime) -> Result<(), Fail> {
