@@ -146,16 +146,15 @@ def has_confirms(count):
     return holds
 
 
-def ends_with(count):
+def is_new_or_full(packets):
+    """Each packet begins an entry or finds none that may go, and each entry but the last ones made room for another."""
+
     def holds(history, report):
-        want(history.live_counts[-1] == count, f"{history.live_counts[-1]} are live at the end, and not {count}")
+        confirms = history.kinds.count("confirm")
+        want(confirms >= 1 and confirms + report.count(" FULL @") == packets, f"{packets} packets made {confirms} entries, and others were not FULL")
+        want(report.count(" dropped\n") == confirms - history.live_counts[-1], "entries ended otherwise")
 
     return holds
-
-
-def is_one_of_hundred(history, report):
-    has_confirms(1)(history, report)
-    want(report.count(" FULL @") == 99, "not 99 packets found the pool full")
 
 
 def all_storms():
@@ -167,11 +166,12 @@ def all_storms():
         ("captures-63", many_captures(8), "", "", 2048, 16384, has_confirms(8 * most), ("ESTABLISHED_REPLY",)),
         ("flow-63", [one_flow()] * most, "", "", 2048, 16384, has_confirms(1), ("ESTABLISHED_REPLY",)),
         ("flow-63-one-bucket", [one_flow()] * most, "", "", 2048, 1, has_confirms(1), ("ESTABLISHED_REPLY",)),
-        ("pool-1", two_of_fifty(), "", "", 1, 16384, is_one_of_hundred, ("FULL",)),
-        ("pool-63", pool, "", "", 40, 16, ends_with(40), ("FULL",)),
-        ("pool-63-again", thread_rows.pool_captures(most, 10, 3), "", "", 200, 16, ends_with(200), ("FULL",)),
+        ("pool-1", two_of_fifty(), "", "", 1, 16384, is_new_or_full(100), ("NEW",)),
+        ("pool-63", pool, "", "", 40, 16, is_new_or_full(4000 + 40 * (most - 1)), ("NEW",)),
+        ("pool-63-again", thread_rows.pool_captures(most, 10, 3), "", "", 200, 16, thread_rows.is_full(200, most, " dropped\n"), ("NEW",)),
+        ("pool-63-assured", thread_rows.pool_captures(most, 10, 1, (False, True, False)), "", "", 200, 16, thread_rows.is_full(200, most, " FULL @"), ("FULL",)),
         # A flush may come behind all packets, or while they end, so not each place has an entry at the end.
-        ("pool-63-flushed", pool, "", busy, 40, 16, any_history, ("FULL",)),
+        ("pool-63-flushed", pool, "", busy, 40, 16, any_history, ("NEW",)),
         ("one-bucket", many_captures(2), "", "-L\n-C\nwait\n-L\n", 2048, 1, any_history, ("ESTABLISHED_REPLY",)),
         ("clash", again(4, 1000, 1, back=True), "", "", 2048, 16384, any_history, ()),
         ("clash-again", again(4, 40, 20, back=True), "", "", 64, 1, any_history, ("CLASH", "MERGED")),

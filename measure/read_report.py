@@ -4,7 +4,8 @@
 The history is legal: each event is numbered by its place, an entry is confirmed while nothing live has one of its
 tuples, and only a live entry is touched or destroyed. The events of a thread stand in the order of its packets. The
 points of a thread's verdicts do not fall, are never older than its own events, and at each of them the named entry is
-live. A packet makes an event, or is merged into an entry that was confirmed since its thread's last point. Prints how
+live. A packet makes an event, or is merged into an entry that was confirmed since its thread's last point, or is FULL, with
+no event but a drop between its points. An entry is dropped by a packet that then begins one, or is merged or FULL. Prints how
 often two events that stand side by side are of two threads; ends with status 1 at the first fault.
 """
 import sys
@@ -16,7 +17,7 @@ def fault(why):
 
 
 def read_events(lines, count):
-    live, by_tuple, makers, lives = {}, {}, [], []
+    live, by_tuple, makers, lives, dropped = {}, {}, [], [], set()
     for number in range(count):
         words = lines[number].split()
         if int(words[0]) != number:
@@ -36,13 +37,23 @@ def read_events(lines, count):
             if words[1] == "destroy":
                 for t in live.pop(entry):
                     del by_tuple[t]
+                if words[4] == "dropped":
+                    dropped.add(number)
         else:
             fault(f"event {number} is a {words[1]}")
         lives.append(frozenset(live))
-    return makers, lives
+    return makers, lives, dropped
 
 
-def read_thread(lines, thread, makers, lives):
+def read_full(words, made, mark, name):
+    """The points of a packet that found no room; its mark afterwards is the second one."""
+    begin, end = (int(word.removeprefix("@")) for word in words[2:])
+    if not mark <= begin <= end or len(made) > 1 or any(not begin <= one < end for one in made):
+        fault(f"{name} has other points")
+    return end
+
+
+def read_thread(lines, thread, makers, lives, dropped):
     own = {}
     for number, (maker, packet) in enumerate(makers):
         if maker == thread:
@@ -58,6 +69,12 @@ def read_thread(lines, thread, makers, lives):
         if not mark <= point <= len(makers):
             fault(f"verdict {packet} of thread {thread} is older than what it had seen, or newer than the history")
         made = own.get(packet, [])
+        if any(one in dropped for one in made[1:]):
+            fault(f"verdict {packet} of thread {thread} has a drop behind another event")
+        if words[1] == "FULL":
+            mark = read_full(words, made, mark, f"verdict {packet} of thread {thread}")
+            continue
+        made = [one for one in made if one not in dropped]
         if made and point != made[-1] + 1:
             fault(f"verdict {packet} of thread {thread} does not stand behind its events")
         entry = int(words[-2].removeprefix("id="))
@@ -74,12 +91,12 @@ def read_thread(lines, thread, makers, lives):
 def main():
     lines = sys.stdin.read().splitlines()
     count = int(lines[0].split()[1])
-    makers, lives = read_events(lines[1 : count + 1], count)
+    makers, lives, dropped = read_events(lines[1 : count + 1], count)
     at = count + 1
     thread = 0
     while lines[at].startswith("thread "):
         packets = int(lines[at].split()[3])
-        read_thread(lines[at + 1 : at + 1 + packets], thread, makers, lives)
+        read_thread(lines[at + 1 : at + 1 + packets], thread, makers, lives, dropped)
         at += 1 + packets
         thread += 1
     if lines[at:] != ["script 0"]:

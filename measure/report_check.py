@@ -8,19 +8,25 @@ tuples, one that an entry begins with, with the right deadline, state, master an
 claim is of what is live then. Never are more live than there may be. Each verdict is of its packet, in order, and says
 what its own events are; its points are in the history, do not fall in a thread, and stand behind the thread's own
 events; and the named entry is live there, and such as the verdict says. A packet has no event but those of its verdict.
+A drop is of an entry that may go, by a packet that would begin a flow, for which nothing was live under its tuple; the table
+was full before it; there is one for a packet at most, before what the packet claims; and where FULL came without one, no
+entry that could go was live throughout its points.
 Each answer to a command is so between its points, with its rows as the entries were at theirs; and no packet was
 answered at a point behind a command that stands behind `wait`.
 
 What it does not check: errors of ICMP, fragments and broken headers (there may be none in its captures); which of the free
-ports a rule takes; that an answer which may be given only in a race was given in one, but for the bounds that the
-documents state (FULL, MERGED, CLASH, CONTENDED); and that NOPORT had no port left.
+ports a rule takes; which of the entries that may go is dropped, as places are not printed; that an answer which may be given only in a race was given in one, but for the bounds that the
+documents state (FULL, drops, MERGED, CLASH, CONTENDED); and that NOPORT had no port left.
 """
 import re
 from bisect import bisect_right
 from tracker_rules import (
-    address_of, address_text, is_meant, is_reply_of, named_end, NUMBERS, Refused, rule_for, SECOND, start_of,
+    address_of, address_text, is_meant, is_reply_of, may_go, named_end, NUMBERS, Refused, rule_for, SECOND, start_of,
     step_of, Tuple, tuple_text, want,
 )
+
+
+REASONS = ("expired", "reopened", "reset", "deleted", "flushed", "dropped")
 
 
 class Entry:
@@ -36,6 +42,10 @@ class Entry:
 
     def part(self, point):
         return self.parts[bisect_right(self.points, point) - 1]
+
+    def parts_between(self, begin, end):
+        """The parts that it had at these points and between them."""
+        return self.parts[bisect_right(self.points, begin) - 1 : bisect_right(self.points, end)]
 
     def direction(self, flow):
         return "original" if flow == self.original else "reply"
@@ -73,6 +83,14 @@ class History:
         entry = self.entries.get(number)
         want(entry is not None and entry.is_live(point), f"entry {number} is not live at {point}")
         return entry
+
+    def throughout(self, begin, end):
+        """The entries that are live at each of these points."""
+        return [one for one in self.entries.values() if one.is_live(begin) and one.is_live(end)]
+
+    def fullest(self):
+        """How many entries a full table has at the least: each further pass, of a capture or the script, may keep four places."""
+        return self.inputs.entries - 4 * len(self.inputs.captures)
 
     def live_under(self, flow, point):
         having = [self.entries[number] for number in self.by_tuple.get(flow, ()) if self.entries[number].is_live(point)]
@@ -168,16 +186,21 @@ class History:
                 "expired": command.word == "expire" and part.deadline <= command.moment,
             }.get(reason, False)
         else:
-            packet = self.packet(who, number)
-            want(packet.tuple in (entry.original, entry.reply), f"event {number} destroys an entry of another flow")
-            right = step_of(part, entry.direction(packet.tuple), packet)[0] == reason
+            right = self.is_right(reason, entry, part, self.packet(who, number), number)
         want(right, f"event {number} destroys for a wrong reason: {reason}")
-        want(reason in ("expired", "reopened", "reset", "deleted", "flushed"), f"event {number} has no such reason")
+        want(reason in REASONS, f"event {number} has no such reason")
         entry.end = number
         for one in self.expected_at(number):
             if one.master == entry.number:
                 one.end = number
         return f"id={entry.number} {reason}"
+
+    def is_right(self, reason, entry, part, packet, number):
+        """Whether a packet may destroy an entry for this reason: its own one, or any that may go to make room."""
+        if reason == "dropped":
+            return start_of(packet) is not None and may_go(part, packet.moment)
+        want(packet.tuple in (entry.original, entry.reply), f"event {number} destroys an entry of another flow")
+        return step_of(part, entry.direction(packet.tuple), packet)[0] == reason
 
     def read_expect(self, number, words, who):
         packet = self.packet(who, number)
@@ -247,19 +270,20 @@ VERDICT = re.compile(
     rf"(?: id={NUMBER})? @{NUMBER}(?: @{NUMBER})?( ftp .*)?"
 )
 FTP = re.compile(rf" ftp (?:(expect)={NUMBER}|(address)|(clash)={NUMBER} @{NUMBER}|(full|gone) @{NUMBER})")
-# The packet's events by their first letters: d destroys an old entry, l claims, c confirms, t touches, e expects.
+# The packet's events by letters: d destroys an old entry of its flow, x drops one to make room, l claims, c confirms, t touches,
+# e expects.
 EVENTS = {
-    "NEW": "d{0,4}(c|t|r)",
-    "RELATED": "d{0,4}(lc|t|r)",
+    "NEW": "d{0,4}(x?c|t|r)",
+    "RELATED": "d{0,4}(x?lc|t|r)",
     "ESTABLISHED": "d{0,4}te?",
     "ESTABLISHED_REPLY": "d{0,4}(te?|r)",
     "IGNORED": "d{0,4}",
     "INVALID state": "d{0,4}",
     "INVALID new": "d{0,4}",
-    "MERGED": "d{0,4}",
-    "CLASH": "d{0,4}l?",
+    "MERGED": "d{0,4}x?",
+    "CLASH": "d{0,4}x?l?",
     "NOPORT": "d{0,4}",
-    "FULL": "d{0,4}",
+    "FULL": "d{0,4}x?",
     "CONTENDED": "d{4}",
 }
 
@@ -286,7 +310,7 @@ class Thread:
         for number in numbers:
             kind = history.kinds[number]
             letter = {"destroy": "d", "claim": "l", "confirm": "c", "touch": "t", "expect": "e"}.get(kind, "?")
-            letters += "r" if letter == "d" and history.reasons[number] == "reset" else letter
+            letters += {"reset": "r", "dropped": "x"}.get(history.reasons[number], letter)
         return letters
 
     def read_verdict(self, packet, index, found):
@@ -294,12 +318,19 @@ class Thread:
         self.packet, self.own = packet, self.history.made.get((self.thread, index), [])
         letters = self.letters(self.own)
         want(re.fullmatch(EVENTS[word], letters), f"{self.name} is {word}, with other events")
-        want((second is not None) == (word == "NOPORT"), f"{self.name} has other points")
+        want((second is not None) == (word in ("NOPORT", "FULL")), f"{self.name} has other points")
         want((identity is None) == (word in ("INVALID new", "NOPORT", "FULL")), f"{self.name} names an entry, or none")
-        self.before = self.mark
-        for one in self.own:
+        self.before, drop = self.mark, None
+        for one, letter in zip(self.own, letters):
             want(self.mark <= one, f"{self.name} has an event that is older than what its thread had seen")
+            if letter == "x":
+                drop = one
+                self.judge_drop(drop, int(point) if word == "FULL" else None)
             self.mark = one + 1
+        if word == "FULL":
+            want(start_of(packet) is not None, f"{self.name} would begin no entry")
+            self.judge_full(drop, int(point), int(second))
+            return
         if letters.endswith("e"):
             self.mark = self.own[-2] + 1
         self.see(int(point))
@@ -307,6 +338,41 @@ class Thread:
         if second is not None:
             self.see(int(second))
         self.read_ftp(ftp, word, letters, identity)
+
+    def was_full(self, point):
+        return self.history.live_counts[point] >= self.history.fullest()
+
+    def was_free(self, point):
+        """Whether, up to this point, nothing was live under the packet's tuple since the end of what it met."""
+        return any(self.history.live_under(self.packet.tuple, one) is None for one in range(self.mark, point + 1))
+
+    def judge_drop(self, drop, begin):
+        """Before a drop the packet found no entry of its flow, and then the table full: by FULL at its first point."""
+        points = range(self.mark, drop + 1) if begin is None else [begin]
+        want(any(self.was_full(one) for one in points), f"{self.name} drops an entry, and the table was not full")
+        want(self.was_free(drop), f"{self.name} drops an entry, and has one")
+
+    def judge_full(self, drop, begin, end):
+        """The table was full at the first point. From there to the last no entry that could go was live throughout; or one was
+        dropped, and the table was full again."""
+        history = self.history
+        floor = self.mark if drop is None else self.floor_before(drop)
+        want(floor <= begin <= end <= self.count, f"{self.name} looks back, or beyond the history: @{begin} @{end}")
+        for one in (begin,) if drop is None else (begin, end):
+            want(self.was_full(one), f"{self.name} is FULL with {history.live_counts[one]} live")
+        if drop is None:
+            want(self.was_free(begin), f"{self.name} is FULL, and has an entry")
+            for one in history.throughout(begin, end):
+                could = all(may_go(part, self.packet.moment) for part in one.parts_between(begin, end))
+                want(not could, f"{self.name} is FULL, and entry {one.number} could go throughout")
+        else:
+            want(begin <= drop < end, f"{self.name} has a drop beyond its points")
+        self.mark = end
+
+    def floor_before(self, drop):
+        """The mark before a drop."""
+        earlier = [one + 1 for one in self.own if one < drop]
+        return max([self.before, *earlier])
 
     def see(self, point):
         want(self.mark <= point <= self.count, f"{self.name} looks back, or beyond the history: @{point}")
@@ -338,7 +404,7 @@ class Thread:
         """Where nothing was claimed, at some point nothing was there to claim."""
         history, packet = self.history, self.packet
         if history.entries[number].master is None:
-            points = range(self.before, number + 1)
+            points = range(max([self.before, *(one + 1 for one in self.own if one < number)]), number + 1)
             missed = any(history.first_match(packet.tuple, packet.moment, point) is None for point in points)
             want(missed, f"{self.name} claimed nothing")
 
@@ -360,11 +426,8 @@ class Thread:
 
     def judge_none_begun(self, word, identity, point):
         history, flow = self.history, self.packet.tuple
-        rules, inputs = history.inputs.rules, history.inputs
-        if word == "FULL":
-            least = inputs.entries - 4 * len(inputs.captures)
-            want(history.live_counts[point] >= least, f"{self.name} is FULL with {history.live_counts[point]} live")
-        elif word == "NOPORT":
+        rules = history.inputs.rules
+        if word == "NOPORT":
             want(rule_for(rules, flow) is not None, f"{self.name} has no rule")
         elif word == "CONTENDED":
             entry = history.live(identity, point)

@@ -37,6 +37,7 @@ HERE = os.path.dirname(os.path.abspath(__file__))
 TOP = os.path.dirname(HERE)
 DATA = os.path.join(TOP, "crates", "ctreplay", "data")
 BUCKETS = (1, 16, 16384)
+BEGUN = 1_000_000_000
 # How many flows each thread has of a row.
 FLOWS = {"query": 24, "sweep": 16, "ftp": 8, "office": 4}
 # What is to be so of a run's history and report beside the checker's rules: `holds` says it.
@@ -239,25 +240,27 @@ def is_swept(threads):
     return holds
 
 
-def is_full(entries):
-    """No place is lost: each has an entry at the end."""
+def is_full(entries, threads, word):
+    """No place is lost: each has an entry at the end, but for one that each thread may have given back last of all, after
+    another one had dropped the entry in it. The report has this word too."""
 
     def holds(history, report):
-        want(history.live_counts[-1] == entries, f"{history.live_counts[-1]} are live at the end, of {entries}")
-        want(" FULL @" in report, "nobody found the pool full")
+        live = history.live_counts[-1]
+        want(entries - threads < live <= entries, f"{live} are live at the end, of {entries}")
+        want(word in report, f"no line has {word}")
 
     return holds
 
 
-def pool_captures(threads, flows, rounds):
-    """Each thread asks for flows of its own, and again after they are expired."""
+def pool_captures(threads, flows, rounds, turns=(False, True)):
+    """Each thread asks for flows of its own, and again after they are expired. Each turn of a flow is a query, or an answer."""
     return [
         capture(
             [
-                (1_000_000_000 + 100_000_000 * turn + flow, query(0x0A000000 + 256 * thread + flow, 0x0A010001, 5000, back))
+                (BEGUN + 100_000_000 * turn + flow, query(0x0A000000 + 256 * thread + flow, 0x0A010001, 5000, back))
                 for turn in range(rounds)
                 for flow in range(flows)
-                for back in (False, True)
+                for back in turns
             ]
         )
         for thread in range(threads)
@@ -282,8 +285,9 @@ def all_cases():
         Case("sweep-beside", captures_same(row["sweep"], 4), "", beside, 2048, any_history),
         Case("ftp-beside", captures_same(row["ftp"], 3), "", ftp_script, 2048, any_history),
         Case("one-flow", [one_flow] * 4, "", "", 2048, is_one_entry),
-        Case("pool-once", pool_captures(8, 60, 1), "", "", 120, is_full(120)),
-        Case("pool-again", pool_captures(8, 24, 4), "", "", 80, is_full(80)),
+        Case("pool-once", pool_captures(8, 60, 1), "", "", 120, is_full(120, 8, " dropped\n")),
+        Case("pool-again", pool_captures(8, 24, 4), "", "", 80, is_full(80, 8, " dropped\n")),
+        Case("pool-assured", pool_captures(8, 60, 1, (False, True, False)), "", "", 120, is_full(120, 8, " FULL @")),
         Case("pool-same", pool_captures(1, 40, 3) * 8, "", "-C\n-L\nwait\n-C\n", 34, any_history),
     ]
 
@@ -386,9 +390,174 @@ thread 1 packets 2
 script 0
 """
 
+# A table of four entries: a flow that is not assured makes room, four that are assured do not, and one past its deadline does.
+DROPS = """events 16
+0 confirm 0.0 udp src=10.0.0.1 dst=10.1.0.1 sport=5000 dport=53 src=10.1.0.1 dst=10.0.0.1 sport=53 dport=5000 until=1030000000
+1 touch 0.1 id=0 reply until=1120001000 replied
+2 touch 0.2 id=0 original until=1120002000 replied assured
+3 confirm 0.3 udp src=10.0.0.1 dst=10.1.0.1 sport=5001 dport=53 src=10.1.0.1 dst=10.0.0.1 sport=53 dport=5001 until=1031000000
+4 touch 0.4 id=3 reply until=1121001000 replied
+5 touch 0.5 id=3 original until=1121002000 replied assured
+6 confirm 0.6 udp src=10.0.0.1 dst=10.1.0.1 sport=5002 dport=53 src=10.1.0.1 dst=10.0.0.1 sport=53 dport=5002 until=1032000000
+7 touch 0.7 id=6 reply until=1122001000 replied
+8 touch 0.8 id=6 original until=1122002000 replied assured
+9 confirm 0.9 udp src=10.0.0.1 dst=10.1.0.1 sport=5003 dport=53 src=10.1.0.1 dst=10.0.0.1 sport=53 dport=5003 until=1033000000
+10 destroy 0.10 id=9 dropped
+11 confirm 0.10 udp src=10.0.0.1 dst=10.1.0.1 sport=5004 dport=53 src=10.1.0.1 dst=10.0.0.1 sport=53 dport=5004 until=1034000000
+12 touch 0.11 id=11 reply until=1124001000 replied
+13 touch 0.12 id=11 original until=1124002000 replied assured
+14 destroy 0.14 id=11 dropped
+15 confirm 0.14 udp src=10.0.0.1 dst=10.1.0.1 sport=5006 dport=53 src=10.1.0.1 dst=10.0.0.1 sport=53 dport=5006 until=1163000000
+thread 0 packets 15
+0 NEW id=0 @1
+1 ESTABLISHED_REPLY id=0 @2
+2 ESTABLISHED id=0 @3
+3 NEW id=3 @4
+4 ESTABLISHED_REPLY id=3 @5
+5 ESTABLISHED id=3 @6
+6 NEW id=6 @7
+7 ESTABLISHED_REPLY id=6 @8
+8 ESTABLISHED id=6 @9
+9 NEW id=9 @10
+10 NEW id=11 @12
+11 ESTABLISHED_REPLY id=11 @13
+12 ESTABLISHED id=11 @14
+13 FULL @14 @14
+14 NEW id=15 @16
+script 0
+"""
+# A table of two entries: a flow makes room for a connection that was expected.
+CLAIMED = """events 9
+0 confirm 0.0 tcp src=10.0.0.1 dst=10.1.0.1 sport=40000 dport=21 src=10.1.0.1 dst=10.0.0.1 sport=21 dport=40000 until=1120000000 state=SYN_SENT helper
+1 touch 0.1 id=0 reply until=1060001000 state=SYN_RECV replied
+2 touch 0.2 id=0 original until=433000002000 state=ESTABLISHED replied assured
+3 touch 0.3 id=0 original until=433000003000 state=ESTABLISHED replied assured
+4 expect 0.3 master=0 src=10.1.0.1 dst=10.0.0.1 dport=51201 until=1300003000
+5 confirm 0.4 udp src=10.0.0.1 dst=10.1.0.1 sport=5000 dport=53 src=10.1.0.1 dst=10.0.0.1 sport=53 dport=5000 until=1030004000
+6 destroy 0.5 id=5 dropped
+7 claim 0.5 expect=4 master=0
+8 confirm 0.5 tcp src=10.1.0.1 dst=10.0.0.1 sport=20 dport=51201 src=10.0.0.1 dst=10.1.0.1 sport=51201 dport=20 until=1120005000 state=SYN_SENT master=0
+thread 0 packets 6
+0 NEW id=0 @1
+1 ESTABLISHED_REPLY id=0 @2
+2 ESTABLISHED id=0 @3
+3 ESTABLISHED id=0 @4 ftp expect=4
+4 NEW id=5 @6
+5 RELATED id=8 @9
+script 0
+"""
+# Two threads: the one entry was assured while the second thread looked for one that may go.
+ASSURED = """events 3
+0 confirm 0.0 udp src=10.0.0.1 dst=10.1.0.1 sport=5000 dport=53 src=10.1.0.1 dst=10.0.0.1 sport=53 dport=5000 until=1030000000
+1 touch 0.1 id=0 reply until=1120001000 replied
+2 touch 0.2 id=0 original until=1120002000 replied assured
+thread 0 packets 3
+0 NEW id=0 @1
+1 ESTABLISHED_REPLY id=0 @2
+2 ESTABLISHED id=0 @3
+thread 1 packets 1
+0 FULL @1 @3
+script 0
+"""
+# Two threads: the second drops the one entry, and the first has the place.
+LOST = """events 3
+0 confirm 0.0 udp src=10.0.0.1 dst=10.1.0.1 sport=5000 dport=53 src=10.1.0.1 dst=10.0.0.1 sport=53 dport=5000 until=1030000000
+1 destroy 1.0 id=0 dropped
+2 confirm 0.1 udp src=10.0.0.1 dst=10.1.0.1 sport=5001 dport=53 src=10.1.0.1 dst=10.0.0.1 sport=53 dport=5001 until=1031000000
+thread 0 packets 2
+0 NEW id=0 @1
+1 NEW id=2 @3
+thread 1 packets 1
+0 FULL @1 @3
+script 0
+"""
+
+# So few entries are full already where each other pass may keep four places: of six there are two.
+FEW = """events 4
+0 confirm 0.0 udp src=10.0.0.1 dst=10.1.0.1 sport=5000 dport=53 src=10.1.0.1 dst=10.0.0.1 sport=53 dport=5000 until=1030000000
+1 confirm 0.1 udp src=10.0.0.1 dst=10.1.0.1 sport=5001 dport=53 src=10.1.0.1 dst=10.0.0.1 sport=53 dport=5001 until=1031000000
+2 destroy 0.2 id=1 dropped
+3 confirm 0.2 udp src=10.0.0.1 dst=10.1.0.1 sport=5002 dport=53 src=10.1.0.1 dst=10.0.0.1 sport=53 dport=5002 until=1032000000
+thread 0 packets 3
+0 NEW id=0 @1
+1 NEW id=1 @2
+2 NEW id=3 @4
+script 0
+"""
+
+
+def asked(*steps):
+    """A capture of queries of UDP and of answers, each with its moment and the client's port; a negative port is an answer."""
+    return capture([(BEGUN + moment, query(0x0A000001, 0x0A010001, abs(port), port < 0)) for moment, port in steps])
+
+
+def expected():
+    """A control connection that names an end, a query, and the connection to that end."""
+    ends, back, text = (0x0A000001, 0x0A010001), (0x0A010001, 0x0A000001), b"PORT 10,0,0,1,200,1\r\n"
+    segments = [(ends, 40000, 21, 2, b""), (back, 21, 40000, 18, b""), (ends, 40000, 21, 16, b""), (ends, 40000, 21, 24, text), None, (back, 20, 51201, 2, b"")]
+    bodies = [query(*ends, 5000) if one is None else segment(*one) for one in segments]
+    return capture([(BEGUN + 1000 * index, one) for index, one in enumerate(bodies)])
+
+
+def segment(ends, source, destination, flags, data):
+    return packet(6, ends, struct.pack(">HHIIBBHHH", source, destination, 0, 0, 0x50, flags, 0, 0, 0) + data)
+
+
+def drop_damages():
+    """Of a table that is full."""
+    second = 1_000_000
+    whole = [(at * second + turn * 1000, port) for at, own in enumerate((5000, 5001, 5002)) for turn, port in enumerate((own, -own, own))]
+    whole += [(3 * second, 5003), (4 * second, 5004), (4 * second + 1000, -5004), (4 * second + 2000, 5004), (5 * second, 5005), (133 * second, 5006)]
+    last = DROPS[DROPS.index("14 destroy") : DROPS.index("thread 0")]
+    swapped = CLAIMED[CLAIMED.index("6 destroy") : CLAIMED.index("8 confirm")]
+    drop, claim = (line[2:] for line in swapped.splitlines())
+    # Here the second packet drops the first one's entry, and then the third one finds room.
+    moved = FEW[FEW.index("1 confirm") : FEW.index("3 confirm")]
+    early = "1 destroy 0.1 id=0 dropped\n" + moved[: moved.index("2 destroy")].replace("1 confirm", "2 confirm", 1)
+    room, lost = inputs_of([asked(*whole)], entries=4), inputs_of([asked((0, 5000), (second, 5001)), asked((0, 5002))], entries=9)
+    return [
+        (
+            DROPS,
+            room,
+            [
+                ("10 destroy 0.10 id=9 dropped", "10 destroy 0.10 id=0 dropped"),
+                ("10 destroy 0.10 id=9 dropped", "10 destroy 0.10 id=9 expired"),
+                ("14 destroy 0.14 id=11 dropped", "14 destroy 0.14 id=11 expired"),
+                # Of four that are past their deadline each may go; at the packet before that none may.
+                ("14 destroy 0.14 id=11 dropped", "14 destroy 0.13 id=11 dropped"),
+                ("13 FULL @14 @14", "13 FULL @14"),
+                ("13 FULL @14 @14", "13 FULL @13 @14"),
+                ("13 FULL @14 @14", "13 FULL @14 @15"),
+                ("13 FULL @14 @14", "13 NOPORT @14 @14"),
+                ("13 FULL @14 @14", "13 MERGED id=11 @14"),
+                (last + "thread 0", "14 destroy 0.14 id=11 dropped\n15 destroy 0.14 id=6 dropped\nthread 0", "14 NEW id=15 @16", "14 FULL @14 @16"),
+                (last, "", "events 16", "events 14", "14 NEW id=15 @16", "14 FULL @14 @14"),
+            ],
+        ),
+        (FEW, inputs_of([asked((0, 5000), (second, 5001), (2 * second, 5002))], entries=6), [(moved, early, "1 NEW id=1 @2", "1 NEW id=2 @3")]),
+        (CLAIMED, inputs_of([expected()], entries=2), [(swapped, f"6 {claim}\n7 {drop}\n"), ("6 destroy 0.5 id=5", "6 destroy 0.5 id=0")]),
+        (
+            ASSURED,
+            inputs_of([asked((0, 5000), (1000, -5000), (2000, 5000)), asked((0, 5002))], entries=9),
+            [("0 FULL @1 @3", "0 FULL @1 @2"), ("0 FULL @1 @3", "0 FULL @0 @3"), ("0 FULL @1 @3", "0 FULL @3 @1"), ("0 FULL @1 @3", "0 FULL id=0 @1 @3")],
+        ),
+        (
+            LOST,
+            lost,
+            [
+                ("0 FULL @1 @3", "0 FULL @1 @2"),
+                ("0 FULL @1 @3", "0 FULL @0 @3"),
+                ("0 FULL @1 @3", "0 FULL @2 @3"),
+                ("0 FULL @1 @3", "0 FULL @1 @1"),
+                ("0 FULL @1 @3", "0 INVALID new @3"),
+                ("id=0 dropped", "id=0 flushed"),
+            ],
+        ),
+    ]
+
 
 def damages():
-    """Examples, each with its inputs and damages: a text of the report, and what stands in its place."""
+    """Examples, each with its inputs and damages: texts of the report, and what stands in the place of each."""
     data = lambda *names: [read_bytes(DATA, name) for name in names]
     rules, script = read_text(DATA, "nat.rules"), read_text(DATA, "demo.script")
     both = inputs_of(data("nat.pcap", "icmp.pcap"), rules, script)
@@ -412,7 +581,7 @@ def damages():
                 ("1 ESTABLISHED_REPLY id=1 @4", "1 ESTABLISHED_REPLY id=1 @3"),
                 ("1 ESTABLISHED_REPLY id=1 @4", "1 ESTABLISHED_REPLY id=0 @4"),
                 ("2 NEW id=4 @5", "2 NEW id=4 @7"),
-                ("2 NEW id=4 @5", "2 FULL @5"),
+                ("2 NEW id=4 @5", "2 FULL @5 @5"),
                 ("2 INVALID new @4", "2 INVALID new @2"),
                 # Behind `wait` the list looked at point 5: no packet was answered behind that.
                 ("2 INVALID new @4", "2 INVALID new @6"),
@@ -432,7 +601,7 @@ def damages():
                 ("0 MERGED id=0 @1", "0 CLASH id=0 @1"),
                 ("0 MERGED id=0 @1", "0 MERGED id=0 @0"),
                 ("0 MERGED id=0 @1", "0 MERGED id=0 @3"),
-                ("0 MERGED id=0 @1", "0 FULL @1"),
+                ("0 MERGED id=0 @1", "0 FULL @1 @1"),
                 ("0 MERGED id=0 @1", "0 NEW id=0 @1"),
                 ("1 ESTABLISHED_REPLY id=0 @2", "1 MERGED id=0 @2"),
             ],
@@ -451,6 +620,7 @@ def damages():
                 ("16 RELATED id=18", "16 NEW id=18"),
             ],
         ),
+        *drop_damages(),
     ]
 
 
@@ -459,13 +629,16 @@ def self_test():
     tried, missed = 0, 0
     for report, inputs, changes in damages():
         check(report, inputs)
-        for old, new in changes:
-            want(report.count(old) >= 1, f"the example has no {old}")
+        for change in changes:
+            damaged = report
+            for old, new in zip(change[::2], change[1::2]):
+                want(damaged.count(old) >= 1, f"the example has no {old}")
+                damaged = damaged.replace(old, new, 1)
             tried += 1
             try:
-                check(report.replace(old, new, 1), inputs)
+                check(damaged, inputs)
                 missed += 1
-                print(f"self-test: not refused: {new} in the place of {old}")
+                print(f"self-test: not refused: {', '.join(change[1::2])} in the place of {', '.join(change[::2])}")
             except Refused as fault:
                 print(f"refused: {fault}")
     print(f"self-test: {tried - missed} of {tried} damages refused")

@@ -25,6 +25,8 @@ REPLY = {
     "RST": "IV CL CL CL CL CL CL CL CL CL",
     "BARE": "IV IV IV IV IV IV IV IV IV IV",
 }
+# States of a connection that is coming to its end.
+ENDING = ("FIN_WAIT", "CLOSE_WAIT", "LAST_ACK", "TIME_WAIT", "CLOSE")
 TIMEOUTS = dict(zip(STATES, (0, 120, 60, 432000, 120, 60, 30, 120, 10, 120)))
 NUMBERS = {"icmp": 1, "tcp": 6, "udp": 17}
 PARTNERS = {8: 0, 0: 8, 13: 14, 14: 13, 15: 16, 16: 15, 17: 18, 18: 17}
@@ -253,6 +255,11 @@ def step_of(part, direction, packet):
         assured = assured or (part.replied and part.state in ("SYN_RECV", "ESTABLISHED") and state == "ESTABLISHED")
     deadline = packet.moment + lifetime(proto, state, part.replied, replied) * SECOND
     return "accepted", Part(state, replied, assured, deadline)
+
+
+def may_go(part, moment):
+    """Whether a full table may drop an entry of this part for a packet of this moment."""
+    return part.deadline <= moment or not part.assured or part.state in ENDING
 
 
 def named_end(packet, direction):
