@@ -16,7 +16,7 @@ import refusal_hints as hints
 
 Frame = namedtuple("Frame", "moment link data length")
 Report = namedtuple("Report", "events threads script")
-Verdict = namedtuple("Verdict", "word why entry point")
+Verdict = namedtuple("Verdict", "word why entry point last", defaults=[None])
 Rule = namedtuple("Rule", "line side options address low high text test")
 Packet = namedtuple("Packet", "kind why proto source target first second flags payload flow", defaults=[None] * 9)
 # As the program has it: of TCP and UDP `first` and `second` are the ports; of ICMP the identifier, and type and code.
@@ -385,7 +385,7 @@ def event_of(line):
 
 
 def verdict_of(text):
-    """A verdict: its first word, its second where that is a reason, the entry, and the first point."""
+    """A verdict: its first word, its second where that is a reason, the entry, and the first point; of FULL the second one too."""
     words = text.split()
     if len(words) == 3 and words[1][:3] == "id=":
         return Verdict(words[0], None, int(words[1][3:]), int(words[2][1:]))
@@ -398,6 +398,8 @@ def verdict_of(text):
             entry = int(word[3:])
         else:
             why = word
+    if words[0] == "FULL":
+        return Verdict("FULL", None, None, point, int(words[2][1:]))
     return Verdict(words[0], why, entry, point)
 
 
@@ -423,6 +425,8 @@ def check_verdicts(events, threads):
                 raise ValueError("a verdict of no entry, or of no point")
             if verdict.point is None and verdict.word in REFUSED:
                 raise ValueError("a verdict without its point")
+            if verdict.last is not None and not verdict.point <= verdict.last <= len(events):
+                raise ValueError("a verdict whose points fall, or were not reached")
 
 
 class Work:

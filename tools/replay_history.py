@@ -193,31 +193,37 @@ def live_at(events, point):
 
 
 class Refusal:
-    """A flow that was refused or dropped: its first such packet, and how many packets of it came behind without an entry."""
+    """A flow that was refused or dropped: the packet by which it was, and how many packets of it came behind without an entry.
 
-    def __init__(self, word, flow, thread, index, moment, point):
+    Of a flow that was dropped `drop` says which entry went and why, and `again` is the entry that a later packet of it began.
+    """
+
+    def __init__(self, word, flow, thread, index, moment, point, drop=None):
         self.word, self.flow, self.thread, self.index, self.moment, self.point = word, flow, thread, index, moment, point
-        self.later, self.last = 0, moment
+        self.later, self.last, self.drop, self.again = 0, moment, drop, None
 
 
 def refusals_of(work):
-    """The flows that were FULL, NOPORT or CLASH, or that early drop ended, in order of their first such packets.
+    """The flows that were FULL, NOPORT or CLASH, or of which an entry was dropped, in order of the packets by which they were.
 
     A flow's later packets each try again, so that one flow has many verdicts. They are its own until one gets an entry.
     """
-    found, dropped = [], dropped_by(work.report.events)
-    waiting = {}
+    found, waiting, known, by_pair = [], {}, {}, {}
+    for drop in drops_of(work):
+        it = Refusal("dropped", drop.confirm.flows[0], drop.event.thread, drop.event.index, drop.moment, drop.event.number, drop)
+        found.append(it)
+        for pair in {files.pair_of(flow) for flow in drop.confirm.flows}:
+            by_pair.setdefault(pair, []).append(it)
     for thread, index, frame, packet, verdict in work.judged():
-        for event, confirm in dropped.get((thread, index), ()):
-            refusal = Refusal("dropped", confirm.flows[0], thread, index, frame.moment, event.number)
-            found.append(refusal)
-            waiting.update({(thread, files.pair_of(flow)): refusal for flow in confirm.flows})
         if packet.kind != "flow":
             continue
         is_let_in = verdict.entry is not None and verdict.word not in files.REFUSED
-        if is_let_in and not waiting:
+        if is_let_in and not waiting and not by_pair:
             continue
         key = (thread, files.pair_of(packet.flow))
+        last = last_before(by_pair.get(key[1], ()), verdict.point)
+        if last is not None and known.get(key) is not last:
+            known[key] = waiting[key] = last
         if not is_let_in:
             if key in waiting:
                 waiting[key].later += 1
@@ -225,15 +231,39 @@ def refusals_of(work):
             elif verdict.word in files.REFUSED:
                 waiting[key] = Refusal(verdict.word, packet.flow, thread, index, frame.moment, verdict.point)
                 found.append(waiting[key])
-        else:
-            waiting.pop(key, None)
-    return found
+        elif key in waiting:
+            waiting.pop(key).again = verdict.entry
+    return sorted(found, key=lambda it: (it.thread, it.index))
 
 
-def dropped_by(events):
-    """The entries that a packet's early drop ended, by the packet: pairs of the destroy and the confirm."""
-    found = {}
-    for event in events:
-        if event.kind == "destroy" and event.text.endswith(" dropped"):
-            found.setdefault((event.thread, event.index), []).append((event, events[event.entry]))
-    return found
+def last_before(drops, point):
+    """The last of these drops, in order of their events, that a packet with this point stands behind; or None."""
+    at = bisect_left(drops, point, key=lambda it: it.point) if drops and point is not None else 0
+    return drops[at - 1] if at else None
+
+
+class Drop:
+    """An entry that made room in a full table: its destroy, its confirm, its last part, and why it might go."""
+
+    def __init__(self, event, confirm, last, moment):
+        self.event, self.confirm, self.last, self.moment = event, confirm, last, moment
+        self.past = moment - last.until
+
+    def why(self):
+        if self.past >= 0:
+            return f"past its deadline by {self.past / 1_000_000:.6f} s"
+        if "assured" not in self.last.text.split():
+            return "not assured"
+        return f"a connection in {self.last.fields.get('state')}"
+
+
+def drops_of(work):
+    """The drops of a history, in order."""
+    lasts = {}
+    for event in work.report.events:
+        if event.until is not None:
+            lasts[event.entry] = event
+        elif event.kind == "destroy":
+            last = lasts.pop(event.entry)
+            if event.text.endswith(" dropped"):
+                yield Drop(event, work.report.events[event.entry], last, work.moment_of(event))
