@@ -6,7 +6,7 @@ import re
 import made_packets as made
 import replay_files as files
 import replay_history as history
-from checking import EXAMPLES, PROGRAM, count, module, read, report_of, run, tool, wants, write
+from checking import EXAMPLES, PROGRAM, count, module, read, refuses, report_of, run, tool, wants, write
 
 START = 1_000_000_000_000_000
 SECOND = 1_000_000
@@ -313,15 +313,14 @@ def check_refused(room):
         "NOPORT packet 6 2001-09-09 01:47:21.000000 UTC udp 10.0.0.4:5000 > 198.51.100.1:53; 2 numbers held by 10.0.0.1 (1), 10.0.0.2 (1), 2 past their deadline",
     )
     wants("tools/refused: flows, and not packets", ran, 1, *texts)
-    words = report_of(room, "--entries", "2", capture)
-    wants("tools/refused: a full table", tool("refused", words, capture), 1, "2 FULL, no rule", "2 places held by 10.0.0.1 (1), 10.0.0.2 (1), 2 past their deadline")
-    wants("tools/check: says so in flows", tool("check", words, capture), 1, "5 packets of 2 flows are FULL, 2 of these packets while")
     words = report_of(room, "--rules", "office.rules", "office.in.pcap")
     wants("tools/refused: an answer of the other side", tool("refused", words, "office.in.pcap"), 1, "CLASH", "entry 0 had its tuple")
     wants("tools/refused: none", tool("refused", "office.report", "office.pcap"), 0, "no flow was refused or dropped\n")
     check_holders(room)
     check_let_in(room)
     check_dropped(room, capture)
+    check_full(room)
+    check_full_points(room)
 
 
 def check_holders(room):
@@ -336,12 +335,15 @@ def check_holders(room):
 
 def check_let_in(room):
     """A flow that was refused, was let in and is refused again is two: its packets in between are not refused ones."""
-    steps = [("10.0.0.1", "S"), ("10.0.0.2", "S"), ("10.0.0.2", "S"), ("10.0.0.1", "R"), ("10.0.0.2", "S"), ("10.0.0.2", "R"), ("10.0.0.1", "S"), ("10.0.0.2", "S")]
-    packets = [(START + at, made.tcp(source, 5000, SERVER, 80, flags)) for at, (source, flags) in enumerate(steps)]
-    packets.append((START + 9, made.tcp(SERVER, 80, "10.0.0.2", 5000, "SA")))
+    steps = ["1 S", "1 SA", "1 A", "2 S", "2 S", "1 R", "2 S", "2 R", "3 S", "3 SA", "3 A", "2 S", "2 SA"]
+    packets = []
+    for at, (host, flags) in enumerate(step.split() for step in steps):
+        ends = (f"10.0.0.{host}", 5000, SERVER, 80)
+        packets.append((START + at, made.tcp(*(ends[2:] + ends[:2] if flags == "SA" else ends), flags)))
     capture = made.write(f"{room}/let-in.pcap", packets)
     ran = tool("refused", report_of(room, "--entries", "1", capture), capture)
-    wants("tools/refused: let in between", ran, 1, "2 flows refused or dropped, and 2 later packets of", "FULL packet 1 ", "FULL packet 7 ")
+    texts = ("3 flows refused or dropped, and 2 later packets of", "FULL packet 3 ", "FULL packet 11 ", "dropped packet 6 ", "entry 0, a connection in CLOSE, made room for tcp 10.0.0.2:5000")
+    wants("tools/refused: let in between", ran, 1, *texts)
 
 
 def check_dropped(room, capture):
@@ -353,7 +355,75 @@ def check_dropped(room, capture):
     made_report = [f"events {len(renumbered)}", *renumbered, "thread 0 packets 7", *verdicts, "script 0"]
     name = write(room, "dropped.report", "\n".join(made_report) + "\n")
     texts = ("1 dropped, no rule", "zone 7", "dropped packet 2 ")
-    wants("tools/refused: an early drop, and a zone", tool("refused", name, capture), 1, *texts, "udp 10.0.0.1:5000 > 198.51.100.1:53; 2 places held by 10.0.0.1 (1), 10.0.0.2 (1)")
+    texts += ("udp 10.0.0.1:5000 > 198.51.100.1:53; entry 0, not assured, made room for udp 10.0.0.3:5000 > 198.51.100.1:53; 2 places held by 10.0.0.1 (1), 10.0.0.2 (1)",)
+    wants("tools/refused: an early drop, and a zone", tool("refused", name, capture), 1, *texts)
+
+
+def full_capture(room):
+    """A table of two entries. A is assured; B is dropped for C, and C for B, which is assured then; C and D find no room, and E
+    takes the place of one that is past its deadline."""
+    steps = [("0", "A"), ("0", "a"), ("0", "A"), ("1", "B"), ("2", "C"), ("3", "B"), ("4", "b"), ("5", "B"), ("6", "C"), ("7", "C"), ("8", "D"), ("200", "E")]
+    packets = []
+    for at, (second, name) in enumerate(steps):
+        ends = (f"10.0.0.{ord(name.upper()) - 64}", 5000, SERVER, 53)
+        packets.append((START + int(second) * SECOND + at, made.udp(*(ends[2:] + ends[:2] if name.islower() else ends))))
+    return made.write(f"{room}/full.pcap", packets)
+
+
+def check_full(room):
+    """What each tool says of a table that drops entries, and of packets for which it had none to drop."""
+    capture = full_capture(room)
+    report = report_of(room, "--entries", "2", capture, name="full.report")
+    drops = [line for line in read(report).splitlines() if line.endswith(" dropped")]
+    count("a table of two entries: three drops", drops[:2] == ["4 destroy 0.4 id=3 dropped", "6 destroy 0.5 id=5 dropped"] and len(drops) == 3, drops)
+    texts = (
+        "3 packets of 2 flows are FULL: no entry might be dropped", "3 entries were dropped to make room in a full table, 1 of them past their deadline",
+        "2 of the entries that were dropped had packets later: entry 3 (udp 10.0.0.2:5000 > 198.51.100.1:53), not assured, dropped by packet 4: 1 packet met no entry, the last began entry 7;",
+        "entry 5 (udp 10.0.0.3:5000 > 198.51.100.1:53), not assured, dropped by packet 5: 2 packets met no entry;",
+    )
+    wants("tools/check: drops, and packets behind them", tool("check", report, capture), 1, *texts)
+    texts = (
+        "4 flows refused or dropped, and 2 later packets of theirs", "3 dropped", "1 FULL", "FULL packet 10 ", "2 places held by 10.0.0.1 (1), 10.0.0.2 (1)\n",
+        "> 198.51.100.1:53, 2 later; entry 5, not assured, made room for udp 10.0.0.2:5000", "entry 3, not assured, made room for udp 10.0.0.3:5000 > 198.51.100.1:53, and a later packet began entry 7;",
+        "past its deadline by ",
+    )
+    wants("tools/refused: drops, and a flow that found none", tool("refused", report, capture), 1, *texts)
+    cases = [
+        ("the entry that made room", 4, "so entry 3 (udp 10.0.0.2:5000 > 198.51.100.1:53), not assured, was dropped for it by event 4"),
+        ("its life", 3, "destroy, dropped, as the table was full and this packet wanted a place; the entry was not assured\n      udp 10.0.0.3:5000 > 198.51.100.1:53"),
+        ("a flow that was dropped before", 5, "Entry 3, which had it before, was dropped at 2001-09-09 01:46:42.000004 UTC by packet 4 (udp 10.0.0.3:5000 > 198.51.100.1:53)"),
+        ("FULL of a flow that was dropped", 8, "2 entries were in the table at the first point, 10;", "The second point is the same: none of them might be dropped", "Entry 5, which had it before"),
+        ("an entry past its deadline", 11, "past its deadline by "),
+    ]
+    for name, index, *texts in cases:
+        wants(f"tools/why: {name}", tool("why", "--report", report, capture, "--", str(index)), 0, *texts)
+    draw, work = module("draw"), files.Work(report, [capture])
+    marks = [(name, len(rows)) for name, _, rows in draw.full_marks(work, draw.Scale(work), 2)]
+    count("tools/draw: what it marks in a full table", marks == [("3 entries dropped", 3), ("3 packets FULL", 3)], marks)
+    more = report_of(room, capture, name="room.report")
+    wants("tools/compare: more room", tool("compare", report, more, capture), 1, "FULL -> NEW")
+    wants("tools/table: a dropped entry is gone", tool("table", "--at", str(START + 2 * SECOND + SECOND // 2), report, capture), 0, "src=10.0.0.3")
+    kept = tool("table", "--at", str(START + 2 * SECOND + SECOND // 2), report, capture).stdout
+    count("tools/table: and nothing else", "src=10.0.0.2" not in kept and kept.count("\n") == 2, kept)
+    for name, before, after in (("one point", "FULL @10 @10", "FULL @10"), ("points that fall", "FULL @10 @10", "FULL @10 @9"), ("a point that is not reached", "FULL @10 @10", "FULL @10 @99")):
+        changed = write(room, "changed-full.report", read(report).replace(before, after, 1))
+        refuses(f"tools/check: FULL with {name}", tool("check", changed, capture), "the report is cut or changed")
+
+
+def check_full_points(room):
+    """Two captures: the one drops an entry of the other, whose packet finds none; and a packet finds no room over two points."""
+    first = made.write(f"{room}/of-one.pcap", [(START, made.udp("10.0.0.1", 5000, SERVER, 53)), (START + 2, made.udp("10.0.0.2", 5000, SERVER, 53)), (START + 3, made.udp(SERVER, 53, "10.0.0.1", 5000))])
+    second = made.write(f"{room}/of-two.pcap", [(START + 1, made.udp("10.0.0.3", 5000, SERVER, 53)), (START + 4, made.udp("10.0.0.4", 5000, SERVER, 53))])
+    confirms = [line for line in read(report_of(room, first, second)).splitlines() if " confirm " in line]
+    of = {host: next(line for line in confirms if f"udp src=10.0.0.{host} " in line).split(" ", 3)[3] for host in (1, 2)}
+    lines = ["events 3", f"0 confirm 0.0 {of[1]}", "1 destroy 1.0 id=0 dropped", f"2 confirm 0.1 {of[2]}", "thread 0 packets 3", "0 NEW id=0 @1", "1 NEW id=2 @3", "2 INVALID new @3"]
+    report = write(room, "points.report", "\n".join([*lines, "thread 1 packets 2", "0 FULL @1 @3", "1 FULL @1 @3", "script 0"]) + "\n")
+    captures = [first, second]
+    wants("tools/check: a packet of another capture behind a drop", tool("check", report, *captures), 1, "entry 0 (udp 10.0.0.1:5000", "dropped by packet 0 of capture 1: 1 packet met no entry")
+    why = ["why", "--thread", "1", "--report", report, *captures, "--"]
+    wants("tools/why: FULL behind a drop", tool(*why, "0"), 0, "at the first point, 1;", "Up to the second point, 3, another thread had that place")
+    wants("tools/why: FULL of two points", tool(*why, "1"), 0, "Up to the second point, 3, other packets and commands made 2 events")
+    wants("tools/why: whose entry was dropped", tool("why", "--report", report, *captures, "--", "2"), 0, "Entry 0, which had it before, was dropped at", "by packet 0 of capture 1")
 
 
 # Two reports of one capture

@@ -168,7 +168,7 @@ def all_storms():
         ("flow-63-one-bucket", [one_flow()] * most, "", "", 2048, 1, has_confirms(1), ("ESTABLISHED_REPLY",)),
         ("pool-1", two_of_fifty(), "", "", 1, 16384, is_new_or_full(100), ("NEW",)),
         ("pool-63", pool, "", "", 40, 16, is_new_or_full(4000 + 40 * (most - 1)), ("NEW",)),
-        ("pool-63-again", thread_rows.pool_captures(most, 10, 3), "", "", 200, 16, thread_rows.is_full(200, most, " dropped\n"), ("NEW",)),
+        ("pool-63-again", thread_rows.pool_captures(most, 10, 3), "", "", 200, 16, thread_rows.is_full(200, most, " FULL @"), ("FULL",)),
         ("pool-63-assured", thread_rows.pool_captures(most, 10, 1, (False, True, False)), "", "", 200, 16, thread_rows.is_full(200, most, " FULL @"), ("FULL",)),
         # A flush may come behind all packets, or while they end, so not each place has an entry at the end.
         ("pool-63-flushed", pool, "", busy, 40, 16, any_history, ("NEW",)),
