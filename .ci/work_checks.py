@@ -34,14 +34,26 @@ def capture_of(room, name, packets, clients):
     return made.write(f"{room}/{name}.pcap", chosen)
 
 
+def assured_capture(room, packets):
+    """Some clients whose flows are assured, and then queries of others, which find no place in a table of so many entries."""
+    chosen, clients = [], packets // 16
+    for number in range(clients):
+        ends = (client(number), 1024, "198.51.100.1", 53)
+        chosen += [made.udp(*ends), made.udp(*ends[2:], *ends[:2]), made.udp(*ends)]
+    chosen += [made.udp(client(clients + at % (packets // 4)), 1024, "198.51.100.1", 53) for at in range(packets - len(chosen))]
+    return made.write(f"{room}/assured{packets}.pcap", [(START + at * 1000, data) for at, data in enumerate(chosen)]), clients
+
+
 def kinds_of(room, packets):
-    """Reports of one size: most flows NOPORT, most FULL, and all let in."""
+    """Reports of one size: most flows NOPORT, most dropped, most FULL, and all let in."""
     clients = packets // 8
     capture = capture_of(room, f"work{packets}", packets, clients)
     rules = write(room, f"work{packets}.rules", f"snat -p udp to 192.0.2.1:2000-{2000 + clients // SERVERS // 4}\n")
     yield "NOPORT", capture, rules, report_of(room, "--rules", rules, capture, name=f"noport{packets}")
     none = write(room, "none.rules", "snat -p icmp to 192.0.2.1\n")
-    yield "FULL", capture, none, report_of(room, "--entries", str(clients // 3), capture, name=f"full{packets}")
+    yield "dropped", capture, none, report_of(room, "--entries", str(clients // 3), capture, name=f"dropped{packets}")
+    held, entries = assured_capture(room, packets)
+    yield "FULL", held, none, report_of(room, "--entries", str(entries), held, name=f"full{packets}")
     yield "all let in", capture, none, report_of(room, capture, name=f"all{packets}")
 
 
@@ -70,6 +82,9 @@ def check_counted(room):
     small, large = 1200, 4800
     grown = 4 * math.log(large) / math.log(small) * SLACK
     for (kind, *one), (_, *other) in zip(kinds_of(room, small), kinds_of(room, large)):
+        with open(other[2], encoding="utf-8") as file:
+            lines = sum(1 for line in file if (" NEW " if kind == "all let in" else f" {kind}") in line)
+        count(f"a report of {kind}: it has {lines} such lines", lines > large // 8, lines)
         for name in ("check", "refused", "draw", "why", "table", "compare", "from-inside"):
             if name == "from-inside" and kind != "NOPORT":
                 continue
