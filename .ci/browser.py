@@ -122,7 +122,8 @@ class Browser:
         return [url for method, url in self.events if method == "asked"]
 
     def place(self, chosen):
-        return self.value(f"(() => {{ const it = ({chosen}).getBoundingClientRect(); return [it.x, it.y, it.width, it.height]; }})()")
+        """Where what an expression names lies, once it is in sight."""
+        return self.value(f"(() => {{ ({chosen}).scrollIntoView({{block: 'nearest'}}); const it = ({chosen}).getBoundingClientRect(); return [it.x, it.y, it.width, it.height]; }})()")
 
     def mouse(self, kind, x, y, held=0):
         self.ask("Input.dispatchMouseEvent", type=kind, x=x, y=y, button="left", buttons=held, clickCount=1)
