@@ -7,7 +7,7 @@ import tempfile
 
 import browser
 import made_packets as made
-from checking import EXAMPLES, PROGRAM, TOOLS, count, module, refuses, report_of, run, tool, wants, write
+from checking import DATA, EXAMPLES, PROGRAM, TOOLS, count, module, refuses, report_of, run, tool, wants, write
 import replay_files as files
 
 START = 1_000_000_000_000_000
@@ -69,7 +69,7 @@ def check_sentences(room, chromium, kind, report, names, rules=None):
     )
     wanted = list(sentences_of(report, names, rules))
     other = [pair for pair in zip(found, wanted) if pair[0] != pair[1]]
-    count(f"tools/page: what why says of each of {len(wanted)} packets, {kind}", len(found) == len(wanted) > 5 and not other, other[:1])
+    count(f"tools/page: what why says of each of {len(wanted)} packets, {kind}", len(found) == len(wanted) > 1 and not other, other[:1])
 
 
 def check_words(room, chromium):
@@ -80,6 +80,9 @@ def check_words(room, chromium):
     report = report_of(room, "--rules", paths["office.rules"], paths["office.in.pcap"], name="inside")
     check_sentences(room, chromium, "one side of a NAT", report, [paths["office.in.pcap"]], paths["office.rules"])
     report = report_of(room, "--entries", "4", paths["office.in.pcap"], paths["late.pcap"], name="full")
+    for name in ("tcp", "ftp", "reset", "nat"):
+        capture = f"{DATA}/{name}.pcap"
+        check_sentences(room, chromium, f"{name}.pcap", report_of(room, capture, name=name), [capture])
     check_sentences(room, chromium, "two captures and four entries", report, [paths["office.in.pcap"], paths["late.pcap"]])
 
 
