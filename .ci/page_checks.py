@@ -202,6 +202,38 @@ def check_looks(room, chromium, page):
     chromium.look(1300, 900)
 
 
+def check_long(room, chromium):
+    """Of many packets only those in sight are rows of the page, and the last is reached."""
+    many = 5_000
+    packets = [(START + at * 1000, made.udp(f"10.0.{at // 250}.{at % 250}", 5000, "198.51.100.1", 53)) for at in range(many)]
+    capture = made.write(f"{room}/many.pcap", packets)
+    page = f"{room}/many.html"
+    tool("page", "--entries", "3000", "--to", page, report_of(room, "--entries", "3000", capture, name="many"), capture)
+    chromium.open(page, "view=packets")
+    chromium.value("document.getElementById('window').focus()")
+    chromium.key("End", 35)
+    chromium.settle()
+    size, last = chromium.value("(() => { const rows = [...document.querySelectorAll('.row')]; return [rows.length, rows.pop().textContent]; })()")
+    count("tools/page: rows in sight alone", 10 < size < 100 and last.startswith(str(many - 1)), f"{size} {last}")
+    chromium.open(page, "view=refused")
+    title = chromium.value("document.getElementById('count').textContent")
+    lanes = chromium.value("lanes.map((lane) => laneTitle(lane, shown.at).join(': '))")
+    good = title.startswith("2000 flows") and lanes[0] == "entries: 3000 there, 3000 not past deadline; limit 3000" and lanes[1].startswith("refused flows: 2000, 2000 by")
+    count("tools/page: entries against their limit, and refused flows", good, f"{title} {lanes}")
+
+
+def check_drops(room, chromium):
+    """Early drop: connections without an answer make way where the table is full."""
+    packets = [(START + at * SECOND, made.tcp("10.0.0.1", 5000 + at, "198.51.100.1", 80, "S")) for at in range(3)]
+    capture = made.write(f"{room}/drop.pcap", packets)
+    report = report_of(room, "--entries", "2", capture, name="drop")
+    wanted = tool("refused", report, capture).stdout.splitlines()[0]
+    tool("page", "--entries", "2", "--to", f"{room}/drop.html", report, capture)
+    chromium.open(f"{room}/drop.html", "view=refused")
+    found = chromium.value("[lanes[1].bars.length + lanes[2].bars.length, document.querySelectorAll('.row').length, lanes[0].whole.top]")
+    count("tools/page: refused and dropped flows are those of tools/refused", found == [int(wanted.split()[0]), int(wanted.split()[0]), 2] and found[0] > 0, f"{found} {wanted}")
+
+
 def check_troubles(room):
     late = ("late.report", "late.pcap")
     refuses("tools/page: no capture", tool("page", "late.report"), "usage: page")
@@ -246,6 +278,8 @@ def check_all(room):
         check_filters(chromium, page)
         check_clicks(chromium, page)
         check_words(room, chromium)
+        check_long(room, chromium)
+        check_drops(room, chromium)
         check_looks(room, chromium, page)
         count("tools/page: no error on the console", not chromium.errors, chromium.errors)
         check_hostile(room, chromium)
