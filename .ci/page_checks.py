@@ -6,6 +6,7 @@ import shutil
 import tempfile
 
 import browser
+import flow_checks
 import made_packets as made
 from checking import DATA, EXAMPLES, PROGRAM, TOOLS, count, module, refuses, report_of, run, tool, wants, write
 import replay_files as files
@@ -223,15 +224,20 @@ def check_long(room, chromium):
 
 
 def check_drops(room, chromium):
-    """Early drop: connections without an answer make way where the table is full."""
-    packets = [(START + at * SECOND, made.tcp("10.0.0.1", 5000 + at, "198.51.100.1", 80, "S")) for at in range(3)]
-    capture = made.write(f"{room}/drop.pcap", packets)
-    report = report_of(room, "--entries", "2", capture, name="drop")
-    wanted = tool("refused", report, capture).stdout.splitlines()[0]
-    tool("page", "--entries", "2", "--to", f"{room}/drop.html", report, capture)
+    """An entry that made room for another is a drop; and a zone is a filter."""
+    capture = flow_checks.refused_capture(room)
+    report = flow_checks.dropped_report(room, capture)
+    tool("page", "--to", f"{room}/drop.html", report, capture)
     chromium.open(f"{room}/drop.html", "view=refused")
-    found = chromium.value("[lanes[1].bars.length + lanes[2].bars.length, document.querySelectorAll('.row').length, lanes[0].whole.top]")
-    count("tools/page: refused and dropped flows are those of tools/refused", found == [int(wanted.split()[0]), int(wanted.split()[0]), 2] and found[0] > 0, f"{found} {wanted}")
+    bars, rows = chromium.value("lanes.slice(1, 3).map((lane) => lane.bars.length)"), shown_rows(chromium)
+    good = bars == [0, 1] and len(rows) == 1 and "dropped" in rows[0] and "udp 10.0.0.1:5000 > 198.51.100.1:53, 0 later" in rows[0]
+    count("tools/page: a drop", good, f"{bars} {rows}")
+    at = START + 3 * SECOND
+    wanted = tool("table", "--at", str(at), report, capture).stdout.splitlines()
+    for zone, lines in (("7", wanted), ("8", [])):
+        chromium.open(f"{room}/drop.html", f"text=1&at={at}&zone={zone}")
+        found = shown_rows(chromium)
+        count(f"tools/page: the filter zone {zone}", found == lines and (not found or found[0].endswith("zone=7")), found)
 
 
 def check_troubles(room):
