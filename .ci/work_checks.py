@@ -67,6 +67,7 @@ def words_of(room, name, capture, rules, report):
         "table": ["--at", str(START + 30_000_000), report, capture],
         "compare": [report, report, capture],
         "from-inside": ["--rules", rules, "--to", f"{room}/work.pcap", capture],
+        "page": ["--rules", rules, "--to", f"{room}/work.html", report, capture],
     }[name]
 
 
@@ -85,7 +86,7 @@ def check_counted(room):
         with open(other[2], encoding="utf-8") as file:
             lines = sum(1 for line in file if (" NEW " if kind == "all let in" else f" {kind}") in line)
         count(f"a report of {kind}: it has {lines} such lines", lines > large // 8, lines)
-        for name in ("check", "refused", "draw", "why", "table", "compare", "from-inside"):
+        for name in ("check", "refused", "draw", "why", "table", "compare", "from-inside", "page"):
             if name == "from-inside" and kind != "NOPORT":
                 continue
             before, after = (counted_of(name, words_of(room, name, *it)) for it in (one, other))
@@ -102,7 +103,7 @@ def check_large(room):
         lines = sum(1 for _ in file)
     count("a report of 300,000 lines", 290_000 < lines < 400_000, lines)
     limit = functools.partial(resource.setrlimit, resource.RLIMIT_CPU, (LIMIT, LIMIT))
-    for name in ("check", "refused", "why", "table", "compare", "from-inside"):
+    for name in ("check", "refused", "why", "table", "compare", "from-inside", "page"):
         ran = run([os.path.join(TOOLS, name), *words_of(room, name, capture, rules, report)], preexec_fn=limit)
         good = ran.returncode in (0, 1) and not ran.stderr and len(ran.stdout) > 30
         count(f"tools/{name}: {lines} lines", good, f"status {ran.returncode}: {ran.stderr}")

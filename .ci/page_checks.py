@@ -1,0 +1,291 @@
+"""Checks of tools/page, in a headless Chromium where there is one. Used by .ci/tools."""
+import json
+import os
+import re
+import shutil
+import tempfile
+
+import browser
+import flow_checks
+import made_packets as made
+from checking import DATA, EXAMPLES, PROGRAM, TOOLS, count, module, refuses, report_of, run, tool, wants, write
+import replay_files as files
+
+START = 1_000_000_000_000_000
+SECOND = 1_000_000
+HOSTILE = "</script><img src=x onerror=alert(1)><script>alert(2)</script>"
+CHOSEN = "document.getElementById('{}')"
+
+
+def page_of(room, name, *words):
+    """The page of an example with its rules."""
+    target = f"{room}/{name}.html"
+    ran = tool("page", "--rules", f"{name}.rules", *words, "--to", target, f"{name}.report", f"{name}.pcap")
+    wants(f"tools/page: {name}", ran, 0, f"{target}: {os.path.getsize(target) if os.path.exists(target) else 'none'} bytes")
+    return target
+
+
+def shown_rows(chromium):
+    return chromium.value("[...document.querySelectorAll('.row')].map((it) => it.textContent)")
+
+
+# The table, and what is said of packets
+
+
+def check_tables(room, chromium, page):
+    """At three points the rows are the program's own list of the packets up to there, but for what is past its deadline."""
+    frames = files.read_capture(os.path.join(EXAMPLES, "office.pcap"))
+    for size in (7, 40, 108):
+        prefix, end = f"{room}/prefix.pcap", frames[size - 1].moment
+        files.write_capture(prefix, frames[:size], frames[0].link)
+        script = write(room, "end.script", f"wait\nexpire {end}\n-L\n")
+        ran = run([PROGRAM, "--rules", "office.rules", "--script", script, prefix])
+        wanted = [re.sub(r" @\d+$", "", line) for line in ran.stdout.splitlines() if re.match(r"(udp|tcp|icmp) ", line)]
+        chromium.open(page, f"at={end}&text=1")
+        found = shown_rows(chromium)
+        count(f"tools/page: the program's own list after {size} packets", len(wanted) > 1 and found == wanted, found)
+
+
+def sentences_of(report, names, rules):
+    """Of each packet the verdict, the headers and the sentence that tools/why has."""
+    why, work = module("why"), files.Work(report, names)
+    rules = files.read_rules(rules) if rules else None
+    for thread, frames in enumerate(work.captures):
+        for index, frame in enumerate(frames):
+            asked = why.Question(work, rules, {"first": 0}, thread, index)
+            lives = [] if asked.entry is None else [line.strip("* ").strip() for line in why.life_lines(asked)]
+            yield [asked.verdict, files.packet_text(frame), files.time_text(frame.moment), why.sentence(asked), lives]
+
+
+def check_sentences(room, chromium, kind, report, names, rules=None):
+    """What the page says of each packet is what why says: verdict, headers, time, sentence, and the entry's life."""
+    page = f"{room}/said.html"
+    tool("page", *(["--rules", rules] if rules else []), "--to", page, report, *names)
+    chromium.open(page)
+    found = chromium.value(
+        "threads.flatMap((thread, number) => thread.times.map((moment, at) => { const life = lives.get(thread.e[at]), lines = []; let before = null;"
+        " for (const event of life ? life.all : []) { lines.push(eventText(event, before)); before = eventMoment(event);"
+        " if (events.m[event] >= 0) lines.push(packetText(events.m[event], events.i[event])); }"
+        " return [verdictText(number, at), packetText(number, at), timeText(moment), sentence(number, at), lines]; }))"
+    )
+    wanted = list(sentences_of(report, names, rules))
+    other = [pair for pair in zip(found, wanted) if pair[0] != pair[1]]
+    count(f"tools/page: what why says of each of {len(wanted)} packets, {kind}", len(found) == len(wanted) > 1 and not other, other[:1])
+
+
+def check_words(room, chromium):
+    paths = {name: os.path.join(EXAMPLES, name) for name in ("office.report", "office.pcap", "office.rules", "office.in.pcap", "late.report", "late.pcap", "late.rules")}
+    check_sentences(room, chromium, "office", paths["office.report"], [paths["office.pcap"]], paths["office.rules"])
+    check_sentences(room, chromium, "late", paths["late.report"], [paths["late.pcap"]], paths["late.rules"])
+    check_sentences(room, chromium, "late without rules", paths["late.report"], [paths["late.pcap"]])
+    report = report_of(room, "--rules", paths["office.rules"], paths["office.in.pcap"], name="inside")
+    check_sentences(room, chromium, "one side of a NAT", report, [paths["office.in.pcap"]], paths["office.rules"])
+    report = report_of(room, "--entries", "4", paths["office.in.pcap"], paths["late.pcap"], name="full")
+    for name in ("tcp", "ftp", "reset", "nat"):
+        capture = f"{DATA}/{name}.pcap"
+        check_sentences(room, chromium, f"{name}.pcap", report_of(room, capture, name=name), [capture])
+    check_sentences(room, chromium, "two captures and four entries", report, [paths["office.in.pcap"], paths["late.pcap"]])
+
+
+# The slider, the brush, the filters, the mouse and the keys
+
+
+def check_slider(chromium, page):
+    chromium.open(page)
+    before = shown_rows(chromium)
+    chromium.value("document.getElementById('slider').focus()")
+    for _ in range(3):
+        chromium.key("PageDown", 34)
+    after = chromium.value("[shown.at, data.end, document.getElementById('moment').value === timeText(shown.at)]")
+    count("tools/page: keys move the slider", 0 < after[0] < after[1] and after[2], after)
+    chromium.click(CHOSEN.format("slider"))
+    middle = chromium.value("shown.at / data.end")
+    count("tools/page: a click moves the slider, and the table changes", 0.4 < middle < 0.6 and 0 < len(shown_rows(chromium)) < len(before), middle)
+    chromium.drag(CHOSEN.format("strip"), 0.25, 0.5)
+    span = chromium.value("[shown.from / data.end, shown.to / data.end]")
+    count("tools/page: a stroke over the strip is the span that is shown", abs(span[0] - 0.25) < 0.02 and abs(span[1] - 0.5) < 0.02, span)
+    chromium.value("document.getElementById('strip').focus()")
+    chromium.key("0", 48, "0")
+    count("tools/page: 0 shows all", chromium.value("shown.from === 0 && shown.to === data.end"))
+    chromium.value("goTo(threads[0].times[5])")
+    chromium.settle()
+    chromium.key("ArrowRight", 39)
+    right = chromium.value("shown.at === threads[0].times[6]")
+    chromium.key("ArrowLeft", 37)
+    count("tools/page: left and right go packet by packet", right and chromium.value("shown.at === threads[0].times[5]"))
+
+
+def check_filters(chromium, page):
+    chromium.open(page, "text=1")
+    whole = shown_rows(chromium)
+    cases = [
+        ("address", "198.51.100.21", "198.51.100.21"), ("address", "198.51.100.53/32", "198.51.100.53"), ("port", "54", "=54"),
+        ("proto", "icmp", "icmp "), ("state", "TIME_WAIT", "TIME_WAIT"),
+    ]
+    for box, value, text in cases:
+        chromium.open(page, f"text=1&{box}={value}")
+        found, wanted = shown_rows(chromium), [row for row in whole if re.search(re.escape(text) + r"(?!\d)", row)]
+        count(f"tools/page: the filter {box} {value}", found == wanted and 0 < len(found) < len(whole), found)
+    chromium.open(page, "text=1")
+    chromium.key("/", 191, "/")
+    for letter in "198.51.100.80":
+        chromium.key(letter, 0, letter)
+    found = shown_rows(chromium)
+    count("tools/page: a filter that is typed", found == [row for row in whole if "198.51.100.80 " in row] and found, found)
+    chromium.open(page, "text=1&address=10.9.9.9")
+    count("tools/page: a filter that nothing fits", shown_rows(chromium) == [])
+    chromium.open(page, "group=1")
+    heads = chromium.value("[...document.querySelectorAll('.row.head')].map((it) => it.textContent)")
+    count("tools/page: rows by client", sum(int(head.split(": ")[1]) for head in heads) == len(whole), heads)
+
+
+def check_clicks(chromium, page):
+    chromium.open(page, "view=packets")
+    chromium.click("document.querySelectorAll('.row')[3]")
+    said = chromium.value("document.getElementById('detail').textContent")
+    count("tools/page: a click on a packet", "packet 3: ESTABLISHED_REPLY id=2" in said and "event 5" in said and "in the reply direction of entry 2" in said, said)
+    chromium.click("document.querySelectorAll('.event')[0]")
+    said = chromium.value("[document.getElementById('why').textContent, location.hash]")
+    count("tools/page: a click on an event shows its packet", "it began entry 2" in said[0] and "packet=0.2" in said[1], said)
+    chromium.open(page)
+    chromium.value("document.getElementById('window').focus()")
+    chromium.key("ArrowDown", 40)
+    chromium.key("Enter", 13, "\r")
+    said = chromium.value("document.getElementById('detail').textContent")
+    count("tools/page: keys open a row", said.startswith("entry 2: icmp") and "event 5" in said, said)
+    chromium.key("p", 80, "p")
+    count("tools/page: a key changes the list", chromium.value("shown.view") == "packets")
+
+
+# What is hostile, what is long, and what is looked at in the dark or on a phone
+
+
+def hostile_of(room):
+    """A page of a capture with markup in its name and in FTP's payloads; the script's name has none, and the rules' text."""
+    packets = [
+        made.tcp("10.0.0.1", 5000, "10.0.0.2", 21, "S"), made.tcp("10.0.0.2", 21, "10.0.0.1", 5000, "SA"), made.tcp("10.0.0.1", 5000, "10.0.0.2", 21, "A"),
+        made.tcp("10.0.0.1", 5000, "10.0.0.2", 21, "PA", f"USER {HOSTILE}\r\n".encode()),
+        made.tcp("10.0.0.1", 5000, "10.0.0.2", 21, "PA", b"PORT 10,0,0,1,<img src=x onerror=alert(3)>,2\r\n"),
+    ]
+    folder = f"{room}/<img src=x onerror=alert(4)>"
+    os.mkdir(folder)
+    name = folder + "/<img src=x onerror=alert(5)>\"'&--><!--\u2028.pcap"
+    made.write(name, [(START + (5 - at) * SECOND, data) for at, data in enumerate(packets)])
+    os.rename(report_of(room, name, name="plain"), folder + "/<script>alert(6)<!--.report")
+    return folder + "/<script>alert(6)<!--.report", name
+
+
+def check_hostile(room, chromium):
+    report, name = hostile_of(room)
+    page = f"{room}/hostile.html"
+    wants("tools/page: names with markup", tool("page", "--to", page, report, name), 0)
+    text = open(page, encoding="ascii").read()
+    count("tools/page: no markup of a name stands in the page", "<img" not in text and text.count("<script") == 2 and text.count("</script") == 2)
+    chromium.errors.clear()
+    chromium.open(page, "view=packets&packet=0.3")
+    said = chromium.value("[document.images.length, document.scripts.length, document.getElementById('title').textContent.includes('<img src=x'), document.getElementById('findings').textContent.includes('<img src=x')]")
+    count("tools/page: markup of names is text", said == [0, 2, True, True] and not chromium.errors, f"{said} {chromium.errors}")
+    chromium.value("(() => { const it = document.createElement('div'); it.innerHTML = '<img src=http://192.0.2.1/x onerror=\"window.ran = 1\">'; document.body.append(it);"
+                   " const code = document.createElement('script'); code.textContent = 'window.ran = 2'; document.body.append(code); })()")
+    chromium.settle()
+    ran = chromium.value("window.ran === undefined")
+    count("tools/page: nothing but its own script runs there", ran and len(chromium.errors) >= 2, chromium.errors)
+    chromium.errors.clear()
+
+
+def check_looks(room, chromium, page):
+    for what, width, is_dark in (("a desk", 1300, False), ("a phone", 390, False), ("the dark", 1300, True)):
+        chromium.look(width, 900, is_dark)
+        chromium.open(page, "view=packets&packet=0.18")
+        wide, ground, rows = chromium.value("[document.documentElement.scrollWidth, getComputedStyle(document.body).backgroundColor, document.querySelectorAll('.row').length]")
+        dark = sum(int(part) for part in re.findall(r"\d+", ground)) < 200
+        count(f"tools/page: {what}", wide <= width and dark == is_dark and 10 < rows < 100, f"{wide} {ground} {rows}")
+    chromium.look(1300, 900)
+
+
+def check_long(room, chromium):
+    """Of many packets only those in sight are rows of the page, and the last is reached."""
+    many = 5_000
+    packets = [(START + at * 1000, made.udp(f"10.0.{at // 250}.{at % 250}", 5000, "198.51.100.1", 53)) for at in range(many)]
+    capture = made.write(f"{room}/many.pcap", packets)
+    page = f"{room}/many.html"
+    tool("page", "--entries", "3000", "--to", page, report_of(room, "--entries", "3000", capture, name="many"), capture)
+    chromium.open(page, "view=packets")
+    chromium.value("document.getElementById('window').focus()")
+    chromium.key("End", 35)
+    chromium.settle()
+    size, last = chromium.value("(() => { const rows = [...document.querySelectorAll('.row')]; return [rows.length, rows.pop().textContent]; })()")
+    count("tools/page: rows in sight alone", 10 < size < 100 and last.startswith(str(many - 1)), f"{size} {last}")
+    chromium.open(page, "view=refused")
+    title = chromium.value("document.getElementById('count').textContent")
+    lanes = chromium.value("lanes.map((lane) => laneTitle(lane, shown.at).join(': '))")
+    good = title.startswith("2000 flows") and lanes[0] == "entries: 3000 there, 3000 not past deadline; limit 3000" and lanes[1].startswith("refused flows: 2000, 2000 by")
+    count("tools/page: entries against their limit, and refused flows", good, f"{title} {lanes}")
+
+
+def check_drops(room, chromium):
+    """An entry that made room for another is a drop; and a zone is a filter."""
+    capture = flow_checks.refused_capture(room)
+    report = flow_checks.dropped_report(room, capture)
+    tool("page", "--to", f"{room}/drop.html", report, capture)
+    chromium.open(f"{room}/drop.html", "view=refused")
+    bars, rows = chromium.value("lanes.slice(1, 3).map((lane) => lane.bars.length)"), shown_rows(chromium)
+    good = bars == [0, 1] and len(rows) == 1 and "dropped" in rows[0] and "udp 10.0.0.1:5000 > 198.51.100.1:53, 0 later" in rows[0]
+    count("tools/page: a drop", good, f"{bars} {rows}")
+    at = START + 3 * SECOND
+    wanted = tool("table", "--at", str(at), report, capture).stdout.splitlines()
+    for zone, lines in (("7", wanted), ("8", [])):
+        chromium.open(f"{room}/drop.html", f"text=1&at={at}&zone={zone}")
+        found = shown_rows(chromium)
+        count(f"tools/page: the filter zone {zone}", found == lines and (not found or found[0].endswith("zone=7")), found)
+
+
+def check_troubles(room):
+    late = ("late.report", "late.pcap")
+    refuses("tools/page: no capture", tool("page", "late.report"), "usage: page")
+    refuses("tools/page: another report", tool("page", "--to", f"{room}/x.html", "late.report", "office.pcap"), "of other captures")
+    refuses("tools/page: a folder that is not there", tool("page", "--to", f"{room}/none/x.html", *late), "No such file")
+    refuses("tools/page: entries", tool("page", "--entries", "0", "--to", f"{room}/x.html", *late), "--entries 0 is no number")
+    kept = shutil.copy(os.path.join(EXAMPLES, "late.report"), room)
+    refuses("tools/page: what is read", tool("page", "--to", kept, kept, "late.pcap"), "would take the place")
+    with open(os.path.join(EXAMPLES, "late.report"), encoding="utf-8") as file:
+        refuses("tools/page: a report from a pipe", tool("page", "/dev/stdin", "late.pcap", stdin=file), "--to PAGE.html")
+    template = open(os.path.join(TOOLS, "page.html"), encoding="utf-8").read()
+    bad = re.findall(r"innerHTML|outerHTML|insertAdjacentHTML|document\.write|\beval\b|https?:|\bfetch\b|XMLHttpRequest", template)
+    count("tools/page: the template asks for nothing, and makes no markup of data", not bad, bad)
+
+
+def check_findings(room):
+    """The loudest is first: a report that is wrong before flows that were refused."""
+    report = report_of(room, "--rules", "range.rules", "range.pcap", name="range.report")
+    tool("page", "--rules", "range.rules", "--to", f"{room}/range.html", report, "range.pcap")
+    text = open(f"{room}/range.html", encoding="ascii").read()
+    found = json.loads(re.search(r'id="data">(.*?)</script>', text)[1])["findings"]
+    ran = tool("check", "--rules", "range.rules", report, "range.pcap").stdout.splitlines()
+    levels = [level for level, _ in found]
+    good = sorted(line for _, line in found) == sorted(ran) and levels == sorted(levels, key=["wrong", "refused", "perhaps"].index) and levels[0] == "wrong"
+    count("tools/page: what check finds, loudest first", good, found)
+
+
+def check_all(room):
+    check_troubles(room)
+    check_findings(room)
+    page = page_of(room, "office")
+    if not browser.program():
+        print("skipped: tools/page in a browser: there is no chromium")
+        return
+    with tempfile.TemporaryDirectory(ignore_cleanup_errors=True) as home, browser.Browser(home) as chromium:
+        chromium.look(1300, 900)
+        chromium.open(page)
+        asked = chromium.asked()
+        count("tools/page: loads without an error, and asks for nothing else", not chromium.errors and asked == [f"file://{page}"], f"{chromium.errors} {asked}")
+        check_tables(room, chromium, page)
+        check_slider(chromium, page)
+        check_filters(chromium, page)
+        check_clicks(chromium, page)
+        check_words(room, chromium)
+        check_long(room, chromium)
+        check_drops(room, chromium)
+        check_looks(room, chromium, page)
+        count("tools/page: no error on the console", not chromium.errors, chromium.errors)
+        check_hostile(room, chromium)
