@@ -1,5 +1,5 @@
 //! Tests of what is written over any desk: packets over a desk of one entry, over one that lets another pass act before a
-//! call of its own, and over desks whose passes take turns. There is nothing else here.
+//! call of its own, and over desks whose passes take turns. The library is a run on such desks, for tests of whole programs.
 #![tactic(auto)]
 
 #[cfg(test)]
