@@ -16,8 +16,9 @@ refused.
 
 The cases: a query and its answer, a control connection of FTP, a script, and an office behind one address, each with flows
 of each thread's own ("apart") and with the same flows on all threads in another order ("same"); one flow of UDP on four
-threads; a pool that is too small for eight threads. Apart, each thread's events and verdicts are those of the example, but
-for numbers and points. Buckets are 1, 16 or 16384, from run to run.
+threads; pools that are too small for eight threads, and one of forty places in which the flows of four drop each other.
+Apart, each thread's events and verdicts are those of the example, but for numbers and points. Buckets are 1, 16 or 16384,
+from run to run.
 """
 import argparse
 import os
@@ -289,6 +290,7 @@ def all_cases():
         Case("pool-again", pool_captures(8, 24, 4), "", "", 80, is_full(80, 8, " dropped\n")),
         Case("pool-assured", pool_captures(8, 60, 1, (False, True, False)), "", "", 120, is_full(120, 8, " FULL @")),
         Case("pool-same", pool_captures(1, 40, 3) * 8, "", "-C\n-L\nwait\n-C\n", 34, any_history),
+        Case("pool-drops", pool_captures(2, 60, 2) * 2, "", "", 40, any_history),
     ]
 
 
