@@ -8,7 +8,7 @@ import tempfile
 import browser
 import flow_checks
 import made_packets as made
-from checking import DATA, EXAMPLES, PROGRAM, TOOLS, count, module, refuses, report_of, run, tool, wants, write
+from checking import DATA, EXAMPLES, PROGRAM, TOOLS, count, module, read, refuses, report_of, run, tool, wants, write
 import replay_files as files
 
 START = 1_000_000_000_000_000
@@ -57,8 +57,8 @@ def sentences_of(report, names, rules):
             yield [asked.verdict, files.packet_text(frame), files.time_text(frame.moment), why.sentence(asked), lives]
 
 
-def check_sentences(room, chromium, kind, report, names, rules=None):
-    """What the page says of each packet is what why says: verdict, headers, time, sentence, and the entry's life."""
+def check_sentences(room, chromium, kind, report, names, rules=None, texts=()):
+    """What the page says of each packet is what why says: verdict, headers, time, sentence, and the entry's life. Each text is in it."""
     page = f"{room}/said.html"
     tool("page", *(["--rules", rules] if rules else []), "--to", page, report, *names)
     chromium.open(page)
@@ -70,7 +70,10 @@ def check_sentences(room, chromium, kind, report, names, rules=None):
     )
     wanted = list(sentences_of(report, names, rules))
     other = [pair for pair in zip(found, wanted) if pair[0] != pair[1]]
-    count(f"tools/page: what why says of each of {len(wanted)} packets, {kind}", len(found) == len(wanted) > 1 and not other, other[:1])
+    said = "\n".join(line for *lines, lives in wanted for line in (*lines, *lives))
+    missing = [text for text in texts if text not in said]
+    good = len(found) == len(wanted) > 1 and not other and not missing
+    count(f"tools/page: what why says of each of {len(wanted)} packets, {kind}", good, other[:1] or missing)
 
 
 def check_words(room, chromium):
@@ -85,6 +88,45 @@ def check_words(room, chromium):
         capture = f"{DATA}/{name}.pcap"
         check_sentences(room, chromium, f"{name}.pcap", report_of(room, capture, name=name), [capture])
     check_sentences(room, chromium, "two captures and four entries", report, [paths["office.in.pcap"], paths["late.pcap"]])
+
+
+def lost_capture(room):
+    """For a table of one entry: answers whose entries were dropped, and a flow that begins again behind a drop, and once more past its deadline."""
+    server = "198.51.100.1"
+    query = made.udp("10.0.0.3", 5000, server, 53)
+    packets = [
+        made.tcp("10.0.0.1", 5000, server, 80, "S"), made.echo("10.0.0.2", server, 8, 77), made.tcp(server, 80, "10.0.0.1", 5000, "SA"),
+        query, made.echo(server, "10.0.0.2", 0, 77), made.udp("10.0.0.4", 5000, server, 53), query,
+    ]
+    return made.write(f"{room}/lost.pcap", [*((START + at * 1000, data) for at, data in enumerate(packets)), (START + 100 * SECOND, query)])
+
+
+def check_full_words(room, chromium):
+    """What the page says of a full table: each text of why on drops and on FULL is compared at least once."""
+    full, let_in, lost = flow_checks.full_capture(room), flow_checks.let_in_capture(room), lost_capture(room)
+    points, captures = flow_checks.points_report(room)
+    later = write(room, "later-point.report", read(points).replace("1 FULL @1 @3", "1 FULL @2 @3").replace("2 INVALID new @3", "2 FULL @2 @3"))
+    cases = [
+        ("a full table", report_of(room, "--entries", "2", full, name="two"), [full], (
+            "so entry 3 (udp 10.0.0.2:5000 > 198.51.100.1:53), not assured, was dropped for it by event 4.", ", past its deadline by 75.000004 s, was dropped for it",
+            "it began entry 5. The table was full, ", ", was dropped for it by event 6. Entry 3, which had it before, was dropped at",
+            "2 entries were in the table at the first point, 10; --entries says how many there may be. The second point is the same: ", "to its end. Entry 5, which had it before",
+            "destroy, dropped, as the table was full and this packet wanted a place; the entry was not assured",
+        )),
+        ("one entry", report_of(room, "--entries", "1", let_in, name="one"), [let_in], ("1 entry was in the table at the first point, ", "a connection in CLOSE, was dropped for it")),
+        ("answers behind drops", report_of(room, "--entries", "1", lost, name="lost"), [lost], (
+            "no entry begins with a SYN+ACK. Entry 0, which had it before", "no entry begins with an answer. Entry 2, which had it before",
+            "Entry 4, which had it before", "The entry 8, which had this tuple, was past its deadline",
+        )),
+        ("FULL of two points", points, captures, (
+            "Up to the second point, 3, another thread had that place.", "Up to the second point, 3, other packets and commands made 2 events, ", ". Entry 0, which had it before",
+        )),
+        ("FULL of two points, an event between them", later, captures, (
+            "0 entries were in the table at the first point, 2;", "made 1 event, and no entry that might be dropped was there throughout. Entry 0, which had it before",
+        )),
+    ]
+    for kind, report, names, texts in cases:
+        check_sentences(room, chromium, kind, report, names, texts=texts)
 
 
 # The slider, the brush, the filters, the mouse and the keys
@@ -284,6 +326,7 @@ def check_all(room):
         check_filters(chromium, page)
         check_clicks(chromium, page)
         check_words(room, chromium)
+        check_full_words(room, chromium)
         check_long(room, chromium)
         check_drops(room, chromium)
         check_looks(room, chromium, page)
