@@ -298,15 +298,17 @@ def check_troubles(room):
 
 
 def check_findings(room):
-    """The loudest is first: a report that is wrong before flows that were refused."""
-    report = report_of(room, "--rules", "range.rules", "range.pcap", name="range.report")
-    tool("page", "--rules", "range.rules", "--to", f"{room}/range.html", report, "range.pcap")
-    text = open(f"{room}/range.html", encoding="ascii").read()
-    found = json.loads(re.search(r'id="data">(.*?)</script>', text)[1])["findings"]
-    ran = tool("check", "--rules", "range.rules", report, "range.pcap").stdout.splitlines()
-    levels = [level for level, _ in found]
-    good = sorted(line for _, line in found) == sorted(ran) and levels == sorted(levels, key=["wrong", "refused", "perhaps"].index) and levels[0] == "wrong"
-    count("tools/page: what check finds, loudest first", good, found)
+    """The loudest is first: a report that is wrong before flows that were refused, and these before entries that were dropped."""
+    full = flow_checks.full_capture(room)
+    cases = [("range", ["--rules", "range.rules"], [], "range.pcap", {"wrong", "refused"}), ("a full table", [], ["--entries", "2"], full, {"refused", "dropped"})]
+    for name, rules, entries, capture, wanted in cases:
+        report = report_of(room, *rules, *entries, capture, name="found.report")
+        tool("page", *rules, *entries, "--to", f"{room}/found.html", report, capture)
+        found = json.loads(re.search(r'id="data">(.*?)</script>', read(room, "found.html"))[1])["findings"]
+        ran = tool("check", *rules, report, capture).stdout.splitlines()
+        levels = [level for level, _ in found]
+        good = sorted(line for _, line in found) == sorted(ran) and levels == sorted(levels, key=["wrong", "refused", "dropped", "perhaps"].index)
+        count(f"tools/page: what check finds, loudest first, {name}", good and set(levels) == wanted, found)
 
 
 def check_all(room):
