@@ -10,6 +10,7 @@ import flow_checks
 import made_packets as made
 from checking import DATA, EXAMPLES, PROGRAM, TOOLS, count, module, read, refuses, report_of, run, tool, wants, write
 import replay_files as files
+import replay_history as history
 
 START = 1_000_000_000_000_000
 SECOND = 1_000_000
@@ -265,6 +266,22 @@ def check_long(room, chromium):
     count("tools/page: entries against their limit, and refused flows", good, f"{title} {lanes}")
 
 
+def check_dropped(room, chromium):
+    """Of each flow that was dropped the page says what refused does."""
+    capture = flow_checks.full_capture(room)
+    report = report_of(room, "--entries", "2", capture, name="two")
+    tool("page", "--entries", "2", "--to", f"{room}/two.html", report, capture)
+    chromium.open(f"{room}/two.html", "view=refused")
+    account = module("refused").Account(files.Work(report, [capture]), None)
+    wanted = [account.drop_text(it) for it in history.refusals_of(account.work) if it.drop]
+    found = chromium.value("refusedRows().filter((row) => row.gone !== undefined).map(dropText)")
+    rows = [row for row in shown_rows(chromium) if "dropped" in row]
+    good = found == wanted and any("a later packet began entry 7" in text for text in found)
+    count("tools/page: why entries were dropped, and for whom", good, f"{found} {wanted}")
+    good = len(rows) == 3 and all(text.startswith(row.partition("; ")[2]) for row, text in zip(rows, wanted)) and rows[0].endswith("0 later; entry 3, not assured")
+    count("tools/page: rows of dropped flows", good, rows)
+
+
 def check_drops(room, chromium):
     """An entry that made room for another is a drop; and a zone is a filter."""
     capture = flow_checks.refused_capture(room)
@@ -330,6 +347,7 @@ def check_all(room):
         check_words(room, chromium)
         check_full_words(room, chromium)
         check_long(room, chromium)
+        check_dropped(room, chromium)
         check_drops(room, chromium)
         check_looks(room, chromium, page)
         count("tools/page: no error on the console", not chromium.errors, chromium.errors)
