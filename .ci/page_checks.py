@@ -8,6 +8,7 @@ import tempfile
 import browser
 import flow_checks
 import made_packets as made
+import work_checks
 from checking import DATA, EXAMPLES, PROGRAM, TOOLS, count, module, read, refuses, report_of, run, tool, wants, write
 import replay_files as files
 import replay_history as history
@@ -28,6 +29,11 @@ def page_of(room, name, *words):
 
 def shown_rows(chromium):
     return chromium.value("[...document.querySelectorAll('.row')].map((it) => it.textContent)")
+
+
+def lanes_of(chromium):
+    """What stands above each lane of the strip."""
+    return chromium.value("lanes.map((lane) => laneTitle(lane, shown.at).join(': '))")
 
 
 # The table, and what is said of packets
@@ -260,10 +266,24 @@ def check_long(room, chromium):
     size, last = chromium.value("(() => { const rows = [...document.querySelectorAll('.row')]; return [rows.length, rows.pop().textContent]; })()")
     count("tools/page: rows in sight alone", 10 < size < 100 and last.startswith(str(many - 1)), f"{size} {last}")
     chromium.open(page, "view=refused")
-    title = chromium.value("document.getElementById('count').textContent")
-    lanes = chromium.value("lanes.map((lane) => laneTitle(lane, shown.at).join(': '))")
-    good = title.startswith("2000 flows") and lanes[0] == "entries: 3000 there, 3000 not past deadline; limit 3000" and lanes[1].startswith("refused flows: 2000, 2000 by")
-    count("tools/page: entries against their limit, and refused flows", good, f"{title} {lanes}")
+    title, lanes = chromium.value("document.getElementById('count').textContent"), lanes_of(chromium)
+    wanted = ["entries: 3000 there, 3000 not past deadline; limit 3000", "refused flows: 0", "drops: 2000, 2000 by this moment"]
+    count("tools/page: entries against their limit, and drops", title.startswith("2000 flows") and lanes == wanted, f"{title} {lanes}")
+
+
+def check_refused(room, chromium):
+    """Where no entry may be dropped flows are refused: the lane, and of each flow a row with the packets behind its first."""
+    capture, entries = work_checks.assured_capture(room, 1600)
+    report, page = report_of(room, "--entries", str(entries), capture, name="assured"), f"{room}/assured.html"
+    tool("page", "--entries", str(entries), "--to", page, report, capture)
+    chromium.open(page, "view=refused")
+    title, lanes, rows = chromium.value("document.getElementById('count').textContent"), lanes_of(chromium), shown_rows(chromium)
+    refusals = history.refusals_of(files.Work(report, [capture]))
+    good = len(refusals) == 400 and title.startswith("400 flows") and len(rows) > 10
+    good = good and rows == [f"{it.index}FULL{files.ends_text(it.flow)}, {it.later} later" for it in refusals[: len(rows)]]
+    count("tools/page: rows of refused flows", good, f"{title} {rows}")
+    wanted = ["entries: 100 there, 100 not past deadline; limit 100", "refused flows: 400, 400 by this moment", "drops: 0"]
+    count("tools/page: the lane of refused flows", lanes == wanted, lanes)
 
 
 def check_dropped(room, chromium):
@@ -347,6 +367,7 @@ def check_all(room):
         check_words(room, chromium)
         check_full_words(room, chromium)
         check_long(room, chromium)
+        check_refused(room, chromium)
         check_dropped(room, chromium)
         check_drops(room, chromium)
         check_looks(room, chromium, page)
