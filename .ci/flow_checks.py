@@ -333,14 +333,19 @@ def check_holders(room):
         wants(f"tools/refused: what is held after {last} s{past}", ran, 1, f"10.0.0.3:5000 > 198.51.100.1:53; 2 numbers held by 10.0.0.1 (1), 10.0.0.2 (1){past}\n")
 
 
-def check_let_in(room):
-    """A flow that was refused, was let in and is refused again is two: its packets in between are not refused ones."""
+def let_in_capture(room):
+    """A flow that a table of one entry refuses, lets in and refuses again."""
     steps = ["1 S", "1 SA", "1 A", "2 S", "2 S", "1 R", "2 S", "2 R", "3 S", "3 SA", "3 A", "2 S", "2 SA"]
     packets = []
     for at, (host, flags) in enumerate(step.split() for step in steps):
         ends = (f"10.0.0.{host}", 5000, SERVER, 80)
         packets.append((START + at, made.tcp(*(ends[2:] + ends[:2] if flags == "SA" else ends), flags)))
-    capture = made.write(f"{room}/let-in.pcap", packets)
+    return made.write(f"{room}/let-in.pcap", packets)
+
+
+def check_let_in(room):
+    """A flow that was refused, was let in and is refused again is two: its packets in between are not refused ones."""
+    capture = let_in_capture(room)
     ran = tool("refused", report_of(room, "--entries", "1", capture), capture)
     texts = ("3 flows refused or dropped, and 2 later packets of", "FULL packet 3 ", "FULL packet 11 ", "dropped packet 6 ", "entry 0, a connection in CLOSE, made room for tcp 10.0.0.2:5000")
     wants("tools/refused: let in between", ran, 1, *texts)
@@ -414,15 +419,20 @@ def check_full(room):
         refuses(f"tools/check: FULL with {name}", tool("check", changed, capture), "the report is cut or changed")
 
 
-def check_full_points(room):
-    """Two captures: the one drops an entry of the other, whose packet finds none; and a packet finds no room over two points."""
+def points_report(room):
+    """A report of two captures: the one drops an entry of the other, whose packet finds none; and a packet finds no room over two points."""
     first = made.write(f"{room}/of-one.pcap", [(START, made.udp("10.0.0.1", 5000, SERVER, 53)), (START + 2, made.udp("10.0.0.2", 5000, SERVER, 53)), (START + 3, made.udp(SERVER, 53, "10.0.0.1", 5000))])
     second = made.write(f"{room}/of-two.pcap", [(START + 1, made.udp("10.0.0.3", 5000, SERVER, 53)), (START + 4, made.udp("10.0.0.4", 5000, SERVER, 53))])
     confirms = [line for line in read(report_of(room, first, second)).splitlines() if " confirm " in line]
     of = {host: next(line for line in confirms if f"udp src=10.0.0.{host} " in line).split(" ", 3)[3] for host in (1, 2)}
     lines = ["events 3", f"0 confirm 0.0 {of[1]}", "1 destroy 1.0 id=0 dropped", f"2 confirm 0.1 {of[2]}", "thread 0 packets 3", "0 NEW id=0 @1", "1 NEW id=2 @3", "2 INVALID new @3"]
     report = write(room, "points.report", "\n".join([*lines, "thread 1 packets 2", "0 FULL @1 @3", "1 FULL @1 @3", "script 0"]) + "\n")
-    captures = [first, second]
+    return report, [first, second]
+
+
+def check_full_points(room):
+    """What is said of a packet of one capture that drops an entry of the other, and of FULL over two points."""
+    report, captures = points_report(room)
     wants("tools/check: a packet of another capture behind a drop", tool("check", report, *captures), 1, "entry 0 (udp 10.0.0.1:5000", "dropped by packet 0 of capture 1: 1 packet met no entry")
     why = ["why", "--thread", "1", "--report", report, *captures, "--"]
     wants("tools/why: FULL behind a drop", tool(*why, "0"), 0, "at the first point, 1;", "Up to the second point, 3, another thread had that place")

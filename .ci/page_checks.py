@@ -8,8 +8,10 @@ import tempfile
 import browser
 import flow_checks
 import made_packets as made
-from checking import DATA, EXAMPLES, PROGRAM, TOOLS, count, module, refuses, report_of, run, tool, wants, write
+import work_checks
+from checking import DATA, EXAMPLES, PROGRAM, TOOLS, count, module, read, refuses, report_of, run, tool, wants, write
 import replay_files as files
+import replay_history as history
 
 START = 1_000_000_000_000_000
 SECOND = 1_000_000
@@ -27,6 +29,11 @@ def page_of(room, name, *words):
 
 def shown_rows(chromium):
     return chromium.value("[...document.querySelectorAll('.row')].map((it) => it.textContent)")
+
+
+def lanes_of(chromium):
+    """What stands above each lane of the strip."""
+    return chromium.value("lanes.map((lane) => laneTitle(lane, shown.at).join(': '))")
 
 
 # The table, and what is said of packets
@@ -57,8 +64,8 @@ def sentences_of(report, names, rules):
             yield [asked.verdict, files.packet_text(frame), files.time_text(frame.moment), why.sentence(asked), lives]
 
 
-def check_sentences(room, chromium, kind, report, names, rules=None):
-    """What the page says of each packet is what why says: verdict, headers, time, sentence, and the entry's life."""
+def check_sentences(room, chromium, kind, report, names, rules=None, texts=()):
+    """What the page says of each packet is what why says: verdict, headers, time, sentence, and the entry's life. Each text is in it."""
     page = f"{room}/said.html"
     tool("page", *(["--rules", rules] if rules else []), "--to", page, report, *names)
     chromium.open(page)
@@ -70,7 +77,10 @@ def check_sentences(room, chromium, kind, report, names, rules=None):
     )
     wanted = list(sentences_of(report, names, rules))
     other = [pair for pair in zip(found, wanted) if pair[0] != pair[1]]
-    count(f"tools/page: what why says of each of {len(wanted)} packets, {kind}", len(found) == len(wanted) > 1 and not other, other[:1])
+    said = "\n".join(line for *lines, lives in wanted for line in (*lines, *lives))
+    missing = [text for text in texts if text not in said]
+    good = len(found) == len(wanted) > 1 and not other and not missing
+    count(f"tools/page: what why says of each of {len(wanted)} packets, {kind}", good, other[:1] or missing)
 
 
 def check_words(room, chromium):
@@ -85,6 +95,45 @@ def check_words(room, chromium):
         capture = f"{DATA}/{name}.pcap"
         check_sentences(room, chromium, f"{name}.pcap", report_of(room, capture, name=name), [capture])
     check_sentences(room, chromium, "two captures and four entries", report, [paths["office.in.pcap"], paths["late.pcap"]])
+
+
+def lost_capture(room):
+    """For a table of one entry: answers whose entries were dropped, and a flow that begins again behind a drop, and once more past its deadline."""
+    server = "198.51.100.1"
+    query = made.udp("10.0.0.3", 5000, server, 53)
+    packets = [
+        made.tcp("10.0.0.1", 5000, server, 80, "S"), made.echo("10.0.0.2", server, 8, 77), made.tcp(server, 80, "10.0.0.1", 5000, "SA"),
+        query, made.echo(server, "10.0.0.2", 0, 77), made.udp("10.0.0.4", 5000, server, 53), query,
+    ]
+    return made.write(f"{room}/lost.pcap", [*((START + at * 1000, data) for at, data in enumerate(packets)), (START + 100 * SECOND, query)])
+
+
+def check_full_words(room, chromium):
+    """What the page says of a full table: each text of why on drops and on FULL is compared at least once."""
+    full, let_in, lost = flow_checks.full_capture(room), flow_checks.let_in_capture(room), lost_capture(room)
+    points, captures = flow_checks.points_report(room)
+    later = write(room, "later-point.report", read(points).replace("1 FULL @1 @3", "1 FULL @2 @3").replace("2 INVALID new @3", "2 FULL @2 @3"))
+    cases = [
+        ("a full table", report_of(room, "--entries", "2", full, name="two"), [full], (
+            "so entry 3 (udp 10.0.0.2:5000 > 198.51.100.1:53), not assured, was dropped for it by event 4.", ", past its deadline by 75.000004 s, was dropped for it",
+            "it began entry 5. The table was full, ", ", was dropped for it by event 6. Entry 3, which had it before, was dropped at",
+            "2 entries were in the table at the first point, 10; --entries says how many there may be. The second point is the same: ", "to its end. Entry 5, which had it before",
+            "destroy, dropped, as the table was full and this packet wanted a place; the entry was not assured",
+        )),
+        ("one entry", report_of(room, "--entries", "1", let_in, name="one"), [let_in], ("1 entry was in the table at the first point, ", "a connection in CLOSE, was dropped for it")),
+        ("answers behind drops", report_of(room, "--entries", "1", lost, name="lost"), [lost], (
+            "no entry begins with a SYN+ACK. Entry 0, which had it before", "no entry begins with an answer. Entry 2, which had it before",
+            "Entry 4, which had it before", "The entry 8, which had this tuple, was past its deadline",
+        )),
+        ("FULL of two points", points, captures, (
+            "Up to the second point, 3, another thread had that place.", "Up to the second point, 3, other packets and commands made 2 events, ", ". Entry 0, which had it before",
+        )),
+        ("FULL of two points, an event between them", later, captures, (
+            "0 entries were in the table at the first point, 2;", "made 1 event, and no entry that might be dropped was there throughout. Entry 0, which had it before",
+        )),
+    ]
+    for kind, report, names, texts in cases:
+        check_sentences(room, chromium, kind, report, names, texts=texts)
 
 
 # The slider, the brush, the filters, the mouse and the keys
@@ -217,10 +266,40 @@ def check_long(room, chromium):
     size, last = chromium.value("(() => { const rows = [...document.querySelectorAll('.row')]; return [rows.length, rows.pop().textContent]; })()")
     count("tools/page: rows in sight alone", 10 < size < 100 and last.startswith(str(many - 1)), f"{size} {last}")
     chromium.open(page, "view=refused")
-    title = chromium.value("document.getElementById('count').textContent")
-    lanes = chromium.value("lanes.map((lane) => laneTitle(lane, shown.at).join(': '))")
-    good = title.startswith("2000 flows") and lanes[0] == "entries: 3000 there, 3000 not past deadline; limit 3000" and lanes[1].startswith("refused flows: 2000, 2000 by")
-    count("tools/page: entries against their limit, and refused flows", good, f"{title} {lanes}")
+    title, lanes = chromium.value("document.getElementById('count').textContent"), lanes_of(chromium)
+    wanted = ["entries: 3000 there, 3000 not past deadline; limit 3000", "refused flows: 0", "drops: 2000, 2000 by this moment"]
+    count("tools/page: entries against their limit, and drops", title.startswith("2000 flows") and lanes == wanted, f"{title} {lanes}")
+
+
+def check_refused(room, chromium):
+    """Where no entry may be dropped flows are refused: the lane, and of each flow a row with the packets behind its first."""
+    capture, entries = work_checks.assured_capture(room, 1600)
+    report, page = report_of(room, "--entries", str(entries), capture, name="assured"), f"{room}/assured.html"
+    tool("page", "--entries", str(entries), "--to", page, report, capture)
+    chromium.open(page, "view=refused")
+    title, lanes, rows = chromium.value("document.getElementById('count').textContent"), lanes_of(chromium), shown_rows(chromium)
+    refusals = history.refusals_of(files.Work(report, [capture]))
+    good = len(refusals) == 400 and title.startswith("400 flows") and len(rows) > 10
+    good = good and rows == [f"{it.index}FULL{files.ends_text(it.flow)}, {it.later} later" for it in refusals[: len(rows)]]
+    count("tools/page: rows of refused flows", good, f"{title} {rows}")
+    wanted = ["entries: 100 there, 100 not past deadline; limit 100", "refused flows: 400, 400 by this moment", "drops: 0"]
+    count("tools/page: the lane of refused flows", lanes == wanted, lanes)
+
+
+def check_dropped(room, chromium):
+    """Of each flow that was dropped the page says what refused does."""
+    capture = flow_checks.full_capture(room)
+    report = report_of(room, "--entries", "2", capture, name="two")
+    tool("page", "--entries", "2", "--to", f"{room}/two.html", report, capture)
+    chromium.open(f"{room}/two.html", "view=refused")
+    account = module("refused").Account(files.Work(report, [capture]), None)
+    wanted = [account.drop_text(it) for it in history.refusals_of(account.work) if it.drop]
+    found = chromium.value("refusedRows().filter((row) => row.gone !== undefined).map(dropText)")
+    rows = [row for row in shown_rows(chromium) if "dropped" in row]
+    good = found == wanted and any("a later packet began entry 7" in text for text in found)
+    count("tools/page: why entries were dropped, and for whom", good, f"{found} {wanted}")
+    good = len(rows) == 3 and all(text.startswith(row.partition("; ")[2]) for row, text in zip(rows, wanted)) and rows[0].endswith("0 later; entry 3, not assured")
+    count("tools/page: rows of dropped flows", good, rows)
 
 
 def check_drops(room, chromium):
@@ -256,15 +335,17 @@ def check_troubles(room):
 
 
 def check_findings(room):
-    """The loudest is first: a report that is wrong before flows that were refused."""
-    report = report_of(room, "--rules", "range.rules", "range.pcap", name="range.report")
-    tool("page", "--rules", "range.rules", "--to", f"{room}/range.html", report, "range.pcap")
-    text = open(f"{room}/range.html", encoding="ascii").read()
-    found = json.loads(re.search(r'id="data">(.*?)</script>', text)[1])["findings"]
-    ran = tool("check", "--rules", "range.rules", report, "range.pcap").stdout.splitlines()
-    levels = [level for level, _ in found]
-    good = sorted(line for _, line in found) == sorted(ran) and levels == sorted(levels, key=["wrong", "refused", "perhaps"].index) and levels[0] == "wrong"
-    count("tools/page: what check finds, loudest first", good, found)
+    """The loudest is first: a report that is wrong before flows that were refused, and these before entries that were dropped."""
+    full = flow_checks.full_capture(room)
+    cases = [("range", ["--rules", "range.rules"], [], "range.pcap", {"wrong", "refused"}), ("a full table", [], ["--entries", "2"], full, {"refused", "dropped"})]
+    for name, rules, entries, capture, wanted in cases:
+        report = report_of(room, *rules, *entries, capture, name="found.report")
+        tool("page", *rules, *entries, "--to", f"{room}/found.html", report, capture)
+        found = json.loads(re.search(r'id="data">(.*?)</script>', read(room, "found.html"))[1])["findings"]
+        ran = tool("check", *rules, report, capture).stdout.splitlines()
+        levels = [level for level, _ in found]
+        good = sorted(line for _, line in found) == sorted(ran) and levels == sorted(levels, key=["wrong", "refused", "dropped", "perhaps"].index)
+        count(f"tools/page: what check finds, loudest first, {name}", good and set(levels) == wanted, found)
 
 
 def check_all(room):
@@ -284,7 +365,10 @@ def check_all(room):
         check_filters(chromium, page)
         check_clicks(chromium, page)
         check_words(room, chromium)
+        check_full_words(room, chromium)
         check_long(room, chromium)
+        check_refused(room, chromium)
+        check_dropped(room, chromium)
         check_drops(room, chromium)
         check_looks(room, chromium, page)
         count("tools/page: no error on the console", not chromium.errors, chromium.errors)
