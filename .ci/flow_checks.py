@@ -111,6 +111,8 @@ def check_again(room):
     lines = [line for line in read(EXAMPLES, "again.events").splitlines() if re.search(r"\[DESTROY\] tcp +6 \d+ (TIME_WAIT|CLOSE) ", line)]
     between = len(refused & new)
     count("tools/from-inside, examples/again: for the others it ended closed entries", 0 < between <= len(lines), f"{between} {len(lines)}")
+    ran = tool("check", "--rules", "again.rules", f"{room}/again.made.report", f"{room}/again.made.pcap")
+    wants("tools/check, examples/again: closed connections held the ports", ran, 1, f", {len(refused)} of the flows while closed connections (TIME_WAIT or CLOSE) held numbers (up to 4)")
 
 
 # Packets made by hand: the capture of the inside, and what the router meets of it
@@ -317,6 +319,7 @@ def check_refused(room):
     wants("tools/refused: an answer of the other side", tool("refused", words, "office.in.pcap"), 1, "CLASH", "entry 0 had its tuple")
     wants("tools/refused: none", tool("refused", "office.report", "office.pcap"), 0, "no flow was refused or dropped\n")
     check_holders(room)
+    check_closed(room)
     check_let_in(room)
     check_dropped(room, capture)
     check_full(room)
@@ -331,6 +334,36 @@ def check_holders(room):
         capture = made.write(f"{room}/holders.pcap", [(START + at * SECOND, made.udp(f"10.0.0.{host}", 5000, SERVER, 53)) for at, host in steps])
         ran = tool("refused", "--rules", rules, report_of(room, "--rules", rules, capture), capture)
         wants(f"tools/refused: what is held after {last} s{past}", ran, 1, f"10.0.0.3:5000 > 198.51.100.1:53; 2 numbers held by 10.0.0.1 (1), 10.0.0.2 (1){past}\n")
+
+
+def closed_capture(room):
+    """Three ports, held in TIME_WAIT, CLOSE and CLOSE_WAIT, and then clients that find none; the last of them when the first two are
+    past their deadline."""
+    steps = [(host, flags) for host, ends in ((1, "FA fa A"), (2, "R"), (3, "FA a")) for flags in f"S sa A {ends}".split()]
+    packets = []
+    for at, (host, flags) in enumerate([*steps, (4, "S"), (4, "S"), (5, "S")]):
+        own, met = (f"10.0.0.{host}", 2000 + host, SERVER, 80), (SERVER, 80, OUTER, 2000 + host)
+        packets.append((START + at + (500 * SECOND if host == 5 else 0), made.tcp(*(met if flags.islower() else own), flags.upper())))
+    return made.write(f"{room}/closed.pcap", packets)
+
+
+def check_closed(room):
+    """Of the numbers that were held each tool says how many closed connections held: a kernel may end these, and of UDP there is none."""
+    capture, rules = closed_capture(room), write(room, "closed.rules", "snat -s 10.0.0.0/8 -p tcp to 192.0.2.1:2001-2003\n")
+    report = report_of(room, "--rules", rules, capture, name="closed.report")
+    at = len(files.read_capture(capture)) - 3
+    text = "3 packets of 2 flows are NOPORT, 1 of these packets while entries past their deadline held numbers (up to 3);"
+    last = " of the flows while closed connections (TIME_WAIT or CLOSE) {} (up to 2), which a kernel may end for a new flow; tools/refused"
+    wants("tools/check: numbers of closed connections", tool("check", "--rules", rules, report, capture), 1, text, ", 2" + last.format("held numbers"))
+    wants("tools/check: the same without rules", tool("check", report, capture), 1, ", 2" + last.format("were in the table"))
+    wants("tools/why: numbers of closed connections", tool("why", "--rules", rules, "--report", report, capture, "--", str(at)), 0, "of which 3 were held, and 0 of these by", " Closed connections (TIME_WAIT or CLOSE) held 2 of them, which a kernel may end for a new flow.\n")
+    ran = tool("refused", "--rules", rules, report, capture)
+    held = "3 numbers held by 10.0.0.1 (1), 10.0.0.2 (1), 10.0.0.3 (1)"
+    wants("tools/refused: numbers of closed connections", ran, 1, f"{held}, 2 in TIME_WAIT or CLOSE, which a kernel may end for a new flow\n", f"{held}, 3 past their deadline, 2 in TIME_WAIT or CLOSE")
+    capture = refused_capture(room)
+    rules = write(room, "two.rules", "snat -p udp to 192.0.2.1:1024-1025\n")
+    ran = tool("check", "--rules", rules, report_of(room, "--rules", rules, capture), capture)
+    count("tools/check: none of UDP", ran.returncode == 1 and "past their deadline" in ran.stdout and "closed connections" not in ran.stdout, ran.stdout)
 
 
 def let_in_capture(room):

@@ -89,6 +89,9 @@ def check_words(room, chromium):
     check_sentences(room, chromium, "late", paths["late.report"], [paths["late.pcap"]], paths["late.rules"])
     check_sentences(room, chromium, "late without rules", paths["late.report"], [paths["late.pcap"]])
     report = report_of(room, "--rules", paths["office.rules"], paths["office.in.pcap"], name="inside")
+    closed, rules = flow_checks.closed_capture(room), write(room, "closed.rules", "snat -s 10.0.0.0/8 -p tcp to 192.0.2.1:2001-2003\n")
+    closed_report = report_of(room, "--rules", rules, closed, name="closed")
+    check_sentences(room, chromium, "ports of closed connections", closed_report, [closed], rules, ["Closed connections (TIME_WAIT or CLOSE) held 2 of them"])
     check_sentences(room, chromium, "one side of a NAT", report, [paths["office.in.pcap"]], paths["office.rules"])
     report = report_of(room, "--entries", "4", paths["office.in.pcap"], paths["late.pcap"], name="full")
     for name in ("tcp", "ftp", "reset", "nat"):

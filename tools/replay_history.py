@@ -4,9 +4,12 @@
 flows that got no entry. Each takes time in proportion to the report times its logarithm, so that a report of some hundred
 thousand lines is read in seconds. Nothing here is proved.
 """
+import re
 from bisect import bisect_left, bisect_right
 
 import replay_files as files
+
+CLOSED = re.compile(r" state=(?:TIME_WAIT|CLOSE)(?!\w)")
 
 
 # Lives: when each entry was there
@@ -69,15 +72,22 @@ def row_text(life, part, moment):
 # The history, point by point
 
 
+def is_closed(event):
+    """Whether an entry is of a closed connection from this event on: a kernel may end it for a new flow that wants its number."""
+    return CLOSED.search(event.text) is not None
+
+
 class Tally:
-    """How many of some deadlines lie at or before a moment, while deadlines come and go: a tree of partial sums."""
+    """Of entries that come and go how many there are, how many of closed connections, and how many with a deadline at or before
+    a moment: a tree of partial sums."""
 
     def __init__(self, order):
-        self.order, self.sums, self.count = order, {}, 0
+        self.order, self.sums, self.count, self.closed = order, {}, 0, 0
         self.size = len(order)
 
-    def change(self, deadline, by):
+    def change(self, deadline, closed, by):
         self.count += by
+        self.closed += by if closed else 0
         place, sums = bisect_left(self.order, deadline) + 1, self.sums
         while place <= self.size:
             sums[place] = sums.get(place, 0) + by
@@ -95,7 +105,7 @@ class Table:
     """The live entries of a history, at a point that only goes forward, and who holds the numbers that are asked for.
 
     wanted are pairs of a rule and a flow that it is for: of each, `held` tells how many of the rule's numbers for that
-    flow are held, and how many of these by entries past their deadline; `all` tells that of all entries, if it is_whole.
+    flow are held, and how many of these by closed connections, and past a deadline; `all` tells that of all entries, if it is_whole.
     """
 
     def __init__(self, events, wanted=(), is_whole=True):
@@ -110,10 +120,10 @@ class Table:
         for event in self.events[self.point : point]:
             if event.kind == "confirm":
                 tallies = [*([self.all] if self.is_whole else []), *self.tallies_of(event)]
-                self.set_deadline(event.number, (event, event.until, tallies), None)
+                self.set_deadline(event.number, (event, event.until, tallies, is_closed(event)), None)
             elif event.kind == "touch":
                 before = self.live[event.entry]
-                self.set_deadline(event.entry, (before[0], event.until, before[2]), before)
+                self.set_deadline(event.entry, (before[0], event.until, before[2], is_closed(event)), before)
             elif event.kind == "destroy":
                 self.set_deadline(event.entry, None, self.live[event.entry])
         self.point = max(point, self.point)
@@ -121,9 +131,9 @@ class Table:
     def set_deadline(self, number, after, before):
         for tally in (after or before)[2]:
             if before:
-                tally.change(before[1], -1)
+                tally.change(before[1], before[3], -1)
             if after:
-                tally.change(after[1], 1)
+                tally.change(after[1], after[3], 1)
         if after:
             self.live[number] = after
         else:
@@ -165,25 +175,25 @@ def place_of(rule, flow):
 
 
 def holders_of(live, rule, flow):
-    """Each number that this rule may give this flow and that one of these entries holds: its confirm and deadline."""
+    """Each number that this rule may give this flow and that one of these entries holds: its confirm and deadline, and if it is closed."""
     end, low, high = place_of(rule, flow)
     held = {}
-    for confirm, until, *_ in live.values():
+    for confirm, until, *_, closed in live.values():
         for known in confirm.flows:
             for it, number in ends_held(known):
                 if it == end and low <= number <= high:
-                    held[number] = (confirm, until)
+                    held[number] = (confirm, until, closed)
     return held, high - low + 1
 
 
 def live_at(events, point):
-    """The confirm and the deadline of each entry that is live after so many events."""
+    """The confirm and the deadline of each entry that is live after so many events, and whether its connection is closed."""
     live = {}
     for event in events[:point]:
         if event.kind == "confirm":
-            live[event.number] = (event, event.until)
+            live[event.number] = (event, event.until, is_closed(event))
         elif event.kind == "touch":
-            live[event.entry] = (live[event.entry][0], event.until)
+            live[event.entry] = (live[event.entry][0], event.until, is_closed(event))
         elif event.kind == "destroy":
             del live[event.entry]
     return live
