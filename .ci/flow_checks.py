@@ -546,7 +546,7 @@ def check_other_ports(room):
     """Of what both sides of a router saw, answers to ports that a replay gave otherwise are told at once."""
     report = report_of(room, "--rules", "range.rules", "range.pcap")
     ran = tool("check", "--rules", "range.rules", report, "range.pcap")
-    texts = ("packets of", "to 203.0.113.9, the address of a snat rule, answer its clients", "tools/from-inside --rules FILE")
+    texts = ("packets of", "to 203.0.113.9, the address of a snat rule, answer its clients and fit no entry: the router gave other ports", "tools/from-inside --rules FILE")
     wants("tools/check: ports that the router gave otherwise", ran, 1, *texts)
     wants("tools/check: the same without rules", tool("check", report, "range.pcap"), 1, *texts)
     answers = [
@@ -556,8 +556,14 @@ def check_other_ports(room):
     capture, rules = made.write(f"{room}/answers.pcap", answers), write(room, "two.rules", "snat -s 10.0.0.0/8 -p udp to 192.0.2.1:1024\nsnat -s 10.0.0.0/8 -p tcp to 192.0.2.1:1024\n")
     ran = tool("check", "--rules", rules, report_of(room, "--rules", rules, capture), capture)
     wants("tools/check: answers that begin entries, and those that begin none", ran, 1, "answers.pcap: 2 packets of 2 flows to 192.0.2.1, the address")
+    inside, outside = made.write(f"{room}/inside.pcap", answers[:1]), made.write(f"{room}/outside.pcap", answers[1:2])
+    ran = tool("check", "--rules", rules, report_of(room, "--rules", rules, inside, outside), inside, outside)
+    wants("tools/check: captures of both sides beside each other", ran, 1, "fit no entry: captures ran beside each other (mergecap", "; or the router gave other ports")
     replayed(room, "range")
-    ran = tool("check", "--rules", "range.rules", f"{room}/range.made.report", f"{room}/range.made.pcap")
+    capture, small = f"{room}/range.made.pcap", report_of(room, "--entries", "3", "--rules", "range.rules", f"{room}/range.made.pcap")
+    ran = tool("check", "--rules", "range.rules", small, capture)
+    wants("tools/check: answers to entries that were dropped", ran, 1, "3 packets of 2 flows to 203.0.113.9", "fit no entry: entries were dropped or refused in a full table", "; or the router gave other ports")
+    ran = tool("check", "--rules", "range.rules", f"{room}/range.made.report", capture)
     count("tools/check: none after from-inside", "snat rule" not in ran.stdout and "4 packets of 4 flows are NOPORT" in ran.stdout, ran.stdout)
 
 
