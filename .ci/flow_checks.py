@@ -567,6 +567,25 @@ def check_other_ports(room):
     count("tools/check: none after from-inside", "snat rule" not in ran.stdout and "4 packets of 4 flows are NOPORT" in ran.stdout, ran.stdout)
 
 
+def check_outside(room):
+    """A capture of the outside has no client of the rules: that is told, and of no capture of the inside or of what a router meets."""
+    for name in ("office", "late", "ports", "range", "again"):
+        for side in (".out", ".in", ""):
+            rules, capture = f"{name}.rules", f"{name}{side}.pcap"
+            ran = tool("check", "--rules", rules, report_of(room, "--rules", rules, capture), capture)
+            wanted = r"packets go to 203\.0\.113\.\d, the address of a snat rule, or come from there, and no client met such a rule: it is a capture of the outside"
+            count(f"tools/check: the outside is told, {capture}", bool(re.search(wanted, ran.stdout)) == (side == ".out") and ran.returncode in (0, 1), ran.stdout)
+    rules = write(room, "own.rules", "dnat -d 192.0.2.1 -p tcp --dport 8080 to 10.0.0.9:80\nsnat -s 192.0.2.1 -p udp to 192.0.2.1:1024-1025\n")
+    cases = [
+        ("a server behind a dnat alone", [made.tcp("198.51.100.7", 5555, OUTER, 8080, "S"), made.tcp("10.0.0.9", 80, "198.51.100.7", 5555, "SA")]),
+        ("a client whose address stays", [made.udp(OUTER, 1024, SERVER, 53), made.udp(SERVER, 53, OUTER, 1024)]),
+    ]
+    for name, packets in cases:
+        capture = made.write(f"{room}/right.pcap", [(START + at, packet) for at, packet in enumerate(packets)])
+        ran = tool("check", "--rules", rules, report_of(room, "--rules", rules, capture), capture)
+        count(f"tools/check: the outside is not told of {name}", (ran.returncode, ran.stdout) == (0, ""), ran.stdout)
+
+
 def check_pictures_of(room):
     """What a picture of ports counts is what why counts: all that holds a number of the rule, whichever rule gave it."""
     rules = write(room, "two.rules", "snat -s 10.0.0.1 -p udp to 192.0.2.1:1024\nsnat -p udp to 192.0.2.1:1024-1025\n")
@@ -598,4 +617,5 @@ def check_all(room):
     check_compare(room)
     check_table(room)
     check_other_ports(room)
+    check_outside(room)
     check_pictures_of(room)

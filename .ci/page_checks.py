@@ -340,7 +340,10 @@ def check_troubles(room):
 def check_findings(room):
     """The loudest is first: a report that is wrong before flows that were refused, and these before entries that were dropped."""
     full = flow_checks.full_capture(room)
-    cases = [("range", ["--rules", "range.rules"], [], "range.pcap", {"wrong", "refused"}), ("a full table", [], ["--entries", "2"], full, {"refused", "dropped"})]
+    cases = [
+        ("range", ["--rules", "range.rules"], [], "range.pcap", {"wrong", "refused"}), ("a full table", [], ["--entries", "2"], full, {"refused", "dropped"}),
+        ("the outside", ["--rules", "late.rules"], [], "late.out.pcap", {"wrong", "perhaps"}),
+    ]
     for name, rules, entries, capture, wanted in cases:
         report = report_of(room, *rules, *entries, capture, name="found.report")
         tool("page", *rules, *entries, "--to", f"{room}/found.html", report, capture)
