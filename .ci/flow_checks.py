@@ -320,6 +320,7 @@ def check_refused(room):
     wants("tools/refused: none", tool("refused", "office.report", "office.pcap"), 0, "no flow was refused or dropped\n")
     check_holders(room)
     check_closed(room)
+    check_other_rules(room)
     check_let_in(room)
     check_dropped(room, capture)
     check_full(room)
@@ -364,6 +365,21 @@ def check_closed(room):
     rules = write(room, "two.rules", "snat -p udp to 192.0.2.1:1024-1025\n")
     ran = tool("check", "--rules", rules, report_of(room, "--rules", rules, capture), capture)
     count("tools/check: none of UDP", ran.returncode == 1 and "past their deadline" in ran.stdout and "closed connections" not in ran.stdout, ran.stdout)
+
+
+def check_other_rules(room):
+    """Rules of which a number was free at a NOPORT are not the report's; between two points others may come to hold one."""
+    capture, rules = refused_capture(room), write(room, "two.rules", "snat -p udp to 192.0.2.1:1024-1025\n")
+    report = report_of(room, "--rules", rules, capture, name="two.report")
+    more, none = write(room, "more.rules", "snat -p udp to 192.0.2.1:1024-1026\n"), write(room, "none.rules", "snat -p tcp to 192.0.2.1\n")
+    for name, words in (("check", [report, capture]), ("refused", [report, capture]), ("page", ["--to", f"{room}/other.html", report, capture]), ("why", ["-1", "--report", report, capture, "--", "3"])):
+        said = f"the rules are not those of the report: packet {3 if name == 'why' else 2} is NOPORT, and "
+        refuses(f"tools/{name}: other rules, of more numbers", tool(name, "--rules", more, *words), said, "of the 3 numbers of the rule in line 1 (snat -p udp to 192.0.2.1:1024-1026) 2 were held")
+        refuses(f"tools/{name}: other rules, none of them for it", tool(name, "--rules", none, *words), said, "none of them is for it")
+    points = write(room, "between.report", read(report).replace("2 NOPORT @2 @2", "2 NOPORT @1 @2"))
+    words = ["--report", points, capture, "--", "2"]
+    wants("tools/why: a number that came to be held between two points", tool("why", "--rules", rules, *words), 0, "NOPORT @1 @2")
+    refuses("tools/why: two points, and other rules", tool("why", "--rules", more, *words), "1 was held")
 
 
 def let_in_capture(room):

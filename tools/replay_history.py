@@ -186,6 +186,19 @@ def holders_of(live, rule, flow):
     return held, high - low + 1
 
 
+def check_rule(work, thread, index, rule, held, first=0):
+    """Of a NOPORT each number of its rule was held, at one of its points or at one between them: else the rules are other ones."""
+    flow, name = work.packets[thread][index].flow, work.name_of(thread, index, first)
+    if rule is None:
+        raise files.Trouble(f"the rules are not those of the report: {name} is NOPORT, and none of them is for it")
+    points = [int(word[1:]) for word in work.report.threads[thread][index].split()[1:]]
+    low, high = files.numbers_of(rule, flow)
+    # Between two points no more numbers come to be held than there are events.
+    if held + points[-1] - points[0] < high - low + 1:
+        what = f"of the {files.counted(high - low + 1, 'number')} of the rule in line {rule.line} ({rule.text}) {held} {'was' if held == 1 else 'were'} held"
+        raise files.Trouble(f"the rules are not those of the report: {name} is NOPORT, and {what}")
+
+
 def live_at(events, point):
     """The confirm and the deadline of each entry that is live after so many events, and whether its connection is closed."""
     live = {}
