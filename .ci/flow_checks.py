@@ -320,6 +320,7 @@ def check_refused(room):
     wants("tools/refused: none", tool("refused", "office.report", "office.pcap"), 0, "no flow was refused or dropped\n")
     check_holders(room)
     check_closed(room)
+    check_small_words(room)
     check_other_rules(room)
     check_let_in(room)
     check_dropped(room, capture)
@@ -380,6 +381,26 @@ def check_other_rules(room):
     words = ["--report", points, capture, "--", "2"]
     wants("tools/why: a number that came to be held between two points", tool("why", "--rules", rules, *words), 0, "NOPORT @1 @2")
     refuses("tools/why: two points, and other rules", tool("why", "--rules", more, *words), "1 was held")
+
+
+def check_small_words(room):
+    """The verb is that of the packets, and an article that of what follows."""
+    steps = [(0, made.udp("10.0.0.1", 5000, SERVER, 53)), *((at, made.udp("10.0.0.2", 5000, SERVER, 53)) for at in (1, 2))]
+    rules = write(room, "one.rules", "snat -p udp to 192.0.2.1:1024\n")
+    for size, text in ((3, "2 packets of 1 flow are NOPORT"), (2, "1 packet of 1 flow is NOPORT")):
+        capture = made.write(f"{room}/verb.pcap", [(START + at, packet) for at, packet in steps[:size]])
+        wants(f"tools/check: {text}", tool("check", "--rules", rules, report_of(room, "--rules", rules, capture), capture), 1, text)
+    capture = articles_capture(room)
+    for index, text in ((1, "there an ACK in the reply direction passes"), (2, "no entry begins with an RST; "), (3, "no entry begins with a FIN; ")):
+        wants(f"tools/why: {text}", tool("why", capture, "--", str(index)), 0, text)
+
+
+def articles_capture(room):
+    """An ACK that is let pass, and segments with which no entry begins."""
+    one = ("10.0.0.1", 5000, SERVER, 80)
+    packets = [made.tcp(*one, "S"), made.tcp(*one[2:], *one[:2], "A")]
+    packets += [made.tcp(f"10.0.0.{host}", *one[1:], flags) for host, flags in ((2, "R"), (3, "FA"), (4, "SA"))]
+    return made.write(f"{room}/articles.pcap", [(START + at, packet) for at, packet in enumerate(packets)])
 
 
 def let_in_capture(room):

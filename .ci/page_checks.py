@@ -92,6 +92,8 @@ def check_words(room, chromium):
     closed, rules = flow_checks.closed_capture(room), write(room, "closed.rules", "snat -s 10.0.0.0/8 -p tcp to 192.0.2.1:2001-2003\n")
     closed_report = report_of(room, "--rules", rules, closed, name="closed")
     check_sentences(room, chromium, "ports of closed connections", closed_report, [closed], rules, ["Closed connections (TIME_WAIT or CLOSE) held 2 of them"])
+    articles = flow_checks.articles_capture(room)
+    check_sentences(room, chromium, "articles of segments", report_of(room, articles, name="articles"), [articles], None, ["there an ACK", "with an RST", "with a FIN", "with a SYN+ACK"])
     check_sentences(room, chromium, "one side of a NAT", report, [paths["office.in.pcap"]], paths["office.rules"])
     report = report_of(room, "--entries", "4", paths["office.in.pcap"], paths["late.pcap"], name="full")
     for name in ("tcp", "ftp", "reset", "nat"):
@@ -328,6 +330,7 @@ def check_troubles(room):
     refuses("tools/page: another report", tool("page", "--to", f"{room}/x.html", "late.report", "office.pcap"), "of other captures")
     refuses("tools/page: a folder that is not there", tool("page", "--to", f"{room}/none/x.html", *late), "No such file")
     refuses("tools/page: entries", tool("page", "--entries", "0", "--to", f"{room}/x.html", *late), "--entries 0 is no number")
+    refuses("tools/page: fewer entries than there were", tool("page", "--entries", "3", "--to", f"{room}/x.html", *late), "--entries 3 is not the report's: it had 4 entries at one time")
     kept = shutil.copy(os.path.join(EXAMPLES, "late.report"), room)
     refuses("tools/page: what is read", tool("page", "--to", kept, kept, "late.pcap"), "would take the place")
     with open(os.path.join(EXAMPLES, "late.report"), encoding="utf-8") as file:
