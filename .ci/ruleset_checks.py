@@ -155,6 +155,109 @@ DOCKER_NFT = """table ip nat {
 """
 FROM_DOCKER = ["dnat -d 203.0.113.9 -p tcp --dport 8080 to 172.17.0.2:80", "snat -s 172.17.0.0/16 to 203.0.113.9"]
 WORDS = ("--ignore-interfaces", "--masquerade", "203.0.113.9")
+# Blocks that stand ahead of the chains in what nft lists, one of them with elements over two lines; the last is behind a chain.
+BLOCKS = """table ip nat { # handle 1
+	comment "the office's { own"
+
+	counter seen { # handle 2
+		packets 0 bytes 0
+	}
+
+	quota q { # handle 3
+		over 10 mbytes
+	}
+
+	limit l { # handle 4
+		rate 10/second
+	}
+
+	ct timeout short { # handle 5
+		protocol tcp
+		l3proto ip
+		policy = { established : 120 }
+	}
+
+	ct helper ftp-std { # handle 6
+		type "ftp" protocol tcp
+		l3proto ip
+	}
+
+	ct expectation ex { # handle 7
+		protocol tcp
+		dport 9876
+		timeout 2m
+		size 12
+		l3proto ip
+	}
+
+	synproxy sp { # handle 8
+		mss 1460
+		wscale 7
+		timestamp sack-perm
+	}
+
+	secmark sm { # handle 9
+		"system_u:object_r:inside_t:s0"
+	}
+
+	set inside { # handle 10
+		type ipv4_addr
+		flags interval
+		elements = { 10.0.0.0/8, 172.16.0.0/12,
+			     192.168.1.0/24 }
+	}
+
+	map ports { # handle 11
+		type inet_service : ipv4_addr
+		elements = { 80 : 192.168.1.10 }
+	}
+
+	flowtable fast { # handle 12
+		hook ingress priority filter
+		devices = { eth0, eth1 }
+	}
+
+	chain post { # handle 13
+		comment "to the outside"
+		type nat hook postrouting priority srcnat; policy accept;
+		ip saddr 192.168.1.0/24 tcp dport { 21, 80 } snat to 203.0.113.9:41000-41003 # handle 14
+		ip saddr @inside snat to 203.0.113.9 # handle 15
+		ip saddr 10.2.0.0/16 counter name "seen" snat to 203.0.113.9 comment "a brace {" # handle 16
+	}
+
+	ct helper tftp { # handle 17
+		type "tftp" protocol udp
+	}
+
+	chain pre { # handle 18
+		type nat hook prerouting priority dstnat; policy accept;
+		ip daddr 203.0.113.9 tcp dport 8080 dnat to 192.168.1.10:8000 # handle 19
+	}
+}
+"""
+FROM_BLOCKS = """dnat -d 203.0.113.9 -p tcp --dport 8080 to 192.168.1.10:8000
+snat -s 192.168.1.0/24 -p tcp --dport 21 to 203.0.113.9:41000-41003
+snat -s 192.168.1.0/24 -p tcp --dport 80 to 203.0.113.9:41000-41003
+# line 66: ip saddr @inside snat to 203.0.113.9
+#   not said: @inside: one address or network can be said
+snat -s 10.2.0.0/16 to 203.0.113.9
+# The first rule for a flow decides here: where a line above is not said, a later rule may take its flows.
+"""
+LIVE_BLOCKS = """table ip nat {
+	set inside { type ipv4_addr; flags interval; elements = { 10.0.0.0/8, 172.16.0.0/12, 192.168.1.0/24 }; }
+	map ports { type inet_service : ipv4_addr; elements = { 80 : 192.168.1.10, 81 : 192.168.1.10, 82 : 192.168.1.10 }; }
+	counter seen { packets 0 bytes 0; }
+	chain post {
+		type nat hook postrouting priority srcnat; policy accept;
+		ip saddr 192.168.1.0/24 tcp dport 80 snat to 198.18.0.4-198.18.0.7
+		ip saddr 192.168.1.0/24 counter name seen snat to 203.0.113.9
+		ip saddr 192.168.2.0/24 ct mark 1 snat to 203.0.113.9
+		ip saddr 192.168.2.0/24 tcp flags & (syn | ack) == syn snat to 203.0.113.9
+		ip saddr 192.168.2.0/24 icmp type echo-request snat to 203.0.113.9
+	}
+}
+"""
+LIVE_REASONS = ("198.18.0.4/30: one address can be said, and not a network", "ct mark cannot be said", "tcp flags cannot be said", "icmp type cannot be said")
 
 
 def check_nft():
@@ -166,6 +269,52 @@ def check_nft():
         count(f"tools/rules-from-iptables: {name}", ran.stdout == read(EXAMPLES, f"{name}.rules") and ran.returncode == 0, ran.stdout)
     ran = tool("rules-from-iptables", stdin=None, input=NFT)
     wants("tools/rules-from-iptables: nft, and interfaces count", ran, 1, "oifname out0: a capture knows no interface")
+
+
+def check_blocks():
+    ran = tool("rules-from-iptables", stdin=None, input=BLOCKS)
+    count("tools/rules-from-iptables: sets, counters and the like beside the chains", ran.stdout == FROM_BLOCKS and ran.returncode == 1, ran.stdout + ran.stderr)
+    for name in ("set", "map", "counter", "quota", "limit", "flowtable", "ct helper", "ct timeout", "ct expectation", "synproxy", "secmark"):
+        start = BLOCKS.index(f"\t{name} ")
+        block = BLOCKS[start : BLOCKS.index("\n\t}\n", start) + 4]
+        listed = f"table ip nat {{\n{block}\n\tchain post {{\n\t\ttype nat hook postrouting priority srcnat; policy accept;\n\t\tip saddr 10.0.0.0/8 snat to 203.0.113.9\n\t}}\n}}\n"
+        ran = tool("rules-from-iptables", stdin=None, input=listed)
+        count(f"tools/rules-from-iptables: a {name} ahead of a chain", (ran.returncode, ran.stdout) == (0, "snat -s 10.0.0.0/8 to 203.0.113.9\n"), ran.stdout + ran.stderr)
+
+
+def chain_text(*lines):
+    return "table ip nat {\n\tchain post {\n\t\ttype nat hook postrouting priority srcnat; policy accept;\n" + "".join(f"\t\t{line}\n" for line in lines) + "\t}\n}\n"
+
+
+def chain_json(*rules):
+    chain = {"family": "ip", "table": "nat", "name": "post", "handle": 1, "type": "nat", "hook": "postrouting", "prio": 100, "policy": "accept"}
+    listed = [{"rule": {"family": "ip", "table": "nat", "chain": "post", "handle": at, "expr": expr}} for at, expr in enumerate(rules, 2)]
+    return json.dumps({"nftables": [{"chain": chain}, *listed]})
+
+
+def check_reasons():
+    """What is left out is named, of both forms of nft alike; what is printed is what the program takes."""
+    to = {"snat": {"addr": "198.18.0.9"}}
+    flags = {"match": {"op": "==", "left": {"&": [payload("tcp", "flags", 0)["match"]["left"], ["syn", "ack"]]}, "right": "syn"}}
+    direct = {"match": {"op": "==", "left": {"ct": {"key": "ip saddr", "dir": "original"}}, "right": "10.3.0.1"}}
+    pairs = {"match": {"op": "==", "left": {"concat": [payload("ip", "saddr", 0)["match"]["left"], payload("tcp", "dport", 0)["match"]["left"]]}, "right": {"set": []}}}
+    cases = [
+        ("snat to 198.18.0.4/30", [{"snat": {"addr": network("198.18.0.4", 30)}}], "198.18.0.4/30: one address can be said, and not a network"),
+        ("udp dport 53 snat to 198.18.0.4/30:1000-2000", [payload("udp", "dport", 53), {"snat": {"addr": network("198.18.0.4", 30), "port": {"range": [1000, 2000]}}}], "198.18.0.4/30: one address"),
+        ("tcp flags syn snat to 198.18.0.9", [payload("tcp", "flags", "syn"), to], "tcp flags cannot be said"),
+        ("tcp flags syn / syn,ack snat to 198.18.0.9", [flags, to], "tcp flags cannot be said"),
+        ("icmp type echo-request snat to 198.18.0.9", [payload("icmp", "type", "echo-request"), to], "icmp type cannot be said"),
+        ("ct mark 1 snat to 198.18.0.9", [{"match": {"op": "==", "left": {"ct": {"key": "mark"}}, "right": 1}}, to], "ct mark 1 snat to 198.18.0.9\n#   not said: ct mark cannot be said"),
+        ("ct original ip saddr 10.3.0.1 snat to 198.18.0.9", [direct, to], "ct original ip saddr 10.3.0.1 snat to 198.18.0.9\n#   not said: ct original cannot be said"),
+        ("meta mark 2 snat to 198.18.0.9", [meta("mark", 2), to], "meta mark cannot be said"),
+        ("meta mark set 5", [{"mangle": {"key": {"meta": {"key": "mark"}}, "value": 5}}], "meta mark set 5\n#   not said: meta mark cannot be said"),
+        ("ip saddr . tcp dport { 10.0.0.1 . 80 } snat to 198.18.0.9", [pairs, to], "a concatenation cannot be said"),
+    ]
+    for text, rule, reason in cases:
+        for form, listed in (("-a", chain_text(text)), ("-j", chain_json(rule))):
+            ran = tool("rules-from-iptables", stdin=None, input=listed)
+            said = [line for line in ran.stdout.splitlines() if not line.startswith("#")]
+            count(f"tools/rules-from-iptables: nft {form}, {text}", ran.returncode == 1 and not said and reason in ran.stdout, ran.stdout + ran.stderr)
 
 
 def check_docker():
@@ -190,6 +339,13 @@ def check_docker():
     wants("tools/rules-from-iptables: a rule for both sides is told", ran, 0, "snat to 192.0.2.1\n# line 1: this rule is for flows of both sides")
 
 
+def listed_by(space):
+    """What the tool makes of each form in which nft lists the rules of a network namespace."""
+    for form in ("-a", "-j"):
+        printed = run(["ip", "netns", "exec", space, "nft", form, "list", "ruleset"]).stdout
+        yield form, tool("rules-from-iptables", *WORDS, stdin=None, input=printed)
+
+
 def check_live():
     """What this machine's nft prints of rules that it took, in both its forms."""
     space = f"ctreplay-rules-{os.getpid()}"
@@ -201,11 +357,14 @@ def check_live():
             text = DOCKER_NFT if name == "docker" else read(EXAMPLES, name)
             loaded = run(["ip", "netns", "exec", space, "nft", "-f", "-"], stdin=None, input="flush ruleset\n" + text)
             wanted = FROM_DOCKER if name == "docker" else read(EXAMPLES, "range.rules").splitlines()
-            for form in ("-a", "-j"):
-                printed = run(["ip", "netns", "exec", space, "nft", form, "list", "ruleset"]).stdout
-                ran = tool("rules-from-iptables", *WORDS, stdin=None, input=printed)
+            for form, ran in listed_by(space):
                 rules = [line for line in ran.stdout.splitlines() if not line.startswith("#")]
                 count(f"tools/rules-from-iptables: this machine's nft {form}, {name}", rules == wanted, loaded.stderr + ran.stdout + ran.stderr)
+        loaded = run(["ip", "netns", "exec", space, "nft", "-f", "-"], stdin=None, input="flush ruleset\n" + LIVE_BLOCKS)
+        for form, ran in listed_by(space):
+            rules = [line for line in ran.stdout.splitlines() if not line.startswith("#")]
+            good = rules == ["snat -s 192.168.1.0/24 to 203.0.113.9"] and all(reason in ran.stdout for reason in LIVE_REASONS)
+            count(f"tools/rules-from-iptables: this machine's nft {form}, sets and reasons", good, loaded.stderr + ran.stdout + ran.stderr)
     finally:
         run(["ip", "netns", "del", space])
 
@@ -232,6 +391,8 @@ def check_none():
 
 def check_all(_room):
     check_nft()
+    check_blocks()
+    check_reasons()
     check_docker()
     check_live()
     check_none()

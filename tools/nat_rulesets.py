@@ -20,6 +20,7 @@ TARGETS = {"SNAT": "--to-source", "MASQUERADE": "--to-ports", "DNAT": "--to-dest
 PRIORITIES = {"raw": -300, "mangle": -150, "dstnat": -100, "filter": 0, "security": 50, "srcnat": 100}
 WORDS = re.compile(r'"[^"]*"|\{[^}]*\}|[^\s;]+')
 QUIET = ("persistent",)
+KEYED = ("ip", "th", "tcp", "udp", "icmp", "ct", "ether", "vlan", "sctp", "dccp", "udplite", "esp", "ah", "comp", "igmp", "rt", "socket", "osf", "fib")
 LOCAL = "an address of this machine"
 
 
@@ -132,22 +133,31 @@ def read_options(rule, pairs):
 
 
 def read_nft(text):
-    chains, table, chain = {}, None, None
+    # Of each block that is open its table or its chain; None of a set, a counter and the like, which stand beside the chains.
+    chains, table, blocks = {}, None, []
     for number, line in enumerate(text.splitlines(), 1):
         line = line.strip()
-        if found := re.match(r"table\s+(\w+)\s+(\S+)\s*\{", line):
-            table = found.groups()
-        elif found := re.match(r"chain\s+(\S+)\s*\{", line):
-            chain = (*table, found[1])
-            chains[chain] = Chain(found[1])
-        elif line.startswith("}"):
-            table, chain = (table, None) if chain else (None, None)
-        elif chain and line.startswith("type "):
-            set_hook(chains[chain], line)
-        elif chain and line and not line.startswith(("#", "policy")):
+        opened = braces_of(line)
+        if opened > 0:
+            if found := re.match(r"table\s+(\w+)\s+(\S+)\s*\{", line):
+                table = found.groups()
+            found = re.match(r"chain\s+(\S+)\s*\{", line)
+            chain = chains.setdefault((*table, found[1]), Chain(found[1])) if found and table else None
+            blocks += [chain] * opened
+        elif opened < 0:
+            del blocks[opened:]
+        elif blocks and blocks[-1] and line.startswith("type "):
+            set_hook(blocks[-1], line)
+        elif blocks and blocks[-1] and line and not line.startswith(("#", "policy", "comment ")):
             line = re.sub(r"\s*# handle \d+$", "", line)
-            chains[chain].rules.append(nft_rule(f"line {number}", line, table))
+            blocks[-1].rules.append(nft_rule(f"line {number}", line, table))
     return roots_first(chains)
+
+
+def braces_of(line):
+    """How many blocks are open behind a line that were not before it."""
+    line = re.sub(r'"[^"]*"|#.*', "", line)
+    return line.count("{") - line.count("}")
 
 
 def set_hook(chain, line):
@@ -182,6 +192,8 @@ def take_value(words):
     if words[0] in ("!=", "=="):
         words.pop(0)
     value = words.pop(0)
+    if value in (".", "vmap"):
+        raise Unsaid("a concatenation cannot be said" if value == "." else "vmap: a map cannot be said")
     values = [it.strip() for it in value.strip("{}").split(",")] if value.startswith("{") else [value.strip('"')]
     if any(":" in it and "." not in it for it in values):
         raise Unsaid(f"{value}: a map cannot be said")
@@ -211,7 +223,8 @@ def read_words(rule, words):
         elif word == "xt":
             raise Unsaid("iptables made it, and nft's JSON has not all of its words: iptables-save -t nat or nft -a list ruleset has")
         else:
-            raise Unsaid(f"{word} cannot be said")
+            # A word such as tcp or ct tells nothing without what of it is wanted.
+            raise Unsaid(f"{word} {words[0]} cannot be said" if word in KEYED and words else f"{word} cannot be said")
 
 
 def read_header(rule, word, words):
@@ -229,7 +242,7 @@ def read_meta(rule, word, words):
     elif word in ("iifname", "oifname", "iif", "oif"):
         rule.links.append(f"{word} {'!= ' if is_not else ''}{', '.join(values)}")
     elif (word, values, is_not) != ("nfproto", ["ipv4"], False):
-        raise Unsaid(f"{word} cannot be said")
+        raise Unsaid(f"meta {word} cannot be said")
 
 
 def read_target(rule, word, words):
@@ -282,6 +295,8 @@ def expression_text(it):
         return f"{kind} {value['target']}"
     if kind == "counter":
         return ""
+    if kind == "mangle":
+        return f"{value_text(value['key'])} set {value_text(value['value'])}"
     if kind == "xt":
         return f"xt {value.get('type', '')} {value.get('name', '')}"
     return kind
@@ -292,8 +307,12 @@ def value_text(value):
         kind, it = next(iter(value.items()))
         if kind == "payload":
             return f"{it['protocol']} {it['field']}"
-        if kind == "meta":
-            return f"meta {it['key']}"
+        if kind in ("meta", "rt", "socket", "osf"):
+            return f"{kind} {it['key']}"
+        if kind == "ct":
+            return " ".join(filter(None, ("ct", it.get("dir"), it["key"])))
+        if kind in ("concat", "&", "|", "^"):
+            return f" {'.' if kind == 'concat' else kind} ".join(value_text(one) for one in it)
         if kind == "fib":
             return f"fib {' '.join(it['flags'])} {it['result']}"
         if kind == "prefix":
@@ -303,7 +322,7 @@ def value_text(value):
         if kind == "set":
             return "{ " + ", ".join(value_text(one) for one in (it if isinstance(it, list) else [it])) + " }"
         return kind
-    return str(value)
+    return ",".join(str(it) for it in value) if isinstance(value, list) else str(value)
 
 
 def target_text(kind, value):
