@@ -290,7 +290,40 @@ def check_rounds(room):
     status = maker.main(["--rules", write(room, "made.rules", RULES), "--to", f"{room}/met.pcap", inside])
     said = "\n".join(lines)
     count("tools/from-inside: eight rounds at most", (status, len(runs)) == (1, 8), f"{status} {runs}")
-    count("tools/from-inside: names what still changes", "still changing after 8 rounds: 1 flow\n  packet 1 udp 198.51.100.1:53" in said, said)
+    count("tools/from-inside: names what still changes", "still changing after 8 rounds: 1 flow, each with its packet of the inside capture\n  packet 1 udp 198.51.100.1:53" in said, said)
+
+
+def check_targets(room):
+    """What is made takes the place of nothing that is read."""
+    rules, text = write(room, "kept.rules", RULES), RULES
+    refuses("tools/from-inside: the rules that are read", tool("from-inside", "--rules", rules, "--to", rules, "office.in.pcap"), f"{rules}: ", "would take the place")
+    report = report_of(room, "late.pcap", name="kept.report")
+    refuses("tools/page: the rules that are read", tool("page", "--rules", rules, "--to", rules, report, "late.pcap"), f"{rules} is what is read")
+    count("tools/from-inside, tools/page: the rules stand", read(rules) == text)
+    ran = tool("from-inside", "--rules", "/dev/null", "--to", "/dev/null", "range.in.pcap")
+    wants("tools/from-inside: a device may be both", ran, 0, "/dev/null: 104 of 104 packets, 0 of them and 0 errors readdressed")
+
+
+def check_closed(room):
+    """Of flows without a port those are counted that found one of a closed connection; packets are named by the inside's numbers."""
+    ran = tool("from-inside", "--rules", "again.rules", "--to", f"{room}/met.pcap", "again.in.pcap")
+    texts = ("no place: 7 flows, each with its packet of the inside capture\n  NOPORT packet 51 ", "\n7 of these while closed connections held ports of the rule, in TIME_WAIT or CLOSE")
+    wants("tools/from-inside, examples/again: closed connections", ran, 0, *texts)
+    ran = tool("from-inside", "--rules", "range.rules", "--to", f"{room}/met.pcap", "range.in.pcap")
+    count("tools/from-inside, examples/range: there are none", "NOPORT packet" in ran.stdout and "closed connections" not in ran.stdout, ran.stdout)
+    # One that ends, one that is reset, one that stays open, and one to another server: of two ports both are closed, one or none.
+    for first, second, counted in (("AF", "AF", 1), ("R", "A", 1), ("A", "A", 0)):
+        steps = []
+        for host, last in ((1, first), (2, second)):
+            ends, back = (f"10.0.0.{host}", 5000, SERVER, 80), (SERVER, 80, f"10.0.0.{host}", 5000)
+            steps += [made.tcp(*ends, "S"), made.tcp(*back, "SA"), made.tcp(*ends, "A"), made.tcp(*ends, last)]
+            steps += [made.tcp(*back, "AF"), made.tcp(*ends, "A")] if last == "AF" else []
+        steps += [made.tcp("10.0.0.3", 5000, SERVER, 80, "S"), made.udp("10.0.0.3", 5000, SERVER, 53), made.udp("10.0.0.4", 5000, SERVER, 53)]
+        inside = made.write(f"{room}/inside.pcap", [(START + at, packet) for at, packet in enumerate(steps)])
+        rules = write(room, "two.rules", "snat -p tcp to 192.0.2.1:2000-2001\nsnat -p udp to 192.0.2.1:2000\n")
+        ran = tool("from-inside", "--rules", rules, "--to", f"{room}/met.pcap", inside)
+        said = re.findall(r"(\d+) of these while closed", ran.stdout)
+        count(f"tools/from-inside: connections that end with {first} and {second}", "no place: 2 flows" in ran.stdout and said == [str(counted)] * counted, ran.stdout)
 
 
 # Flows that were refused
@@ -650,6 +683,8 @@ def check_all(room):
     check_ftp(room)
     check_passive(room)
     check_rounds(room)
+    check_targets(room)
+    check_closed(room)
     check_refused(room)
     check_compare(room)
     check_table(room)
