@@ -656,6 +656,30 @@ def check_outside(room):
         count(f"tools/check: the outside is not told of {name}", (ran.returncode, ran.stdout) == (0, ""), ran.stdout)
 
 
+def check_other_capture(room):
+    """A report with another capture of as many packets is told, by what began an entry or by an answer; with its own it is read."""
+    inside = tool("from-inside", "--rules", "office.rules", "--to", f"{room}/met.pcap", "office.in.pcap")
+    count("tools: captures with as many packets", "108 of 108 packets" in inside.stdout, inside.stdout)
+    report = report_of(room, "--rules", "office.rules", f"{room}/met.pcap", name="met.report")
+    flow, answer = made.udp("10.0.0.1", 5000, SERVER, 53), made.udp(SERVER, 53, "10.0.0.1", 5000)
+    own = made.write(f"{room}/own.pcap", [(START, flow), (START + 1, answer), (START + 2, made.echo("10.0.0.1", SERVER, 8, 7))])
+    other = made.write(f"{room}/other.pcap", [(START, flow), (START + 1, answer), (START + 2, made.echo("10.0.0.1", SERVER, 8, 9))])
+    mine = report_of(room, own, name="own.report")
+    for name in ("check", "refused"):
+        said = (f"{report} is no report of office.in.pcap: by its event", "packet 1 is of udp 192.168.1.10:40050")
+        refuses(f"tools/{name}: a report of the other side", tool(name, report, "office.in.pcap"), *said)
+        refuses(f"tools/{name}: another echo", tool(name, mine, other), "packet 2 is of icmp", "id 7, and there it is icmp", "id 9")
+    refuses("tools/why: another echo", tool("why", "--report", mine, other, "--", "0"), "is no report of")
+    wants("tools/table: its own capture", tool("table", "--at", str(START + 3), mine, own), 0, "id=7")
+    for name in ("office", "range", "ports", "late"):
+        work = files.Work(report_of(room, "--rules", f"{name}.rules", os.path.join(EXAMPLES, f"{name}.pcap")), [os.path.join(EXAMPLES, f"{name}.pcap")])
+        count(f"tools: the report of examples/{name} is of its capture", len(work.report.events) > 3)
+    ran = tool("table", "--help")
+    count("tools/table: does not say that a kernel's table is the same", "has no others" not in ran.stdout and "docs/KERNEL.md" in ran.stdout)
+    ran = tool("compare", "--help")
+    count("tools/compare: says that a made capture is for one file of rules", "from-inside made is for one file of rules" in ran.stdout)
+
+
 def check_pictures_of(room):
     """What a picture of ports counts is what why counts: all that holds a number of the rule, whichever rule gave it."""
     rules = write(room, "two.rules", "snat -s 10.0.0.1 -p udp to 192.0.2.1:1024\nsnat -p udp to 192.0.2.1:1024-1025\n")
@@ -690,4 +714,5 @@ def check_all(room):
     check_table(room)
     check_other_ports(room)
     check_outside(room)
+    check_other_capture(room)
     check_pictures_of(room)

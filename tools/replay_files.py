@@ -444,6 +444,25 @@ class Work:
             check_verdicts(self.report.events, self.verdicts)
         except (IndexError, ValueError, KeyError) as error:
             raise Trouble(f"{report_name}: the report is cut or changed") from error
+        self.check_packets(report_name)
+
+    def check_packets(self, report_name):
+        """Each packet that began or renewed an entry has one of its tuples: of a confirm the original one.
+
+        A packet that is not read here may be one that the program reads, so it tells nothing.
+        """
+        events = self.report.events
+        for event in events:
+            if event.thread == "s" or event.kind not in ("confirm", "touch"):
+                continue
+            packet, flows = self.packets[event.thread][event.index], events[event.entry].flows
+            if packet.kind == "invalid" or packet.flow in (flows[:1] if event.kind == "confirm" else flows):
+                continue
+            frame = self.captures[event.thread][event.index]
+            raise Trouble(
+                f"{report_name} is no report of {self.names[event.thread]}: by its event {event.number} packet {event.index} is of"
+                f" {ends_text(flows[0])}, and there it is {packet_text(frame)}"
+            )
 
     @functools.cached_property
     def packets(self):
