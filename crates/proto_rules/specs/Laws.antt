@@ -1,9 +1,12 @@
 -- What holds of every entry that begins, and of every step.
-use Rattle.std.specs.Prelude.{◌≡◌, ℕ, ◌<◌, true, false, Some, IsSome}
+use Rattle.std.specs.Prelude.{◌≡◌, ℕ, ◌<◌, ◌==◌, true, false, Some, IsSome}
+use Rattle.case_grid.specs.Cell.{cell}
+use Rattle.case_grid.specs.Droppable.{droppable_cells}
 use Rattle.tuple_core.specs.declared.Direction.{Direction}
 use Rattle.tuple_core.specs.declared.Segment.{Segment}
 use Rattle.proto_rules.specs.declared.Outcome.TheVariants.{Accept, Reopen, Reset, Expired}
 use Rattle.proto_rules.specs.declared.Part.{Part}
+use Rattle.proto_rules.specs.Droppable.{drop_column, drop_row, droppable}
 use Rattle.proto_rules.specs.Part.{is_expired, replied_after}
 use Rattle.proto_rules.specs.Protocol.{is_of_protocol, proto_of}
 use Rattle.proto_rules.specs.Same.{same_part}
@@ -75,3 +78,7 @@ ExpiredAreTold =
 -- the test of two parts says exactly whether they are equal
 abbrev pub SamePartIsEquality : Type 0
 SamePartIsEquality = (p q : Part) → (same_part p q ≡ true → p ≡ q) × (p ≡ q → same_part p q ≡ true)
+
+-- in the grid of what may go, the cell of each part is 1 exactly where the rule says that an entry with it may go
+abbrev pub DropGridIsRule : Type 0
+DropGridIsRule = (part : Part) → (cell droppable_cells (drop_row part.kind part.assured) (drop_column part.kind) == 1) ≡ droppable part

@@ -1,7 +1,7 @@
 //! What holds of every entry that begins, and of every step: each law is the contract of a function
 //! that does nothing.
 
-ghost use Rattle.proto_rules.specs.Laws.{AcceptedGoOn, EntriesBeginFresh, ExpiredAreTold};
+ghost use Rattle.proto_rules.specs.Laws.{AcceptedGoOn, DropGridIsRule, EntriesBeginFresh, ExpiredAreTold};
 ghost use Rattle.proto_rules.specs.Laws.{SamePartIsEquality, ReopensBeginAnew, ResetsAreUnanswered};
 
 /// An entry that begins is of the segment's protocol, with no reply and not assured, and lives on.
@@ -33,4 +33,9 @@ pub fn expired_are_told()
 /// The test of two parts says exactly whether they are equal.
 pub fn same_part_is_equality()
     ensures { SamePartIsEquality }
+{}
+
+/// The grid of what a full table may drop is the rule, at the cell of each part.
+pub fn drop_grid_is_rule()
+    ensures { DropGridIsRule }
 {}
