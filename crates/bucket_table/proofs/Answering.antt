@@ -2,7 +2,7 @@
 use Rattle.std.proofs.Common.{◌≡◌, ◌≢◌, ℕ, ◌+◌, ◌<◌, ◌≤◌, Bool, true, false, Option, None, List, [], ◌∷◌, ◌++◌, refl, sym, ap, subst, ◌∙◌, ⊎_elim, inl, inr, arith, append_assoc}
 use Rattle.std.specs.Prelude.{◌==◌, ◌&&◌, ◌||◌, not, if◌then◌else◌, nat_le, nat_lt}
 use Rattle.std.specs.List.{list_all}
-use Rattle.std.proofs.lemmas.Bool.{and_from, and_parts, cases_eq, cond_both, eq-eqb, eqb-false, false≢true, le-leb, ne_eqb, or_from, or_parts, or_right}
+use Rattle.std.proofs.lemmas.Bool.{and_from, and_parts, cases_eq, cond_both, eq-eqb, eqb-false, false≢true, le-leb, ne_eqb, or_parts, or_right}
 use Rattle.tuple_core.specs.Words.{address_word, flow_word}
 use Rattle.tuple_core.specs.declared.Direction.{Direction}
 use Rattle.tuple_core.specs.declared.Tuple.{Tuple}
@@ -10,6 +10,7 @@ use Rattle.history_book.specs.Point.{StartsWith}
 use Rattle.history_book.specs.declared.event.Event.{Event}
 use Rattle.history_book.specs.declared.sizes.Sizes.{Sizes}
 use Rattle.track_rule.specs.Chains.{shuts_of}
+use Rattle.track_rule.specs.ChangesOnly.{changes_only, is_refs_of}
 use Rattle.track_rule.specs.KeptWords.{is_kept_for, link_of}
 use Rattle.track_rule.specs.Layout.{gen_word, place_of, refs_word, side_of}
 use Rattle.track_rule.specs.Readings.{Gave, IsSole, added, changes, found, of_word, read_from, turns_over}
@@ -26,7 +27,7 @@ use Rattle.bucket_table.specs.declared.finding.FindOnce.TheVariants.{Found, Abse
 use Rattle.bucket_table.specs.declared.lookup.Goal.{Goal}
 use Rattle.bucket_table.proofs.Following.{added_is, gave_two, many_of, read_on, stands_now, word_low}
 use Rattle.bucket_table.proofs.Meeting.{last_before, last_behind}
-use Rattle.bucket_table.proofs.Reading.{changes_append}
+use Rattle.bucket_table.proofs.Looking.{all_append}
 use Rattle.bucket_table.proofs.Testing.{below_is}
 
 -- READINGS
@@ -36,33 +37,27 @@ quiet_word : (z : Sizes) (place word : ℕ) (rs : List Reading) → 2 < word →
 quiet_word z place word [] high low e = refl
 quiet_word z place word (r ∷ rs) high low e =
     let t = and_parts (is_of_test z place r) (list_all (is_of_test z place) rs) e in
-    let not_gen = (and_parts (not (nat_le 3 r.word && nat_lt r.word (3 + z.buckets))) (not r.own || r.word == refs_word z place) t.0).0 in
+    let not_gen = (and_parts (not (nat_le 3 r.word && nat_lt r.word (3 + z.buckets))) (not r.own || is_refs_of place z r) t.0).0 in
     let other : r.word ≢ word = λ same.
     false≢true (sym (ap not (and_from (nat_le 3 r.word) (nat_lt r.word (3 + z.buckets)) (le-leb 3 r.word (omega (arith, same, high))) (below_is r.word (3 + z.buckets) (omega (arith, same, low))))) ∙ not_gen) in
     ap (λ (b : Bool). if b then r ∷ of_word word rs else of_word word rs) (ne_eqb r.word word other) ∙ quiet_word z place word rs high low t.1
 
 -- and changes no word but the references of its place
-quiet_own : (z : Sizes) (place : ℕ) (rs : List Reading) → list_all (is_of_test z place) rs ≡ true → changes (λ word. not (word == refs_word z place)) rs ≡ false
+quiet_own : (z : Sizes) (place : ℕ) (rs : List Reading) → list_all (is_of_test z place) rs ≡ true → changes_only (is_refs_of place z) rs ≡ true
 quiet_own z place [] e = refl
 quiet_own z place (r ∷ rs) e =
     let t = and_parts (is_of_test z place r) (list_all (is_of_test z place) rs) e in
-    or_from (r.own && not (r.word == refs_word z place)) (changes (λ word. not (word == refs_word z place)) rs)
-    (neither r.own (r.word == refs_word z place) (and_parts (not (nat_le 3 r.word && nat_lt r.word (3 + z.buckets))) (not r.own || r.word == refs_word z place) t.0).1)
-    (quiet_own z place rs t.1)
-  where
-    neither : (a b : Bool) → (not a || b) ≡ true → (a && not b) ≡ false
-    neither true true e = refl
-    neither true false e = absurd (false≢true e)
-    neither false b e = refl
+    and_from (not r.own || is_refs_of place z r) (changes_only (is_refs_of place z) rs)
+    (and_parts (not (nat_le 3 r.word && nat_lt r.word (3 + z.buckets))) (not r.own || is_refs_of place z r) t.0).1 (quiet_own z place rs t.1)
 
--- what changes no word changes none of these
-changes_none : (test : ℕ → Bool) (rs : List Reading) → changes (λ word. true) rs ≡ false → changes test rs ≡ false
-changes_none test [] e = refl
-changes_none test (r ∷ rs) e =
+-- what changes no word changes only such
+only_none : (may : Reading → Bool) (rs : List Reading) → changes (λ word. true) rs ≡ false → changes_only may rs ≡ true
+only_none may [] e = refl
+only_none may (r ∷ rs) e =
     let t = or_parts (r.own && true) (changes (λ word. true) rs) e in
-    or_from (r.own && test r.word) (changes test rs) (none r.own (test r.word) t.0) (changes_none test rs t.1)
+    and_from (not r.own || may r) (changes_only may rs) (none r.own (may r) t.0) (only_none may rs t.1)
   where
-    none : (a b : Bool) → (a && true) ≡ false → (a && b) ≡ false
+    none : (a b : Bool) → (a && true) ≡ false → (not a || b) ≡ true
     none true b e = absurd (false≢true (sym e))
     none false b e = refl
 
@@ -113,11 +108,11 @@ module _ (place : ℕ) (v u w : PassSight) (reads : OnlyReads v u) (tests : Test
   after_added : added v.view w.view ≡ added v.view u.view ++ tests.more
   after_added = added_is v.view w.view (added v.view u.view ++ tests.more) after_readings
 
-  after_own : changes (λ word. not (word == refs_word (sizes_of v) place)) (added v.view u.view ++ tests.more) ≡ false
+  after_own : changes_only (is_refs_of place (sizes_of v)) (added v.view u.view ++ tests.more) ≡ true
   after_own =
-      changes_append (λ word. not (word == refs_word (sizes_of v) place)) (added v.view u.view) tests.more
-      (changes_none (λ word. not (word == refs_word (sizes_of v) place)) (added v.view u.view) reads.own)
-      (subst (λ (z : Sizes). changes (λ word. not (word == refs_word z place)) tests.more ≡ false) (ap sizes_of reads.same)
+      all_append (λ (r : Reading). not r.own || is_refs_of place (sizes_of v) r) (added v.view u.view) tests.more
+      (only_none (is_refs_of place (sizes_of v)) (added v.view u.view) reads.own)
+      (subst (λ (z : Sizes). changes_only (is_refs_of place z) tests.more ≡ true) (ap sizes_of reads.same)
       (quiet_own (sizes_of u) place tests.more tests.quiet))
 
   after_same : w ≡ record v {
@@ -208,7 +203,7 @@ module _ (t : Tuple) (g : Goal) (place : ℕ) (met : Direction) (v u : PassSight
           };
         });
         stand = stands_now v.view w.view (added v.view u.view ++ h.tests.more) (after_readings place v u w link.reads h.tests);
-        own = ap (changes (λ word. not (word == refs_word (sizes_of v) place))) (after_added place v u w link.reads h.tests) ∙ after_own place v u w link.reads h.tests;
+        own = ap (changes_only (is_refs_of place (sizes_of v))) (after_added place v u w link.reads h.tests) ∙ after_own place v u w link.reads h.tests;
         below = low_place;
         owed = sym (ap (λ (x : PassSight). times place x.view.places.owed) link.reads.same) ∙ owed;
         untaken = sym (ap (λ (x : PassSight). is_taken place x.view.places.held) link.reads.same) ∙ h.untaken;
@@ -271,9 +266,10 @@ module _ (t : Tuple) (g : Goal) (place : ℕ) (met : Direction) (v u : PassSight
             (λ (a : AreAll v.view m.between.view.seen.front). inr (subst (AreAll v.view) (sym front) a)) (seen_after place v u m.between link.reads m.tests link.front);
         stand = stands_now v.view w.view _ readings;
         tested = place;
-        own = ap (changes (λ k. not (k == refs_word (sizes_of v) place))) all
-            ∙ changes_append (λ k. not (k == refs_word (sizes_of v) place)) (added v.view u.view ++ m.tests.more) (found (gen_word (sizes_of v) g.bucket) now ∷ [])
+        own = ap (changes_only (is_refs_of place (sizes_of v))) all
+            ∙ all_append (λ (r : Reading). not r.own || is_refs_of place (sizes_of v) r) (added v.view u.view ++ m.tests.more) (found (gen_word (sizes_of v) g.bucket) now ∷ [])
             (after_own place v u m.between link.reads m.tests) refl;
+        which = m.which;
         owes = owes_before o m.owes;
         last = subst (λ (rs : List Reading). IsLastGiven o (sizes_of v) rs) (sym all)
             (last_before o (sizes_of v) (added v.view u.view ++ m.tests.more) (found (gen_word (sizes_of v) g.bucket) now ∷ [])
@@ -309,7 +305,8 @@ module _ (t : Tuple) (g : Goal) (place : ℕ) (met : Direction) (v u : PassSight
         seen = seen_after place v u w link.reads m.tests link.front;
         stand = stands_now v.view w.view (added v.view u.view ++ m.tests.more) (after_readings place v u w link.reads m.tests);
         tested = place;
-        own = ap (changes (λ k. not (k == refs_word (sizes_of v) place))) (after_added place v u w link.reads m.tests) ∙ after_own place v u w link.reads m.tests;
+        own = ap (changes_only (is_refs_of place (sizes_of v))) (after_added place v u w link.reads m.tests) ∙ after_own place v u w link.reads m.tests;
+        which = tt;
         owes = tt;
         last = tt;
         cause = inr (record {
@@ -342,7 +339,8 @@ walk_moved t word was now v w m = record {
   seen = m.seen;
   stand = m.reads.stand;
   tested = 0;
-  own = changes_none (λ k. not (k == refs_word (sizes_of v) 0)) (added v.view w.view) m.reads.own;
+  own = only_none (is_refs_of 0 (sizes_of v)) (added v.view w.view) m.reads.own;
+  which = tt;
   owes = tt;
   last = tt;
   cause = inl (record { word_is = m.word_is; mine = m.mine; cause = m.cause });

@@ -1,13 +1,13 @@
 -- The words that are changed where links are put in and taken out, and where buckets are locked.
-use Rattle.std.specs.Prelude.{◌==◌, ◌||◌, nat_le, nat_lt, not}
-use Rattle.std.proofs.Common.{◌≡◌, ℕ, ◌+◌, ◌*◌, ◌<◌, ◌≤◌, Bool, true, false, List, [], ◌∷◌, refl, sym, ap, ◌∙◌, subst, arith}
-use Rattle.std.proofs.lemmas.Bool.{and_from, eq-eqb, eqb-true, false≢true, le-leb, lt-ltb, or_left, or_right}
+use Rattle.std.specs.Prelude.{◌==◌, ◌||◌, is_some, nat_le, nat_lt, not}
+use Rattle.std.proofs.Common.{◌≡◌, ℕ, ◌+◌, ◌*◌, ◌<◌, ◌≤◌, Bool, true, false, Some, None, List, [], ◌∷◌, refl, sym, ap, ◌∙◌, subst, arith}
+use Rattle.std.proofs.lemmas.Bool.{and_from, and_parts, eq-eqb, eqb-true, false≢true, le-leb, lt-ltb, or_left, or_right}
 use Rattle.history_book.specs.declared.sizes.Sizes.{Sizes}
 use Rattle.track_rule.specs.BucketSteps.{LoadsLink, Strings, end_word}
-use Rattle.track_rule.specs.ChangesOnly.{ChangesWords, either, is_gen_of, is_head_of, is_next_of, is_of_kind, is_some_next, is_some_refs}
+use Rattle.track_rule.specs.ChangesOnly.{ChangesWords, changes_only, either, is_gen_of, is_head_of, is_next_of, is_of_kind, is_refs_of, is_some_next, is_some_refs, no_word}
 use Rattle.track_rule.specs.Layout.{gen_word, head_word, next_word, place_of, refs_word}
 use Rattle.tuple_core.specs.declared.Tuple.{Tuple}
-use Rattle.bucket_table.specs.Finding.{FindOnceSays}
+use Rattle.bucket_table.specs.Finding.{FindOnceSays, once_words}
 use Rattle.bucket_table.specs.declared.finding.FindOnce.{FindOnce}
 use Rattle.bucket_table.specs.declared.finding.FindOnce.TheVariants.{Found, Absent, Moved}
 use Rattle.track_rule.specs.Links.{kind_of}
@@ -152,15 +152,23 @@ one_lock_words lower upper v w low sizes stand own =
 
 -- LOOKING
 
-refs_some : (z : Sizes) (place : ℕ) (r : Reading) → not (r.word == refs_word z place) ≡ false → is_some_refs z r ≡ true
+refs_some : (z : Sizes) (place : ℕ) (r : Reading) → is_refs_of place z r ≡ true → is_some_refs z r ≡ true
 refs_some z place r e =
-    let here : r.word ≡ refs_word z place = eqb-true r.word (refs_word z place) (word_is (refs_word z place) r.word e) in
-    and_from (nat_le (3 + 2 * z.buckets) r.word) (kind_of z r.word == 0) (le-leb (3 + 2 * z.buckets) r.word (omega (arith, here)))
-    (eq-eqb (kind_of z r.word) 0 (omega (arith, here)))
+    let p = and_parts (r.word == refs_word z place) (not (is_some r.free)) e in
+    let here : r.word ≡ refs_word z place = eqb-true r.word (refs_word z place) p.0 in
+    and_from (is_of_kind 0 z r) (not (is_some r.free))
+    (and_from (nat_le (3 + 2 * z.buckets) r.word) (kind_of z r.word == 0) (le-leb (3 + 2 * z.buckets) r.word (omega (arith, here)))
+    (eq-eqb (kind_of z r.word) 0 (omega (arith, here)))) p.1
 
-pub once_words : (r : FindOnce) (t : Tuple) (v w : PassSight) → FindOnceSays r t v w → ChangesWords is_some_refs v.view w.view
-once_words (Found place id direction at) t v w s =
-    by_own (λ word. not (word == refs_word (sizes_of v) place)) is_some_refs v.view w.view (ap sizes_of s.same) s.stand s.own (refs_some (sizes_of v) place)
-once_words (Absent at) t v w s = by_loads is_some_refs v.view w.view (ap sizes_of s.reads.same) s.reads.stand s.reads.own
-once_words (Moved word was now owed) t v w s =
-    by_own (λ k. not (k == refs_word (sizes_of v) s.tested)) is_some_refs v.view w.view (ap sizes_of s.same) s.stand s.own (refs_some (sizes_of v) s.tested)
+-- the references of a place
+refs_words : (place : ℕ) (v w : PassSight) → sizes_of w ≡ sizes_of v → ReadingsStand v w → changes_only (is_refs_of place (sizes_of v)) (added v.view w.view) ≡ true
+    → ChangesWords (is_refs_of place) v.view w.view
+refs_words place v w sizes stand own = record { sizes = sizes; only = record { more = added v.view w.view; all = stand; own = own } }
+
+pub once_changes : (r : FindOnce) (t : Tuple) (v w : PassSight) → FindOnceSays r t v w → ChangesWords (once_words r) v.view w.view
+once_changes (Found place id direction at) t v w s = refs_words place v w (ap sizes_of s.same) s.stand s.own
+once_changes (Absent at) t v w s = by_loads no_word v.view w.view (ap sizes_of s.reads.same) s.reads.stand s.reads.own
+once_changes (Moved word was now None) t v w s =
+    weaker (is_refs_of s.tested) is_some_refs v.view w.view (λ z r e. refs_some z s.tested r e) (refs_words s.tested v w (ap sizes_of s.same) s.stand s.own)
+once_changes (Moved word was now (Some place)) t v w s =
+    subst (λ (k : ℕ). ChangesWords (is_refs_of k) v.view w.view) (sym s.which) (refs_words s.tested v w (ap sizes_of s.same) s.stand s.own)

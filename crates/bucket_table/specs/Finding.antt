@@ -8,7 +8,7 @@ use Rattle.tuple_core.specs.declared.Tuple.{Tuple}
 use Rattle.history_book.specs.Desk.{IsLiveIn}
 use Rattle.history_book.specs.declared.record.Record.{Record}
 use Rattle.history_book.specs.declared.sizes.Sizes.{Sizes}
-use Rattle.track_rule.specs.ChangesOnly.{has_change, is_last_given}
+use Rattle.track_rule.specs.ChangesOnly.{changes_only, has_change, is_last_given, is_refs_of, is_some_refs, no_word}
 use Rattle.track_rule.specs.Chains.{pair_of, shuts_of}
 use Rattle.track_rule.specs.Free.{is_among}
 use Rattle.track_rule.specs.History.{state_after}
@@ -16,7 +16,7 @@ use Rattle.track_rule.specs.KeptWords.{is_kept_for, link_of}
 use Rattle.track_rule.specs.Layout.{gen_word, place_of, refs_word}
 use Rattle.track_rule.specs.Links.{is_up}
 use Rattle.track_rule.specs.PhaseSteps.{holds_open}
-use Rattle.track_rule.specs.Readings.{Gave, IsSole, added, changes, found, last_read}
+use Rattle.track_rule.specs.Readings.{Gave, IsSole, added, found, last_read}
 use Rattle.track_rule.specs.References.{WasConfirmed, held_times, is_for_new, is_held, is_taken}
 use Rattle.track_rule.specs.Sights.{PassSight, sizes_of}
 use Rattle.track_rule.specs.Steps.{AreAll, keep}
@@ -74,7 +74,7 @@ pub record FindsEntry (t : Tuple) (place id : ℕ) (direction : Direction) (at :
     };
   }
   pub stand : ReadingsStand v w
-  pub own : changes (λ word. not (word == refs_word (sizes_of v) place)) (added v.view w.view) ≡ false
+  pub own : changes_only (is_refs_of place (sizes_of v)) (added v.view w.view) ≡ true
   pub below : place < (sizes_of v).entries
   pub owed : times place v.view.places.owed ≡ 0
   pub untaken : is_taken place v.view.places.held ≡ false
@@ -94,6 +94,11 @@ owed_more (Some place) owed = place ∷ owed
 abbrev pub IsNewlyOwed : Option ℕ → ℕ → List ℕ → List Keep → Type 0
 IsNewlyOwed None entries owed held = Unit {0}
 IsNewlyOwed (Some place) entries owed held = (place < entries) × (times place owed ≡ 0) × (held_times place held ≡ 0)
+
+-- it is the one that was tested
+abbrev pub IsTested : Option ℕ → ℕ → Type 0
+IsTested None tested = Unit {0}
+IsTested (Some place) tested = place ≡ tested
 
 -- where a place is owed now, some references became 0 by the pass
 abbrev pub IsLastGiven : Option ℕ → Sizes → List Reading → Type 0
@@ -128,7 +133,8 @@ pub record HasMoved (t : Tuple) (word was now : ℕ) (owed : Option ℕ) (v w : 
   pub seen : HasSeen v w
   pub stand : ReadingsStand v w
   pub tested : ℕ
-  pub own : changes (λ word. not (word == refs_word (sizes_of v) tested)) (added v.view w.view) ≡ false
+  pub own : changes_only (is_refs_of tested (sizes_of v)) (added v.view w.view) ≡ true
+  pub which : IsTested owed tested
   pub owes : IsNewlyOwed owed (sizes_of v).entries v.view.places.owed v.view.places.held
   pub last : IsLastGiven owed (sizes_of v) (added v.view w.view)
   pub cause : IsBucketMoved t word was now v w ⊎ AreRefsMoved word was now v w
@@ -139,11 +145,22 @@ FindOnceSays (Found place id direction at) t v w = FindsEntry t place id directi
 FindOnceSays (Absent at) t v w = IsEnd t at v w
 FindOnceSays (Moved word was now owed) t v w = HasMoved t word was now owed v w
 
+-- It may have changed the references of the place that the pass holds now, or owes; none, where nothing was live under the tuple; and those
+-- of some place, where another pass moved what was looked at and no place is owed.
+abbrev pub moved_words : Option ℕ → Sizes → Reading → Bool
+moved_words None = is_some_refs
+moved_words (Some place) = is_refs_of place
+
+abbrev pub once_words : FindOnce → Sizes → Reading → Bool
+once_words (Found place id direction at) = is_refs_of place
+once_words (Absent at) = no_word
+once_words (Moved word was now owed) = moved_words owed
+
 -- ON THE WAY
 
 -- a reading of no generation, and no own change but one of the references of the place
 abbrev pub is_of_test : Sizes → ℕ → Reading → Bool
-is_of_test z place r = not (nat_le 3 r.word && nat_lt r.word (3 + z.buckets)) && (not r.own || r.word == refs_word z place)
+is_of_test z place r = not (nat_le 3 r.word && nat_lt r.word (3 + z.buckets)) && (not r.own || is_refs_of place z r)
 
 -- The pass tests what stands at the place: it has such readings, it may have seen more events, and hold or owe other places.
 pub record Tests (place : ℕ) (v w : PassSight) : Type 0 where
@@ -256,6 +273,7 @@ pub record GivesUp (owed : Option ℕ) (place : ℕ) (v w : PassSight) : Type 0 
   pub tests : Tests place v w
   pub held : w.view.places.held ≡ others_of v.view.places.held
   pub owed_is : w.view.places.owed ≡ owed_more owed v.view.places.owed
+  pub which : IsTested owed place
   pub owes : IsNewlyOwed owed (sizes_of v).entries v.view.places.owed (others_of v.view.places.held)
   pub last : IsLastGiven owed (sizes_of v) tests.more
   pub walk : w.view.walk ≡ v.view.walk
@@ -284,6 +302,7 @@ pub record TestMoved (g : Goal) (link place : ℕ) (m : Movement) (others : List
   pub tests : Tests place v between
   pub held : between.view.places.held ≡ others
   pub owed_is : between.view.places.owed ≡ owed_more m.owed v.view.places.owed
+  pub which : IsTested m.owed place
   pub owes : IsNewlyOwed m.owed (sizes_of v).entries v.view.places.owed others
   pub last : IsLastGiven m.owed (sizes_of v) tests.more
   pub lost : place_of link ≡ place → HasMet g link v.view → HasPassed g between.view

@@ -2,18 +2,16 @@
 //! and tested.
 
 ghost use Rattle.std.specs.Prelude.{◌≡◌, ◌<◌};
-ghost use Rattle.bucket_table.specs.Finding.{AgainSays, CanGiveUp, CanTest, DirectionSays, EntrySays, FindOnceSays, GivesUp, IsTesting, MeetSays, ShowsSays, TestSays};
+ghost use Rattle.bucket_table.specs.Finding.{AgainSays, CanGiveUp, CanTest, DirectionSays, EntrySays, FindOnceSays, GivesUp, IsTesting, MeetSays, ShowsSays, TestSays, once_words};
 ghost use Rattle.bucket_table.specs.Following.{bucket_in};
 ghost use Rattle.history_book.specs.Sizes.{AreWithinLimits};
-ghost use Rattle.track_rule.specs.ChangesOnly.{ChangesWords, is_some_refs, no_word};
+ghost use Rattle.track_rule.specs.ChangesOnly.{ChangesWords, no_word};
 ghost use Rattle.track_rule.specs.KeptWords.{link_of};
 ghost use Rattle.track_rule.specs.Chains.{shuts_of};
 ghost use Rattle.track_rule.specs.Sights.{sizes_of};
 ghost use Rattle.track_rule.specs.declared.view.Purpose.TheVariants.{Testing};
 
 use crate::lookup::{Followed, Goal, follow, is_here};
-use entry_pool::hold::{TryHold, release, try_hold};
-use history_book::outcome::ReleaseOutcome;
 use history_book::sizes::Sizes;
 use track_rule::history_word::events_in;
 use track_rule::layout::refs_word;
@@ -152,9 +150,10 @@ fn give_up(pass: &mut Pass, place: u32) -> Option<u32>
     requires { CanGiveUp place pass.old }
     ensures { GivesUp result place pass.old pass.new }
 {
-    match release(pass, place) {
-        ReleaseOutcome::Last => Some(place),
-        ReleaseOutcome::Kept => None,
+    if pass.ref_down(place) == 1 {
+        Some(place)
+    } else {
+        None
     }
 }
 
@@ -207,12 +206,15 @@ fn meet(pass: &mut Pass, sizes: &Sizes, goal: &Goal, place: u32, met: Direction)
     requires can { CanTest pass.old }
     ensures { MeetSays result goal.now place met pass.old pass.new }
 {
-    match try_hold(pass, place) {
-        TryHold::Held => test(pass, sizes, goal, place, met),
-        TryHold::Zero => load_again(pass, sizes, goal, None),
-        TryHold::Moved { was, now } => FindOnce::Moved {
+    let seen = pass.ref_load(place);
+    if seen == 0 {
+        return load_again(pass, sizes, goal, None);
+    }
+    match pass.ref_up(place, seen) {
+        Ok(()) => test(pass, sizes, goal, place, met),
+        Err(now) => FindOnce::Moved {
             word: refs_word(sizes, place) as u32,
-            was,
+            was: seen,
             now,
             owed: None,
         },
@@ -224,7 +226,7 @@ pub fn find_once(pass: &mut Pass, t: &Tuple) -> FindOnce
     requires mine { shuts_of (bucket_in (sizes_of pass.old) t.now) pass.old.view ≡ 0 }
     requires can { CanTest pass.old }
     ensures says { FindOnceSays result t.now pass.old pass.new }
-    ensures words { ChangesWords is_some_refs pass.old.view pass.new.view }
+    ensures words { ChangesWords (once_words result) pass.old.view pass.new.view }
 {
     match follow(pass, t) {
         Followed::Link {

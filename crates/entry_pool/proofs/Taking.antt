@@ -4,8 +4,8 @@ use Rattle.std.specs.List.{list_any}
 use Rattle.std.proofs.Common.{◌≡◌, ◌≢◌, ℕ, ◌+◌, ◌<◌, ◌≤◌, Bool, true, false, Option, Some, None, List, [], ◌∷◌, ◌++◌, length, refl, sym, ap, subst, ◌∙◌, ⊎_elim, arith, append-nil, append_assoc}
 use Rattle.std.proofs.lemmas.Bool.{and_from, and_left, and_right, cases_Bool, cases_eq, cases_lt, eq-eqb, eqb-true, le-leb, lt-leb, ne_eqb, or_left, or_parts}
 use Rattle.history_book.specs.declared.sizes.Sizes.{Sizes}
-use Rattle.track_rule.proofs.Changing.{by_own, by_pass, joined, word_is}
-use Rattle.track_rule.specs.ChangesOnly.{ChangesWords, is_free_turn, is_phase_of, places_taken}
+use Rattle.track_rule.proofs.Changing.{by_own, by_pass, by_view, joined, weaker, word_is}
+use Rattle.track_rule.specs.ChangesOnly.{ChangesWords, either, is_first_of, is_free_turn, is_phase_of, places_taken}
 use Rattle.entry_pool.specs.GoesOn.{ReadingsStand}
 use Rattle.history_book.specs.declared.outcome.TakeOutcome.TheVariants as outcome
 use Rattle.room_list.specs.Roomed.{Roomed}
@@ -19,7 +19,7 @@ use Rattle.track_rule.specs.Phases.{of_place}
 use Rattle.track_rule.specs.Readings.{added, changes, is_stored, stored}
 use Rattle.track_rule.specs.Sights.{PassSight, sizes_of}
 use Rattle.track_rule.specs.Slots.{given_back}
-use Rattle.track_rule.specs.Steps.{AreAll, CanGive, IsAlone, Looks, NewHooks, Opens, at_point, found_history, gave_free, keep, kept_places, opened, uses}
+use Rattle.track_rule.specs.Steps.{AreAll, CanGive, IsAlone, Looks, NewHooks, Opens, at_point, first_ref, found_history, gave_free, keep, kept_places, opened, uses}
 use Rattle.track_rule.specs.References.{held_times}
 use Rattle.track_rule.specs.Sums.{bit, times, total}
 use Rattle.history_book.specs.History.{is_legal}
@@ -136,8 +136,28 @@ module _ (v u : PassSight) (list : Roomed ℕ) (h : HasList v u list) where
         clear = λ p. omega (arith, ap (λ xs. times p (taken_out place xs)) known, taken_left p);
       })
 
+      -- the words that change are the turn of the list, and the references of the place
+      opened_words : w ≡ gave left t → ChangesWords (either is_free_turn (is_first_of place)) v.view w.view
+      opened_words e =
+          let may : Sizes → Reading → Bool = either is_free_turn (is_first_of place) in
+          let waited : ChangesWords may v.view u.view =
+          by_own (λ word. not (word == 1)) may v.view u.view sizes_same (stands_before v.view.readings u.view.readings h.waits.more h.waits.all)
+          (ap (list_any not_turn) (ap (drop (length v.view.readings)) h.waits.all ∙ drop_first v.view.readings h.waits.more) ∙ h.waits.own)
+          (λ r k. or_left (is_free_turn (sizes_of v) r) (is_first_of place (sizes_of v) r) (word_is 1 r.word k)) in
+          let first : ChangesWords may u.view t.view =
+          by_view may (first_ref place u.view) u.view t.view _ view_is refl refl (its_first (refs_word (sizes_of u) place)) in
+          joined may v.view u.view w.view waited (joined may u.view t.view w.view first (by_pass may (stored 1 0) t w _ e refl refl refl))
+        where
+          its_first : (n : ℕ) → ((n == 1) || ((n == n) && true)) ≡ true
+          its_first n = ap (λ (b : Bool). (n == 1) || (b && true)) (eq-eqb n n refl) ∙ or_true (n == 1)
+            where
+              or_true : (b : Bool) → (b || true) ≡ true
+              or_true true = refl
+              or_true false = refl
+
       pub opened_is : w ≡ gave left t → HasOpened place v w
       opened_is e =
+          let first : Reading = first_ref place (record v.view { free = Some list.items }) in
           let hooks : List Hook = t.view.buckets.hooks in
           let et : t ≡ record u { view = opened place hooks u.view } = kt ∙ ap (λ (x : View). record u { view = x }) view_is in
           let step : PassSight → PassSight = λ y. gave left (record y { view = opened place hooks y.view }) in
@@ -160,19 +180,20 @@ module _ (v u : PassSight) (list : Roomed ℕ) (h : HasList v u list) where
               down = up_new place v.view.buckets.hooks w.view.buckets.hooks
                   (subst (λ (new : List Hook). NewHooks place v.view.buckets.hooks new) (sym (ap (λ (y : PassSight). y.view.buckets.hooks) x))
                   (subst (λ (old : List Hook). NewHooks place old hooks) (ap (λ (y : PassSight). y.view.buckets.hooks) h.same) o.hooks));
-              stand = stands_two v.view.readings u.view.readings w.view.readings (stored (refs_word (sizes_of v) place) 1) (stored 1 0) h.waits
+              stand = stands_two v.view.readings u.view.readings w.view.readings first (stored 1 0) h.waits
                   (ap (λ (y : PassSight). y.view.readings) x);
               held = ap (λ (y : PassSight). held_times place y.view.places.held) (sym h.same) ∙ o.held;
               owed = ap (λ (y : PassSight). times place y.view.places.owed) (sym h.same) ∙ o.owed;
               unused = h.right.unused place (omega (arith, ap (times place) pop, times_push place place left.items, same_bit place place refl));
             };
             own = ap (list_any others)
-                (added_two v.view.readings u.view.readings w.view.readings (stored (refs_word (sizes_of v) place) 1) (stored 1 0) h.waits
+                (added_two v.view.readings u.view.readings w.view.readings first (stored 1 0) h.waits
                 (ap (λ (y : PassSight). y.view.readings) x))
-                ∙ any_more others (h.waits.more ++ stored (refs_word (sizes_of v) place) 1 ∷ []) (stored 1 0)
-                (any_more others h.waits.more (stored (refs_word (sizes_of v) place) 1)
+                ∙ any_more others (h.waits.more ++ first ∷ []) (stored 1 0)
+                (any_more others h.waits.more first
                 (any_less not_turn others (λ y e. less y.own (y.word == 1) (y.word == refs_word (sizes_of v) place) e) h.waits.more h.waits.own)
                 (its_own (refs_word (sizes_of v) place))) refl;
+            words = opened_words e;
           }
         where
           others : Reading → Bool
@@ -514,20 +535,21 @@ pub taken_words : (place : ℕ) (v u w : PassSight) → HasOpened place v u → 
     → ChangesWords (take_words (outcome.Taken place)) v.view w.view
 taken_words place v u w o e =
     joined (take_words (outcome.Taken place)) v.view u.view w.view
-    (by_own (λ word. not (word == 1 || word == refs_word (sizes_of v) place)) (take_words (outcome.Taken place)) v.view u.view (ap sizes_of o.has.same) o.has.stand o.own
-    (λ r h. two (r.word == 1) (r.word == refs_word (sizes_of v) place) (is_phase_of place phase_owned (sizes_of v) r) h))
+    (weaker (either is_free_turn (is_first_of place)) (take_words (outcome.Taken place)) v.view u.view
+    (λ z r h. two (r.word == 1) (is_first_of place z r) (is_phase_of place phase_owned z r) h) o.words)
     (by_pass (take_words (outcome.Taken place)) (stored (phase_word (sizes_of u) place) 1) u w _ e refl refl
     (last (phase_word (sizes_of u) place == 1) (phase_word (sizes_of u) place == refs_word (sizes_of u) place) (phase_word (sizes_of u) place == phase_word (sizes_of u) place)
     (eq-eqb (phase_word (sizes_of u) place) (phase_word (sizes_of u) place) refl)))
   where
-    two : (a b c : Bool) → not (a || b) ≡ false → (a || (b || c)) ≡ true
+    two : (a b c : Bool) → (a || b) ≡ true → (a || (b || c)) ≡ true
     two true b c h = refl
     two false true c h = refl
     two false false c h = cc
 
-    last : (a b c : Bool) → c ≡ true → (a || (b || (c && true))) ≡ true
+    last : (a b c : Bool) → c ≡ true → (a || ((b && false) || (c && true))) ≡ true
     last true b c h = refl
-    last false true c h = refl
+    last false true true h = refl
+    last false true false h = h
     last false false true h = refl
     last false false false h = h
 

@@ -1,8 +1,9 @@
 -- A reference more, or one less, without waiting.
-use Rattle.std.specs.Prelude.{◌≡◌, ℕ, ◌+◌, ◌<◌, ◌==◌, not, true, false, ◌∷◌}
+use Rattle.std.specs.Prelude.{◌≡◌, ℕ, ◌+◌, ◌<◌, ◌==◌, true, false, ◌∷◌}
 use Rattle.std.specs.List.{list_all}
 use Rattle.history_book.specs.declared.outcome.ReleaseOutcome.{ReleaseOutcome}
 use Rattle.history_book.specs.declared.outcome.ReleaseOutcome.TheVariants.{Kept, Last}
+use Rattle.track_rule.specs.ChangesOnly.{changes_only, is_refs_of}
 use Rattle.track_rule.specs.Layout.{refs_word}
 use Rattle.track_rule.specs.Links.{RaisesNone}
 use Rattle.track_rule.specs.Notes.{note_where}
@@ -33,7 +34,7 @@ pub record HoldsMore (place : ℕ) (v w : PassSight) : Type 0 where
   }
   pub stand : ReadingsStand v w
   pub owed : times place v.view.places.owed ≡ 0
-  pub own : changes (λ word. not (word == refs_word (sizes_of v) place)) (added v.view w.view) ≡ false
+  pub own : changes_only (is_refs_of place (sizes_of v)) (added v.view w.view) ≡ true
   pub here : IsOfRefs place v w
 
 -- The pass has only read: it changed no word, and all that it holds and owes is as it was. A walk that met a link of the place has

@@ -4,7 +4,7 @@ use Rattle.std.specs.List.{list_any}
 use Rattle.history_book.specs.declared.outcome.TakeOutcome.{TakeOutcome}
 use Rattle.history_book.specs.declared.outcome.TakeOutcome.TheVariants.{Taken, Full}
 use Rattle.history_book.specs.declared.sizes.Sizes.{Sizes}
-use Rattle.track_rule.specs.ChangesOnly.{either, is_free_turn, is_phase_of, is_refs_of, places_taken}
+use Rattle.track_rule.specs.ChangesOnly.{ChangesWords, either, is_first_of, is_free_turn, is_phase_of, places_taken}
 use Rattle.track_rule.specs.Free.{taken_out, unlisted}
 use Rattle.track_rule.specs.History.{events_in, records_after}
 use Rattle.track_rule.specs.Layout.{phase_word, refs_word}
@@ -19,10 +19,10 @@ use Rattle.track_rule.specs.Sums.{times, total}
 use Rattle.track_rule.specs.declared.view.Purpose.TheVariants as purpose
 use Rattle.track_rule.specs.declared.view.Reading.{Reading}
 use Rattle.entry_pool.specs.GoesOn.{ReadingsStand}
-use Rattle.entry_pool.specs.Turn.{IsUnused}
+use Rattle.entry_pool.specs.Turn.{IsUnusedIfSole}
 
 -- The place is held, for a new entry, and the pass has both its links, which are in no chain; before the call the pass neither
--- held nor owed the place, and it was unused. The pass owns these places. All else is as it was.
+-- held nor owed the place, which was unused where the pass is the only one. The pass owns these places. All else is as it was.
 pub record HasNewPlace (place : ℕ) (owned : List ℕ) (v w : PassSight) : Type 0 where
   pub same : w ≡ record v {
     view = record v.view {
@@ -36,12 +36,13 @@ pub record HasNewPlace (place : ℕ) (owned : List ℕ) (v w : PassSight) : Type
   pub stand : ReadingsStand v w
   pub held : held_times place v.view.places.held ≡ 0
   pub owed : times place v.view.places.owed ≡ 0
-  pub unused : IsUnused place v.view
+  pub unused : IsUnusedIfSole place v.view
 
--- The pass changed no word itself but the turn of the free list and the references of the place.
+-- The pass changed no word itself but the turn of the free list and the references of the place, to which it made the first one.
 pub record HasOpened (place : ℕ) (v w : PassSight) : Type 0 where
   pub has : HasNewPlace place v.view.places.owned v w
   pub own : changes (λ word. not (word == 1 || word == refs_word (sizes_of v) place)) (added v.view w.view) ≡ false
+  pub words : ChangesWords (either is_free_turn (is_first_of place)) v.view w.view
 
 -- Its phase is OWNED besides, as a reading of the call shows, and the pass owns it. The pass made one phase OWNED in the call,
 -- and changed no word itself but these three.
@@ -51,10 +52,10 @@ pub record HasTaken (place : ℕ) (v w : PassSight) : Type 0 where
   pub once : places_taken (sizes_of v) (added v.view w.view) ≡ 1
   pub own : changes (λ word. not (word == 1 || word == refs_word (sizes_of v) place || word == phase_word (sizes_of v) place)) (added v.view w.view) ≡ false
 
--- Taking changes the turn of the free list, and where a place was taken its references, and its phase, which became OWNED; making a
--- place free again changes its phase, which became FREE, and the turn.
+-- Taking changes the turn of the free list, and where a place was taken its references, to which it makes the first one, and its phase,
+-- which became OWNED; making a place free again changes its phase, which became FREE, and the turn.
 abbrev pub take_words : TakeOutcome → Sizes → Reading → Bool
-take_words (Taken place) = either is_free_turn (either (is_refs_of place) (is_phase_of place phase_owned))
+take_words (Taken place) = either is_free_turn (either (is_first_of place) (is_phase_of place phase_owned))
 take_words (Full at) = is_free_turn
 
 abbrev pub recycle_words : ℕ → Sizes → Reading → Bool
@@ -96,8 +97,8 @@ abbrev pub IsBelow : ℕ → TakeOutcome → Type 0
 IsBelow entries (Taken place) = place < entries
 IsBelow entries (Full at) = Unit {0}
 
--- The place is on the free list, and no longer owed; it is unused. The pass changed no word itself but the turn of the list. All
--- else is as it was.
+-- The place is on the free list, and no longer owed; where the pass is the only one, it is unused. The pass changed no word itself
+-- but the turn of the list. All else is as it was.
 pub record IsGivenBack (place : ℕ) (v w : PassSight) : Type 0 where
   pub same : w ≡ record v {
     view = record v.view {
@@ -110,10 +111,10 @@ pub record IsGivenBack (place : ℕ) (v w : PassSight) : Type 0 where
   }
   pub stand : ReadingsStand v w
   pub own : changes (λ word. not (word == 1)) (added v.view w.view) ≡ false
-  pub unused : IsUnused place v.view
+  pub unused : IsUnusedIfSole place v.view
 
--- The place, which is unused, is free again: its phase was made FREE, and then it was put on the free list. The pass changed no
--- other word itself than these two, and no longer owes the place. All else is as it was.
+-- The place, which is unused where the pass is the only one, is free again: its phase was made FREE, and then it was put on the free
+-- list. The pass changed no other word itself than these two, and no longer owes the place. All else is as it was.
 pub record Recycles (place : ℕ) (v w : PassSight) : Type 0 where
   pub same : w ≡ record v {
     view = record v.view {
@@ -125,6 +126,6 @@ pub record Recycles (place : ℕ) (v w : PassSight) : Type 0 where
     };
   }
   pub stand : ReadingsStand v w
-  pub unused : IsUnused place v.view
+  pub unused : IsUnusedIfSole place v.view
   pub phase : is_stored (phase_word (sizes_of v) place) phase_free (added v.view w.view) ≡ true
   pub own : changes (λ word. not (word == 1 || word == phase_word (sizes_of v) place)) (added v.view w.view) ≡ false

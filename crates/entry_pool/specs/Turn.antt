@@ -20,19 +20,21 @@ pub record Waits (old new : List Reading) : Type 0 where
   pub all : new ≡ old ++ more
   pub own : changes (λ word. not (word == 1)) more ≡ false
 
--- The place is unused: no live record has it. So the only pass of a table knows, whose own events are all.
-abbrev pub IsUnused : ℕ → View → Type 0
-IsUnused place v = (log : List Event) → IsSole v → v.seen.own ≡ notes_from 0 log → total (of_place place) (records_after log) ≡ 0
+-- Where the pass is the only one of its table, so that its own events are all, the place is unused: no live record has it. Of a pass
+-- beside others this says nothing.
+abbrev pub IsUnusedIfSole : ℕ → View → Type 0
+IsUnusedIfSole place v = (log : List Event) → IsSole v → v.seen.own ≡ notes_from 0 log → total (of_place place) (records_after log) ≡ 0
 
 -- There is room on the list for all places. No place that the pass holds or owes is on it; it has only places below the
--- entries, none twice, and there is room for what the pass owes, which is owed once. What is on the list or owed is unused.
+-- entries, none twice, and there is room for what the pass owes, which is owed once. Where
+-- the pass is the only one, what is on the list or owed is unused.
 pub record IsListOf (v : PassSight) (list : Roomed ℕ) : Type 0 where
   pub room : (sizes_of v).entries ≤ list.room
   pub fits : length list.items + length v.view.places.owed ≤ (sizes_of v).entries
   pub apart : (p : ℕ) → times p list.items + times p v.view.places.owed + min (held_times p v.view.places.held) 1 ≤ 1
   pub below : (p : ℕ) → (sizes_of v).entries ≤ p → times p list.items + times p v.view.places.owed ≡ 0
   pub clear : (p : ℕ) → 0 < times p v.view.places.clear → 0 < times p v.view.places.owed
-  pub unused : (p : ℕ) → 0 < times p list.items + times p v.view.places.owed → IsUnused p v.view
+  pub unused : (p : ℕ) → 0 < times p list.items + times p v.view.places.owed → IsUnusedIfSole p v.view
 
 -- the pass has the turn of the free list, and knows the list
 abbrev pub with_list : List ℕ → List Reading → View → View

@@ -1,6 +1,6 @@
 -- A call that makes no phase OWNED takes no place.
-use Rattle.std.specs.Prelude.{◌==◌, ◌&&◌, ◌||◌, ◌-◌, ◌^◌, min, nat_le, nat_lt, not}
-use Rattle.std.proofs.Common.{◌≡◌, ◌≢◌, ℕ, ◌+◌, ◌*◌, ◌<◌, ◌≤◌, Bool, true, false, List, [], ◌∷◌, ◌++◌, refl, sym, ap, ◌∙◌, arith}
+use Rattle.std.specs.Prelude.{◌==◌, ◌&&◌, ◌||◌, ◌-◌, ◌^◌, is_some, min, nat_le, nat_lt, not}
+use Rattle.std.proofs.Common.{◌≡◌, ◌≢◌, ℕ, ◌+◌, ◌*◌, ◌<◌, ◌≤◌, Bool, true, false, Some, None, List, [], ◌∷◌, ◌++◌, refl, sym, ap, ◌∙◌, arith}
 use Rattle.std.proofs.lemmas.Bool.{and_left, and_parts, and_right, eqb-true, false≢true, leb-true, ltb-true, ne_eqb}
 use Rattle.history_book.specs.declared.outcome.ClaimOutcome.{ClaimOutcome}
 use Rattle.history_book.specs.declared.outcome.ConfirmOutcome.{ConfirmOutcome}
@@ -20,7 +20,10 @@ use Rattle.track_rule.specs.Sights.{PassSight, sizes_of}
 use Rattle.track_rule.specs.Sums.{bit}
 use Rattle.track_rule.specs.declared.view.Reading.{Reading}
 use Rattle.track_rule.proofs.Changing.{NamesNo, below_places, of_kind, or_elim}
+use Rattle.bucket_table.specs.Finding.{once_words}
 use Rattle.bucket_table.specs.Following.{bucket_in}
+use Rattle.bucket_table.specs.declared.finding.FindOnce.{FindOnce}
+use Rattle.bucket_table.specs.declared.finding.FindOnce.TheVariants.{Found, Absent, Moved}
 use Rattle.entry_pool.specs.Take.{recycle_words}
 use Rattle.shared_desk.specs.Changed.{claim_words, commit_words, confirm_words, destroy_words, end_words, enter_words, expect_words, flow_gens, flow_heads, give_words, hold_words, is_claimed, is_expected, is_removed, is_touched, kill_words, killed_words, touch_words, unexpect_words}
 use Rattle.shared_desk.specs.Killing.{flow_of}
@@ -77,7 +80,8 @@ pub no_turn : (place : ℕ) → NamesNo 1 (is_turn_of place)
 no_turn place = no_kind (is_turn_of place) place 2 (omega arith) (λ k. omega (arith, k)) (λ z r e. eqb-true r.word (turn_word z place) e)
 
 pub no_refs : (place : ℕ) → NamesNo 1 (is_refs_of place)
-no_refs place = no_kind (is_refs_of place) place 0 (omega arith) (λ k. omega (arith, k)) (λ z r e. omega (arith, eqb-true r.word (refs_word z place) e))
+no_refs place = no_kind (is_refs_of place) place 0 (omega arith) (λ k. omega (arith, k)) (λ z r e.
+    omega (arith, eqb-true r.word (refs_word z place) (and_parts (r.word == refs_word z place) (not (is_some r.free)) e).0))
 
 pub no_gen : (b : ℕ) → NamesNo 1 (is_gen_of b)
 no_gen b = no_low (is_gen_of b) (λ z r e.
@@ -126,10 +130,16 @@ no_other kind other z r e =
     (ne_eqb (kind_of z r.word) 1 (λ k. other (sym (eqb-true (kind_of z r.word) kind (and_parts (nat_le (3 + 2 * z.buckets) r.word) (kind_of z r.word == kind) e).1) ∙ k))))
 
 pub no_some_refs : NamesNo 1 is_some_refs
-no_some_refs z r e = no_other 0 (λ k. omega (arith, k)) z r e
+no_some_refs z r e = no_other 0 (λ k. omega (arith, k)) z r (and_parts (is_of_kind 0 z r) (not (is_some r.free)) e).0
 
 pub no_some_next : NamesNo 1 is_some_next
 no_some_next z r e = or_elim (is_of_kind 7 z r) (is_of_kind 8 z r) (no_other 7 (λ k. omega (arith, k)) z r) (no_other 8 (λ k. omega (arith, k)) z r) e
+
+pub no_once : (r : FindOnce) → NamesNo 1 (once_words r)
+no_once (Found place id direction at) = no_refs place
+no_once (Absent at) = no_none
+no_once (Moved word was now None) = no_some_refs
+no_once (Moved word was now (Some place)) = no_refs place
 
 -- CALLS
 

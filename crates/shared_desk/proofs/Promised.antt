@@ -44,11 +44,11 @@ module _ (v : PassSight) (notes : Roomed Note) (spare place : ℕ) (h : IsAtRest
         rest_made v notes spare h room id (Expect (expectation_at id e.master want moment) replaced moment) w e.made made is
     rest_expecting (expect.MasterGone at) l = rest_left v notes spare place h held at IsNotLive w l made is
     rest_expecting (expect.Clash id at) l =
-        rest_left v notes spare place h held at (IsRefused (sizes_of v).expectations at want moment (add.Clash id)) w l made is
+        rest_left v notes spare place h held at (IsRefused (sizes_of v).expectations at v.view.seen.front want moment (add.Clash id)) w l made is
     rest_expecting (expect.ExpectFull at) l =
-        rest_left v notes spare place h held at (IsRefused (sizes_of v).expectations at want moment add.Full) w l made is
+        rest_left v notes spare place h held at (IsRefused (sizes_of v).expectations at v.view.seen.front want moment add.Full) w l made is
 
-    refused_says : (o : AddOutcome) (at : ℕ) → IsLeft place at (IsRefused (sizes_of v).expectations at want moment o) v w
+    refused_says : (o : AddOutcome) (at : ℕ) → IsLeft place at (IsRefused (sizes_of v).expectations at v.view.seen.front want moment o) v w
         → AddsNothing (held_id place (map hold_of v.view.places.held)) want moment o (sight_of (clerk_at v spare)) (then_of v (clerk_at w (room_after made spare))) at
     refused_says o at l =
         subst (λ (z : Sizes). Looked (sight_of (clerk_at v spare)) (then_of v (clerk_at w (room_after made spare))) at

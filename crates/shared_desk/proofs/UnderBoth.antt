@@ -1,7 +1,8 @@
 -- Under the turns of a record and of the expectations an entry expects a connection, or is refused.
 use Rattle.std.specs.List.{All, slice_get}
+use Rattle.std.specs.Prelude.{◌==◌}
 use Rattle.std.proofs.Common.{◌≡◌, ℕ, ◌-◌, ◌<◌, ◌≤◌, true, Option, Some, None, List, [], ◌∷◌, ◌++◌, length, refl, sym, ap, subst, ◌∙◌, arith}
-use Rattle.std.proofs.lemmas.Bool.{false≢true}
+use Rattle.std.proofs.lemmas.Bool.{and_from, eq-eqb, false≢true}
 use Rattle.expect_table.specs.Expectations.{add_outcome}
 use Rattle.expect_table.specs.declared.expectation.Expectation.{Expectation}
 use Rattle.expect_table.specs.declared.expectation.Want.{Want}
@@ -132,8 +133,8 @@ module _ (place n word : ℕ) (want : Want) (moment : ℕ) (v u w : PassSight) (
           gives = (λ k. add_outcome (sym knows.room k) (sym expects_then k) (expectation_at (r.point k) (its i held k) want moment) moment) ∙ r.gives;
         })))
       where
-        left_aside : IsLeft place a (IsRefused (sizes_of v).expectations a want moment o) v w
-            → IsLeft place a (IsRefused (sizes_of v).expectations a want moment o) (aside v) (aside w)
+        left_aside : IsLeft place a (IsRefused (sizes_of v).expectations a v.view.seen.front want moment o) v w
+            → IsLeft place a (IsRefused (sizes_of v).expectations a v.view.seen.front want moment o) (aside v) (aside w)
         left_aside l = record { same = ap aside l.same; all = told_aside v w.view.seen.front l.all; point = l.point; is = l.is }
 
     pub added : (o : ExpectOutcome) → Adds (expectation_at at (n - 3) want moment) moment table o (aside x) (aside y) → Expects place want moment o (aside v) (aside y)

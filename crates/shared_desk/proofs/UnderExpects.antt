@@ -102,11 +102,11 @@ module _ (table : Roomed Expectation) (v w x y : PassSight) (unturned : v.view.e
   unexpect_given id moment (unexpect.Not deadline at) u = (looked_given at (IsDueUntil id deadline) u.0, u.1)
 
   refused_given : (place at : ℕ) (want : Want) (moment : ℕ) (o : AddOutcome)
-      → IsLeft place at (IsRefused (sizes_of w).expectations at want moment o) (aside w) (aside x)
-      → IsLeft place at (IsRefused (sizes_of v).expectations at want moment o) v y
+      → IsLeft place at (IsRefused (sizes_of w).expectations at w.view.seen.front want moment o) (aside w) (aside x)
+      → IsLeft place at (IsRefused (sizes_of v).expectations at v.view.seen.front want moment o) v y
   refused_given place at want moment o l =
-      subst (λ (z : Sizes). IsLeft place at (IsRefused z.expectations at want moment o) v y) (ap sizes_of h.same)
-      (left_given place at (IsRefused (sizes_of w).expectations at want moment o) l)
+      subst (λ (k : PassSight). IsLeft place at (IsRefused (sizes_of k).expectations at k.view.seen.front want moment o) v y) h.same
+      (left_given place at (IsRefused (sizes_of w).expectations at w.view.seen.front want moment o) l)
 
   pub expect_given : (place : ℕ) (want : Want) (moment : ℕ) (o : ExpectOutcome) → Expects place want moment o (aside w) (aside x) → Expects place want moment o v y
   expect_given place want moment (expect.Expected id replaced) e = record {

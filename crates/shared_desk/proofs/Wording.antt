@@ -1,8 +1,8 @@
 -- The words that the steps and the calls of a pass change, for the clauses of the clerk's calls.
-use Rattle.std.specs.Prelude.{◌==◌, ◌&&◌, ◌||◌, nat_le, nat_lt, not, drop}
+use Rattle.std.specs.Prelude.{◌==◌, ◌&&◌, ◌||◌, is_some, nat_le, nat_lt, not, drop}
 use Rattle.std.proofs.lemmas.List.Folds.{list_any-append}
 use Rattle.std.proofs.Math.Seq.{drop-append_seam}
-use Rattle.std.proofs.Common.{◌≡◌, ℕ, ◌+◌, ◌*◌, ◌<◌, ◌≤◌, Bool, true, false, Option, Some, None, List, [], ◌∷◌, ◌++◌, length, refl, sym, ap, ◌∙◌, subst, arith}
+use Rattle.std.proofs.Common.{◌≡◌, ℕ, ◌+◌, ◌*◌, ◌<◌, ◌≤◌, Bool, true, false, Option, Some, None, List, [], ◌∷◌, ◌++◌, length, refl, sym, ap, ◌∙◌, subst, arith, append-nil}
 use Rattle.std.proofs.lemmas.Bool.{and_from, and_left, and_parts, and_right, eq-eqb, eqb-true, false≢true, le-leb, leb-false, leb-true, lt-ltb, ne_eqb, or_from, or_left, or_right}
 use Rattle.history_book.specs.declared.event.Event.{Event}
 use Rattle.history_book.specs.declared.event.Event.TheVariants.{Confirm, Touch, Destroy, Expect, Claim, Unexpect}
@@ -26,8 +26,11 @@ use Rattle.track_rule.specs.declared.view.Middle.{Middle}
 use Rattle.track_rule.specs.declared.view.Middle.TheVariants.{Calm, Born, Dying}
 use Rattle.track_rule.specs.declared.view.Reading.{Reading}
 use Rattle.track_rule.specs.declared.view.View.{View}
-use Rattle.track_rule.proofs.Changing.{Within, or_elim, by_loads, by_own, by_pass, by_reading, by_view, freeing_none, frees_weaker, of_kind, word_is, in_none, in_one, in_other, joined, weaker, weaker_at}
+use Rattle.track_rule.proofs.Changing.{Within, or_elim, by_loads, by_pass, by_reading, by_view, freeing_none, frees_weaker, of_kind, in_none, in_one, in_other, joined, weaker, weaker_at}
+use Rattle.bucket_table.specs.Finding.{once_words}
 use Rattle.bucket_table.specs.Following.{bucket_in}
+use Rattle.bucket_table.specs.declared.finding.FindOnce.{FindOnce}
+use Rattle.bucket_table.specs.declared.finding.FindOnce.TheVariants.{Found, Absent, Moved}
 use Rattle.bucket_table.specs.LockedChain.{link_words, unlink_words}
 use Rattle.bucket_table.specs.Locks.{Buckets, buckets_of}
 use Rattle.entry_pool.specs.Hold.{HoldsMore, OnlyReadsRefs}
@@ -123,7 +126,7 @@ pub turn_in : (z : Sizes) (place n : ℕ) → is_turn_of place z (stored (turn_w
 turn_in z place n = eq-eqb (turn_word z place) (turn_word z place) refl
 
 pub refs_in : (z : Sizes) (place n : ℕ) → is_refs_of place z (stored (refs_word z place) n) ≡ true
-refs_in z place n = eq-eqb (refs_word z place) (refs_word z place) refl
+refs_in z place n = and_from (refs_word z place == refs_word z place) true (eq-eqb (refs_word z place) (refs_word z place) refl) refl
 
 pub live_in : (z : Sizes) (place id : ℕ) → is_live_of place z (stored (phase_word z place) (3 + id)) ≡ true
 live_in z place id = and_from (phase_word z place == phase_word z place) (nat_le 3 (3 + id)) (eq-eqb (phase_word z place) (phase_word z place) refl) (le-leb 3 (3 + id) (omega arith))
@@ -203,6 +206,15 @@ pub gens_in : (flow : Flow) (place : ℕ) (o : ConfirmOutcome) → Within (flow_
 gens_in flow place (Confirmed id) z r e = in_one (flow_gens flow) (commit_words place flow) z r e
 gens_in flow place (Clash id direction both at) z r e = e
 
+-- PASSES
+
+-- no word, where the readings stay
+pub readings_stay : (v w x : PassSight) → w ≡ x → sizes_of x ≡ sizes_of v → x.view.readings ≡ v.view.readings → ChangesWords no_word v.view w.view
+readings_stay v w x e sizes same = record {
+  sizes = ap sizes_of e ∙ sizes;
+  only = record { more = []; all = ap (λ (k : PassSight). k.view.readings) e ∙ same ∙ sym (append-nil v.view.readings); own = refl };
+}
+
 -- HOLDING
 
 is_not_free : (z : Sizes) (place n : ℕ) (r : Reading) → n < 9 → (n ≡ 1 → ⊥) → r.word ≡ refs_word z place + n → is_freeing z r ≡ false
@@ -211,7 +223,8 @@ is_not_free z place n r low other here =
     (and_left (is_of_kind 1 z r) (r.value == 0) (of_kind z 1 0 place n r low other here))
 
 pub refs_free_none : (place : ℕ) (z : Sizes) (r : Reading) → is_refs_of place z r ≡ true → is_freeing z r ≡ false
-refs_free_none place z r e = is_not_free z place 0 r (omega arith) (λ k. omega (arith, k)) (omega (arith, eqb-true r.word (refs_word z place) e))
+refs_free_none place z r e =
+    is_not_free z place 0 r (omega arith) (λ k. omega (arith, k)) (omega (arith, eqb-true r.word (refs_word z place) (and_parts (r.word == refs_word z place) (not (is_some r.free)) e).0))
 
 pub turn_free_none : (place : ℕ) (z : Sizes) (r : Reading) → is_turn_of place z r ≡ true → is_freeing z r ≡ false
 turn_free_none place z r e = is_not_free z place 2 r (omega arith) (λ k. omega (arith, k)) (eqb-true r.word (turn_word z place) e)
@@ -233,7 +246,7 @@ pub hold_more : (place : ℕ) (v w : PassSight) → HoldsMore place v w → Chan
 hold_more place v w h =
     freeing_none (is_refs_of place) (hold_words place) v.view w.view
     (λ z r e. in_other (is_turn_of place) (give_words place) z r (in_one (is_refs_of place) (recycle_words place) z r e)) (refs_free_none place)
-    (by_own (λ word. not (word == refs_word (sizes_of v) place)) (is_refs_of place) v.view w.view (ap sizes_of h.same) h.stand h.own (λ r e. word_is (refs_word (sizes_of v) place) r.word e))
+    (record { sizes = ap sizes_of h.same; only = record { more = added v.view w.view; all = h.stand; own = h.own } })
 
 pub hold_reads : (place last : ℕ) (v w : PassSight) → OnlyReadsRefs place last v w → ChangesAndFrees (hold_words place) v.view w.view
 hold_reads place last v w h = hold_none place v.view w.view (by_loads no_word v.view w.view (ap sizes_of h.same) h.stand h.own)
@@ -261,14 +274,15 @@ give_last place v u w sizes more c = record {
     last_is : (z : Sizes) → is_last_given z (stored (refs_word z place) 0) ≡ true
     last_is z =
         and_from (is_some_refs z (stored (refs_word z place) 0)) (0 == 0)
+        (and_from (is_of_kind 0 z (stored (refs_word z place) 0)) true
         (and_from (nat_le (3 + 2 * z.buckets) (refs_word z place)) (kind_of z (refs_word z place) == 0) (le-leb (3 + 2 * z.buckets) (refs_word z place) (omega arith))
-        (eq-eqb (kind_of z (refs_word z place)) 0 (omega arith))) refl
+        (eq-eqb (kind_of z (refs_word z place)) 0 (omega arith))) refl) refl
 
 -- FINDING
 
 refs_kind : (z : Sizes) (r : Reading) → is_some_refs z r ≡ true → is_freeing z r ≡ false
 refs_kind z r e =
-    let p = and_parts (nat_le (3 + 2 * z.buckets) r.word) (kind_of z r.word == 0) e in
+    let p = and_parts (nat_le (3 + 2 * z.buckets) r.word) (kind_of z r.word == 0) (and_parts (is_of_kind 0 z r) (not (is_some r.free)) e).0 in
     let high : 3 + 2 * z.buckets ≤ r.word = leb-true (3 + 2 * z.buckets) r.word p.0 in
     or_from (is_free_turn z r) (is_some_phase 0 z r) (ne_eqb r.word 1 (λ k. omega (arith, k, high)))
     (and_left (is_of_kind 1 z r) (r.value == 0)
@@ -276,6 +290,24 @@ refs_kind z r e =
 
 pub find_refs : (v w : View) → ChangesWords is_some_refs v w → ChangesAndFrees find_words v w
 find_refs v w c = freeing_none is_some_refs find_words v w (in_one is_some_refs (either is_free_turn (is_some_phase 0))) refs_kind c
+
+-- what one look changes, whichever it answered
+refs_some : (place : ℕ) → Within (is_refs_of place) is_some_refs
+refs_some place z r e =
+    let p = and_parts (r.word == refs_word z place) (not (is_some r.free)) e in
+    let here : r.word ≡ refs_word z place = eqb-true r.word (refs_word z place) p.0 in
+    and_from (is_of_kind 0 z r) (not (is_some r.free))
+    (and_from (nat_le (3 + 2 * z.buckets) r.word) (kind_of z r.word == 0) (le-leb (3 + 2 * z.buckets) r.word (omega (arith, here)))
+    (eq-eqb (kind_of z r.word) 0 (omega (arith, here)))) p.1
+
+once_some : (r : FindOnce) → Within (once_words r) is_some_refs
+once_some (Found place id direction at) z r e = refs_some place z r e
+once_some (Absent at) z r e = absurd (false≢true e)
+once_some (Moved word was now None) z r e = e
+once_some (Moved word was now (Some place)) z r e = refs_some place z r e
+
+pub once_refs : (r : FindOnce) (v w : View) → ChangesWords (once_words r) v w → ChangesWords is_some_refs v w
+once_refs r v w c = weaker (once_words r) is_some_refs v w (once_some r) c
 
 pub find_none : (v w : View) → ChangesWords no_word v w → ChangesAndFrees find_words v w
 find_none v w c = find_refs v w (none_in is_some_refs v w c)

@@ -43,9 +43,9 @@ abbrev pub Expects : ℕ → Want → ℕ → ExpectOutcome → PassSight → Pa
 Expects place want moment (expect.Expected id replaced) v w = IsExpected place want moment id replaced v w
 Expects place want moment (expect.MasterGone at) v w = IsLeft place at IsNotLive v w
 Expects place want moment (expect.Clash id at) v w =
-    IsLeft place at (IsRefused (sizes_of v).expectations at want moment (add.Clash id)) v w
+    IsLeft place at (IsRefused (sizes_of v).expectations at v.view.seen.front want moment (add.Clash id)) v w
 Expects place want moment (expect.ExpectFull at) v w =
-    IsLeft place at (IsRefused (sizes_of v).expectations at want moment add.Full) v w
+    IsLeft place at (IsRefused (sizes_of v).expectations at v.view.seen.front want moment add.Full) v w
 
 -- UNDER BOTH TURNS
 

@@ -1,7 +1,7 @@
 -- Which words the tests of changed words name.
-use Rattle.std.specs.Prelude.{◌≡◌, ℕ, ◌+◌, ◌*◌, ◌<◌, true, false}
+use Rattle.std.specs.Prelude.{◌≡◌, ℕ, ◌+◌, ◌*◌, ◌<◌, ◌≤◌, true, false}
 use Rattle.history_book.specs.declared.sizes.Sizes.{Sizes}
-use Rattle.track_rule.specs.ChangesOnly.{is_some_next, is_some_phase, is_some_refs, is_tuple_of, is_turn_of}
+use Rattle.track_rule.specs.ChangesOnly.{is_first_of, is_refs_of, is_some_next, is_some_phase, is_some_refs, is_tuple_of, is_turn_of}
 use Rattle.track_rule.specs.Layout.{phase_word, refs_word}
 use Rattle.track_rule.specs.Readings.{stored}
 use Rattle.track_rule.specs.declared.view.Reading.{Reading}
@@ -29,3 +29,16 @@ OthersAreNot = (z : Sizes) (place : ℕ) (r : Reading) → is_turn_of place z r 
 
 abbrev pub TuplesAreNot : Type 0
 TuplesAreNot = (z : Sizes) (place : ℕ) (r : Reading) → is_tuple_of place z r ≡ true → IsNoPlaceWord z r
+
+-- A first reference is no other reference, of its place or of another one, no phase, no next link, no turn of a record and no word of a
+-- tuple; and it lies above the history word, the two turns, the generations and the heads. So only a test that names first references
+-- lets a call make one.
+pub record StandsAlone (z : Sizes) (r : Reading) : Type 0 where
+  pub refs : (other : ℕ) → is_refs_of other z r ≡ false
+  pub words : IsNoPlaceWord z r
+  pub turn : (other : ℕ) → is_turn_of other z r ≡ false
+  pub tuple : (other : ℕ) → is_tuple_of other z r ≡ false
+  pub high : 3 + 2 * z.buckets ≤ r.word
+
+abbrev pub FirstRefsStandAlone : Type 0
+FirstRefsStandAlone = (z : Sizes) (place : ℕ) (r : Reading) → is_first_of place z r ≡ true → StandsAlone z r

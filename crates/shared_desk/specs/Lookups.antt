@@ -1,12 +1,12 @@
 -- What a pass finds that looks once for what is live under a tuple.
-use Rattle.std.specs.Prelude.{◌≡◌, ℕ, ◌<◌, ◌==◌, not, true, false, None, ◌∷◌, length}
+use Rattle.std.specs.Prelude.{◌≡◌, ℕ, ◌<◌, true, false, None, ◌∷◌, length}
 use Rattle.tuple_core.specs.declared.Direction.{Direction}
 use Rattle.tuple_core.specs.declared.Tuple.{Tuple}
 use Rattle.history_book.specs.Desk.{IsLiveUnder}
 use Rattle.history_book.specs.State.{live_under}
+use Rattle.track_rule.specs.ChangesOnly.{changes_only, is_refs_of}
 use Rattle.track_rule.specs.History.{state_after}
 use Rattle.track_rule.specs.KeptWords.{is_kept_for}
-use Rattle.track_rule.specs.Layout.{refs_word}
 use Rattle.track_rule.specs.Readings.{added, changes}
 use Rattle.track_rule.specs.References.{WasConfirmed, is_taken}
 use Rattle.track_rule.specs.Sights.{PassSight, looked_on, sizes_of}
@@ -31,7 +31,7 @@ pub record FindsLive (t : Tuple) (place id : ℕ) (direction : Direction) (at : 
     };
   }
   pub stand : ReadingsStand v w
-  pub own : changes (λ word. not (word == refs_word (sizes_of v) place)) (added v.view w.view) ≡ false
+  pub own : changes_only (is_refs_of place (sizes_of v)) (added v.view w.view) ≡ true
   pub below : place < (sizes_of v).entries
   pub owed : times place v.view.places.owed ≡ 0
   pub untaken : is_taken place v.view.places.held ≡ false

@@ -1,6 +1,6 @@
 //! One thread's handle on a tracker, with those of its calls that are not a desk's. The others stand in `desk.rt`.
 
-ghost use Rattle.std.specs.Prelude.{◌≡◌, ◌+◌, ◌≤◌, true, length};
+ghost use Rattle.std.specs.Prelude.{◌≡◌, ◌+◌, ◌≤◌, true, length, []};
 ghost use Rattle.history_book.specs.Desk.{CountSays, ReleaseSays};
 ghost use Rattle.history_book.specs.Held.{is_held};
 ghost use Rattle.history_book.specs.Join.{CanJoin, Joins};
@@ -8,7 +8,8 @@ ghost use Rattle.history_book.specs.Leave.{IsLeftOf};
 ghost use Rattle.history_book.specs.Places.{HoldsNothing};
 ghost use Rattle.history_book.specs.Sight.{IsKnown};
 ghost use Rattle.history_book.specs.Split.{CanSplit, Splits};
-ghost use Rattle.track_rule.specs.ChangesOnly.{ChangesWords, is_refs_of, is_some_refs, no_word};
+ghost use Rattle.track_rule.specs.ChangesOnly.{ChangesWords, is_refs_of, no_word};
+ghost use Rattle.bucket_table.specs.Finding.{once_words};
 ghost use Rattle.shared_desk.specs.FindsOnce.{FindOnceSays};
 ghost use Rattle.shared_desk.specs.Sights.{sight_of};
 
@@ -70,6 +71,8 @@ impl<'t, G: Gate> Clerk<'t, G> {
     pub fn split(&mut self, worker: u32, shares: u32) -> Clerk<'t, G>
         requires { CanSplit shares (sight_of self.old) }
         ensures splits { Splits shares (sight_of self.old) (sight_of self.new) (sight_of result) }
+        ensures own { ChangesWords no_word self.old.pass.view self.new.pass.view }
+        ensures further_own { result.pass.view.readings ≡ [] }
         ensures knows { IsKnown (sight_of self.new) }
         ensures further_knows { IsKnown (sight_of result) }
     {
@@ -87,6 +90,7 @@ impl<'t, G: Gate> Clerk<'t, G> {
     pub fn join(&mut self, other: Clerk<'t, G>) -> Notes
         requires { CanJoin (sight_of self.old) (sight_of other) }
         ensures joins { Joins (sight_of self.old) (sight_of other.entry) (sight_of self.new) result.items }
+        ensures own { ChangesWords no_word self.old.pass.view self.new.pass.view }
         ensures knows { IsKnown (sight_of self.new) }
     {
         let Clerk { pass, notes, .. } = other;
@@ -112,7 +116,7 @@ impl<'t, G: Gate> Clerk<'t, G> {
     pub fn find_once(&mut self, t: &Tuple) -> FindOnce
         requires { length (sight_of self.old).held + length (sight_of self.old).owed ≤ 3 }
         ensures says { FindOnceSays result t.now self.old self.new }
-        ensures own { ChangesWords is_some_refs self.old.pass.view self.new.pass.view }
+        ensures own { ChangesWords (once_words result) self.old.pass.view self.new.pass.view }
         ensures knows { IsKnown (sight_of self.new) }
     {
         find_once(&mut self.pass, t)

@@ -1,6 +1,6 @@
 //! What the definitions of changed words say: each law is the contract of a function that does nothing.
 
-ghost use Rattle.shared_desk.specs.Laws.{LowWordsAreNot, OthersAreNot, PlacesAreNamed, TuplesAreNot};
+ghost use Rattle.shared_desk.specs.Laws.{FirstRefsStandAlone, LowWordsAreNot, OthersAreNot, PlacesAreNamed, TuplesAreNot};
 
 /// Which words are references and phases, and which are not.
 pub fn words_are_told_apart()
@@ -8,4 +8,5 @@ pub fn words_are_told_apart()
     ensures low { LowWordsAreNot }
     ensures turns { OthersAreNot }
     ensures tuples { TuplesAreNot }
+    ensures first { FirstRefsStandAlone }
 {}

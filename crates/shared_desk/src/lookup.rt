@@ -1,8 +1,8 @@
 //! Looking for what is live under a tuple, without waiting.
 
 ghost use Rattle.std.specs.Prelude.{◌≡◌, []};
-ghost use Rattle.bucket_table.specs.Finding.{CanTest};
-ghost use Rattle.track_rule.specs.ChangesOnly.{ChangesWords, is_some_refs};
+ghost use Rattle.bucket_table.specs.Finding.{CanTest, once_words};
+ghost use Rattle.track_rule.specs.ChangesOnly.{ChangesWords};
 ghost use Rattle.shared_desk.specs.Lookups.{LooksOnce};
 
 use bucket_table::finding;
@@ -20,7 +20,7 @@ pub fn find_once(pass: &mut Pass, t: &Tuple) -> FindOnce
     requires shut { pass.old.view.buckets.shut ≡ [] }
     requires can { CanTest pass.old }
     ensures says { LooksOnce result t.now pass.old pass.new }
-    ensures words { ChangesWords is_some_refs pass.old.view pass.new.view }
+    ensures words { ChangesWords (once_words result) pass.old.view pass.new.view }
 {
     words_determine_the_tuple();
     same_tuple_is_equality();

@@ -1,6 +1,6 @@
 -- The records without one, and what is expected without that of one.
 use Rattle.std.proofs.Common.{◌≡◌, ◌≢◌, ℕ, ◌+◌, suc, Bool, true, false, Some, List, [], ◌∷◌, length, refl, sym, ap, ◌∙◌, ⊎_elim, arith, ne_eqb}
-use Rattle.std.specs.Prelude.{filter, find, if◌then◌else◌, not}
+use Rattle.std.specs.Prelude.{filter, find, if◌then◌else◌, not, ◌==◌, ◌&&◌}
 use Rattle.std.specs.List.{All}
 use Rattle.std.proofs.lemmas.Bool.{cases_Bool, eqb-true, false≢true}
 use mathlib.Core.Option.{some}

@@ -25,7 +25,7 @@ use Rattle.track_rule.specs.Phases.{middle_of, middle_weight, of_place}
 use Rattle.track_rule.specs.Records.{has_hand}
 use Rattle.track_rule.specs.References.{AreKept, ends, held_times, is_at, is_for_new, is_held, is_taken, keeps, taken_times, takes, without}
 use Rattle.track_rule.specs.Rule.{RuleHolds, IsKept, Ledger}
-use Rattle.track_rule.specs.Steps.{IsCount, LowerStep, LowersRefs, OpenStep, Opens, RaiseStep, RaisedRefs, RaisesRefs, is_second, keep, let_go, let_go_of, opened, owed_then, raised, read_refs}
+use Rattle.track_rule.specs.Steps.{IsCount, LowerStep, LowersRefs, OpenStep, Opens, RaiseStep, RaisedRefs, RaisesRefs, first_ref, is_second, keep, let_go, let_go_of, opened, owed_then, raised, read_refs}
 use Rattle.track_rule.specs.Sums.{bit, times, total}
 use Rattle.track_rule.proofs.Frames.{Quiet, middle_more}
 use Rattle.track_rule.proofs.KeptWords.{words_opened, words_same, words_testing, words_without}
@@ -196,7 +196,7 @@ opening slots id p v c below has_some on room s (l, h) sized at range =
               bit_low (is_at p (keep p Taken) && is_for_new Taken),
             )))
             (λ (e : p ≢ q). omega (arith, h.references.taken q, takes_other q p true e)) (cases_eq p q))
-            (tt, h.references.purposes id v at) (h.commits id v at) (record { reading = stored (refs_word z p) 1; more = refl; word = refl; value = refl })
+            (tt, h.references.purposes id v at) (h.commits id v at) (record { reading = first_ref p v; more = refl; word = refl; value = refl })
             (words_opened z l.log s.words s.views id p v w at refl (omega (arith, h.references.counted p below, nobody)) h.kept_words),
       ),
       λ q same. subst (λ (k : ℕ). Opens k v w × (c ≡ c)) (one_place z p q same)

@@ -1,5 +1,5 @@
 -- Which words a pass changed itself in a call. A test names words, and maybe values, for a table of given sizes.
-use Rattle.std.specs.Prelude.{◌≡◌, ℕ, ◌+◌, ◌*◌, ◌==◌, ◌&&◌, ◌||◌, nat_le, nat_lt, not, Bool, true, false, List, ◌++◌}
+use Rattle.std.specs.Prelude.{◌≡◌, ℕ, ◌+◌, ◌*◌, ◌==◌, ◌&&◌, ◌||◌, nat_le, nat_lt, not, is_some, Bool, true, false, List, ◌++◌}
 use Rattle.std.specs.List.{list_all, list_any}
 use Rattle.history_book.specs.declared.sizes.Sizes.{Sizes}
 use Rattle.track_rule.specs.Layout.{gen_word, head_word, phase_word, refs_word, turn_word}
@@ -56,10 +56,14 @@ is_gen_of bucket z r = nat_lt bucket z.buckets && r.word == gen_word z bucket
 abbrev pub is_head_of : ℕ → Sizes → Reading → Bool
 is_head_of bucket z r = nat_lt bucket z.buckets && r.word == head_word z bucket
 
--- the references of a place, its phase where it became this or LIVE, the words of its two tuples, and its two next links
+-- the references of a place, but for a first one, which is made to a place of the free list; and a first one
 abbrev pub is_refs_of : ℕ → Sizes → Reading → Bool
-is_refs_of place z r = r.word == refs_word z place
+is_refs_of place z r = r.word == refs_word z place && not (is_some r.free)
 
+abbrev pub is_first_of : ℕ → Sizes → Reading → Bool
+is_first_of place z r = r.word == refs_word z place && is_some r.free
+
+-- the phase of a place where it became this or LIVE, the words of its two tuples, and its two next links
 abbrev pub is_phase_of : ℕ → ℕ → Sizes → Reading → Bool
 is_phase_of place value z r = r.word == phase_word z place && r.value == value
 
@@ -76,8 +80,9 @@ is_next_of place z r = nat_le (refs_word z place + 7) r.word && nat_lt r.word (r
 abbrev pub is_of_kind : ℕ → Sizes → Reading → Bool
 is_of_kind kind z r = nat_le (3 + 2 * z.buckets) r.word && kind_of z r.word == kind
 
+-- the references of some place, first ones not among them
 abbrev pub is_some_refs : Sizes → Reading → Bool
-is_some_refs z r = is_of_kind 0 z r
+is_some_refs z r = is_of_kind 0 z r && not (is_some r.free)
 
 abbrev pub is_some_phase : ℕ → Sizes → Reading → Bool
 is_some_phase value z r = is_of_kind 1 z r && r.value == value

@@ -196,9 +196,14 @@ pub record NewHooks (place : ℕ) (old new : List Hook) : Type 0 where
   pub links : (original.link ≡ 1 + 2 * place) × (reply.link ≡ 2 + 2 * place)
   pub down : (original.up ≡ false) × (reply.up ≡ false)
 
+-- A first reference, which the pass stored in the word of a place of the free list. The reading names the length of the list, so it is
+-- told from all other references.
+abbrev pub first_ref : ℕ → View → Reading
+first_ref place v = record { word = refs_word v.passes.sizes place; value = 1; own = true; free = Some (length (known_free v)) }
+
 -- A place from the free list has a reference now, the pass's own, and the pass has these hooks.
 abbrev pub opened : ℕ → List Hook → View → View
-opened place hooks v = noted (stored (refs_word v.passes.sizes place) 1) (record v {
+opened place hooks v = noted (first_ref place v) (record v {
   free = Some (taken_out place (known_free v));
   places = record v.places { held = keep place Taken ∷ v.places.held };
   buckets = record v.buckets { hooks = hooks };

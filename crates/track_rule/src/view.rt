@@ -145,7 +145,8 @@ pub struct Reading {
     pub word: u64,
     pub value: u64,
     pub own: bool,
-    /// The length of the free list, where the pass had its turn and read the history word.
+    /// The length of the free list, where the pass had its turn and read the history word, or made the first reference to a
+    /// place of the list.
     pub free: Option<u64>,
 }
 

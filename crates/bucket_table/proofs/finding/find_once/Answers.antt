@@ -5,7 +5,7 @@ use Rattle.bucket_table.specs.Following.{bucket_in}
 use Rattle.bucket_table.specs.declared.lookup.Goal.{Goal}
 use Rattle.bucket_table.specs.declared.finding.FindOnce.TheVariants.{Absent, Moved}
 use Rattle.std.proofs.Common.{None}
-use Rattle.bucket_table.proofs.Chaining.{once_words}
+use Rattle.bucket_table.proofs.Chaining.{once_changes}
 use Rattle.bucket_table.proofs.Answering.{meets_says, walk_moved}
 use Rattle.bucket_table.proofs.finding.find_once.Goals as goal
 
@@ -29,11 +29,11 @@ pub returns-in-Moved-clause-says : goal.returns-in-Moved-clause-says
 returns-in-Moved-clause-says c = walk_moved c.args.t.now c.in-Moved.word c.in-Moved.was c.in-Moved.now c.args.pass.now c.follow.new.pass c.in-Moved.ensures
 
 pub returns-in-Link-clause-words : goal.returns-in-Link-clause-words
-returns-in-Link-clause-words c = once_words c.meet.result c.args.t.now c.args.pass.now c.meet.new.pass (returns-in-Link-clause-says c)
+returns-in-Link-clause-words c = once_changes c.meet.result c.args.t.now c.args.pass.now c.meet.new.pass (returns-in-Link-clause-says c)
 
 pub returns-in-End-clause-words : goal.returns-in-End-clause-words
-returns-in-End-clause-words c = once_words (Absent c.in-End.at) c.args.t.now c.args.pass.now c.follow.new.pass c.in-End.ensures
+returns-in-End-clause-words c = once_changes (Absent c.in-End.at) c.args.t.now c.args.pass.now c.follow.new.pass c.in-End.ensures
 
 pub returns-in-Moved-clause-words : goal.returns-in-Moved-clause-words
 returns-in-Moved-clause-words c =
-    once_words (Moved c.in-Moved.word c.in-Moved.was c.in-Moved.now None) c.args.t.now c.args.pass.now c.follow.new.pass (returns-in-Moved-clause-says c)
+    once_changes (Moved c.in-Moved.word c.in-Moved.was c.in-Moved.now None) c.args.t.now c.args.pass.now c.follow.new.pass (returns-in-Moved-clause-says c)

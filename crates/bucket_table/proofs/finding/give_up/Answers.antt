@@ -1,8 +1,10 @@
-use Rattle.bucket_table.proofs.Meeting.{gives_none, gives_some}
+use Rattle.bucket_table.proofs.Meeting.{gives_last, gives_some}
 use Rattle.bucket_table.proofs.finding.give_up.Goals as goal
 
-pub returns-in-Last : goal.returns-in-Last
-returns-in-Last c = gives_none c.args.place c.args.pass.now c.requires c.release.new.pass c.in-Last.ensures
+pub returns-then-ref_down-eq1 : goal.returns-then-ref_down-eq1
+returns-then-ref_down-eq1 c =
+    gives_last c.args.place c.args.pass.now c.requires c.ref_down.result c.ref_down.new.self c.ref_down.ensures.lowers c.ref_down.ensures.kept c.if-ref_down-eq1.true
 
-pub returns-in-Kept : goal.returns-in-Kept
-returns-in-Kept c = gives_some c.args.place c.args.pass.now c.requires c.release.new.pass c.in-Kept.ensures
+pub returns-else-ref_down-eq1 : goal.returns-else-ref_down-eq1
+returns-else-ref_down-eq1 c =
+    gives_some c.args.place c.args.pass.now c.requires c.ref_down.result c.ref_down.new.self c.ref_down.ensures.lowers c.ref_down.ensures.kept c.if-ref_down-eq1.false

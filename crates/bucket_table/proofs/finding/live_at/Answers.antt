@@ -1,4 +1,3 @@
-use Rattle.std.proofs.Common.{refl}
 use Rattle.track_rule.specs.ChangesOnly.{no_word}
 use Rattle.track_rule.proofs.Changing.{joined, look_words, phase_words}
 use Rattle.bucket_table.proofs.Showing.{shows_live, shows_no_more, shows_none}

@@ -1,4 +1,3 @@
-use Rattle.std.proofs.Common.{refl}
 use Rattle.bucket_table.proofs.Following.{stands_still}
 use Rattle.bucket_table.proofs.lookup.end.Goals as goal
 

@@ -1,5 +1,5 @@
-use Rattle.track_rule.specs.ChangesOnly.{is_some_refs}
-use Rattle.shared_desk.proofs.Counting.{no_some_refs, still_taken}
+use Rattle.bucket_table.specs.Finding.{once_words}
+use Rattle.shared_desk.proofs.Counting.{no_once, still_taken}
 use Rattle.std.proofs.Common.{◌+◌, ◌≤◌, length, subst, sym}
 use Rattle.shared_desk.specs.Sights.{ClerkSight, sight_of}
 use Rattle.shared_desk.proofs.FoundOnce.{can_test, rest_once, says_once}
@@ -21,7 +21,7 @@ returns-clause-says g c =
     rw (← c.self.view_is) (says_once c.self.inside.pass c.self.inside.notes c.self.inside.spare c.self.invariant
     (subst (λ (s : ClerkSight). length (sight_of s).held + length (sight_of s).owed ≤ 3) (sym c.self.view_is) c.requires)
     c.find_once.result c.args.t.now c.find_once.new.pass c.find_once.ensures.says
-    (still_taken is_some_refs c.self.inside.pass c.find_once.new.pass no_some_refs c.find_once.ensures.words))
+    (still_taken (once_words c.find_once.result) c.self.inside.pass c.find_once.new.pass (no_once c.find_once.result) c.find_once.ensures.words))
 
 pub returns-clause-knows : goal.returns-clause-knows
 returns-clause-knows g c = (invariant_of-self g c).knows

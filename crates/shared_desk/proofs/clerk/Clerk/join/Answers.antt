@@ -1,4 +1,7 @@
-use Rattle.std.proofs.Common.{subst, sym}
+use Rattle.std.proofs.Common.{refl, subst, sym}
+use Rattle.track_rule.specs.ChangesOnly.{no_word}
+use Rattle.track_rule.proofs.Changing.{joined, look_words}
+use Rattle.shared_desk.proofs.Wording.{readings_stay}
 use Rattle.history_book.specs.Places.{HoldsNothing}
 use Rattle.shared_desk.specs.Sights.{ClerkSight, sight_of}
 use Rattle.shared_desk.proofs.Joining.{clerks_joined, rest_joined, rest_nothing}
@@ -21,3 +24,9 @@ returns-clause-joins g c =
 
 pub returns-clause-knows : goal.returns-clause-knows
 returns-clause-knows g c = (invariant_of-self g c).knows
+
+pub returns-clause-own : goal.returns-clause-own
+returns-clause-own g c =
+    rw (← c.self.view_is) (joined no_word c.self.inside.pass.view c.join.new.self.view c.history_load.new.self.view
+    (readings_stay c.self.inside.pass c.join.new.self _ c.join.ensures refl refl)
+    (look_words no_word c.history_load.result c.join.new.self.view c.history_load.new.self.view c.history_load.ensures.looks))

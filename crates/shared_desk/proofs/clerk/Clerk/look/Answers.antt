@@ -7,21 +7,21 @@ use Rattle.shared_desk.specs.Sights.{sight_of}
 use Rattle.track_rule.specs.Readings.{added}
 use Rattle.track_rule.specs.Sights.{sizes_of}
 use Rattle.bucket_table.specs.Finding.{IsLastGiven}
-use Rattle.shared_desk.proofs.Wording.{find_refs, look_frees}
+use Rattle.shared_desk.proofs.Wording.{find_refs, look_frees, once_refs}
 use Rattle.shared_desk.proofs.clerk.Clerk.look.Goals as goal
 
 pub returns-in-Found-clause-own : goal.returns-in-Found-clause-own
-returns-in-Found-clause-own g c = find_refs c.args.self.now.pass.view c.find_once.new.self.pass.view c.find_once.ensures.own
+returns-in-Found-clause-own g c = find_refs c.args.self.now.pass.view c.find_once.new.self.pass.view (once_refs c.find_once.result c.args.self.now.pass.view c.find_once.new.self.pass.view c.find_once.ensures.own)
 
 pub returns-in-Absent-clause-own : goal.returns-in-Absent-clause-own
-returns-in-Absent-clause-own g c = find_refs c.args.self.now.pass.view c.find_once.new.self.pass.view c.find_once.ensures.own
+returns-in-Absent-clause-own g c = find_refs c.args.self.now.pass.view c.find_once.new.self.pass.view (once_refs c.find_once.result c.args.self.now.pass.view c.find_once.new.self.pass.view c.find_once.ensures.own)
 
 pub returns-in_default-clause-own : goal.returns-in_default-clause-own
-returns-in_default-clause-own g c = find_refs c.args.self.now.pass.view c.find_once.new.self.pass.view c.find_once.ensures.own
+returns-in_default-clause-own g c = find_refs c.args.self.now.pass.view c.find_once.new.self.pass.view (once_refs c.find_once.result c.args.self.now.pass.view c.find_once.new.self.pass.view c.find_once.ensures.own)
 
 pub returns-in-Some-clause-own : goal.returns-in-Some-clause-own
 returns-in-Some-clause-own g c =
-    look_frees c.in-Some.place c.args.self.now.pass.view c.find_once.new.self.pass.view c.recycle.new.self.pass.view c.find_once.ensures.own
+    look_frees c.in-Some.place c.args.self.now.pass.view c.find_once.new.self.pass.view c.recycle.new.self.pass.view (once_refs c.find_once.result c.args.self.now.pass.view c.find_once.new.self.pass.view c.find_once.ensures.own)
     (subst (λ (o : Option ℕ). IsLastGiven o (sizes_of c.args.self.now.pass) (added c.args.self.now.pass.view c.find_once.new.self.pass.view)) c.in-Some.is c.in-Moved.ensures.says.last)
     c.recycle.ensures.own
 
