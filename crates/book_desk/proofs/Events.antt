@@ -28,7 +28,7 @@ use Rattle.history_book.specs.Entry.{is_of_entry}
 use Rattle.history_book.specs.Find.{IsRecordAt}
 use Rattle.history_book.specs.Held.{for_entry, held_for, held_id, id_of, is_at, is_held, is_held_for_entry, is_taken}
 use Rattle.history_book.specs.Laws.{EntriesKeepTheirProtocol, IsConfirmed, LegalHistoriesGoOn, LiveRecordsAreConfirmed, RecordsAreApart, StatesFollow, StatesStay}
-use Rattle.history_book.specs.Legality.{accepts, is_of_one_protocol, is_reason, may_destroy, may_happen, may_touch}
+use Rattle.history_book.specs.Legality.{accepts, is_of_one_flow, is_reason, may_destroy, may_happen, may_touch}
 use Rattle.history_book.specs.Record.{has_id, has_original, has_place, has_reply}
 use Rattle.history_book.specs.Sight.{IsForEntryOf, IsForOne, WasConfirmedIn}
 use Rattle.history_book.specs.Sizes.{AreWithinLimits}
@@ -138,7 +138,7 @@ enter_room log b p h taken =
 
 -- a book is right after a Confirm
 pub entered : StatesFollow → LegalHistoriesGoOn → FreeIsAbsent → (log : List Event) (old new : Book) (r : Record) → IsBook log old → Adds old new
-    → is_taken r.place old.holds.items ≡ true → r.id ≡ old.events → is_of_one_protocol r ≡ true
+    → is_taken r.place old.holds.items ≡ true → r.id ≡ old.events → is_of_one_flow r ≡ true
     → live_under r.original (state_in old) ≡ None → live_under r.reply (state_in old) ≡ None
     → new.records.items ≡ old.records.items ++ r ∷ [] → new.holds.items ≡ held_for r.place r.id old.holds.items → new.expects ≡ old.expects
     → IsBook (log ++ Confirm r ∷ []) new

@@ -1,6 +1,6 @@
 -- What an event more on expectations leaves of a right book, and what is told of it.
 use Rattle.std.proofs.Common.{◌≡◌, ℕ, ◌+◌, ◌<◌, ◌≤◌, true, not, List, [], ◌∷◌, ◌++◌, length, refl, sym, ap, subst, ◌∙◌, Option, Some, None}
-use Rattle.std.specs.List.{find, All}
+use Rattle.std.specs.List.{find, slice_get, All}
 use Rattle.std.proofs.lemmas.Bool.{and_from, eq-eqb, le-ltb}
 use Rattle.tuple_core.specs.declared.Tuple.{Tuple}
 use Rattle.room_list.specs.Roomed.{Roomed}
@@ -17,11 +17,11 @@ use Rattle.history_book.specs.declared.record.Record.{Record}
 use Rattle.history_book.specs.Desk.{SamePlaces}
 use Rattle.history_book.specs.WentOn.{Looked, MadeEvent}
 use Rattle.history_book.specs.DeskExpectations.{AddGives, expectation_at}
-use Rattle.history_book.specs.Entry.{is_helped_entry}
+use Rattle.history_book.specs.Entry.{is_helped_entry, zone_of_entry}
 use Rattle.history_book.specs.Find.{IsRecordAt}
 use Rattle.history_book.specs.Held.{held_id}
-use Rattle.history_book.specs.Laws.{EntriesKeepTheirHelper, ExpectationsAreInOrder, LegalHistoriesGoOn, StatesFollow}
-use Rattle.history_book.specs.Legality.{expected_for, has_helper, is_added, may_claim, may_happen, may_unexpect, same_id}
+use Rattle.history_book.specs.Laws.{EntriesKeepTheirHelper, EntriesKeepTheirZone, ExpectationsAreInOrder, LegalHistoriesGoOn, StatesFollow}
+use Rattle.history_book.specs.Legality.{expected_for, helps_in, is_added, may_claim, may_happen, may_unexpect, same_id}
 use Rattle.history_book.specs.State.{State, next, record_of, state_of}
 use Rattle.book_desk.specs.declared.book.Book.{Book}
 use Rattle.book_desk.specs.Fields.{AreReferences, IsBook, state_in}
@@ -61,7 +61,7 @@ module _ (follow : StatesFollow) (goes_on : LegalHistoriesGoOn) where
 
   -- a book is right after an Expect
   pub promised : (log : List Event) (old new : Book) (e : Expectation) (replaced : Option ℕ) (moment : ℕ) → IsBook log old → Adds old new
-      → e.id ≡ old.events → e.deadline ≡ moment + expected_for → has_helper (record_of e.master (state_in old)) ≡ true
+      → e.id ≡ old.events → e.deadline ≡ moment + expected_for → helps_in e.zone (record_of e.master (state_in old)) ≡ true
       → add_outcome old.expects.room old.expects.items e moment ≡ Added replaced
       → new.records ≡ old.records → new.holds ≡ old.holds → new.expects.items ≡ with_one old.expects.items e
       → IsBook (log ++ Expect e replaced moment ∷ []) new
@@ -115,39 +115,48 @@ newest law log b id h here =
     (law b.sizes log (length log) h.history.legal).1 in
     subst (λ (n : ℕ). All (λ (o : Expectation). o.id < n) b.expects.items) (sym h.events ∙ sym here) older
 
--- the entry for which the place is held is live and has the helper
-pub record CanExpect (b : Book) (p id : ℕ) : Type 0 where
+-- the entry for which the place is held is live, has the helper, and is in the zone, in which it was confirmed
+pub record CanExpect (log : List Event) (b : Book) (p id zone : ℕ) : Type 0 where
   pub given : id ≡ held_id p b.holds.items
-  pub helped : has_helper (record_of id (state_in b)) ≡ true
+  pub helped : helps_in zone (record_of id (state_in b)) ≡ true
+  pub zoned : zone ≡ zone_of_entry id log
 
--- a live entry has the helper that its Confirm gave it
-pub can_expect : EntriesKeepTheirHelper → (log : List Event) (b : Book) (holds : List Hold) (records : List Record) (p id i : ℕ) → IsBook log b
-    → holds ≡ b.holds.items → records ≡ b.records.items → id ≡ held_id p holds → IsRecordAt id (state_of records) i
-    → is_helped_entry (held_id p b.holds.items) log ≡ true → CanExpect b p id
-can_expect law log b holds records p id i h same_holds same_records given found helper =
+-- a live entry has the helper that its Confirm gave it, and its zone
+pub can_expect : EntriesKeepTheirHelper → EntriesKeepTheirZone
+    → (front log : List Event) (b : Book) (holds : List Hold) (records others : List Record) (p id i zone : ℕ) → IsBook front b → IsBook log b
+    → holds ≡ b.holds.items → records ≡ b.records.items → others ≡ b.records.items → id ≡ held_id p holds → IsRecordAt id (state_of records) i
+    → ((r : Record) → slice_get others i ≡ Some r → zone ≡ r.original.zone)
+    → is_helped_entry (held_id p b.holds.items) front ≡ true → CanExpect log b p id zone
+can_expect law in_zone front log b holds records others p id i zone g h same_holds same_records same_others given found there helper =
     let here : IsRecordAt id (state_of b.records.items) i = subst (λ rs. IsRecordAt id (state_of rs) i) same_records found in
     let its : record_of id (state_in b) ≡ Some here.subject = here.same in
-    let kept : is_helped_entry id log ≡ here.subject.helper =
-    law b.sizes log (length log) id here.subject h.history.legal (ap (record_of id) (sym h.history.state) ∙ its) in
+    let kept : is_helped_entry id front ≡ here.subject.helper =
+    law b.sizes front (length front) id here.subject g.history.legal (ap (record_of id) (sym g.history.state) ∙ its) in
     let the_id : id ≡ held_id p b.holds.items = given ∙ ap (held_id p) same_holds in
+    let zoned : zone ≡ here.subject.original.zone = there here.subject (ap (λ rs. slice_get rs i) same_others ∙ here.item) in
     record {
       given = the_id;
-      helped = ap has_helper its ∙ sym kept ∙ ap (λ (n : ℕ). is_helped_entry n log) the_id ∙ helper;
+      helped = ap (helps_in zone) its
+          ∙ and_from _ _ (sym kept ∙ ap (λ (n : ℕ). is_helped_entry n front) the_id ∙ helper) (eq-eqb here.subject.original.zone zone (sym zoned));
+      zoned = zoned
+          ∙ sym (in_zone b.sizes log (length log) id here.subject h.history.legal (ap (record_of id) (sym h.history.state) ∙ its));
     }
 
 -- what is told where it was not added
-pub not_added : (log : List Event) (spare taken : ℕ) (b : Book) (p at id : ℕ) (want : Want) (moment : ℕ) (e : Expectation) (outcome : AddOutcome) → IsBook log b
-    → at ≡ b.events → CanExpect b p id → e ≡ expectation_at at id want moment
+pub not_added : (log : List Event) (spare taken : ℕ) (b : Book) (p at id zone : ℕ) (want : Want) (moment : ℕ) (e : Expectation) (outcome : AddOutcome) → IsBook log b
+    → at ≡ b.events → CanExpect log b p id zone → e ≡ expectation_at at id zone want moment
     → add_outcome b.expects.room b.expects.items e moment ≡ outcome
-    → Looked (sight_in log spare taken b) (sight_in log spare taken b) at (AddGives b.sizes.expectations at (held_id p b.holds.items) want moment outcome)
+    → Looked (sight_in log spare taken b) (sight_in log spare taken b) at (AddGives b.sizes.expectations at (held_id p b.holds.items) (zone_of_entry (held_id p b.holds.items) log) want moment outcome)
     × SamePlaces (sight_in log spare taken b) (sight_in log spare taken b)
-not_added log spare taken b p at id want moment e outcome h here can is gives =
-    let fact : AddGives b.sizes.expectations at id want moment outcome (state_in b) = record {
+not_added log spare taken b p at id zone want moment e outcome h here can is gives =
+    let fact : AddGives b.sizes.expectations at id zone want moment outcome (state_in b) = record {
       live = can.helped;
-      gives = ap (λ (room : ℕ). add_outcome room b.expects.items (expectation_at at id want moment) moment) (sym h.rooms.expects)
+      gives = ap (λ (room : ℕ). add_outcome room b.expects.items (expectation_at at id zone want moment) moment) (sym h.rooms.expects)
           ∙ ap (λ (x : Expectation). add_outcome b.expects.room b.expects.items x moment) (sym is) ∙ gives;
     } in (
-      looked log spare taken b b at (AddGives b.sizes.expectations at (held_id p b.holds.items) want moment outcome) h here refl
-          (subst (λ (m : ℕ). AddGives b.sizes.expectations at m want moment outcome (state_in b)) can.given fact),
+      looked log spare taken b b at
+          (AddGives b.sizes.expectations at (held_id p b.holds.items) (zone_of_entry (held_id p b.holds.items) log) want moment outcome) h here refl
+          (subst (λ (m : ℕ). AddGives b.sizes.expectations at m (zone_of_entry m log) want moment outcome (state_in b)) can.given
+          (subst (λ (z : ℕ). AddGives b.sizes.expectations at id z want moment outcome (state_in b)) can.zoned fact)),
       record { held = refl; owed = refl },
     )

@@ -2,11 +2,12 @@
 //! that kept every reference and made every event, whatever the events were; the desks tell their own part of it.
 #![tactic(auto)]
 
-ghost use Rattle.std.specs.Prelude.{◌≡◌, ◌+◌, ◌*◌, ◌<◌, ◌≤◌, ◌^◌, None, length, true};
+ghost use Rattle.std.specs.Prelude.{◌≡◌, ◌+◌, ◌*◌, ◌<◌, ◌≤◌, ◌^◌, None, Some, length, slice_get, true};
+ghost use Rattle.history_book.specs.declared.record.Record.{Record};
 ghost use Rattle.history_book.specs.Desk.{ConfirmSays, CountSays, FindSays, HoldSays, KillSays, PeekSays};
 ghost use Rattle.history_book.specs.Desk.{RecycleSays, ReleaseSays, TakeSays, TouchSays};
 ghost use Rattle.history_book.specs.DeskExpectations.{ClaimSays, ExpectSays, ListsExpected, UnexpectSays};
-ghost use Rattle.history_book.specs.Entry.{is_flow_of_one_protocol, is_helped_entry, is_of_entry, suits_entry};
+ghost use Rattle.history_book.specs.Entry.{is_lawful_flow, is_helped_entry, is_of_entry, suits_entry};
 ghost use Rattle.history_book.specs.Held.{held_id, is_held, is_held_for_entry, is_owed, is_taken};
 ghost use Rattle.history_book.specs.Legality.{reason_moment_of};
 ghost use Rattle.book_desk.specs.Internal.Book.{IsSomeBook, StaysBook, Tells, counted};
@@ -21,8 +22,9 @@ use history_book::event::{Event, Why};
 use history_book::find::{find, find_id};
 use history_book::laws::{
     destroys_take_one, entries_keep_their_helper, entries_keep_their_protocol,
-    expectations_are_in_order, free_is_absent, ids_name_records, legal_histories_go_on,
-    live_records_are_confirmed, records_are_apart, states_follow, states_stay, touches_change_one,
+    entries_keep_their_zone, expectations_are_in_order, free_is_absent, ids_name_records,
+    legal_histories_go_on, live_records_are_confirmed, records_are_apart, states_follow,
+    states_stay, touches_change_one,
 };
 use history_book::legality::{expectation_at, is_reason_for};
 use history_book::outcome::{
@@ -34,6 +36,14 @@ use history_book::report::Expectations;
 use proto_rules::laws::same_part_is_equality;
 use proto_rules::{Outcome, step};
 use tuple_core::{Direction, Segment, Tuple};
+
+/// The zone of the record at an index.
+fn zone_at(records: &[Record], index: usize) -> u16
+    requires { index < length records.now }
+    ensures { (r : Record) → slice_get records.now index ≡ Some r → result ≡ r.original.zone }
+{
+    records[index].original.zone
+}
 
 impl Book {
     /// Looks up what is live under a tuple, the original one first, and holds its place.
@@ -91,7 +101,7 @@ impl Book {
     pub fn confirm(&mut self, place: u32, flow: &Flow) -> (ConfirmOutcome, Option<Event>)
         requires right { IsSomeBook (λ log. Unit {0}) self.old }
         requires taken { is_taken place self.old.holds.items ≡ true }
-        requires protocol { is_flow_of_one_protocol flow.now ≡ true }
+        requires protocol { is_lawful_flow flow.now ≡ true }
         requires few { self.old.events < 2 ^ 40 }
         ensures stays { StaysBook self.old self.new result.1 }
         ensures says { Tells self.old self.new result.1 (λ old new. ConfirmSays place flow.now old new result.0) }
@@ -232,15 +242,17 @@ impl Book {
         ensures sizes { self.new.sizes ≡ self.old.sizes }
     {
         entries_keep_their_helper();
+        entries_keep_their_zone();
         expectations_are_in_order();
         legal_histories_go_on();
         states_follow();
         let at = self.events;
         let id = held_id(self.holds.as_slice(), place);
-        let Some(_) = find_id(self.records.as_slice(), id) else {
+        let Some(index) = find_id(self.records.as_slice(), id) else {
             return (ExpectOutcome::MasterGone { at }, None);
         };
-        let e = expectation_at(at, id, want, moment);
+        let zone = zone_at(self.records.as_slice(), index);
+        let e = expectation_at(at, id, zone, want, moment);
         match self.expects.outcome(&e, moment) {
             AddOutcome::Added { replaced } => {
                 self.promise(e, replaced, moment);

@@ -40,6 +40,7 @@ fn sizes() -> Sizes
 /// From 10.0.0.1:5000 to 10.0.0.2:53.
 const QUERY: Tuple = Tuple {
     proto: Proto::Udp,
+    zone: 0,
     src: 0x0a00_0001,
     dst: 0x0a00_0002,
     a: 5000,
@@ -48,6 +49,7 @@ const QUERY: Tuple = Tuple {
 
 const ANSWER: Tuple = Tuple {
     proto: Proto::Udp,
+    zone: 0,
     src: 0x0a00_0002,
     dst: 0x0a00_0001,
     a: 53,
@@ -57,6 +59,7 @@ const ANSWER: Tuple = Tuple {
 /// From 10.0.0.3:5000 to 10.0.0.2:53.
 const OTHER_QUERY: Tuple = Tuple {
     proto: Proto::Udp,
+    zone: 0,
     src: 0x0a00_0003,
     dst: 0x0a00_0002,
     a: 5000,

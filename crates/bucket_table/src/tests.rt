@@ -47,6 +47,7 @@ fn to_itself() -> Tuple
 {
     Tuple {
         proto: Proto::Tcp,
+        zone: 0,
         src: 0x0A00_0009,
         dst: 0x0A00_0009,
         a: 7000,
@@ -60,6 +61,7 @@ fn to_another() -> Tuple
 {
     Tuple {
         proto: Proto::Tcp,
+        zone: 0,
         src: 0x0A00_0001,
         dst: 0x0A00_0002,
         a: 1000,

@@ -1,6 +1,6 @@
 pub mod ByClap
+pub mod Numbers
 pub mod PlainWord
-pub mod Ports
 pub mod ShortWords
 pub mod Wanting
 pub mod Within

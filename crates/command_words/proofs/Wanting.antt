@@ -1,7 +1,7 @@
 -- No words are said to want memory.
 use Rattle.std.proofs.Common.{◌≡◌, ℕ, List, Option, Some, None, Result, Ok, Err, refl}
 use Rattle.file_text.specs.Reading.{◌>>=◌, required}
-use Rattle.command_words.specs.Words.{Request, asked_of, found_in, if_power_of_two, number_or, origin_of, past_limit, ports_or, unless_past, with_values, within_limits}
+use Rattle.command_words.specs.Words.{Request, asked_of, found_in, if_power_of_two, number_or, origin_of, past_limit, ports_or, unless_past, with_values, within_limits, zones_for}
 use Rattle.command_words.specs.declared.WordsError.{WordsError}
 use Rattle.command_words.specs.declared.WordsError.TheVariants.{Limit, NoMemory, Usage}
 use Rattle.command_words.specs.declared.WordsLimit.{WordsLimit}
@@ -34,7 +34,8 @@ wants_no_memory words =
     then_tells (with_values given) within_limits
     (then_tells (required Usage (origin_of given.names given.make given.packets given.threads)) _
     (required_tells (origin_of given.names given.make given.packets given.threads)) (λ origin.
+    then_tells (required Usage (zones_for origin given.zones)) _ (required_tells (zones_for origin given.zones)) (λ zones.
     then_tells (required Usage (number_or 65536 given.entries)) _ (required_tells (number_or 65536 given.entries)) (λ entries.
     then_tells (required Usage (if_power_of_two (number_or 16384 given.buckets))) _ (required_tells (if_power_of_two (number_or 16384 given.buckets))) (λ buckets.
-    then_tells (required Usage (ports_or 21 given.ftp)) _ (required_tells (ports_or 21 given.ftp)) (λ ports e. absurd (cc e))))))
+    then_tells (required Usage (ports_or 21 given.ftp)) _ (required_tells (ports_or 21 given.ftp)) (λ ports e. absurd (cc e)))))))
     limits_tell)

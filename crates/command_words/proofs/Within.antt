@@ -1,5 +1,5 @@
 -- What holds of all that words may ask for.
-use Rattle.std.proofs.Common.{◌≡◌, ℕ, ◌≤◌, ◌<◌, ◌==◌, ◌&&◌, not, nat_le, nat_lt, Bool, true, false, if◌then◌else◌, List, [], ◌∷◌, length, Option, Some, None, Result, Ok, Err, IfOk, IfSome, arith, refl, subst}
+use Rattle.std.proofs.Common.{◌≡◌, ℕ, suc, zero, ◌≤◌, ◌<◌, ◌==◌, ◌&&◌, not, nat_le, nat_lt, Bool, true, false, if◌then◌else◌, List, [], ◌∷◌, length, replicate, Option, Some, None, Result, Ok, Err, IfOk, IfSome, ap, arith, refl, subst}
 use Rattle.std.specs.Int.{is_power_of_two}
 use Rattle.std.specs.List.{All}
 use Rattle.std.proofs.lemmas.Bool.Decides.{nat_tests}
@@ -9,7 +9,7 @@ use Rattle.file_text.specs.ReadingLaws.{needed, went_on, went_on_with}
 use Rattle.file_text.specs.Reading.{required}
 use Rattle.file_text.specs.Text.{decimal_of, parts_at, port_of, within}
 use Rattle.command_words.specs.Asked.{IsOrNoMemory, asked_as}
-use Rattle.command_words.specs.Words.{FoundWords, IsOriginWithin, IsWithin, IsWorkloadWithin, Names, Origin, Request, Workload, asked_of, flows_of, found_in, if_power_of_two, made, named, names_nothing, number_of, number_or, origin_of, past_limit, past_origin, past_workload, ports_in, ports_of, ports_or, unless_past, with_port, with_values, within_limits, workload_of}
+use Rattle.command_words.specs.Words.{AreZonesOf, FoundWords, IsOriginWithin, IsWithin, IsWorkloadWithin, Names, Origin, Request, Workload, asked_of, capture_count, flows_of, found_in, if_power_of_two, made, named, names_nothing, number_of, number_or, numbers_in, numbers_of, origin_of, past_limit, past_origin, past_workload, ports_in, ports_or, unless_past, with_number, with_values, within_limits, workload_of, zone_of, zones_for, zones_in}
 use Rattle.command_words.specs.declared.Asked.{Asked}
 use Rattle.command_words.specs.declared.WordsError.{WordsError}
 use Rattle.command_words.specs.declared.WordsError.TheVariants.{Usage}
@@ -28,35 +28,73 @@ some_port : (text : List ℕ) → IfSome (port_of 1 text) (λ port. 1 ≤ port)
 unfolding port_of
 some_port text = above_low 1 65535 (decimal_of 5 text)
 
--- as many ports as there are parts
-abbrev AreOf : ℕ → List ℕ → Type 0
-AreOf count ports = (length ports ≡ count) × All (λ port. 1 ≤ port) ports
-
-ports_are : (parts : List (List ℕ)) → IfSome (ports_of parts) (AreOf (length parts))
-ports_are [] = (refl, All-nil (λ port. 1 ≤ port))
-ports_are (part ∷ parts) = both (port_of 1 part) (ports_of parts) (some_port part) (ports_are parts)
+below_high : (low high : ℕ) (read : Option ℕ) → IfSome (within low high read) (λ n. n ≤ high)
+below_high low high None = tt
+below_high low high (Some n) = tested (nat_le low n && nat_le n high) (λ is. grind (arith, nat_tests, is))
   where
-    both : (port : Option ℕ) (ports : Option (List ℕ)) → IfSome port (λ port. 1 ≤ port) → IfSome ports (AreOf (length parts)) → IfSome (with_port port ports) (AreOf (length (part ∷ parts)))
-    both None ports above are = tt
-    both (Some port) None above are = tt
-    both (Some port) (Some ports) above are =
-        let one : length (port ∷ ports) ≡ length (part ∷ parts) = omega (arith, are.0) in
-        (one, All-cons (λ port. 1 ≤ port) port ports above are.1)
+    tested : (test : Bool) → (test ≡ true → n ≤ high) → IfSome (if test then Some n else None) (λ m. m ≤ high)
+    tested true below = below refl
+    tested false below = tt
+
+low_zone : (text : List ℕ) → IfSome (zone_of text) (λ zone. zone ≤ 65535)
+unfolding port_of
+low_zone text = below_high 0 65535 (decimal_of 5 text)
+
+-- so many numbers, and this of each of them
+abbrev AreOf : (ℕ → Type 0) → ℕ → List ℕ → Type 0
+AreOf P count numbers = (length numbers ≡ count) × All P numbers
+
+numbers_are : (P : ℕ → Type 0) (read : List ℕ → Option ℕ) → ((text : List ℕ) → IfSome (read text) P)
+    → (parts : List (List ℕ)) → IfSome (numbers_of read parts) (AreOf P (length parts))
+numbers_are P read each [] = (refl, All-nil P)
+numbers_are P read each (part ∷ parts) = both (read part) (numbers_of read parts) (each part) (numbers_are P read each parts)
+  where
+    both : (number : Option ℕ) (numbers : Option (List ℕ)) → IfSome number P → IfSome numbers (AreOf P (length parts)) → IfSome (with_number number numbers) (AreOf P (length (part ∷ parts)))
+    both None numbers is are = tt
+    both (Some number) None is are = tt
+    both (Some number) (Some numbers) is are =
+        let one : length (number ∷ numbers) ≡ length (part ∷ parts) = omega (arith, are.0) in
+        (one, All-cons P number numbers is are.1)
 
 abbrev HasPorts : List ℕ → Type 0
 HasPorts ports = (0 < length ports) × (length ports ≤ 8) × All (λ port. 1 ≤ port) ports
 
 ports_have : (text : List ℕ) → IfSome (ports_in text) HasPorts
-unfolding ports_in
-ports_have text = tested (nat_le (length (parts_at 44 text)) 8) refl (ports_of (parts_at 44 text)) (ports_are (parts_at 44 text))
+unfolding numbers_in
+ports_have text = tested (nat_le (length (parts_at 44 text)) 8) refl (numbers_of (port_of 1) (parts_at 44 text)) (numbers_are (λ port. 1 ≤ port) (port_of 1) some_port (parts_at 44 text))
   where
     some : 0 < length (parts_at 44 text)
     some = omega (arith, length-slice_split (λ (b : ℕ). b == 44) text)
 
-    tested : (test : Bool) → nat_le (length (parts_at 44 text)) 8 ≡ test → (ports : Option (List ℕ)) → IfSome ports (AreOf (length (parts_at 44 text))) → IfSome (if test then ports else None) HasPorts
+    tested : (test : Bool) → nat_le (length (parts_at 44 text)) 8 ≡ test → (ports : Option (List ℕ)) → IfSome ports (AreOf (λ port. 1 ≤ port) (length (parts_at 44 text))) → IfSome (if test then ports else None) HasPorts
     tested true few None are = tt
     tested true few (Some ports) are = (grind (arith, some, are.0), grind (arith, nat_tests, few, are.0), are.1)
     tested false more ports are = tt
+
+-- zone 0 for each capture
+all_zeros : (count : ℕ) → AreOf (λ zone. zone ≤ 65535) count (replicate count 0)
+all_zeros zero = (refl, All-nil (λ zone. zone ≤ 65535))
+all_zeros (suc count) =
+    let rest = all_zeros count in
+    (ap suc rest.0, All-cons (λ zone. zone ≤ 65535) 0 (replicate count 0) (omega arith) rest.1)
+
+zones_have : (count : ℕ) (text : List ℕ) → IfSome (zones_in count text) (AreOf (λ zone. zone ≤ 65535) count)
+unfolding zones_in
+zones_have count text = tested (length (parts_at 44 text) == count) refl (numbers_of zone_of (parts_at 44 text)) (numbers_are (λ zone. zone ≤ 65535) zone_of low_zone (parts_at 44 text))
+  where
+    tested : (test : Bool) → (length (parts_at 44 text) == count) ≡ test → (zones : Option (List ℕ)) → IfSome zones (AreOf (λ zone. zone ≤ 65535) (length (parts_at 44 text))) → IfSome (if test then zones else None) (AreOf (λ zone. zone ≤ 65535) count)
+    tested true as_many None are = tt
+    tested true as_many (Some zones) are = (grind (arith, nat_tests, as_many, are.0), are.1)
+    tested false other zones are = tt
+
+as_zones : (origin : Origin) (zones : Option (List ℕ)) → IfSome zones (AreOf (λ zone. zone ≤ 65535) (capture_count origin)) → IfSome zones (AreZonesOf origin)
+as_zones origin None are = tt
+as_zones origin (Some zones) are = record { one_each = are.0; highest = are.1 }
+
+zones_are : (origin : Origin) (text : Option (List ℕ)) → IfSome (zones_for origin text) (AreZonesOf origin)
+zones_are origin None = as_zones origin (Some (replicate (capture_count origin) 0)) (all_zeros (capture_count origin))
+zones_are (named names) (Some text) = as_zones (named names) (zones_in (length names.captures) text) (zones_have (length names.captures) text)
+zones_are (made workload) (Some text) = tt
 
 usual_or : (text : Option (List ℕ)) → IfSome (ports_or 21 text) HasPorts
 usual_or None = (omega arith, omega arith, All-cons (λ port. 1 ≤ port) 21 [] (omega arith) (All-nil (λ port. 1 ≤ port)))
@@ -100,6 +138,7 @@ origin_has names (Some make) (Some packets) (Some threads) =
 
 record IsFormed (asked : Request) : Type 0 where
   captures : HasCaptures asked.origin
+  zones : AreZonesOf asked.origin asked.zones
   power : is_power_of_two asked.buckets ≡ true
   ports : HasPorts asked.ftp
 
@@ -107,10 +146,11 @@ are_formed : (given : FoundWords) → IfOk (with_values given) IsFormed
 are_formed given =
     let origin = origin_of given.names given.make given.packets given.threads in
     went_on HasCaptures IsFormed (required Usage origin) _ (needed _ Usage origin (origin_has given.names given.make given.packets given.threads)) (λ origin has.
+    went_on (AreZonesOf origin) IsFormed (required Usage (zones_for origin given.zones)) _ (needed (AreZonesOf origin) Usage (zones_for origin given.zones) (zones_are origin given.zones)) (λ zones are.
     went_on_with IsFormed (required Usage (number_or 65536 given.entries)) _ (λ entries.
     went_on (λ buckets. is_power_of_two buckets ≡ true) IsFormed (required Usage (if_power_of_two (number_or 16384 given.buckets))) _ (needed _ Usage (if_power_of_two (number_or 16384 given.buckets)) (is_power (number_or 16384 given.buckets))) (λ buckets is.
     went_on HasPorts IsFormed (required Usage (ports_or 21 given.ftp)) _ (needed HasPorts Usage (ports_or 21 given.ftp) (usual_or given.ftp)) (λ ports have.
-    record { captures = has; power = is; ports = have }))))
+    record { captures = has; zones = are; power = is; ports = have })))))
 
 -- where no limit is passed, not this one, and none behind it
 unpassed : (test : Bool) (limit : WordsLimit) (rest : Option WordsLimit) → (if test then Some limit else rest) ≡ None → (test ≡ false) × (rest ≡ None)
@@ -144,6 +184,7 @@ all_limits asked is none =
     let buckets = unpassed (nat_lt 65536 asked.buckets) Buckets _ entries.1 in
     record {
       origin = origin_within asked.entries asked.origin is.captures buckets.1;
+      zones = is.zones;
       some_entries = grind (arith, nat_tests, entries.0);
       few_entries = grind (arith, nat_tests, entries.0);
       power = is.power;

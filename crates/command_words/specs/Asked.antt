@@ -35,6 +35,7 @@ origin_as (origin.Made workload) = made (workload_as workload)
 abbrev pub asked_as : Asked → Request
 asked_as asked = record {
   origin = origin_as asked.origin;
+  zones = asked.zones.items;
   entries = asked.entries;
   buckets = asked.buckets;
   ftp = asked.ftp.items;

@@ -1,5 +1,5 @@
 -- What the words of the command line ask for.
-use Rattle.std.specs.Prelude.{◌≡◌, ℕ, ◌+◌, ◌*◌, ◌/◌, ◌<◌, ◌≤◌, ◌&&◌, Bool, true, false, not, nat_lt, nat_le, if◌then◌else◌, codes, List, [], ◌∷◌, length, Option, Some, None, is_none, unwrap_or, Result, Ok, Err}
+use Rattle.std.specs.Prelude.{◌≡◌, ℕ, ◌+◌, ◌*◌, ◌/◌, ◌<◌, ◌≤◌, ◌==◌, ◌&&◌, Bool, true, false, not, nat_lt, nat_le, if◌then◌else◌, codes, List, [], ◌∷◌, length, replicate, Option, Some, None, is_none, unwrap_or, Result, Ok, Err}
 use Rattle.std.specs.List.{All}
 use Rattle.std.specs.Int.{is_power_of_two}
 use Rattle.std.specs.Str.{bytes_eq}
@@ -46,13 +46,15 @@ table_app = with_rule
     (option_rule (codes "buckets")))
     (option_rule (codes "ftp"))
 
--- the command: these, three more for a made workload, one that takes no value, and the captures
+-- the command: these, the zones of captures, three more for a made workload, one that takes no value, and the captures
 unfoldable pub app : App
 app = with_rule
     (with_rule
     (with_rule
     (with_rule
+    (with_rule
     (with_rule table_app
+    (option_rule (codes "zones")))
     (option_rule (codes "make")))
     (option_rule (codes "packets")))
     (option_rule (codes "threads")))
@@ -70,6 +72,7 @@ pub record Names : Type 0 where
 -- the values of the options that stand there, whether the flag does, and the captures
 pub record FoundWords : Type 0 where
   pub names : Names
+  pub zones : Option (List ℕ)
   pub make : Option (List ℕ)
   pub packets : Option (List ℕ)
   pub threads : Option (List ℕ)
@@ -90,6 +93,7 @@ found_by rows = record {
     script = first_of (codes "script") rows;
     captures = unwrap_or (all_of (codes "captures") rows) [];
   };
+  zones = first_of (codes "zones") rows;
   make = first_of (codes "make") rows;
   packets = first_of (codes "packets") rows;
   threads = first_of (codes "threads") rows;
@@ -123,24 +127,36 @@ abbrev pub if_power_of_two : Option ℕ → Option ℕ
 if_power_of_two None = None
 if_power_of_two (Some n) = if is_power_of_two n then Some n else None
 
-abbrev pub with_port : Option ℕ → Option (List ℕ) → Option (List ℕ)
-with_port None ports = None
-with_port (Some port) None = None
-with_port (Some port) (Some ports) = Some (port ∷ ports)
+abbrev pub with_number : Option ℕ → Option (List ℕ) → Option (List ℕ)
+with_number None numbers = None
+with_number (Some number) None = None
+with_number (Some number) (Some numbers) = Some (number ∷ numbers)
 
--- the ports of these texts, where each of them is a port, which 0 is not
-abbrev pub ports_of : List (List ℕ) → Option (List ℕ)
-ports_of [] = Some []
-ports_of (text ∷ texts) = with_port (port_of 1 text) (ports_of texts)
+-- the numbers that these texts write, where each of them writes one
+abbrev pub numbers_of : (List ℕ → Option ℕ) → List (List ℕ) → Option (List ℕ)
+numbers_of read [] = Some []
+numbers_of read (text ∷ texts) = with_number (read text) (numbers_of read texts)
 
--- one port to eight, between commas
-unfoldable pub ports_in : List ℕ → Option (List ℕ)
-ports_in text = if nat_le (length (parts_at 44 text)) 8 then ports_of (parts_at 44 text) else None
+-- at most so many numbers, between commas
+unfoldable pub numbers_in : ℕ → (List ℕ → Option ℕ) → List ℕ → Option (List ℕ)
+numbers_in most read text = if nat_le (length (parts_at 44 text)) most then numbers_of read (parts_at 44 text) else None
+
+-- one port to eight, none of them 0
+abbrev pub ports_in : List ℕ → Option (List ℕ)
+ports_in text = numbers_in 8 (port_of 1) text
 
 -- without a text, the usual port
 abbrev pub ports_or : ℕ → Option (List ℕ) → Option (List ℕ)
 ports_or usual None = Some (usual ∷ [])
 ports_or usual (Some text) = ports_in text
+
+-- a zone is a number from 0 to 65535, of one to five digits as a port's
+abbrev pub zone_of : List ℕ → Option ℕ
+zone_of text = port_of 0 text
+
+-- exactly so many zones, between commas
+unfoldable pub zones_in : ℕ → List ℕ → Option (List ℕ)
+zones_in count text = if length (parts_at 44 text) == count then numbers_of zone_of (parts_at 44 text) else None
 
 -- ---- what is asked
 
@@ -156,12 +172,19 @@ pub data Origin : Type 0 where
   named : (names : Names) → Origin
   made : (workload : Workload) → Origin
 
+-- what the words ask for; with one zone for each capture, in their order
 pub record Request : Type 0 where
   pub origin : Origin
+  pub zones : List ℕ
   pub entries : ℕ
   pub buckets : ℕ
   pub ftp : List ℕ
   pub summary : Bool
+
+-- how many captures there are
+abbrev pub capture_count : Origin → ℕ
+capture_count (named names) = length names.captures
+capture_count (made workload) = workload.threads
 
 -- there is a capture
 abbrev pub some_captures : Names → Option Origin
@@ -193,15 +216,23 @@ origin_of names (Some make) None threads = None
 origin_of names (Some make) (Some packets) None = None
 origin_of names (Some make) (Some packets) (Some threads) = workload_in names make packets threads
 
+-- One zone for each capture: those that a text lists, which stands beside no made workload. Without it each zone is 0.
+abbrev pub zones_for : Origin → Option (List ℕ) → Option (List ℕ)
+zones_for origin None = Some (replicate (capture_count origin) 0)
+zones_for (named names) (Some text) = zones_in (length names.captures) text
+zones_for (made workload) (Some text) = None
+
 -- the values are of their form
 abbrev pub with_values : FoundWords → Result Request WordsError
 with_values given =
     required Usage (origin_of given.names given.make given.packets given.threads) >>= λ origin.
+    required Usage (zones_for origin given.zones) >>= λ zones.
     required Usage (number_or 65536 given.entries) >>= λ entries.
     required Usage (if_power_of_two (number_or 16384 given.buckets)) >>= λ buckets.
     required Usage (ports_or 21 given.ftp) >>= λ ports.
     Ok (record {
       origin = origin;
+      zones = zones;
       entries = entries;
       buckets = buckets;
       ftp = ports;
@@ -267,8 +298,14 @@ abbrev pub IsOriginWithin : ℕ → Origin → Type 0
 IsOriginWithin entries (named names) = AreNamesWithin names
 IsOriginWithin entries (made workload) = IsWorkloadWithin entries workload
 
+-- of the zones: there is one for each capture
+pub record AreZonesOf (origin : Origin) (zones : List ℕ) : Type 0 where
+  pub one_each : length zones ≡ capture_count origin
+  pub highest : All (λ zone. zone ≤ 65535) zones
+
 pub record IsWithin (asked : Request) : Type 0 where
   pub origin : IsOriginWithin asked.entries asked.origin
+  pub zones : AreZonesOf asked.origin asked.zones
   pub some_entries : 1 ≤ asked.entries
   pub few_entries : asked.entries ≤ 65536
   pub power : is_power_of_two asked.buckets ≡ true

@@ -1,5 +1,5 @@
 -- What words ask for, whatever the names in them are.
-use Rattle.std.specs.Prelude.{◌≡◌, ℕ, ◌==◌, Bool, false, true, codes, List, [], ◌∷◌, ◌++◌, Some, None, Ok, Err}
+use Rattle.std.specs.Prelude.{◌≡◌, ℕ, ◌==◌, Bool, false, true, codes, List, [], ◌∷◌, ◌++◌, length, replicate, Some, None, Ok, Err}
 use Rattle.command_words.specs.Words.{named, Names, Request, asked_of}
 use Rattle.command_words.specs.declared.WordsError.TheVariants.{NoMemory, Usage}
 
@@ -8,10 +8,11 @@ abbrev pub begins_with_dash : List ℕ → Bool
 begins_with_dash [] = false
 begins_with_dash (c ∷ cs) = c == 45
 
--- these files, and all else as usual
+-- these files, in zone 0, and all else as usual
 abbrev pub usual : Names → Request
 usual names = record {
   origin = named names;
+  zones = replicate (length names.captures) 0;
   entries = 65536;
   buckets = 16384;
   ftp = 21 ∷ [];
@@ -45,6 +46,22 @@ SummaryOfCaptures = (program capture : List ℕ)
 abbrev pub MadeBesideCaptures : Type 0
 MadeBesideCaptures = (program seed capture : List ℕ)
     → asked_of (program ∷ (codes "--make=" ++ seed) ∷ codes "--packets=8" ∷ codes "--threads=2" ∷ codes "--" ∷ capture ∷ []) ≡ Err Usage
+
+-- captures are in the zones that are listed, in the order of both
+abbrev pub ZonesOfCaptures : Type 0
+ZonesOfCaptures = (program first second : List ℕ)
+    → asked_of (program ∷ codes "--zones=1,65535" ∷ codes "--" ∷ first ∷ second ∷ [])
+    ≡ Ok (record (usual (record (captured first) { captures = first ∷ second ∷ [] })) { zones = 1 ∷ 65535 ∷ [] })
+
+-- one zone too many is not of the form, and one too few is not either
+abbrev pub ZonesOfOtherCaptures : Type 0
+ZonesOfOtherCaptures = ((program capture : List ℕ) → asked_of (program ∷ codes "--zones=1,2" ∷ codes "--" ∷ capture ∷ []) ≡ Err Usage)
+    × ((program first second : List ℕ) → asked_of (program ∷ codes "--zones=1" ∷ codes "--" ∷ first ∷ second ∷ []) ≡ Err Usage)
+
+-- zones stand beside no made workload, whatever they and its seed are
+abbrev pub ZonesBesideMade : Type 0
+ZonesBesideMade = (program seed zones : List ℕ)
+    → asked_of (program ∷ (codes "--make=" ++ seed) ∷ codes "--packets=8" ∷ codes "--threads=2" ∷ (codes "--zones=" ++ zones) ∷ []) ≡ Err Usage
 
 -- the program's name is not enough, and less is not either
 abbrev pub WordsWithoutCaptures : Type 0

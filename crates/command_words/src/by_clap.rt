@@ -20,6 +20,7 @@ use tuple_core::NoMemory;
 #[derive(Drop)]
 pub(crate) struct Found<'w> {
     pub(crate) names: Named<'w>,
+    pub(crate) zones: Option<&'w str>,
     pub(crate) make: Option<&'w str>,
     pub(crate) packets: Option<&'w str>,
     pub(crate) threads: Option<&'w str>,
@@ -102,6 +103,7 @@ fn command<'w>(alloc: Global) -> Result<Command<'w>, AllocError>
     ensures { IfOk result (λ command. app_of command ≡ app) }
 {
     let command = table_command(alloc)?;
+    let command = with_option(alloc, command, "zones")?;
     let command = with_option(alloc, command, "make")?;
     let command = with_option(alloc, command, "packets")?;
     let command = with_option(alloc, command, "threads")?;
@@ -164,6 +166,7 @@ pub(crate) fn find<'w>(alloc: Global, words: &'w [String]) -> Result<Found<'w>, 
             script: value(&matches, "script"),
             captures,
         },
+        zones: value(&matches, "zones"),
         make: value(&matches, "make"),
         packets: value(&matches, "packets"),
         threads: value(&matches, "threads"),

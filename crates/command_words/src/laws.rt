@@ -1,6 +1,6 @@
 //! What words ask for: each law is the contract of a function that does nothing.
 
-ghost use Rattle.command_words.specs.WordsLaws.{CapturesAlone, CapturesOfAnyName, CapturesWithRules, MadeBesideCaptures, SummaryOfCaptures, WordsWantNoMemory, WordsWithoutCaptures};
+ghost use Rattle.command_words.specs.WordsLaws.{CapturesAlone, CapturesOfAnyName, CapturesWithRules, MadeBesideCaptures, SummaryOfCaptures, WordsWantNoMemory, WordsWithoutCaptures, ZonesBesideMade, ZonesOfCaptures, ZonesOfOtherCaptures};
 
 /// A capture whose name does not begin with `-` is asked for by its name alone.
 pub fn captures_alone()
@@ -25,6 +25,21 @@ pub fn summary_of_captures()
 /// A capture beside a made workload is not of the form.
 pub fn made_beside_captures()
     ensures { MadeBesideCaptures }
+{}
+
+/// Two captures are asked for in the zones that are listed for them.
+pub fn zones_of_captures()
+    ensures { ZonesOfCaptures }
+{}
+
+/// Zones of more captures than there are, or of fewer, are not of the form.
+pub fn zones_of_other_captures()
+    ensures { ZonesOfOtherCaptures }
+{}
+
+/// Zones beside a made workload are not of the form.
+pub fn zones_beside_made()
+    ensures { ZonesBesideMade }
 {}
 
 /// Words without a capture are not of the form.

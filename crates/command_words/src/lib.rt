@@ -3,14 +3,15 @@
 //! They are read by `clap`, of which nothing else sees a term.
 #![tactic(auto)]
 
-ghost use Rattle.std.specs.Prelude.{◌≡◌, map, IfOk};
+ghost use Rattle.std.specs.Prelude.{◌≡◌, map, option_map, replicate, IfOk};
 ghost use Rattle.std.specs.String.{string_bytes};
 ghost use Rattle.command_words.specs.Asked.{IsOrNoMemory, asked_as, origin_as, workload_as};
-ghost use Rattle.command_words.specs.Internal.{formed_as, formed_origin_as, IsOrPast, wide_as};
-ghost use Rattle.command_words.specs.Words.{asked_of, IsWithin, past_origin, past_workload, within_limits};
+ghost use Rattle.command_words.specs.Internal.{formed_as, formed_origin_as, IsOrPast, wide_as, zones_or};
+ghost use Rattle.command_words.specs.Words.{asked_of, capture_count, IsWithin, past_origin, past_workload, within_limits};
 
 use room_list::RoomList;
 use std::alloc::{AllocError, Global};
+use tuple_core::NoMemory;
 
 mod by_clap;
 pub mod laws;
@@ -56,6 +57,8 @@ pub enum Origin<'w> {
 #[derive(Drop)]
 pub struct Asked<'w> {
     pub origin: Origin<'w>,
+    /// The zone of each capture, in their order.
+    pub zones: RoomList<u16>,
     /// The most live entries.
     pub entries: u32,
     /// The buckets of the hash table.
@@ -99,12 +102,12 @@ impl From<AllocError> for WordsError {
     }
 }
 
-impl From<tuple_core::NoMemory> for WordsError {
+impl From<NoMemory> for WordsError {
     ghost use Rattle.command_words.specs.declared.WordsError.{WordsError};
 
     ghost from_gives = { λ _ error. error ≡ WordsError.NoMemory };
 
-    fn from(_error: tuple_core::NoMemory) -> WordsError {
+    fn from(_error: NoMemory) -> WordsError {
         WordsError::NoMemory
     }
 }
@@ -163,26 +166,72 @@ fn limit_origin(entries: u64, formed: FormedOrigin<'_>) -> Result<Origin<'_>, Wo
     }
 }
 
+/// How many captures there are.
+fn capture_count(origin: &Origin<'_>) -> usize
+    ensures { result ≡ capture_count (origin_as origin.now) }
+{
+    match origin {
+        Origin::Named(names) => names.captures.len(),
+        Origin::Made(workload) => workload.threads as usize,
+    }
+}
+
+/// Zone 0, so many times.
+fn zeros(alloc: Global, count: usize) -> Result<RoomList<u16>, NoMemory>
+    ensures { IfOk result (λ zones. zones.items ≡ replicate count 0) }
+{
+    let mut zones = RoomList::new(alloc, count)?;
+    'zones: for _zone in 0..count {
+        zones.push(0);
+    }
+    Ok(zones)
+}
+
+/// The zones that are listed, or zone 0 for each of so many captures.
+fn zones_or_zeros(
+    alloc: Global,
+    listed: Option<RoomList<u16>>,
+    count: usize,
+) -> Result<RoomList<u16>, NoMemory>
+    ensures { IfOk result (λ zones. zones.items ≡ zones_or count (option_map (λ z. z.items) listed)) }
+{
+    match listed {
+        Some(zones) => Ok(zones),
+        None => zeros(alloc, count),
+    }
+}
+
 /// What is asked, where the numbers are within their limits.
-fn limit(formed: Formed<'_>) -> Result<Asked<'_>, WordsError>
+fn limit(alloc: Global, formed: Formed<'_>) -> Result<Asked<'_>, WordsError>
     ensures { IsOrNoMemory asked_as (within_limits (formed_as formed.entry)) result }
 {
-    if formed.entries < 1 || formed.entries > MOST {
+    let Formed {
+        origin,
+        zones,
+        entries,
+        buckets,
+        ftp,
+        summary,
+    } = formed;
+    if entries < 1 || entries > MOST {
         return Err(WordsError::Limit(WordsLimit::Entries));
     }
-    if formed.buckets > MOST {
+    if buckets > MOST {
         return Err(WordsError::Limit(WordsLimit::Buckets));
     }
-    match limit_origin(formed.entries, formed.origin) {
-        Ok(origin) => Ok(Asked {
-            origin,
-            entries: formed.entries as u32,
-            buckets: formed.buckets as u32,
-            ftp: formed.ftp,
-            summary: formed.summary,
-        }),
-        Err(limit) => Err(WordsError::Limit(limit)),
-    }
+    let origin = match limit_origin(entries, origin) {
+        Ok(origin) => origin,
+        Err(limit) => return Err(WordsError::Limit(limit)),
+    };
+    let zones = zones_or_zeros(alloc, zones, capture_count(&origin))?;
+    Ok(Asked {
+        origin,
+        zones,
+        entries: entries as u32,
+        buckets: buckets as u32,
+        ftp,
+        summary,
+    })
 }
 
 /// What the words ask for. The first is the program's name.
@@ -193,5 +242,5 @@ pub fn read_words<'w>(alloc: Global, words: &'w [String]) -> Result<Asked<'w>, W
 {
     let found = find(alloc, words)?;
     let formed = form(alloc, found)?;
-    limit(formed)
+    limit(alloc, formed)
 }

@@ -30,6 +30,8 @@ struct Wanted<'a> {
     rules: Option<&'a str>,
     script: Option<&'a str>,
     captures: &'a [&'a str],
+    /// Without a list each capture is in zone 0.
+    zones: Option<&'a [u16]>,
     entries: u32,
     buckets: u32,
     ftp: &'a [u16],
@@ -41,6 +43,7 @@ const USUAL: Wanted<'static> = Wanted {
     rules: None,
     script: None,
     captures: &["c"],
+    zones: None,
     entries: 65_536,
     buckets: 16_384,
     ftp: &[21],
@@ -54,6 +57,19 @@ fn names_wanted(names: &Named<'_>, wanted: &Wanted<'_>) -> bool {
         && names.captures.as_slice() == wanted.captures
 }
 
+/// Whether so many captures are all in zone 0.
+fn are_zeros(zones: &[u16], captures: usize) -> bool {
+    zones.len() == captures && zones.iter().all(|zone| *zone == 0)
+}
+
+/// Whether these are the zones that are wanted.
+fn zones_wanted(zones: &[u16], wanted: &Wanted<'_>) -> bool {
+    match wanted.zones {
+        Some(listed) => zones == listed,
+        None => are_zeros(zones, wanted.captures.len()),
+    }
+}
+
 /// Whether it is what is wanted.
 fn is_wanted(asked: &Asked<'_>, wanted: &Wanted<'_>) -> bool {
     let named = match &asked.origin {
@@ -61,6 +77,7 @@ fn is_wanted(asked: &Asked<'_>, wanted: &Wanted<'_>) -> bool {
         Origin::Made(_) => false,
     };
     named
+        && zones_wanted(asked.zones.as_slice(), wanted)
         && asked.entries == wanted.entries
         && asked.buckets == wanted.buckets
         && asked.ftp.as_slice() == wanted.ftp
@@ -88,6 +105,8 @@ fn missing_words(rt: HostRuntime) -> Result<(), Fail> {
         "ctreplay c --entries",
         "ctreplay c --buckets",
         "ctreplay c --ftp",
+        "ctreplay c --zones",
+        "ctreplay --zones 1",
         "ctreplay --summary",
     ];
     for line in lines {
@@ -108,6 +127,8 @@ fn repeated_and_unknown_options(rt: HostRuntime) -> Result<(), Fail> {
         "ctreplay --entries 5 --entries=5 c",
         "ctreplay --buckets 4 c --buckets 4",
         "ctreplay --ftp 21 --ftp 21 c",
+        "ctreplay --zones 1 --zones 1 c",
+        "ctreplay --zone 1 c",
         "ctreplay --rule f c",
         "ctreplay --Rules f c",
         "ctreplay -rules f c",
@@ -221,12 +242,48 @@ fn no_ports(rt: HostRuntime) -> Result<(), Fail> {
 }
 
 #[test]
+fn no_zones(rt: HostRuntime) -> Result<(), Fail> {
+    let lines = [
+        "ctreplay --zones= c",
+        "ctreplay --zones  c",
+        "ctreplay --zones , c",
+        "ctreplay --zones 1, c",
+        "ctreplay --zones ,1 c",
+        "ctreplay --zones 1,,2 a b",
+        "ctreplay --zones 65536 c",
+        "ctreplay --zones 000007 c",
+        "ctreplay --zones +7 c",
+        "ctreplay --zones=-1 c",
+        "ctreplay --zones 0x7 c",
+        "ctreplay --zones x c",
+        "ctreplay --zones 1,x a b",
+        "ctreplay --zones 1;2 a b",
+        // There is one for each capture.
+        "ctreplay --zones 1,2 c",
+        "ctreplay --zones 1 a b",
+        "ctreplay --zones 1,2 a b c",
+        "ctreplay --zones 1,2, a b",
+        "ctreplay --zones 1,2,3,4 a b c",
+        "ctreplay --zones 1 2 a b",
+    ];
+    for line in lines {
+        assert!(rt;
+            fault(rt.alloc(), line)? == Some(WordsError::Usage),
+            "{line}"
+        );
+    }
+    Ok(())
+}
+
+#[test]
 fn form_before_limits(rt: HostRuntime) -> Result<(), Fail> {
     let lines = [
         "ctreplay --entries 0 --buckets 3 c",
         "ctreplay --entries 65537 --ftp 0 c",
         "ctreplay --entries 0",
         "ctreplay --buckets 131072 --ftp 21,0 c",
+        "ctreplay --buckets 131072 --zones 1,2 c",
+        "ctreplay --entries 0 --zones 65536 c",
     ];
     for line in lines {
         assert!(rt;
@@ -394,6 +451,49 @@ fn ports(rt: HostRuntime) -> Result<(), Fail> {
 }
 
 #[test]
+fn zones(rt: HostRuntime) -> Result<(), Fail> {
+    let cases = [
+        ("ctreplay --zones 7 c", ["c"].as_slice(), [7].as_slice()),
+        (
+            "ctreplay --zones=65535 c",
+            ["c"].as_slice(),
+            [65_535].as_slice(),
+        ),
+        ("ctreplay c --zones 00007", ["c"].as_slice(), [7].as_slice()),
+        ("ctreplay --zones 0 c", ["c"].as_slice(), [0].as_slice()),
+        (
+            "ctreplay --zones 1,2 a b",
+            ["a", "b"].as_slice(),
+            [1, 2].as_slice(),
+        ),
+        (
+            "ctreplay b --zones 2,1 a",
+            ["b", "a"].as_slice(),
+            [2, 1].as_slice(),
+        ),
+        (
+            "ctreplay --zones 5,5 a a",
+            ["a", "a"].as_slice(),
+            [5, 5].as_slice(),
+        ),
+        (
+            "ctreplay --zones 0,65535,1 a b -- -c",
+            ["a", "b", "-c"].as_slice(),
+            [0, 65_535, 1].as_slice(),
+        ),
+    ];
+    for (line, captures, zones) in cases {
+        let wanted = Wanted {
+            captures,
+            zones: Some(zones),
+            ..USUAL
+        };
+        assert!(rt; asks(rt.alloc(), line, &wanted)?, "{line}");
+    }
+    Ok(())
+}
+
+#[test]
 fn summaries(rt: HostRuntime) -> Result<(), Fail> {
     let cases = [
         ("ctreplay --summary c", ["c"].as_slice(), true),
@@ -418,13 +518,14 @@ fn all_options(rt: HostRuntime) -> Result<(), Fail> {
         rules: Some("f"),
         script: Some("s"),
         captures: &["a", "b", "-x"],
+        zones: Some(&[3, 0, 9]),
         entries: 10,
         buckets: 32,
         ftp: &[2121],
         summary: true,
     };
     let line =
-        "ctreplay a --ftp 2121 --script s --buckets 32 b --summary --rules f --entries 10 -- -x";
+        "ctreplay a --ftp 2121 --script s --buckets 32 b --zones 3,0,9 --summary --rules f --entries 10 -- -x";
     assert!(rt; asks(rt.alloc(), line, &wanted)?);
     Ok(())
 }

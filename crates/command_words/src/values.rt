@@ -2,9 +2,10 @@
 
 ghost use Rattle.std.specs.Prelude.{◌≡◌, ◌≤◌, None, Some, if◌then◌else◌, option_map};
 ghost use Rattle.file_text.specs.Reading.{required};
+ghost use Rattle.file_text.specs.Text.{port_of};
 ghost use Rattle.command_words.specs.Asked.{IsOrNoMemory, names_as};
-ghost use Rattle.command_words.specs.Internal.{formed_as, formed_origin_as, given_as, port_after, wide_as};
-ghost use Rattle.command_words.specs.Words.{if_power_of_two, made, names_nothing, number_of, number_or, origin_of, ports_in, ports_or, with_values, workload_of};
+ghost use Rattle.command_words.specs.Internal.{formed_as, formed_origin_as, given_as, numbers_after, wide_as, zones_or};
+ghost use Rattle.command_words.specs.Words.{capture_count, if_power_of_two, made, names_nothing, number_of, number_or, numbers_in, origin_of, ports_or, with_values, workload_of, zones_for, zones_in};
 ghost use Rattle.command_words.specs.declared.WordsError.TheVariants.{Usage};
 
 use crate::by_clap::Found;
@@ -42,6 +43,8 @@ pub(crate) enum FormedOrigin<'w> {
 #[derive(Drop)]
 pub(crate) struct Formed<'w> {
     pub(crate) origin: FormedOrigin<'w>,
+    /// The zones, where they are listed.
+    pub(crate) zones: Option<RoomList<u16>>,
     pub(crate) entries: u64,
     pub(crate) buckets: u64,
     pub(crate) ftp: RoomList<u16>,
@@ -75,42 +78,47 @@ fn if_power_of_two(number: Option<u64>) -> Option<u64>
     }
 }
 
-/// Appends the port that the text writes, unless there are eight; whether it did.
-#[tactic(auto, unfolding(crate::specs::Internal::port_after))]
-fn push_port(ports: &mut RoomList<u16>, text: &[u8]) -> bool
-    requires { 8 ≤ ports.old.room }
-    ensures ports { port_after ports.old.items text.now ≡ (if result then Some ports.new.items else None) }
-    ensures room { ports.new.room ≡ ports.old.room }
+/// Appends the number from `least` to 65535 that the text writes, unless there are `most`; whether it did.
+#[tactic(auto, unfolding(crate::specs::Internal::numbers_after))]
+fn push_number(numbers: &mut RoomList<u16>, text: &[u8], most: usize, least: u16) -> bool
+    requires { most ≤ numbers.old.room }
+    ensures numbers { numbers_after most (port_of least) numbers.old.items text.now ≡ (if result then Some numbers.new.items else None) }
+    ensures room { numbers.new.room ≡ numbers.old.room }
 {
-    if ports.len() >= MOST_PORTS {
+    if numbers.len() >= most {
         return false;
     }
-    match read_port(text, 1) {
-        Some(port) => {
-            ports.push(port);
+    match read_port(text, least) {
+        Some(number) => {
+            numbers.push(number);
             true
         }
         None => false,
     }
 }
 
-/// The ports of a text, between commas.
-#[tactic(auto, using(crate::proofs::Ports::no_ports, crate::proofs::Ports::one_more, crate::proofs::Ports::the_last, crate::proofs::Ports::no_port))]
-fn read_ports(alloc: Global, text: &[u8]) -> Result<RoomList<u16>, WordsError>
-    ensures { IsOrNoMemory (λ ports. ports.items) (required Usage (ports_in text.now)) result }
+/// The numbers of a text, between commas: at most `most`, each from `least` to 65535.
+#[tactic(auto, using(crate::proofs::Numbers::no_numbers, crate::proofs::Numbers::one_more, crate::proofs::Numbers::the_last, crate::proofs::Numbers::no_number))]
+fn read_numbers(
+    alloc: Global,
+    text: &[u8],
+    most: usize,
+    least: u16,
+) -> Result<RoomList<u16>, WordsError>
+    ensures { IsOrNoMemory (λ numbers. numbers.items) (required Usage (numbers_in most (port_of least) text.now)) result }
 {
-    let mut ports = RoomList::new(alloc, MOST_PORTS)?;
+    let mut numbers = RoomList::new(alloc, most)?;
     let mut rest = text;
-    'ports: while let Some((part, behind)) = split_once(rest, b',') {
-        if !push_port(&mut ports, part) {
+    'numbers: while let Some((part, behind)) = split_once(rest, b',') {
+        if !push_number(&mut numbers, part, most, least) {
             return Err(WordsError::Usage);
         }
         rest = behind;
     }
-    if !push_port(&mut ports, rest) {
+    if !push_number(&mut numbers, rest, most, least) {
         return Err(WordsError::Usage);
     }
-    Ok(ports)
+    Ok(numbers)
 }
 
 /// The ports that the text names, or the usual one.
@@ -118,12 +126,46 @@ fn ports_or(alloc: Global, text: Option<&str>) -> Result<RoomList<u16>, WordsErr
     ensures { IsOrNoMemory (λ ports. ports.items) (required Usage (ports_or 21 (option_map (λ s. s.now) text.entry))) result }
 {
     match text {
-        Some(text) => read_ports(alloc, text.as_bytes()),
+        Some(text) => read_numbers(alloc, text.as_bytes(), MOST_PORTS, 1),
         None => {
             let mut ports = RoomList::new(alloc, 1)?;
             ports.push(FTP);
             Ok(ports)
         }
+    }
+}
+
+/// The zones of a text, between commas: exactly so many.
+#[tactic(auto, using(crate::proofs::Numbers::all_zones, crate::proofs::Numbers::other_zones, crate::proofs::Numbers::no_zones))]
+fn read_zones(alloc: Global, text: &[u8], count: usize) -> Result<RoomList<u16>, WordsError>
+    ensures { IsOrNoMemory (λ zones. zones.items) (required Usage (zones_in count text.now)) result }
+{
+    let zones = read_numbers(alloc, text, count, 0)?;
+    if zones.len() == count {
+        Ok(zones)
+    } else {
+        Err(WordsError::Usage)
+    }
+}
+
+/// The zones that a text lists, one for each capture that is named.
+fn zones_for(
+    alloc: Global,
+    origin: &FormedOrigin<'_>,
+    text: Option<&str>,
+) -> Result<Option<RoomList<u16>>, WordsError>
+    ensures { IsOrNoMemory (λ zones. zones_or (capture_count (formed_origin_as origin.now)) (option_map (λ z. z.items) zones))
+        (required Usage (zones_for (formed_origin_as origin.now) (option_map (λ s. s.now) text.entry))) result }
+{
+    let Some(text) = text else {
+        return Ok(None);
+    };
+    match origin {
+        FormedOrigin::Named(names) => {
+            let zones = read_zones(alloc, text.as_bytes(), names.captures.len())?;
+            Ok(Some(zones))
+        }
+        FormedOrigin::Made(_) => Err(WordsError::Usage),
     }
 }
 
@@ -174,6 +216,7 @@ pub(crate) fn form(alloc: Global, found: Found<'_>) -> Result<Formed<'_>, WordsE
     let Some(origin) = origin(found.names, found.make, found.packets, found.threads) else {
         return Err(WordsError::Usage);
     };
+    let zones = zones_for(alloc, &origin, found.zones)?;
     let Some(entries) = number_or(found.entries, ENTRIES) else {
         return Err(WordsError::Usage);
     };
@@ -183,6 +226,7 @@ pub(crate) fn form(alloc: Global, found: Found<'_>) -> Result<Formed<'_>, WordsE
     let ftp = ports_or(alloc, found.ftp)?;
     Ok(Formed {
         origin,
+        zones,
         entries,
         buckets,
         ftp,

@@ -33,14 +33,15 @@ use Rattle.history_book.specs.declared.outcome.TouchOutcome.TheVariants as touch
 use Rattle.history_book.specs.declared.record.Flow.{Flow}
 use Rattle.history_book.specs.declared.sizes.Sizes.{Sizes}
 use Rattle.history_book.specs.Desk.{ConfirmSays, Destroys, FindSays, FindsFull, HoldSays, IsRecord, PeekSays, ReleaseSays, SamePlaces, Takes, TouchSays, Touches}
-use Rattle.history_book.specs.DeskExpectations.{ExpectSays, MakesExpect, expectation_at}
-use Rattle.history_book.specs.Entry.{confirmed_by, is_helped_entry, is_of_entry}
+use Rattle.expect_table.specs.declared.table.AddOutcome.{AddOutcome}
+use Rattle.history_book.specs.DeskExpectations.{AddGives, AddsNothing, ExpectSays, MakesExpect, expectation_at}
+use Rattle.history_book.specs.Entry.{confirmed_by, is_helped_entry, is_of_entry, zone_of, zone_of_entry}
 use Rattle.history_book.specs.Held.{held_for, held_id, is_at, is_held, is_owed, without}
 use Rattle.history_book.specs.Point.{At, StartsWith}
 use Rattle.history_book.specs.Sight.{IsKnown, Sight, risen}
 use Rattle.history_book.specs.Record.{has_id}
 use Rattle.history_book.specs.History.{after, is_legal, is_legal_from}
-use Rattle.history_book.specs.Laws.{EntriesKeepTheirProtocol}
+use Rattle.history_book.specs.Laws.{EntriesKeepTheirProtocol, EntriesKeepTheirZone}
 use Rattle.history_book.specs.Legality.{has_helper, may_happen}
 use Rattle.history_book.specs.State.{State, empty_state, next, record_of}
 use Rattle.history_book.specs.WentOn.{IsSamePass, MadeEvent, Saw}
@@ -494,12 +495,21 @@ read_id place mid seen subject at says =
     ap (held_id place) says.1.held
     ∙ sym (has_id_of (held_id place mid.held) (after seen.front at) subject says.0.fact.fact)
 
-pub expect_made : (place : ℕ) (want : Want) (moment : ℕ) (mid seen new : Sight) (subject : Record) (at id : ℕ) (replaced : Option ℕ)
-    → PeekSays place mid seen (peek.Seen subject at) → ExpectSays place want moment seen new (expect.Expected id replaced)
-    → MadeEvent seen new id (Expect (expectation_at id subject.id want moment) replaced moment)
-expect_made place want moment mid seen new subject at id replaced read says =
-    subst (λ m. MadeEvent seen new id (Expect (expectation_at id m want moment) replaced moment))
-    (read_id place mid seen subject at read) says.0
+-- and it was confirmed in the zone of what was read
+pub read_zone : EntriesKeepTheirZone → (place : ℕ) (mid seen : Sight) (subject : Record) (at : ℕ) → IsKnown seen
+    → PeekSays place mid seen (peek.Seen subject at) → zone_of_entry (held_id place seen.held) seen.front ≡ subject.original.zone
+read_zone keep place mid seen subject at known says =
+    ap (λ (held : List Hold). zone_of_entry (held_id place held) seen.front) says.1.held
+    ∙ keep seen.sizes seen.front at (held_id place mid.held) subject known.legal says.0.fact.fact
+
+pub expect_made : EntriesKeepTheirZone → (place : ℕ) (want : Want) (moment : ℕ) (mid seen new : Sight) (subject : Record) (at id : ℕ) (replaced : Option ℕ)
+    → IsKnown seen → PeekSays place mid seen (peek.Seen subject at) → ExpectSays place want moment seen new (expect.Expected id replaced)
+    → MadeEvent seen new id (Expect (expectation_at id subject.id subject.original.zone want moment) replaced moment)
+expect_made keep place want moment mid seen new subject at id replaced known read says =
+    subst (λ m. MadeEvent seen new id (Expect (expectation_at id m subject.original.zone want moment) replaced moment))
+    (read_id place mid seen subject at read)
+    (subst (λ z. MadeEvent seen new id (Expect (expectation_at id (held_id place seen.held) z want moment) replaced moment))
+    (read_zone keep place mid seen subject at known read) says.0)
 
 -- the note of what is expected
 pub expect_noted : (items notes : List Note) (id : ℕ) (noted e : Expectation) (replaced : Option ℕ) (moment : ℕ)
@@ -508,19 +518,63 @@ pub expect_noted : (items notes : List Note) (id : ℕ) (noted e : Expectation) 
 expect_noted items notes id noted e replaced moment pushed same =
     pushed ∙ ap (λ (x : Expectation). notes ++ record { number = id; event = Expect x replaced moment } ∷ []) same
 
-pub expected_went : (taken : ℕ) (place : ℕ) (want : Want) (moment : ℕ) (old mid seen new : Sight) (notes items : List Note) (spare spare' b a : ℕ)
+-- an entry that has the helper is in its zone when the history goes on
+zone_grows : (id : ℕ) (log front : List Event) → StartsWith log front → is_helped_entry id front ≡ true → zone_of_entry id log ≡ zone_of_entry id front
+zone_grows id log front start helped = by_event (slice_get front id) refl helped
+  where
+    by_event : (o : Option Event) → slice_get front id ≡ o → has_helper (confirmed_by o) ≡ true → zone_of_entry id log ≡ zone_of_entry id front
+    by_event None same helped = cc
+    by_event (Some e) same helped =
+        ap (λ (x : Option Event). zone_of (confirmed_by x)) (get_grows log front id e start same ∙ sym same)
+
+-- of the entry for which the place is held this is so after the other's turn and a look
+pub still_zoned : (place : ℕ) (old mid seen : Sight) (b a : ℕ) → Went old mid b a → Saw mid seen → SamePlaces mid seen
+    → is_helped_entry (held_id place old.held) old.front ≡ true
+    → zone_of_entry (held_id place seen.held) seen.front ≡ zone_of_entry (held_id place old.held) old.front
+still_zoned place old mid seen b a went saw same helped =
+    ap (λ (held : List Hold). zone_of_entry (held_id place held) seen.front) (same.held ∙ went.held)
+    ∙ zone_grows (held_id place old.held) seen.front old.front (starts_trans seen.front mid.front old.front saw.went.front went.front) helped
+
+-- it was not added, in the zone that the desk knew
+pub refused_went : (taken place : ℕ) (want : Want) (moment : ℕ) (outcome : AddOutcome) (old mid seen new : Sight) (notes : List Note) (spare b a at : ℕ)
+    → Went old mid b a → Saw mid seen → SamePlaces mid seen → IsKnown seen → is_helped_entry (held_id place old.held) old.front ≡ true
+    → AddsNothing (held_id place seen.held) want moment outcome seen new at
+    → AddsNothing (held_id place old.held) want moment outcome (seen_by taken old notes spare) (seen_by taken new notes spare) at
+refused_went taken place want moment outcome old mid seen new notes spare b a at went saw same known helped (looked, places) =
+    let later : Went old seen b a = went_then old mid seen b a went saw same known in
+    let named : held_id place seen.held ≡ held_id place old.held = ap (held_id place) (same.held ∙ went.held) in
+    let zoned = still_zoned place old mid seen b a went saw same helped in (
+      record {
+        saw = saw_went taken old seen new notes spare b a later looked.saw;
+        low = omega (arith, looked.low, starts_longer seen.front old.front later.front);
+        fact =
+            subst (λ m. At new.front at (AddGives new.sizes.expectations at m (zone_of_entry (held_id place old.held) old.front) want moment outcome)) named
+            (subst (λ z. At new.front at (AddGives new.sizes.expectations at (held_id place seen.held) z want moment outcome)) zoned looked.fact);
+      },
+      record { held = places.held ∙ later.held; owed = places.owed ∙ later.owed },
+    )
+
+pub expected_went : EntriesKeepTheirZone → (taken : ℕ) (place : ℕ) (want : Want) (moment : ℕ) (old mid seen new : Sight) (notes items : List Note) (spare spare' b a : ℕ)
     (subject : Record) (at id : ℕ) (replaced : Option ℕ) → Went old mid b a → IsKnown seen
     → PeekSays place mid seen (peek.Seen subject at) → ExpectSays place want moment seen new (expect.Expected id replaced)
-    → items ≡ notes ++ record { number = id; event = Expect (expectation_at id subject.id want moment) replaced moment } ∷ []
+    → is_helped_entry (held_id place old.held) old.front ≡ true
+    → items ≡ notes ++ record { number = id; event = Expect (expectation_at id subject.id subject.original.zone want moment) replaced moment } ∷ []
     → spare ≡ spare' + 1
     → MakesExpect (held_id place old.held) want moment (seen_by taken old notes spare) (seen_by taken new items spare') id replaced
-expected_went taken place want moment old mid seen new notes items spare spare' b a subject at id replaced went known read says pushed one =
+expected_went keep taken place want moment old mid seen new notes items spare spare' b a subject at id replaced went known read says helped pushed one =
     let named : subject.id ≡ held_id place old.held =
     sym (read_id place mid seen subject at read) ∙ ap (held_id place) (read.1.held ∙ went.held) in
-    subst (λ m. MakesExpect m want moment (seen_by taken old notes spare) (seen_by taken new items spare') id replaced) named
-    (made_went taken old seen new notes items spare spare' b a id (Expect (expectation_at id subject.id want moment) replaced moment)
+    let zoned : subject.original.zone ≡ zone_of_entry (held_id place old.held) old.front =
+    sym (read_zone keep place mid seen subject at known read) ∙ still_zoned place old mid seen b a went read.0.saw read.1 helped in
+    subst (λ m. MadeEvent (seen_by taken old notes spare) (seen_by taken new items spare') id
+    (Expect (expectation_at id m (zone_of_entry (held_id place old.held) old.front) want moment) replaced moment)
+    × SamePlaces (seen_by taken old notes spare) (seen_by taken new items spare')) named
+    (subst (λ z. MadeEvent (seen_by taken old notes spare) (seen_by taken new items spare') id
+    (Expect (expectation_at id subject.id z want moment) replaced moment)
+    × SamePlaces (seen_by taken old notes spare) (seen_by taken new items spare')) zoned
+    (made_went taken old seen new notes items spare spare' b a id (Expect (expectation_at id subject.id subject.original.zone want moment) replaced moment)
     (went_then old mid seen b a went read.0.saw read.1 known)
-    (expect_made place want moment mid seen new subject at id replaced read says) says.1 pushed one)
+    (expect_made keep place want moment mid seen new subject at id replaced known read says) says.1 pushed one))
 
 -- an entry that has the helper is one that has it when the history goes on
 helped_grows : (id : ℕ) (log front : List Event) → StartsWith log front → is_helped_entry id front ≡ true → is_helped_entry id log ≡ true

@@ -10,6 +10,7 @@ use book_desk::desk::PlainDesk;
 use expect_table::expectation::Want;
 use history_book::desk::Desk;
 use history_book::event::{Event, Note, Why};
+use history_book::laws::entries_keep_their_zone;
 use history_book::legality::expectation_at;
 use history_book::outcome::{
     ClaimOutcome, ConfirmOutcome, ExpectOutcome, FindOutcome, HoldOutcome, KillOutcome, LiveCount,
@@ -221,10 +222,11 @@ impl Desk for BusyDesk {
 
     fn expect<R: Wait>(&mut self, rt: &R, place: u32, want: Want, moment: u64) -> ExpectOutcome {
         self.stage.other_meets(rt, Call::Expect, place);
-        // The event names the entry, which this call gives by its place alone.
-        let master = match self.stage.desk.peek(rt, place) {
+        entries_keep_their_zone();
+        // The event names the entry and its zone, which this call gives by its place alone.
+        let (master, zone) = match self.stage.desk.peek(rt, place) {
             PeekOutcome::Gone { at } => return ExpectOutcome::MasterGone { at },
-            PeekOutcome::Seen { subject, .. } => subject.id,
+            PeekOutcome::Seen { subject, .. } => (subject.id, subject.original.zone),
         };
         let outcome = self.stage.desk.expect(rt, place, want, moment);
         match outcome {
@@ -232,7 +234,7 @@ impl Desk for BusyDesk {
                 self.notes.push(Note {
                     number: id,
                     event: Event::Expect {
-                        expectation: expectation_at(id, master, want, moment),
+                        expectation: expectation_at(id, master, zone, want, moment),
                         replaced,
                         moment,
                     },

@@ -11,3 +11,5 @@ mod packets;
 #[cfg(test)]
 mod turn_desks;
 pub mod turn_replay;
+#[cfg(test)]
+mod zones;

@@ -52,10 +52,25 @@ fn frame(moment: u32, bytes: u8) -> Frame
     }
 }
 
-/// What becomes of a packet at this moment, without rules.
+/// What becomes of a packet in zone 0 at this moment, without rules.
 pub fn handled<R: Wait + Abort + AllocGlobal, D: Desk>(
     rt: &R,
     desk: &mut D,
+    packet: &[u8],
+    moment: u32,
+) -> Result<Verdict, NoMemory>
+    requires { HoldsNothing (D.sight desk.old) }
+    ensures empty { HoldsNothing (D.sight desk.new) }
+    ensures knows { IfOk result (λ _. IsKnown (D.sight desk.new)) }
+{
+    handled_in(rt, desk, 0, packet, moment)
+}
+
+/// What becomes of a packet in a zone at this moment, without rules.
+pub fn handled_in<R: Wait + Abort + AllocGlobal, D: Desk>(
+    rt: &R,
+    desk: &mut D,
+    zone: u16,
     packet: &[u8],
     moment: u32,
 ) -> Result<Verdict, NoMemory>
@@ -70,5 +85,5 @@ pub fn handled<R: Wait + Abort + AllocGlobal, D: Desk>(
         ftp: Ports::new(rt.alloc(), 0)?,
     };
     let frame = frame(moment, packet.len() as u8);
-    handle(rt, desk, packet, &frame, &setup)
+    handle(rt, desk, packet, &frame, zone, &setup)
 }

@@ -176,6 +176,7 @@ fn an_assured_flow_stays_on_a_clerk(rt: HostRuntime) -> Result<(), Fail> {
 const ASKED: Flow = Flow {
     original: Tuple {
         proto: Proto::Udp,
+        zone: 0,
         src: 0x0a00_0001,
         dst: 0x0a00_0002,
         a: 5000,
@@ -183,6 +184,7 @@ const ASKED: Flow = Flow {
     },
     reply: Tuple {
         proto: Proto::Udp,
+        zone: 0,
         src: 0x0a00_0002,
         dst: 0x0a00_0001,
         a: 53,

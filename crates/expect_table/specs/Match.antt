@@ -18,9 +18,13 @@ is_wanted w t = number_of t.proto == number_of Tcp && w.src == t.src && w.dst ==
 abbrev pub is_awaited : ℕ → Expectation → Bool
 is_awaited moment e = nat_lt moment e.deadline
 
+-- it is of the zone
+abbrev pub is_in_zone : ℕ → Expectation → Bool
+is_in_zone zone e = e.zone == zone
+
 -- it matches a packet with this tuple at the moment
 abbrev pub is_match : Tuple → ℕ → Expectation → Bool
-is_match t moment e = is_wanted e.want t && is_awaited moment e
+is_match t moment e = is_in_zone t.zone e && is_wanted e.want t && is_awaited moment e
 
 -- it has the id
 abbrev pub has_id : ℕ → Expectation → Bool
@@ -30,6 +34,7 @@ has_id id e = e.id == id
 abbrev pub is_of : ℕ → Expectation → Bool
 is_of master e = e.master == master
 
--- it stands in the way of the first: another master's, of the same want, and still expected
+-- it stands in the way of the first: another master's, of the same zone and want, and still expected
 abbrev pub is_rival : Expectation → ℕ → Expectation → Bool
-is_rival e moment other = not (is_of e.master other) && same_want e.want other.want && is_awaited moment other
+is_rival e moment other =
+    not (is_of e.master other) && is_in_zone e.zone other && same_want e.want other.want && is_awaited moment other

@@ -15,5 +15,7 @@ pub struct Expectation {
     pub id: u64,
     pub master: u64,
     pub want: Want,
+    /// The zone of the connection, which is that of the entry for which it is expected.
+    pub zone: u16,
     pub deadline: u64,
 }

@@ -19,7 +19,7 @@ mod tests;
 pub enum AddOutcome {
     /// It is in the table, in the place of the older one of its master with this id, where it had one.
     Added { replaced: Option<u64> },
-    /// Another master's expectation with this id has the same want and is still due; it is the first such one.
+    /// Another master's expectation with this id has the same zone and want and is still due; it is the first such one.
     Clash { id: u64 },
     /// The table has no room.
     Full,
@@ -65,14 +65,17 @@ fn is_wanted(want: &Want, t: &Tuple) -> bool
 fn is_match(e: &Expectation, t: &Tuple, moment: u64) -> bool
     ensures { result ≡ is_match t.now moment e.now }
 {
-    is_wanted(&e.want, t) && moment < e.deadline
+    e.zone == t.zone && is_wanted(&e.want, t) && moment < e.deadline
 }
 
 /// Whether another expectation stands in the way of the first.
 fn is_rival(e: &Expectation, moment: u64, other: &Expectation) -> bool
     ensures { result ≡ is_rival e.now moment other.now }
 {
-    other.master != e.master && is_same_want(&e.want, &other.want) && moment < other.deadline
+    other.master != e.master
+        && other.zone == e.zone
+        && is_same_want(&e.want, &other.want)
+        && moment < other.deadline
 }
 
 /// The first that matches a packet with this tuple at the moment.

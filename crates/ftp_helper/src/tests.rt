@@ -163,6 +163,7 @@ fn cut_payloads(rt: HostRuntime) {
 fn wanted(direction: Direction, address: Option<u32>) -> Option<(u32, u32, u16)> {
     let original = Tuple {
         proto: Proto::Tcp,
+        zone: 0,
         src: 1,
         dst: 2,
         a: 50_000,
@@ -170,6 +171,7 @@ fn wanted(direction: Direction, address: Option<u32>) -> Option<(u32, u32, u16)>
     };
     let reply = Tuple {
         proto: Proto::Tcp,
+        zone: 0,
         src: 3,
         dst: 4,
         a: 21,

@@ -27,7 +27,7 @@ use Rattle.history_book.specs.Record.{has_id, has_original, has_reply, has_tuple
 use Rattle.history_book.specs.State.{Found, State, empty_state, live_under, next, original_first, record_of}
 use Rattle.history_book.proofs.Entries.{each_fails}
 use Rattle.history_book.proofs.Live.{absent_free, apart_absent}
-use Rattle.history_book.proofs.OneProtocol.{OneProtocol, confirmed_protocol, live_holds, own_protocol, protocol_after}
+use Rattle.history_book.proofs.OneFlow.{OneFlow, confirmed_protocol, live_holds, own_protocol, protocol_after}
 use Rattle.history_book.proofs.Pairs.{Pairs}
 use Rattle.history_book.proofs.Passing.{found_holds, found_passes, none_found}
 use Rattle.history_book.proofs.Records.{apart_sym}
@@ -202,9 +202,9 @@ late_is_new sizes log p q t found legal le absent live =
     not_below : (m n : ℕ) → (n < m → ⊥) → m ≤ n
     not_below m n h = omega (arith, h)
 
--- each Confirm of a legal history is of one protocol
+-- each Confirm of a legal history is of one flow
 confirm_protocol : (sizes : Sizes) (n k : ℕ) (s : State) (log : List Event) (r : Record) → is_legal_from sizes s n log ≡ true
-    → slice_get log k ≡ Some (Confirm r) → OneProtocol r
+    → slice_get log k ≡ Some (Confirm r) → OneFlow r
 confirm_protocol sizes n k s [] r legal at = cc
 confirm_protocol sizes n zero s (e ∷ es) r legal at =
     let parts = and_parts (may_happen sizes s n e) (is_legal_from sizes (next s e) (n + 1) es) legal in
@@ -215,7 +215,7 @@ confirm_protocol sizes n (suc k) s (e ∷ es) r legal at =
     confirm_protocol sizes (n + 1) k (next s e) es r parts.1 at
 
 confirm_protocol_at : (sizes : Sizes) (k : ℕ) (log : List Event) (r : Record) → is_legal sizes log ≡ true
-    → slice_get log k ≡ Some (Confirm r) → OneProtocol r
+    → slice_get log k ≡ Some (Confirm r) → OneFlow r
 unfolding is_legal
 confirm_protocol_at sizes k log r legal at = confirm_protocol sizes 0 k empty_state log r legal at
 
@@ -233,12 +233,12 @@ reads_proto (segment.Icmp type) (kind.Tcp state) = refl
 reads_proto s kind.Udp = refl
 reads_proto s kind.Icmp = refl
 
-own_proto : (r : Record) → OneProtocol r → proto_of r.part.kind ≡ r.original.proto
+own_proto : (r : Record) → OneFlow r → proto_of r.part.kind ≡ r.original.proto
 own_proto r h = own_protocol r.original r h (or_left (has_original r.original r) (has_reply r.original r) (same_tuple-refl r.original))
 
--- a record that was confirmed and is of one protocol is of the protocol of its Confirm
+-- a record that was confirmed and is of one flow is of the protocol of its Confirm
 kept_by : (sizes : Sizes) (log : List Event) (r : Record) (segment : Segment) → is_legal sizes log ≡ true → IsConfirmed log r
-    → OneProtocol r → is_of_entry segment r.id log ≡ is_of_protocol segment r.part.kind
+    → OneFlow r → is_of_entry segment r.id log ≡ is_of_protocol segment r.part.kind
 kept_by sizes log r segment legal confirmed live =
     let s : Record = confirmed.subject in
     let same : proto_of s.part.kind ≡ proto_of r.part.kind =
@@ -254,7 +254,7 @@ module _ (go_on : AcceptedGoOn) (equal : SamePartIsEquality) where
       let confirmed = found_confirmed sizes log p id r legal at in
       ap (λ n. is_of_entry segment n log) (sym confirmed.1)
       ∙ kept_by sizes log r segment legal confirmed.0
-      (found_holds OneProtocol (has_id id) (after log p).records r (protocol_after go_on equal sizes p log legal) at)
+      (found_holds OneFlow (has_id id) (after log p).records r (protocol_after go_on equal sizes p log legal) at)
 
   pub found_protocol : (sizes : Sizes) (log : List Event) (p : ℕ) (t : Tuple) (found : Found) (segment : Segment)
       → is_legal sizes log ≡ true → live_under t (after log p) ≡ Some found
@@ -262,7 +262,7 @@ module _ (go_on : AcceptedGoOn) (equal : SamePartIsEquality) where
   found_protocol sizes log p t found segment legal live =
       kept_by sizes log found.subject segment legal
       (live_holds (IsConfirmed log) t (after log p) found (confirmed_after sizes p log legal) live)
-      (live_holds OneProtocol t (after log p) found (protocol_after go_on equal sizes p log legal) live)
+      (live_holds OneFlow t (after log p) found (protocol_after go_on equal sizes p log legal) live)
 
 -- where nothing is live under a tuple, no live record has it
 pub nobodys : (t u : Tuple) (s : State) (found : Found) → live_under t s ≡ None → live_under u s ≡ Some found

@@ -31,10 +31,10 @@ sizes = record { entries = 65536; buckets = 16384; seed = 1; passes = 1; expecta
 
 -- the tuple of a query from this port, and that of the answer to port 5000
 abbrev query : ℕ → Tuple
-query port = record { proto = proto.Udp; src = 167772161; dst = 167772162; a = port; b = 53 }
+query port = record { proto = proto.Udp; zone = 0; src = 167772161; dst = 167772162; a = port; b = 53 }
 
 abbrev answer : Tuple
-answer = record { proto = proto.Udp; src = 167772162; dst = 167772161; a = 53; b = 5000 }
+answer = record { proto = proto.Udp; zone = 0; src = 167772162; dst = 167772161; a = 53; b = 5000 }
 
 abbrev part : Bool → ℕ → Part
 part replied deadline = record { kind = kind.Udp; replied = replied; assured = false; deadline = deadline }
@@ -124,8 +124,8 @@ abbrev opens : ℕ → ℕ → Event
 opens id second = Confirm (record {
   id = id;
   place = 0;
-  original = record { proto = proto.Tcp; src = 167772161; dst = 167772162; a = 5000; b = 80 };
-  reply = record { proto = proto.Tcp; src = 167772162; dst = 167772161; a = 80; b = 5000 };
+  original = record { proto = proto.Tcp; zone = 0; src = 167772161; dst = 167772162; a = 5000; b = 80 };
+  reply = record { proto = proto.Tcp; zone = 0; src = 167772162; dst = 167772161; a = 80; b = 5000 };
   part = stands SynSent false false (second + 120);
   helper = false;
   master = None;
@@ -204,8 +204,8 @@ abbrev controls : Bool → Event
 controls helper = Confirm (record {
   id = 0;
   place = 0;
-  original = record { proto = proto.Tcp; src = 167772161; dst = 167772162; a = 5000; b = 21 };
-  reply = record { proto = proto.Tcp; src = 167772162; dst = 167772161; a = 21; b = 5000 };
+  original = record { proto = proto.Tcp; zone = 0; src = 167772161; dst = 167772162; a = 5000; b = 21 };
+  reply = record { proto = proto.Tcp; zone = 0; src = 167772162; dst = 167772161; a = 21; b = 5000 };
   part = stands SynSent false false 121;
   helper = helper;
   master = None;
@@ -217,6 +217,7 @@ wanted id port second = record {
   id = id;
   master = 0;
   want = record { src = 167772162; dst = 167772161; port = port };
+  zone = 0;
   deadline = (second + 300) * 1000000;
 }
 
@@ -226,10 +227,10 @@ expects id port older second = Expect (wanted id port second) older (second * 10
 
 -- the tuples of the data connection to this port
 abbrev data_tuple : ℕ → Tuple
-data_tuple port = record { proto = proto.Tcp; src = 167772162; dst = 167772161; a = 20; b = port }
+data_tuple port = record { proto = proto.Tcp; zone = 0; src = 167772162; dst = 167772161; a = 20; b = port }
 
 abbrev data_reply : ℕ → Tuple
-data_reply port = record { proto = proto.Tcp; src = 167772161; dst = 167772162; a = port; b = 20 }
+data_reply port = record { proto = proto.Tcp; zone = 0; src = 167772161; dst = 167772162; a = port; b = 20 }
 
 -- the data connection to this port meets the expectation of this id at this second
 abbrev claims : ℕ → ℕ → ℕ → Event

@@ -1,7 +1,7 @@
 -- What is expected in the states of a legal history.
 use Rattle.std.proofs.Common.{◌≡◌, ℕ, ◌+◌, ◌<◌, zero, suc, Bool, true, false, not, cond, List, [], ◌∷◌, ◌++◌, take, refl, sym, ap, subst, ◌∙◌, Option, Some, arith}
 use Rattle.std.specs.List.{AllByRecursion, filter, find}
-use Rattle.std.specs.Prelude.{map, ◌==◌}
+use Rattle.std.specs.Prelude.{map, ◌==◌, ◌&&◌}
 use Rattle.std.proofs.lemmas.Bool.{and_parts, eqb-false, eqb-true, ne_eqb, false≢true}
 use Rattle.std.proofs.lemmas.List.Elements.{All-from_recursion}
 use Rattle.expect_table.specs.Expectations.{AreOrderedOneAMaster, add_outcome, with_one, without_master}
@@ -9,14 +9,15 @@ use Rattle.expect_table.specs.Laws.{AddingKeepsOrder, RemovingKeepsOrder}
 use Rattle.expect_table.specs.Match.{is_of}
 use Rattle.expect_table.specs.Match as match
 use Rattle.expect_table.specs.declared.expectation.Expectation.{Expectation}
+use Rattle.tuple_core.specs.declared.Tuple.{Tuple}
 use Rattle.proto_rules.specs.declared.Part.{Part}
 use Rattle.history_book.specs.declared.event.Event.{Event}
 use Rattle.history_book.specs.declared.event.Event.TheVariants.{Confirm, Touch, Destroy, Expect, Claim, Unexpect}
 use Rattle.history_book.specs.declared.record.Record.{Record}
 use Rattle.history_book.specs.declared.sizes.Sizes.{Sizes}
-use Rattle.history_book.specs.Entry.{confirmed_by, is_helped_entry}
+use Rattle.history_book.specs.Entry.{confirmed_by, is_helped_entry, zone_of, zone_of_entry}
 use Rattle.history_book.specs.History.{after, is_legal, is_legal_from, run}
-use Rattle.history_book.specs.Legality.{expected_for, has_helper, is_added, may_expect, may_happen}
+use Rattle.history_book.specs.Legality.{expected_for, has_helper, helps_in, is_added, may_expect, may_happen}
 use Rattle.history_book.specs.Record.{has_id}
 use Rattle.history_book.specs.State.{State, empty_state, next, record_of, with_part}
 use Rattle.history_book.proofs.Again.{found_confirmed}
@@ -25,13 +26,13 @@ use Rattle.history_book.proofs.Entries.{each_filter, with_part-same}
 -- what the test of an Expect says
 pub record MayExpect (n : ℕ) (s : State) (e : Expectation) : Type 0 where
   pub id : e.id ≡ n
-  pub helped : has_helper (record_of e.master s) ≡ true
+  pub helped : helps_in e.zone (record_of e.master s) ≡ true
 
 pub may_expect-parts : (sizes : Sizes) (n : ℕ) (s : State) (e : Expectation) (replaced : Option ℕ) (moment : ℕ)
     → may_expect sizes s n e replaced moment ≡ true → MayExpect n s e
 may_expect-parts sizes n s e replaced moment h =
     let a = and_parts _ (is_added (add_outcome sizes.expectations s.expects e moment) replaced) h in
-    let b = and_parts _ (has_helper (record_of e.master s)) a.0 in
+    let b = and_parts _ (helps_in e.zone (record_of e.master s)) a.0 in
     let c = and_parts (e.id == n) (e.deadline == moment + expected_for) b.0 in
     record { id = eqb-true e.id n c.0; helped = b.1 }
 
@@ -114,68 +115,69 @@ module _ (adding : AddingKeepsOrder) (removing : RemovingKeepsOrder) where
   ordered_after sizes p log legal =
       ordered_run sizes 0 p p empty_state log legal (omega arith) (record { order = none_in_order; older = tt })
 
--- of each expectation the master is live, among these records, and has the helper
+-- of each expectation the master is live, among these records, has the helper, and is in its zone
 abbrev pub Helped : List Record → List Expectation → Type 0
-Helped rs es = AllByRecursion (λ e. has_helper (find (has_id e.master) rs) ≡ true) es
+Helped rs es = AllByRecursion (λ e. helps_in e.zone (find (has_id e.master) rs) ≡ true) es
 
-first_same : (a b : Bool) → a ≡ b → (x y : Record) → x.helper ≡ y.helper → (o p : Option Record) → has_helper o ≡ has_helper p
-    → has_helper (cond a (Some x) o) ≡ has_helper (cond b (Some y) p)
-first_same true true e x y h o p k = h
-first_same true false e x y h o p k = cc
-first_same false true e x y h o p k = cc
-first_same false false e x y h o p k = k
+first_same : (zone : ℕ) (a b : Bool) → a ≡ b → (x y : Record) → x.helper ≡ y.helper → x.original ≡ y.original → (o p : Option Record) → helps_in zone o ≡ helps_in zone p
+    → helps_in zone (cond a (Some x) o) ≡ helps_in zone (cond b (Some y) p)
+first_same zone true true e x y h same o p k = ap (λ b. b && x.original.zone == zone) h ∙ ap (λ (t : Tuple). y.helper && t.zone == zone) same
+first_same zone true false e x y h same o p k = cc
+first_same zone false true e x y h same o p k = cc
+first_same zone false false e x y h same o p k = k
 
-push_first : (q : Record) (b : Bool) (o p : Option Record) → has_helper (cond b (Some q) o) ≡ true
-    → (has_helper o ≡ true → has_helper p ≡ true) → has_helper (cond b (Some q) p) ≡ true
-push_first q true o p h rest = h
-push_first q false o p h rest = rest h
+push_first : (zone : ℕ) (q : Record) (b : Bool) (o p : Option Record) → helps_in zone (cond b (Some q) o) ≡ true
+    → (helps_in zone o ≡ true → helps_in zone p ≡ true) → helps_in zone (cond b (Some q) p) ≡ true
+push_first zone q true o p h rest = h
+push_first zone q false o p h rest = rest h
 
 -- one record more
-helper_push : (m : ℕ) (rs : List Record) (r : Record) → has_helper (find (has_id m) rs) ≡ true
-    → has_helper (find (has_id m) (rs ++ r ∷ [])) ≡ true
-helper_push m [] r h = absurd (false≢true h)
-helper_push m (q ∷ rs) r h =
-    push_first q (has_id m q) (find (has_id m) rs) (find (has_id m) (rs ++ r ∷ [])) h (helper_push m rs r)
+helper_push : (zone m : ℕ) (rs : List Record) (r : Record) → helps_in zone (find (has_id m) rs) ≡ true
+    → helps_in zone (find (has_id m) (rs ++ r ∷ [])) ≡ true
+helper_push zone m [] r h = absurd (false≢true h)
+helper_push zone m (q ∷ rs) r h =
+    push_first zone q (has_id m q) (find (has_id m) rs) (find (has_id m) (rs ++ r ∷ [])) h (helper_push zone m rs r)
 
 helped_push : (rs : List Record) (r : Record) (es : List Expectation) → Helped rs es → Helped (rs ++ r ∷ []) es
 helped_push rs r [] h = tt
-helped_push rs r (e ∷ es) (h, hs) = (helper_push e.master rs r h, helped_push rs r es hs)
+helped_push rs r (e ∷ es) (h, hs) = (helper_push e.zone e.master rs r h, helped_push rs r es hs)
 
 -- one record has another part
-helper_touched : (m id : ℕ) (part : Part) (rs : List Record)
-    → has_helper (find (has_id m) (map (with_part id part) rs)) ≡ has_helper (find (has_id m) rs)
-helper_touched m id part [] = refl
-helper_touched m id part (q ∷ rs) =
+helper_touched : (zone m id : ℕ) (part : Part) (rs : List Record)
+    → helps_in zone (find (has_id m) (map (with_part id part) rs)) ≡ helps_in zone (find (has_id m) rs)
+helper_touched zone m id part [] = refl
+helper_touched zone m id part (q ∷ rs) =
     let same = with_part-same id part q in
-    first_same (has_id m (with_part id part q)) (has_id m q) (ap (λ i. i == m) same.id) (with_part id part q) q same.helper
-    (find (has_id m) (map (with_part id part) rs)) (find (has_id m) rs) (helper_touched m id part rs)
+    first_same zone (has_id m (with_part id part q)) (has_id m q) (ap (λ i. i == m) same.id) (with_part id part q) q same.helper
+    same.original
+    (find (has_id m) (map (with_part id part) rs)) (find (has_id m) rs) (helper_touched zone m id part rs)
 
 helped_touched : (id : ℕ) (part : Part) (rs : List Record) (es : List Expectation) → Helped rs es
     → Helped (map (with_part id part) rs) es
 helped_touched id part rs [] h = tt
-helped_touched id part rs (e ∷ es) (h, hs) = (helper_touched e.master id part rs ∙ h, helped_touched id part rs es hs)
+helped_touched id part rs (e ∷ es) (h, hs) = (helper_touched e.zone e.master id part rs ∙ h, helped_touched id part rs es hs)
 
 -- the record of another id is gone
-filter_first : (m id : ℕ) (q : Record) (rs kept : List Record) (b : Bool) → has_id id q ≡ b → (m == id) ≡ false
-    → has_helper (find (has_id m) kept) ≡ has_helper (find (has_id m) rs)
-    → has_helper (find (has_id m) (cond (not b) (q ∷ kept) kept)) ≡ has_helper (cond (has_id m q) (Some q) (find (has_id m) rs))
-filter_first m id q rs kept true e ne h =
+filter_first : (zone m id : ℕ) (q : Record) (rs kept : List Record) (b : Bool) → has_id id q ≡ b → (m == id) ≡ false
+    → helps_in zone (find (has_id m) kept) ≡ helps_in zone (find (has_id m) rs)
+    → helps_in zone (find (has_id m) (cond (not b) (q ∷ kept) kept)) ≡ helps_in zone (cond (has_id m q) (Some q) (find (has_id m) rs))
+filter_first zone m id q rs kept true e ne h =
     let other : has_id m q ≡ false = ne_eqb q.id m (λ k. eqb-false m id ne (sym k ∙ eqb-true q.id id e)) in
-    h ∙ ap (λ b. has_helper (cond b (Some q) (find (has_id m) rs))) (sym other)
-filter_first m id q rs kept false e ne h =
-    first_same (has_id m q) (has_id m q) refl q q refl (find (has_id m) kept) (find (has_id m) rs) h
+    h ∙ ap (λ b. helps_in zone (cond b (Some q) (find (has_id m) rs))) (sym other)
+filter_first zone m id q rs kept false e ne h =
+    first_same zone (has_id m q) (has_id m q) refl q q refl refl (find (has_id m) kept) (find (has_id m) rs) h
 
-helper_filter : (m id : ℕ) (rs : List Record) → (m == id) ≡ false
-    → has_helper (find (has_id m) (filter (λ r. not (has_id id r)) rs)) ≡ has_helper (find (has_id m) rs)
-helper_filter m id [] ne = refl
-helper_filter m id (q ∷ rs) ne =
-    filter_first m id q rs (filter (λ r. not (has_id id r)) rs) (has_id id q) refl ne (helper_filter m id rs ne)
+helper_filter : (zone m id : ℕ) (rs : List Record) → (m == id) ≡ false
+    → helps_in zone (find (has_id m) (filter (λ r. not (has_id id r)) rs)) ≡ helps_in zone (find (has_id m) rs)
+helper_filter zone m id [] ne = refl
+helper_filter zone m id (q ∷ rs) ne =
+    filter_first zone m id q rs (filter (λ r. not (has_id id r)) rs) (has_id id q) refl ne (helper_filter zone m id rs ne)
 
 left_first : (id : ℕ) (rs : List Record) (e : Expectation) (kept : List Expectation) (b : Bool) → is_of id e ≡ b
-    → has_helper (find (has_id e.master) rs) ≡ true → Helped (filter (λ r. not (has_id id r)) rs) kept
+    → helps_in e.zone (find (has_id e.master) rs) ≡ true → Helped (filter (λ r. not (has_id id r)) rs) kept
     → Helped (filter (λ r. not (has_id id r)) rs) (cond (not b) (e ∷ kept) kept)
 left_first id rs e kept true is h hs = hs
-left_first id rs e kept false is h hs = (helper_filter e.master id rs is ∙ h, hs)
+left_first id rs e kept false is h hs = (helper_filter e.zone e.master id rs is ∙ h, hs)
 
 helped_left : (id : ℕ) (rs : List Record) (es : List Expectation) → Helped rs es
     → Helped (filter (λ r. not (has_id id r)) rs) (without_master id es)
@@ -189,13 +191,13 @@ helped_next sizes n s (Confirm r) may h = helped_push s.records r s.expects h
 helped_next sizes n s (Touch id d segment moment part) may h = helped_touched id part s.records s.expects h
 helped_next sizes n s (Destroy id why) may h = helped_left id s.records s.expects h
 helped_next sizes n s (Expect e replaced moment) may h =
-    each_more (λ (o : Expectation). has_helper (find (has_id o.master) s.records) ≡ true) (without_master e.master s.expects) e
-    (each_filter (λ (o : Expectation). has_helper (find (has_id o.master) s.records) ≡ true) (λ o. not (is_of e.master o)) s.expects h)
+    each_more (λ (o : Expectation). helps_in o.zone (find (has_id o.master) s.records) ≡ true) (without_master e.master s.expects) e
+    (each_filter (λ (o : Expectation). helps_in o.zone (find (has_id o.master) s.records) ≡ true) (λ o. not (is_of e.master o)) s.expects h)
     (may_expect-parts sizes n s e replaced moment may).helped
 helped_next sizes n s (Claim id master t moment) may h =
-    each_filter (λ (o : Expectation). has_helper (find (has_id o.master) s.records) ≡ true) (λ o. not (match.has_id id o)) s.expects h
+    each_filter (λ (o : Expectation). helps_in o.zone (find (has_id o.master) s.records) ≡ true) (λ o. not (match.has_id id o)) s.expects h
 helped_next sizes n s (Unexpect id moment) may h =
-    each_filter (λ (o : Expectation). has_helper (find (has_id o.master) s.records) ≡ true) (λ o. not (match.has_id id o)) s.expects h
+    each_filter (λ (o : Expectation). helps_in o.zone (find (has_id o.master) s.records) ≡ true) (λ o. not (match.has_id id o)) s.expects h
 
 helped_run : (sizes : Sizes) (n p : ℕ) (s : State) (log : List Event) → is_legal_from sizes s n log ≡ true
     → Helped s.records s.expects → Helped (run s (take p log)).records (run s (take p log)).expects
@@ -217,3 +219,11 @@ kept_helper sizes log p id r legal at =
     let c = found_confirmed sizes log p id r legal at in
     let e : is_helped_entry r.id log ≡ c.0.subject.helper = ap (λ o. has_helper (confirmed_by o)) c.0.event in
     subst (λ i. is_helped_entry i log ≡ r.helper) c.1 (e ∙ sym c.0.same.helper)
+
+-- the zone of a record is that of its Confirm
+pub kept_zone : (sizes : Sizes) (log : List Event) (p id : ℕ) (r : Record) → is_legal sizes log ≡ true
+    → record_of id (after log p) ≡ Some r → zone_of_entry id log ≡ r.original.zone
+kept_zone sizes log p id r legal at =
+    let c = found_confirmed sizes log p id r legal at in
+    let e : zone_of_entry r.id log ≡ c.0.subject.original.zone = ap (λ o. zone_of (confirmed_by o)) c.0.event in
+    subst (λ i. zone_of_entry i log ≡ r.original.zone) c.1 (e ∙ sym (ap (λ (t : Tuple). t.zone) c.0.same.original))

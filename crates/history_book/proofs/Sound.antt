@@ -8,7 +8,7 @@ use Rattle.history_book.specs.declared.event.Event.TheVariants.{Confirm, Touch, 
 use Rattle.history_book.specs.declared.event.Why.{Why}
 use Rattle.proto_rules.specs.declared.Part.{Part}
 use Rattle.history_book.specs.declared.record.Record.{Record}
-use Rattle.history_book.specs.Legality.{is_of_one_protocol, is_open_place, may_confirm, may_destroy, may_happen}
+use Rattle.history_book.specs.Legality.{is_of_one_flow, is_open_place, may_confirm, may_destroy, may_happen}
 use Rattle.history_book.specs.History.{after, is_legal, is_legal_from, run}
 use Rattle.history_book.specs.Laws.{IsConfirmed, IsSameEntry}
 use Rattle.history_book.specs.Record.{has_id, has_place, has_tuple}
@@ -35,7 +35,7 @@ may_confirm-parts sizes n s r h =
     let a = and_parts _ (is_free r.reply s) h in
     let b = and_parts _ (is_free r.original s) a.0 in
     let c = and_parts _ (is_open_place sizes r.place s) b.0 in
-    let d = and_parts (r.id == n) (is_of_one_protocol r) c.0 in
+    let d = and_parts (r.id == n) (is_of_one_flow r) c.0 in
     let e = and_parts _ (is_unused r.place s) c.1 in
     record {
       id = eqb-true r.id n d.0;

@@ -31,8 +31,8 @@ same_number Udp Icmp e = absurd (omega (arith, e))
 same_number Udp Tcp e = absurd (omega (arith, e))
 same_number Udp Udp e = refl
 
-same_fields : (t u : Tuple) → t.proto ≡ u.proto → t.src ≡ u.src → t.dst ≡ u.dst → t.a ≡ u.a → t.b ≡ u.b → t ≡ u
-same_fields t u p s d a b = λ i. record { proto = p i; src = s i; dst = d i; a = a i; b = b i }
+same_fields : (t u : Tuple) → t.proto ≡ u.proto → t.zone ≡ u.zone → t.src ≡ u.src → t.dst ≡ u.dst → t.a ≡ u.a → t.b ≡ u.b → t ≡ u
+same_fields t u p z s d a b = λ i. record { proto = p i; zone = z i; src = s i; dst = d i; a = a i; b = b i }
 
 -- tuples that pass the test are equal
 pub same_tuple-true : (t u : Tuple) → same_tuple t u ≡ true → t ≡ u
@@ -40,6 +40,7 @@ same_tuple-true t u h =
     let b = and_parts _ (t.b == u.b) h in
     let a = and_parts _ (t.a == u.a) b.0 in
     let d = and_parts _ (t.dst == u.dst) a.0 in
-    let p = and_parts (number_of t.proto == number_of u.proto) (t.src == u.src) d.0 in
-    same_fields t u (same_number t.proto u.proto (eqb-true _ _ p.0)) (eqb-true _ _ p.1) (eqb-true _ _ d.1)
+    let s = and_parts _ (t.src == u.src) d.0 in
+    let p = and_parts (number_of t.proto == number_of u.proto) (t.zone == u.zone) s.0 in
+    same_fields t u (same_number t.proto u.proto (eqb-true _ _ p.0)) (eqb-true _ _ p.1) (eqb-true _ _ s.1) (eqb-true _ _ d.1)
     (eqb-true _ _ a.1) (eqb-true _ _ b.1)

@@ -16,31 +16,34 @@ use Rattle.history_book.specs.declared.outcome.UnexpectOutcome.{UnexpectOutcome}
 use Rattle.history_book.specs.declared.outcome.UnexpectOutcome.TheVariants as unexpect
 use Rattle.history_book.specs.Desk.{IsGoneAt, SamePlaces}
 use Rattle.history_book.specs.Held.{held_id}
-use Rattle.history_book.specs.Legality.{expected_for, has_helper}
+use Rattle.history_book.specs.Entry.{zone_of_entry}
+use Rattle.history_book.specs.Legality.{expected_for, helps_in}
 use Rattle.history_book.specs.Sight.{Sight}
 use Rattle.history_book.specs.State.{State, record_of}
 use Rattle.history_book.specs.WentOn.{Looked, MadeEvent}
 
--- what an entry expects from a moment on, as event n
-abbrev pub expectation_at : ℕ → ℕ → Want → ℕ → Expectation
-expectation_at n master want moment =
-    record { id = n; master = master; want = want; deadline = moment + expected_for }
+-- what an entry of a zone expects from a moment on, as event n
+abbrev pub expectation_at : (n master zone : ℕ) → Want → ℕ → Expectation
+expectation_at n master zone want moment =
+    record { id = n; master = master; want = want; zone = zone; deadline = moment + expected_for }
 
--- the entry is live and has the helper, and adding what it expects, as event n of a tracker with room for so many expectations,
--- gives this
-pub record AddGives (room n master : ℕ) (want : Want) (moment : ℕ) (outcome : AddOutcome) (s : State) : Type 0 where
-  pub live : has_helper (record_of master s) ≡ true
-  pub gives : add_outcome room s.expects (expectation_at n master want moment) moment ≡ outcome
+-- the entry is live, in this zone, and has the helper, and adding what it expects, as event n of a tracker with room for so many
+-- expectations, gives this
+pub record AddGives (room n master zone : ℕ) (want : Want) (moment : ℕ) (outcome : AddOutcome) (s : State) : Type 0 where
+  pub live : helps_in zone (record_of master s) ≡ true
+  pub gives : add_outcome room s.expects (expectation_at n master zone want moment) moment ≡ outcome
 
 -- it was not added
 abbrev pub AddsNothing : ℕ → Want → ℕ → AddOutcome → Sight → Sight → ℕ → Type 0
 AddsNothing master want moment outcome old new at =
-    Looked old new at (AddGives new.sizes.expectations at master want moment outcome) × SamePlaces old new
+    Looked old new at (AddGives new.sizes.expectations at master (zone_of_entry master old.front) want moment outcome)
+    × SamePlaces old new
 
--- it is expected, and its id is the event's number
+-- it is expected in the zone in which its master was confirmed, and its id is the event's number
 abbrev pub MakesExpect : ℕ → Want → ℕ → Sight → Sight → ℕ → Option ℕ → Type 0
 MakesExpect master want moment old new id replaced =
-    MadeEvent old new id (Expect (expectation_at id master want moment) replaced moment) × SamePlaces old new
+    MadeEvent old new id (Expect (expectation_at id master (zone_of_entry master old.front) want moment) replaced moment)
+    × SamePlaces old new
 
 abbrev pub ExpectSays : ℕ → Want → ℕ → Sight → Sight → ExpectOutcome → Type 0
 ExpectSays place want moment old new (expect.Expected id replaced) =

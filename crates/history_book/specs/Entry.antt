@@ -1,4 +1,4 @@
--- The protocol and the helper of an entry, by the Confirm that made it, and the protocol of a flow.
+-- The protocol, the helper and the zone of an entry, by the Confirm that made it, and when a flow is lawful.
 use Rattle.std.specs.Prelude.{ℕ, Bool, true, false, Option, Some, None, List, slice_get}
 use Rattle.tuple_core.specs.declared.Segment.{Segment}
 use Rattle.history_book.specs.declared.event.Event.{Event}
@@ -7,7 +7,7 @@ use Rattle.history_book.specs.declared.event.Why.{Why}
 use Rattle.history_book.specs.declared.event.Why.TheVariants as why
 use Rattle.history_book.specs.declared.record.Flow.{Flow}
 use Rattle.history_book.specs.declared.record.Record.{Record}
-use Rattle.history_book.specs.Legality.{has_helper, is_of_one_protocol}
+use Rattle.history_book.specs.Legality.{has_helper, is_of_one_flow}
 use Rattle.proto_rules.specs.Protocol.{is_of_protocol}
 
 -- the record that a flow becomes
@@ -22,9 +22,9 @@ record_for flow id place = record {
   master = flow.master;
 }
 
--- both tuples of the flow are valid and of the protocol of its part
-abbrev pub is_flow_of_one_protocol : Flow → Bool
-is_flow_of_one_protocol flow = is_of_one_protocol (record_for flow 0 0)
+-- both tuples of the flow are valid, of one zone, and of the protocol of its part
+abbrev pub is_lawful_flow : Flow → Bool
+is_lawful_flow flow = is_of_one_flow (record_for flow 0 0)
 
 -- the record of a Confirm
 abbrev pub confirmed_by : Option Event → Option Record
@@ -39,6 +39,15 @@ confirmed_by (Some (Unexpect expectation moment)) = None
 -- the entry of this id, which was confirmed in the history, has the helper
 abbrev pub is_helped_entry : ℕ → List Event → Bool
 is_helped_entry id log = has_helper (confirmed_by (slice_get log id))
+
+-- the zone of a record, which is that of both its tuples
+abbrev pub zone_of : Option Record → ℕ
+zone_of None = 0
+zone_of (Some r) = r.original.zone
+
+-- the zone of the entry of this id, which was confirmed in the history
+abbrev pub zone_of_entry : ℕ → List Event → ℕ
+zone_of_entry id log = zone_of (confirmed_by (slice_get log id))
 
 -- the segment is of the record's protocol
 abbrev pub is_of_record : Segment → Option Record → Bool

@@ -8,8 +8,8 @@ use Rattle.history_book.specs.declared.sizes.Sizes.{Sizes}
 use Rattle.expect_table.specs.Expectations.{AreOrderedOneAMaster}
 use Rattle.expect_table.specs.Match as expected
 use Rattle.expect_table.specs.declared.expectation.Expectation.{Expectation}
-use Rattle.history_book.specs.Entry.{is_helped_entry, is_of_entry}
-use Rattle.history_book.specs.Legality.{has_helper, is_of_one_protocol, may_happen}
+use Rattle.history_book.specs.Entry.{is_helped_entry, is_of_entry, zone_of_entry}
+use Rattle.history_book.specs.Legality.{helps_in, is_of_one_flow, may_happen}
 use Rattle.history_book.specs.History.{after, is_legal}
 use Rattle.history_book.specs.Point.{StartsWith}
 use Rattle.history_book.specs.Sight.{WasConfirmedIn}
@@ -95,11 +95,11 @@ DestroyedIdsStayDead =
     → slice_get log n ≡ Some (Destroy id why) → n < p → p ≤ length log
     → All (λ r. r.id ≢ id) (after log p).records
 
--- in every state of a legal history both tuples of each record are valid and of the protocol of its part
-abbrev pub RecordsAreOfOneProtocol : Type 0
-RecordsAreOfOneProtocol =
+-- in every state of a legal history both tuples of each record are valid, of one zone, and of the protocol of its part
+abbrev pub RecordsAreOfOneFlow : Type 0
+RecordsAreOfOneFlow =
     (sizes : Sizes) (log : List Event) (p : ℕ) → is_legal sizes log ≡ true
-    → All (λ r. is_of_one_protocol r ≡ true) (after log p).records
+    → All (λ r. is_of_one_flow r ≡ true) (after log p).records
 
 -- what is live under a tuple at one point and is live at another is live under the tuple there, in the same
 -- direction
@@ -128,11 +128,11 @@ FoundKeepTheirProtocol =
     → live_under t (after log p) ≡ Some found
     → is_of_entry segment found.subject.id log ≡ is_of_protocol segment found.subject.part.kind
 
--- in every state of a legal history the master of each expectation is live and has the helper
-abbrev pub MastersHaveTheHelper : Type 0
-MastersHaveTheHelper =
+-- in every state of a legal history the master of each expectation is live, has the helper, and is in the expectation's zone
+abbrev pub MastersHelpInTheirZone : Type 0
+MastersHelpInTheirZone =
     (sizes : Sizes) (log : List Event) (p : ℕ) → is_legal sizes log ≡ true
-    → All (λ e. has_helper (record_of e.master (after log p)) ≡ true) (after log p).expects
+    → All (λ e. helps_in e.zone (record_of e.master (after log p)) ≡ true) (after log p).expects
 
 -- in every state of a legal history the ids of the expectations rise, no master has two, and each was an event
 -- before the point
@@ -146,6 +146,12 @@ abbrev pub EntriesKeepTheirHelper : Type 0
 EntriesKeepTheirHelper =
     (sizes : Sizes) (log : List Event) (p : ℕ) (id : ℕ) (r : Record) → is_legal sizes log ≡ true
     → record_of id (after log p) ≡ Some r → is_helped_entry id log ≡ r.helper
+
+-- a live record is in the zone in which its entry was confirmed
+abbrev pub EntriesKeepTheirZone : Type 0
+EntriesKeepTheirZone =
+    (sizes : Sizes) (log : List Event) (p : ℕ) (id : ℕ) (r : Record) → is_legal sizes log ≡ true
+    → record_of id (after log p) ≡ Some r → zone_of_entry id log ≡ r.original.zone
 
 -- an id below a point that no live record has there is that of no live record later
 abbrev pub GoneEntriesStayGone : Type 0

@@ -30,21 +30,25 @@ use Rattle.history_book.specs.State.{State, is_free, is_unused, record_of}
 abbrev pub same_proto : Proto → Proto → Bool
 same_proto p q = number_of p == number_of q
 
--- both tuples are valid and of the protocol of the part
-abbrev pub is_of_one_protocol : Record → Bool
-is_of_one_protocol r =
-    is_valid r.original && is_valid r.reply
+-- both tuples are of one zone, which is the record's
+abbrev pub is_of_one_zone : Record → Bool
+is_of_one_zone r = r.reply.zone == r.original.zone
+
+-- both tuples are valid, of one zone, and of the protocol of the part
+abbrev pub is_of_one_flow : Record → Bool
+is_of_one_flow r =
+    is_valid r.original && is_valid r.reply && is_of_one_zone r
     && same_proto r.original.proto (proto_of r.part.kind) && same_proto r.reply.proto (proto_of r.part.kind)
 
 -- the place is one of the pool's and of no live record
 abbrev pub is_open_place : Sizes → ℕ → State → Bool
 is_open_place sizes place s = nat_lt place sizes.entries && is_unused place s
 
--- a record may be confirmed as event n: its id is that number, it is of one protocol, its place is
+-- a record may be confirmed as event n: its id is that number, it is of one flow, its place is
 -- open, and neither of its tuples is live in either direction
 abbrev pub may_confirm : Sizes → State → ℕ → Record → Bool
 may_confirm sizes s n r =
-    r.id == n && is_of_one_protocol r && is_open_place sizes r.place s && is_free r.original s && is_free r.reply s
+    r.id == n && is_of_one_flow r && is_open_place sizes r.place s && is_free r.original s && is_free r.reply s
 
 -- the step accepts the packet, and the entry goes on with this part
 abbrev pub accepts : Outcome → Part → Bool
@@ -97,10 +101,15 @@ abbrev pub may_destroy : Option Record → Why → Bool
 may_destroy None why = false
 may_destroy (Some r) why = is_reason why r
 
--- an entry may expect something where it is live and has the helper
+-- the entry is live and has the helper
 abbrev pub has_helper : Option Record → Bool
 has_helper None = false
 has_helper (Some r) = r.helper
+
+-- an entry may expect something in a zone where it is live, has the helper, and is of that zone
+abbrev pub helps_in : ℕ → Option Record → Bool
+helps_in zone None = false
+helps_in zone (Some r) = r.helper && r.original.zone == zone
 
 -- how long a connection is expected, in microseconds: 300 s
 abbrev pub expected_for : ℕ
@@ -120,10 +129,10 @@ is_added (add.Clash id) older = false
 is_added add.Full older = false
 
 -- an expectation may come as event n at a moment: its id is that number, it ends 300 s later, its master may
--- expect something, and it is added
+-- expect something in its zone, and it is added
 abbrev pub may_expect : Sizes → State → ℕ → Expectation → Option ℕ → ℕ → Bool
 may_expect sizes s n e replaced moment =
-    e.id == n && e.deadline == moment + expected_for && has_helper (record_of e.master s)
+    e.id == n && e.deadline == moment + expected_for && helps_in e.zone (record_of e.master s)
     && is_added (add_outcome sizes.expectations s.expects e moment) replaced
 
 -- an expectation may be claimed where it is the first that matches, and is of this master

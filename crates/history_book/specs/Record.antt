@@ -6,9 +6,10 @@ use Rattle.tuple_core.specs.declared.Direction.TheVariants.{Original, Reply}
 use Rattle.tuple_core.specs.declared.Tuple.{Tuple}
 use Rattle.history_book.specs.declared.record.Record.{Record}
 
--- both tuples name one direction of one flow
+-- both tuples name one direction of one flow in one zone
 abbrev pub same_tuple : Tuple → Tuple → Bool
-same_tuple t u = number_of t.proto == number_of u.proto && t.src == u.src && t.dst == u.dst && t.a == u.a && t.b == u.b
+same_tuple t u =
+    number_of t.proto == number_of u.proto && t.zone == u.zone && t.src == u.src && t.dst == u.dst && t.a == u.a && t.b == u.b
 
 abbrev pub has_id : ℕ → Record → Bool
 has_id id r = r.id == id

@@ -11,7 +11,7 @@ use Rattle.proto_rules.specs.declared.Part.{Part}
 use Rattle.proto_rules.specs.Protocol.{proto_of}
 use Rattle.history_book.specs.declared.record.Record.{Record}
 use Rattle.history_book.specs.Laws.{AreApart}
-use Rattle.history_book.specs.Legality.{is_of_one_protocol}
+use Rattle.history_book.specs.Legality.{is_of_one_flow}
 use Rattle.history_book.specs.Record.{has_tuple, same_tuple}
 use Rattle.history_book.specs.State.{Found, State, is_free, is_unused, live_under, next, record_of}
 
@@ -61,10 +61,10 @@ DestroysFree =
     → slice_get s.records i ≡ Some found.subject → live_under t s ≡ Some found
     → IsGone t found.subject.place (next s (Destroy found.subject.id why))
 
--- where each record is of one protocol, what is live under a tuple is of that tuple's
+-- where each record is of one flow, what is live under a tuple is of that tuple's
 abbrev pub LiveRecordsHaveTheProtocol : Type 0
 LiveRecordsHaveTheProtocol =
-    (t : Tuple) (s : State) (found : Found) → All (λ r. is_of_one_protocol r ≡ true) s.records
+    (t : Tuple) (s : State) (found : Found) → All (λ r. is_of_one_flow r ≡ true) s.records
     → live_under t s ≡ Some found → proto_of found.subject.part.kind ≡ t.proto
 
 -- no live record has an unused place

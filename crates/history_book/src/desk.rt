@@ -6,7 +6,7 @@ ghost use Rattle.history_book.specs.Desk.{ConfirmSays, CountSays, FindSays, Hold
 ghost use Rattle.history_book.specs.Desk.{KillSays, PeekSays, RecycleSays, ReleaseSays};
 ghost use Rattle.history_book.specs.Desk.{TakeSays, TouchSays};
 ghost use Rattle.history_book.specs.DeskExpectations.{ClaimSays, ExpectSays, ListsExpected, UnexpectSays};
-ghost use Rattle.history_book.specs.Entry.{is_flow_of_one_protocol, is_helped_entry, is_of_entry, suits_entry};
+ghost use Rattle.history_book.specs.Entry.{is_lawful_flow, is_helped_entry, is_of_entry, suits_entry};
 ghost use Rattle.history_book.specs.Held.{held_id, is_held, is_held_for_entry, is_owed, is_taken};
 ghost use Rattle.history_book.specs.Legality.{reason_moment_of};
 ghost use Rattle.history_book.specs.Sight.{IsKnown, Sight};
@@ -83,7 +83,7 @@ pub trait Desk {
     /// Confirms a new entry in a place that was taken for it.
     fn confirm<R: Wait>(&mut self, rt: &R, place: u32, flow: &Flow) -> ConfirmOutcome
         requires taken { is_taken place (sight self.old).held ≡ true }
-        requires protocol { is_flow_of_one_protocol flow.now ≡ true }
+        requires protocol { is_lawful_flow flow.now ≡ true }
         requires spare { 1 ≤ (sight self.old).spare }
         ensures says { ConfirmSays place flow.now (sight self.old) (sight self.new) result }
         ensures knows { IsKnown (sight self.new) };

@@ -4,13 +4,14 @@
 ghost use Rattle.history_book.specs.Laws.{LegalHistoriesGoOn, StatesFollow, FirstEventsStay};
 ghost use Rattle.history_book.specs.Laws.{EventsMayHappen, EventsStay, StatesStay, RecordsAreApart};
 ghost use Rattle.history_book.specs.Laws.{LiveRecordsAreConfirmed, DestroyedIdsStayDead};
-ghost use Rattle.history_book.specs.Laws.{RecordsAreOfOneProtocol};
+ghost use Rattle.history_book.specs.Laws.{RecordsAreOfOneFlow};
 ghost use Rattle.history_book.specs.Laws.{EntriesKeepTheirProtocol, FoundAreFoundAgain};
 ghost use Rattle.history_book.specs.Laws.{ExpectationsAreExpected, FoundKeepTheirProtocol, GoneEntriesStayGone};
 ghost use Rattle.history_book.specs.Laws.{GoneExpectationsStayGone, LateEntriesAreNew, PlacesAreInThePool};
 ghost use Rattle.history_book.specs.Laws.{EntriesKeepTheirPlace, ExpectationsAreFew, PlacesNameEntries};
 ghost use Rattle.history_book.specs.Laws.{UnusedPlacesAreRoom};
-ghost use Rattle.history_book.specs.Laws.{EntriesKeepTheirHelper, ExpectationsAreInOrder, MastersHaveTheHelper};
+ghost use Rattle.history_book.specs.Laws.{EntriesKeepTheirHelper, EntriesKeepTheirZone, ExpectationsAreInOrder};
+ghost use Rattle.history_book.specs.Laws.{MastersHelpInTheirZone};
 ghost use Rattle.history_book.specs.StateLaws.{SameTupleIsEquality};
 ghost use Rattle.history_book.specs.StateLaws.{AbsentTuplesAreNobodys, FreeIsAbsent};
 ghost use Rattle.history_book.specs.StateLaws.{IdsNameRecords, TouchesChangeOne};
@@ -67,10 +68,10 @@ pub fn destroyed_ids_stay_dead()
     ensures { DestroyedIdsStayDead }
 {}
 
-/// In every state of a legal history both tuples of each record are valid and of the protocol of its
-/// part.
-pub fn records_are_of_one_protocol()
-    ensures { RecordsAreOfOneProtocol }
+/// In every state of a legal history both tuples of each record are valid, of one zone, and of the protocol
+/// of its part.
+pub fn records_are_of_one_flow()
+    ensures { RecordsAreOfOneFlow }
 {
     accepted_go_on();
     same_part_is_equality();
@@ -104,9 +105,10 @@ pub fn found_keep_their_protocol()
     same_part_is_equality();
 }
 
-/// In every state of a legal history the master of each expectation is live and has the helper.
-pub fn masters_have_the_helper()
-    ensures { MastersHaveTheHelper }
+/// In every state of a legal history the master of each expectation is live, has the helper, and is in the
+/// expectation's zone.
+pub fn masters_help_in_their_zone()
+    ensures { MastersHelpInTheirZone }
 {}
 
 /// In every state of a legal history the ids of the expectations rise, no master has two, and each was an
@@ -121,6 +123,11 @@ pub fn expectations_are_in_order()
 /// A live record has the helper exactly where the Confirm that made it gave it the helper.
 pub fn entries_keep_their_helper()
     ensures { EntriesKeepTheirHelper }
+{}
+
+/// A live record is in the zone in which its entry was confirmed.
+pub fn entries_keep_their_zone()
+    ensures { EntriesKeepTheirZone }
 {}
 
 /// An entry that is gone stays gone.
@@ -188,7 +195,7 @@ pub fn destroys_free()
     ensures { DestroysFree }
 {}
 
-/// Where each record is of one protocol, what is live under a tuple is of that tuple's.
+/// Where each record is of one flow, what is live under a tuple is of that tuple's.
 pub fn live_records_have_the_protocol()
     ensures { LiveRecordsHaveTheProtocol }
 {}

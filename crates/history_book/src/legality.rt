@@ -5,7 +5,7 @@ ghost use Rattle.std.specs.List.{list_any};
 ghost use Rattle.expect_table.specs.Expectations.{matching};
 ghost use Rattle.expect_table.specs.Match.{has_id};
 ghost use Rattle.history_book.specs.DeskExpectations.{expectation_at};
-ghost use Rattle.history_book.specs.Legality.{expected_for, has_helper, is_added, is_of_one_protocol};
+ghost use Rattle.history_book.specs.Legality.{expected_for, helps_in, is_added, is_of_one_flow};
 ghost use Rattle.history_book.specs.Legality.{is_reason, is_reopen, is_reset, same_id};
 ghost use Rattle.history_book.specs.Legality.{may_claim, may_confirm, may_expect, may_happen, may_touch};
 ghost use Rattle.history_book.specs.Legality.{may_unexpect};
@@ -47,13 +47,14 @@ pub fn is_place_used(records: &[Record], place: u32) -> bool
     records.iter().any(|r| r.place == place)
 }
 
-/// Whether both tuples of a record are valid and of the protocol of its part.
-fn is_of_one_protocol(r: &Record) -> bool
-    ensures { result ≡ is_of_one_protocol r.now }
+/// Whether both tuples of a record are valid, of one zone, and of the protocol of its part.
+fn is_of_one_flow(r: &Record) -> bool
+    ensures { result ≡ is_of_one_flow r.now }
 {
     let proto = proto_of(r.part.kind);
     is_valid(&r.original)
         && is_valid(&r.reply)
+        && r.reply.zone == r.original.zone
         && r.original.proto == proto
         && r.reply.proto == proto
 }
@@ -64,7 +65,7 @@ fn is_confirmable(sizes: &Sizes, records: &[Record], number: u64, subject: &Reco
     ensures { result ≡ may_confirm sizes.now (state_of records.now) number subject.now }
 {
     subject.id == number
-        && is_of_one_protocol(subject)
+        && is_of_one_flow(subject)
         && subject.place < sizes.entries
         && !is_place_used(records, subject.place)
         && !is_taken(records, &subject.original)
@@ -179,25 +180,26 @@ pub fn is_reason_for(why: &Why, r: &Record) -> bool
 /// How long a connection is expected, in microseconds.
 pub const EXPECTED_FOR: u64 = 300_000_000;
 
-/// What an entry expects from a moment on, as event `number`.
-pub fn expectation_at(number: u64, master: u64, want: Want, moment: u64) -> Expectation
+/// What an entry of a zone expects from a moment on, as event `number`.
+pub fn expectation_at(number: u64, master: u64, zone: u16, want: Want, moment: u64) -> Expectation
     requires { moment ≤ 10 ^ 16 }
-    ensures { result ≡ expectation_at number master want moment }
+    ensures { result ≡ expectation_at number master zone want moment }
 {
     Expectation {
         id: number,
         master,
         want,
+        zone,
         deadline: moment + EXPECTED_FOR,
     }
 }
 
-/// Whether the entry of this id is live and has the helper.
-fn is_helped(records: &[Record], id: u64) -> bool
-    ensures { result ≡ has_helper (record_of id (state_of records.now)) }
+/// Whether the entry of this id is live, has the helper, and is in the zone.
+fn is_helped(records: &[Record], id: u64, zone: u16) -> bool
+    ensures { result ≡ helps_in zone (record_of id (state_of records.now)) }
 {
     match find_id(records, id) {
-        Some(index) => records[index].helper,
+        Some(index) => records[index].helper && records[index].original.zone == zone,
         None => false,
     }
 }
@@ -246,7 +248,7 @@ fn is_expectable(
 {
     e.id == number
         && is_expected_from(moment, e.deadline)
-        && is_helped(records, e.master)
+        && is_helped(records, e.master, e.zone)
         && is_added(outcome_of(expects, sizes.expectations, e, moment), replaced)
 }
 

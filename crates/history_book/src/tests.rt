@@ -14,6 +14,7 @@ use tuple_core::{Direction, Kind, Proto, Segment, Tuple};
 /// From 10.0.0.1:5000 to 10.0.0.2:53.
 const QUERY: Tuple = Tuple {
     proto: Proto::Udp,
+    zone: 0,
     src: 0x0a00_0001,
     dst: 0x0a00_0002,
     a: 5000,
@@ -22,6 +23,7 @@ const QUERY: Tuple = Tuple {
 
 const ANSWER: Tuple = Tuple {
     proto: Proto::Udp,
+    zone: 0,
     src: 0x0a00_0002,
     dst: 0x0a00_0001,
     a: 53,
@@ -47,6 +49,7 @@ const ANSWERED: Part = Part {
 /// From 10.0.0.1:5000 to 10.0.0.2:80.
 const REQUEST: Tuple = Tuple {
     proto: Proto::Tcp,
+    zone: 0,
     src: 0x0a00_0001,
     dst: 0x0a00_0002,
     a: 5000,
@@ -55,6 +58,7 @@ const REQUEST: Tuple = Tuple {
 
 const RESPONSE: Tuple = Tuple {
     proto: Proto::Tcp,
+    zone: 0,
     src: 0x0a00_0002,
     dst: 0x0a00_0001,
     a: 80,
@@ -349,6 +353,7 @@ fn control(id: u32) -> Record {
 /// From 10.0.0.2:20 to 10.0.0.1:40001: a data connection in active mode.
 const DATA: Tuple = Tuple {
     proto: Proto::Tcp,
+    zone: 0,
     src: 0x0a00_0002,
     dst: 0x0a00_0001,
     a: 20,
@@ -367,6 +372,7 @@ const FIRST: Expectation = Expectation {
     id: 4,
     master: 0,
     want: WANT,
+    zone: 0,
     deadline: 302_000_000,
 };
 
@@ -374,6 +380,7 @@ const SECOND: Expectation = Expectation {
     id: 6,
     master: 1,
     want: WANT,
+    zone: 0,
     deadline: 303_000_000,
 };
 
@@ -404,7 +411,7 @@ fn is_expected(expects: &[Expectation], expectation: Expectation, replaced: Opti
 
 /// What this entry expects from 10 s on, as event 9.
 fn wanted_by(master: u64) -> Expectation {
-    expectation_at(9, master, WANT, 10_000_000)
+    expectation_at(9, master, 0, WANT, 10_000_000)
 }
 
 /// Whether a packet of the data connection may meet this expectation of this entry, where there are two.
@@ -497,6 +504,7 @@ fn full_list_takes_only_what_replaces(rt: HostRuntime) {
         id,
         master,
         want: elsewhere,
+        zone: 0,
         deadline: 302_000_000,
     };
     assert!(rt; is_expected(&[held(4, 7)], wanted_by(0), None));
@@ -524,6 +532,7 @@ fn other_packets_claim_nothing(rt: HostRuntime) {
     let other_port = Tuple { b: 40002, ..DATA };
     let datagram = Tuple {
         proto: Proto::Udp,
+        zone: 0,
         ..DATA
     };
     let any_source = Tuple { a: 21, ..DATA };

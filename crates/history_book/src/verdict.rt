@@ -122,7 +122,7 @@ pub enum Class {
         to: u64,
     },
     /// It would begin a flow, and the table had no room at the point `from`; and then, up to `at`, no entry could be
-    /// dropped for it, or the place of the one that was dropped was taken by another flow.
+    /// dropped for it, or one was dropped and the table was full again.
     Full {
         from: u64,
         at: u64,

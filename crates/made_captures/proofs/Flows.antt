@@ -1,5 +1,5 @@
 -- Made packets, read by their headers.
-use Rattle.std.proofs.Common.{◌≡◌, ℕ, ◌+◌, ◌/◌, ◌^◌, ◌<◌, Bool, true, false, cond, List, [], length, refl, sym, ◌∙◌, subst, arith}
+use Rattle.std.proofs.Common.{◌≡◌, ℕ, ◌+◌, ◌/◌, ◌^◌, ◌<◌, Bool, true, false, cond, List, [], length, refl, sym, ◌∙◌, subst, arith, ap}
 use Rattle.std.proofs.lemmas.Bool.Decides.{nat_tests}
 use Rattle.std.proofs.lemmas.List.{append-nil}
 use Rattle.std.specs.Prelude.{◌==◌}
@@ -10,7 +10,7 @@ use Rattle.tuple_core.specs.declared.Proto.{Proto}
 use Rattle.tuple_core.specs.declared.Proto.TheVariants.{Icmp, Tcp, Udp}
 use Rattle.tuple_core.specs.declared.Segment.TheVariants as segment
 use Rattle.tuple_core.specs.declared.Tuple.{Tuple}
-use Rattle.tuple_core.specs.Tuple.{is_valid}
+use Rattle.tuple_core.specs.Tuple.{in_zone, is_valid}
 use Rattle.packet_headers.specs.declared.frame.Frame.{Frame}
 use Rattle.packet_headers.specs.declared.frame.Link.{Link}
 use Rattle.packet_headers.specs.declared.frame.Link.TheVariants.{Raw}
@@ -71,6 +71,16 @@ bare bytes frame packet raw long same = record {
   whole = omega (arith, long);
 }
 
+-- a made tuple is in zone 0
+zone_is : (proto : Proto) (direction : Direction) (client number : ℕ)
+    → in_zone 0 (directed direction (first_tuple proto client number)) ≡ directed direction (first_tuple proto client number)
+zone_is Udp Original client number = refl
+zone_is Udp Reply client number = refl
+zone_is Tcp Original client number = refl
+zone_is Tcp Reply client number = refl
+zone_is Icmp Original client number = refl
+zone_is Icmp Reply client number = refl
+
 module _ (udp : UdpLayoutsAreFlows) (tcp : TcpLayoutsAreFlows) (icmp : IcmpLayoutsAreFlows) where
   -- such a frame is of the tuple's flow
   carried_read : (bytes : List ℕ) (frame : Frame) (proto : Proto) (client number step : ℕ)
@@ -83,18 +93,19 @@ module _ (udp : UdpLayoutsAreFlows) (tcp : TcpLayoutsAreFlows) (icmp : IcmpLayou
       let t : Tuple = directed (made_direction Udp step) (first_tuple Udp client number) in
       let lawful = tuple_is Udp (made_direction Udp step) client number h k in
       udp bytes frame t lawful.proto_is lawful.valid (bare bytes frame (udp_layout t) raw long same)
+      ∙ ap (λ (u : Tuple). Flow u segment.Udp empty_span) (zone_is Udp (made_direction Udp step) client number)
   carried_read bytes frame Tcp client number step h k raw long same =
       let t : Tuple = directed (made_direction Tcp step) (first_tuple Tcp client number) in
       let lawful = tuple_is Tcp (made_direction Tcp step) client number h k in
       let bits = bits_are step in
       let end : frame.start + 0 + 40 ≡ frame.start + 40 = omega arith in
       tcp bytes frame t (control_bits step) lawful.proto_is lawful.valid bits.0 (bare bytes frame (tcp_layout t (control_bits step)) raw long same)
-      ∙ (λ i. Flow t (segment.Tcp (bits.1 i)) (span_of (end i) (end i)))
+      ∙ (λ i. Flow (zone_is Tcp (made_direction Tcp step) client number i) (segment.Tcp (bits.1 i)) (span_of (end i) (end i)))
   carried_read bytes frame Icmp client number step h k raw long same =
       let t : Tuple = directed (made_direction Icmp step) (first_tuple Icmp client number) in
       let lawful = tuple_is Icmp (made_direction Icmp step) client number h k in
       icmp bytes frame t lawful.proto_is lawful.valid (bare bytes frame (icmp_layout t) raw long same)
-      ∙ (λ i. Flow t (segment.Icmp (echo_is (made_direction Icmp step) client number i)) empty_span)
+      ∙ (λ i. Flow (zone_is Icmp (made_direction Icmp step) client number i) (segment.Icmp (echo_is (made_direction Icmp step) client number i)) empty_span)
 
   -- and so is each frame of a made capture
   pub made_is_flow : MadeFramesAreFlows

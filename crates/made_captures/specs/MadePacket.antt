@@ -40,8 +40,8 @@ made_proto seed flow =
 
 -- the first packet of a flow: to port 53, to port 80, or an echo request
 abbrev pub first_tuple : Proto → (client number : ℕ) → Tuple
-first_tuple Udp client number = record { proto = Udp; src = client; dst = server; a = number; b = 53 }
-first_tuple Tcp client number = record { proto = Tcp; src = client; dst = server; a = number; b = 80 }
+first_tuple Udp client number = record { proto = Udp; zone = 0; src = client; dst = server; a = number; b = 53 }
+first_tuple Tcp client number = record { proto = Tcp; zone = 0; src = client; dst = server; a = number; b = 80 }
 first_tuple Icmp client number = icmp_tuple client server 8 0 number
 
 -- queries and answers take turns; a connection is opened by three packets, and the client resets it

@@ -60,6 +60,7 @@ fn first_tuple(proto: Proto, client: u32, number: u16) -> Tuple
     };
     Tuple {
         proto,
+        zone: 0,
         src: client,
         dst: SERVER,
         a: number,

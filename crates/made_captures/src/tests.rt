@@ -132,6 +132,7 @@ fn nothing_is_made(rt: HostRuntime) -> Result<(), Fail> {
 
 const QUERY: Tuple = Tuple {
     proto: Proto::Udp,
+    zone: 0,
     src: 0x0a00_0000,
     dst: 0xc633_6401,
     a: 1024,
@@ -140,6 +141,7 @@ const QUERY: Tuple = Tuple {
 
 const ANSWER: Tuple = Tuple {
     proto: Proto::Udp,
+    zone: 0,
     src: 0xc633_6401,
     dst: 0x0a00_0000,
     a: 53,
@@ -148,6 +150,7 @@ const ANSWER: Tuple = Tuple {
 
 const THERE: Tuple = Tuple {
     proto: Proto::Tcp,
+    zone: 0,
     src: 0x0a00_0001,
     dst: 0xc633_6401,
     a: 1024,
@@ -156,6 +159,7 @@ const THERE: Tuple = Tuple {
 
 const BACK: Tuple = Tuple {
     proto: Proto::Tcp,
+    zone: 0,
     src: 0xc633_6401,
     dst: 0x0a00_0001,
     a: 80,

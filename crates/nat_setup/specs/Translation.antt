@@ -81,8 +81,8 @@ TranslateSays first t old new (Chosen reply kept_taken_at) =
     WasTranslated new.front first t (length old.front) (length new.front) (translated.Chosen reply kept_taken_at) reply
 TranslateSays first t old new (NoPort from to) = (length old.front ≤ from) × HadNoNumber new.front first t from to
 
--- a reply tuple that is chosen is valid, and of the flow's protocol
+-- a reply tuple that is chosen is valid, of the flow's protocol, and in its zone
 abbrev pub IsValidFor : Tuple → TranslateOutcome → Type 0
 IsValidFor t Plain = Unit {0}
-IsValidFor t (Chosen reply kept_taken_at) = (is_valid reply ≡ true) × (reply.proto ≡ t.proto)
+IsValidFor t (Chosen reply kept_taken_at) = (is_valid reply ≡ true) × (reply.proto ≡ t.proto) × (reply.zone ≡ t.zone)
 IsValidFor t (NoPort from to) = Unit {0}

@@ -27,10 +27,18 @@ fn changed_at(side: Side, t: &Tuple, address: u32, number: u16) -> Tuple
     ensures exact { result ≡ changed_at side t.now t.now.proto address number }
     ensures valid { is_valid result ≡ true }
 {
-    let (proto, src, dst, a, b) = (t.proto, t.src, t.dst, t.a, t.b);
+    let Tuple {
+        proto,
+        zone,
+        src,
+        dst,
+        a,
+        b,
+    } = *t;
     match (side, proto) {
         (Side::Source, _) => Tuple {
             proto,
+            zone,
             src: address,
             dst,
             a: number,
@@ -38,6 +46,7 @@ fn changed_at(side: Side, t: &Tuple, address: u32, number: u16) -> Tuple
         },
         (Side::Destination, Proto::Icmp) => Tuple {
             proto,
+            zone,
             src,
             dst: address,
             a: number,
@@ -45,6 +54,7 @@ fn changed_at(side: Side, t: &Tuple, address: u32, number: u16) -> Tuple
         },
         (Side::Destination, Proto::Tcp) => Tuple {
             proto,
+            zone,
             src,
             dst: address,
             a,
@@ -52,6 +62,7 @@ fn changed_at(side: Side, t: &Tuple, address: u32, number: u16) -> Tuple
         },
         (Side::Destination, Proto::Udp) => Tuple {
             proto,
+            zone,
             src,
             dst: address,
             a,

@@ -8,7 +8,7 @@ use Rattle.tuple_core.specs.declared.Proto.{Proto}
 use Rattle.tuple_core.specs.declared.Proto.TheVariants.{Icmp, Tcp, Udp}
 use Rattle.tuple_core.specs.declared.Segment.TheVariants as segment
 use Rattle.tuple_core.specs.declared.Tuple.{Tuple}
-use Rattle.tuple_core.specs.Tuple.{is_in_range, is_query_type, is_valid}
+use Rattle.tuple_core.specs.Tuple.{has_flow, in_zone, is_in_range, is_query_type, is_valid}
 use Rattle.packet_headers.specs.declared.frame.Frame.{Frame}
 use Rattle.packet_headers.specs.declared.frame.Link.{Link}
 use Rattle.packet_headers.specs.declared.frame.Link.TheVariants.{Ethernet, Raw}
@@ -27,13 +27,13 @@ use Rattle.packet_headers.specs.UdpHeader.{udp_packet}
 use Rattle.packet_headers.specs.IcmpPacket.{icmp_packet}
 use Rattle.packet_headers.specs.IcmpHeader.{is_error_type}
 use Rattle.packet_headers.specs.IcmpError.{inner_tuple}
-use Rattle.packet_headers.specs.PacketLayout.{error_layout, icmp_layout, tcp_layout, udp_layout}
+use Rattle.packet_headers.specs.PacketLayout.{error_layout, icmp_layout, ipv4_header, repeated, tcp_layout, udp_layout}
 use Rattle.packet_headers.proofs.SameBytes.{Same, same_part, u16_same}
 use Rattle.packet_headers.proofs.SamePackets.{ip_same}
 
--- a tuple by its fields
+-- a tuple of zone 0 by its other fields
 abbrev tuple : Proto → (src dst a b : ℕ) → Tuple
-tuple proto src dst a b = record { proto = proto; src = src; dst = dst; a = a; b = b }
+tuple proto src dst a b = record { proto = proto; zone = 0; src = src; dst = dst; a = a; b = b }
 
 -- the number that two bytes of a number give
 abbrev two : ℕ → ℕ
@@ -72,9 +72,9 @@ in_range t h = record {
   second = grind (arith, nat_tests);
 }
 
--- the type of a valid tuple of ICMP asks or answers
-asks : (src dst a b : ℕ) → is_valid (tuple Icmp src dst a b) ≡ true → is_query_type (b / 256) ≡ true
-asks src dst a b h = both_hold (is_in_range (tuple Icmp src dst a b)) (is_query_type (b / 256)) h
+-- a valid tuple makes a flow
+makes_flow : (t : Tuple) → is_valid t ≡ true → has_flow t.proto t.b ≡ true
+makes_flow t h = both_hold (is_in_range t) (has_flow t.proto t.b) h
 
 -- the tuple whose ports are those of its bytes
 ports_read : (proto : Proto) (src dst a b : ℕ) → InRange src dst a b
@@ -219,41 +219,42 @@ module _ (bytes : List ℕ) (frame : Frame) (packet : List ℕ) (few : 20 ≤ le
   unfolding packet_of
   carried = carried_by frame.link carries.header
 
--- a tuple is made of its fields
-of_fields : (t : Tuple) (proto : Proto) → t.proto ≡ proto → tuple proto t.src t.dst t.a t.b ≡ t
+-- in zone 0 a tuple is made of its other fields
+of_fields : (t : Tuple) (proto : Proto) → t.proto ≡ proto → tuple proto t.src t.dst t.a t.b ≡ in_zone 0 t
 of_fields t proto is = λ i. tuple (sym is i) t.src t.dst t.a t.b
 
 -- a frame that carries a packet of UDP
 pub udp_laid_out : UdpLayoutsAreFlows
 udp_laid_out bytes frame t is valid carries =
-    subst (λ (u : Tuple). is_valid u ≡ true → (c : Carries bytes frame (udp_layout u)) → packet_of bytes frame ≡ Flow u segment.Udp empty_span)
+    subst (λ (u : Tuple). (c : Carries bytes frame (udp_layout u)) → packet_of bytes frame ≡ Flow u segment.Udp empty_span)
     (of_fields t Udp is)
-    (λ v c. carried bytes frame (udp_layout (tuple Udp t.src t.dst t.a t.b)) (omega arith) refl c
+    (λ c. carried bytes frame (udp_layout (tuple Udp t.src t.dst t.a t.b)) (omega arith) refl c
     ∙ ap (λ (p : Packet). moved (frame.start + length c.front) p) (udp_read frame.link t.src t.dst t.a t.b (in_range t valid)))
-    valid carries
+    carries
 
 -- a frame that carries a segment of TCP
 pub tcp_laid_out : TcpLayoutsAreFlows
 tcp_laid_out bytes frame t flags is valid set carries =
-    subst (λ (u : Tuple). is_valid u ≡ true → (c : Carries bytes frame (tcp_layout u flags)) → packet_of bytes frame
+    subst (λ (u : Tuple). (c : Carries bytes frame (tcp_layout u flags)) → packet_of bytes frame
     ≡ Flow u (segment.Tcp (kind flags)) (span_of (frame.start + length c.front + 40) (frame.start + length c.front + 40)))
     (of_fields t Tcp is)
-    (λ v c.
+    (λ c.
     let end : 40 + (frame.start + length c.front) ≡ frame.start + length c.front + 40 = omega arith in
     carried bytes frame (tcp_layout (tuple Tcp t.src t.dst t.a t.b) flags) (omega arith) refl c
     ∙ ap (λ (p : Packet). moved (frame.start + length c.front) p) (tcp_read frame.link t.src t.dst t.a t.b flags (in_range t valid) set)
     ∙ (λ i. Flow (tuple Tcp t.src t.dst t.a t.b) (segment.Tcp (kind flags)) (span_of (end i) (end i))))
-    valid carries
+    carries
 
 -- a frame that carries a message that asks or answers
 pub icmp_laid_out : IcmpLayoutsAreFlows
 icmp_laid_out bytes frame t is valid carries =
-    subst (λ (u : Tuple). is_valid u ≡ true → (c : Carries bytes frame (icmp_layout u)) → packet_of bytes frame ≡ Flow u (segment.Icmp (u.b / 256)) empty_span)
+    subst (λ (u : Tuple). (c : Carries bytes frame (icmp_layout u)) → packet_of bytes frame ≡ Flow u (segment.Icmp (u.b / 256)) empty_span)
     (of_fields t Icmp is)
-    (λ v c. carried bytes frame (icmp_layout (tuple Icmp t.src t.dst t.a t.b)) (omega arith) refl c
+    (λ c. carried bytes frame (icmp_layout (tuple Icmp t.src t.dst t.a t.b)) (omega arith) refl c
     ∙ ap (λ (p : Packet). moved (frame.start + length c.front) p)
-    (icmp_read frame.link t.src t.dst t.a t.b (in_range t valid) (asks t.src t.dst t.a t.b v)))
-    valid carries
+    (icmp_read frame.link t.src t.dst t.a t.b (in_range t valid)
+    (subst (λ (p : Proto). has_flow p t.b ≡ true) is (makes_flow t valid))))
+    carries
 
 -- an error neither asks nor answers
 no_query : (type : ℕ) → is_error_type type ≡ true → is_query_type type ≡ false
@@ -294,18 +295,15 @@ of_icmp link source destination type code src dst a b below wrong range asked =
 
 -- an error about a packet of any protocol
 error_read : (link : Link) (source destination type code src dst a b : ℕ) (proto : Proto)
-    → destination < 2 ^ 32 → is_error_type type ≡ true → is_valid (tuple proto src dst a b) ≡ true
+    → destination < 2 ^ 32 → is_error_type type ≡ true → InRange src dst a b → has_flow proto b ≡ true
     → ip_packet link (error_layout source destination type code (tuple proto src dst a b)) 0 56
     ≡ Error (tuple proto src dst a b) destination
-error_read link source destination type code src dst a b Icmp below wrong valid =
-    of_icmp link source destination type code src dst a b below wrong
-    (in_range (tuple Icmp src dst a b) valid) (asks src dst a b valid)
-error_read link source destination type code src dst a b Tcp below wrong valid =
-    of_tcp link source destination type code src dst a b below wrong
-    (in_range (tuple Tcp src dst a b) valid)
-error_read link source destination type code src dst a b Udp below wrong valid =
-    of_udp link source destination type code src dst a b below wrong
-    (in_range (tuple Udp src dst a b) valid)
+error_read link source destination type code src dst a b Icmp below wrong range asked =
+    of_icmp link source destination type code src dst a b below wrong range asked
+error_read link source destination type code src dst a b Tcp below wrong range asked =
+    of_tcp link source destination type code src dst a b below wrong range
+error_read link source destination type code src dst a b Udp below wrong range asked =
+    of_udp link source destination type code src dst a b below wrong range
 
 -- an error has 56 bytes, whatever it repeats
 error_length : (source destination type code src dst a b : ℕ) (proto : Proto)
@@ -314,11 +312,21 @@ error_length source destination type code src dst a b Icmp = refl
 error_length source destination type code src dst a b Tcp = refl
 error_length source destination type code src dst a b Udp = refl
 
+-- what is repeated of a packet does not name the zone
+repeats_alike : (proto : Proto) (t : Tuple) → repeated proto t ≡ repeated proto (in_zone 0 t)
+repeats_alike Icmp t = refl
+repeats_alike Tcp t = refl
+repeats_alike Udp t = refl
+
 -- a frame that carries an error
 pub error_laid_out : ErrorLayoutsAreErrors
 error_laid_out bytes frame source destination type code t below wrong valid carries =
+    let u : Tuple = tuple t.proto t.src t.dst t.a t.b in
+    let same : error_layout source destination type code t ≡ error_layout source destination type code u =
+    ap (λ (rest : List ℕ). ipv4_header 56 1 source destination ++ (type ∷ code ∷ 0 ∷ 0 ∷ 0 ∷ 0 ∷ 0 ∷ 0 ∷ []) ++ rest) (repeats_alike t.proto t) in
+    let carries_u = subst (λ (packet : List ℕ). Carries bytes frame packet) same carries in
     let long = error_length source destination type code t.src t.dst t.a t.b t.proto in
-    carried bytes frame (error_layout source destination type code t) (omega (arith, long)) (sym long) carries
-    ∙ (λ i. moved (frame.start + length carries.front) (ip_packet frame.link (error_layout source destination type code t) 0 (long i)))
-    ∙ ap (λ (p : Packet). moved (frame.start + length carries.front) p)
-    (error_read frame.link source destination type code t.src t.dst t.a t.b t.proto below wrong valid)
+    carried bytes frame (error_layout source destination type code u) (omega (arith, long)) (sym long) carries_u
+    ∙ (λ i. moved (frame.start + length carries_u.front) (ip_packet frame.link (error_layout source destination type code u) 0 (long i)))
+    ∙ ap (λ (p : Packet). moved (frame.start + length carries_u.front) p)
+    (error_read frame.link source destination type code t.src t.dst t.a t.b t.proto below wrong (in_range t valid) (makes_flow t valid))

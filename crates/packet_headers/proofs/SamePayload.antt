@@ -44,7 +44,7 @@ ports_same proto addresses bytes other at place count same fits =
     let near = same.each at place 0 (omega arith) (omega arith) (omega arith) in
     let next = same.each (at + 1) (place + 1) 1 refl refl (omega arith) in
     let b = u16_same bytes other at place count same 2 (omega arith) in
-    λ i. record { proto = proto; src = addresses.source; dst = addresses.destination; a = 256 * near i + next i; b = b i }
+    λ i. record { proto = proto; zone = 0; src = addresses.source; dst = addresses.destination; a = 256 * near i + next i; b = b i }
 
 -- the tuple of a message that asks or answers
 query_same : (addresses : Addresses) (bytes other : List ℕ) (at place count : ℕ) → Same bytes other at place count → 6 ≤ count

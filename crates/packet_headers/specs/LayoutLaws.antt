@@ -1,10 +1,10 @@
--- A packet that is laid out from a tuple is classified as a packet of that tuple's flow, and an error
--- about it as an error about that flow.
+-- A packet that is laid out from a tuple is classified as a packet of that tuple's flow in zone 0, and an error
+-- about it as an error about that flow. No header names a zone.
 use Rattle.std.specs.Prelude.{◌≡◌, ℕ, ◌+◌, ◌/◌, ◌^◌, ◌<◌, true, List, [], ◌∷◌, ◌++◌, length}
 use Rattle.tuple_core.specs.declared.Proto.TheVariants as proto
 use Rattle.tuple_core.specs.declared.Segment.TheVariants as segment
 use Rattle.tuple_core.specs.declared.Tuple.{Tuple}
-use Rattle.tuple_core.specs.Tuple.{is_valid}
+use Rattle.tuple_core.specs.Tuple.{in_zone, is_valid}
 use Rattle.packet_headers.specs.declared.frame.Frame.{Frame}
 use Rattle.packet_headers.specs.declared.frame.Link.{Link}
 use Rattle.packet_headers.specs.declared.frame.Link.TheVariants.{Ethernet, Raw}
@@ -34,24 +34,24 @@ pub record Carries (bytes : List ℕ) (frame : Frame) (packet : List ℕ) : Type
 abbrev pub UdpLayoutsAreFlows : Type 0
 UdpLayoutsAreFlows = (bytes : List ℕ) (frame : Frame) (t : Tuple)
     → t.proto ≡ proto.Udp → is_valid t ≡ true → Carries bytes frame (udp_layout t)
-    → packet_of bytes frame ≡ Flow t segment.Udp empty_span
+    → packet_of bytes frame ≡ Flow (in_zone 0 t) segment.Udp empty_span
 
 -- the payload is empty, at the end of the packet's 40 bytes
 abbrev pub TcpLayoutsAreFlows : Type 0
 TcpLayoutsAreFlows = (bytes : List ℕ) (frame : Frame) (t : Tuple) (flags : ℕ)
     → t.proto ≡ proto.Tcp → is_valid t ≡ true → is_valid_flag_set flags ≡ true → (carries : Carries bytes frame (tcp_layout t flags))
-    → packet_of bytes frame ≡ Flow t (segment.Tcp (kind flags))
+    → packet_of bytes frame ≡ Flow (in_zone 0 t) (segment.Tcp (kind flags))
     (span_of (frame.start + length carries.front + 40) (frame.start + length carries.front + 40))
 
 -- the tuple is of a query or an answer
 abbrev pub IcmpLayoutsAreFlows : Type 0
 IcmpLayoutsAreFlows = (bytes : List ℕ) (frame : Frame) (t : Tuple)
     → t.proto ≡ proto.Icmp → is_valid t ≡ true → Carries bytes frame (icmp_layout t)
-    → packet_of bytes frame ≡ Flow t (segment.Icmp (t.b / 256)) empty_span
+    → packet_of bytes frame ≡ Flow (in_zone 0 t) (segment.Icmp (t.b / 256)) empty_span
 
 -- the error is about a packet of UDP, of TCP, or of ICMP that asks or answers
 abbrev pub ErrorLayoutsAreErrors : Type 0
 ErrorLayoutsAreErrors = (bytes : List ℕ) (frame : Frame) (source destination type code : ℕ) (t : Tuple)
     → destination < 2 ^ 32 → is_error_type type ≡ true → is_valid t ≡ true
     → Carries bytes frame (error_layout source destination type code t)
-    → packet_of bytes frame ≡ Error t destination
+    → packet_of bytes frame ≡ Error (in_zone 0 t) destination

@@ -11,10 +11,11 @@ has_ports Icmp = false
 has_ports Tcp = true
 has_ports Udp = true
 
--- the addresses, and the ports that stand at this place
+-- the addresses, and the ports that stand at this place, in zone 0
 abbrev pub ports_tuple : Proto → Addresses → List ℕ → ℕ → Tuple
 ports_tuple proto addresses bytes at = record {
   proto = proto;
+  zone = 0;
   src = addresses.source;
   dst = addresses.destination;
   a = big_u16_at bytes at;

@@ -4,7 +4,7 @@ use Rattle.std.specs.List.{AllByRecursion, find}
 use Rattle.std.specs.Prelude.{option_to_list, ◌==◌}
 use Rattle.std.proofs.lemmas.Bool.{and_parts, false≢true}
 use Rattle.expect_table.specs.Expectations.{matching}
-use Rattle.expect_table.specs.Match.{is_awaited, is_match, is_wanted}
+use Rattle.expect_table.specs.Match.{is_awaited, is_in_zone, is_match, is_wanted}
 use Rattle.expect_table.specs.declared.expectation.Expectation.{Expectation}
 use Rattle.tuple_core.specs.Tuple.{number_of}
 use Rattle.tuple_core.specs.declared.Proto.TheVariants as proto
@@ -50,7 +50,8 @@ expected_tcp : (t : Tuple) (moment : ℕ) (id master : ℕ) (es : List Expectati
 expected_tcp t moment id master es None is may = absurd (false≢true may)
 expected_tcp t moment id master es (Some e) is may =
     let passes = found_passes (is_match t moment) es e is in
-    let wanted = (and_parts (is_wanted e.want t) (is_awaited moment e) passes).0 in
+    let here = (and_parts _ (is_awaited moment e) passes).0 in
+    let wanted = (and_parts (is_in_zone t.zone e) (is_wanted e.want t) here).1 in
     let ends = (and_parts _ (e.want.port == t.b) wanted).0 in
     let source = (and_parts _ (e.want.dst == t.dst) ends).0 in
     (and_parts (number_of t.proto == number_of proto.Tcp) (e.want.src == t.src) source).0

@@ -21,10 +21,10 @@ use Rattle.history_book.specs.declared.verdict.Ftp.TheVariants.{Nothing}
 use Rattle.proto_rules.specs.declared.Part.{Part}
 use Rattle.history_book.specs.Desk.{Destroys, HoldsOneMore, IsLiveUnder, Leaves, SamePlaces, StepGives, Touches}
 use Rattle.history_book.specs.WentOn.{Looked, MadeEvent, WentOn}
-use Rattle.history_book.specs.Entry.{is_helped_entry, is_of_entry, suits_entry}
+use Rattle.history_book.specs.Entry.{is_helped_entry, is_of_entry, suits_entry, zone_of_entry}
 use Rattle.history_book.specs.History.{after}
 use Rattle.history_book.specs.Label.{label_of}
-use Rattle.history_book.specs.Laws.{EntriesKeepTheirHelper, EventsStay, FoundAreFoundAgain, FoundKeepTheirProtocol, RecordsAreOfOneProtocol, StatesStay}
+use Rattle.history_book.specs.Laws.{EntriesKeepTheirHelper, EntriesKeepTheirZone, EventsStay, FoundAreFoundAgain, FoundKeepTheirProtocol, RecordsAreOfOneFlow, StatesStay}
 use Rattle.history_book.specs.Mark.{mark_past}
 use Rattle.history_book.specs.Places.{HoldsNothing}
 use Rattle.history_book.specs.Point.{At, StartsWith}
@@ -68,6 +68,14 @@ helped_entry keep s number id before known at helper =
     keep s.sizes s.front number before.id before known.legal
     (subst (λ i. record_of i (after s.front number) ≡ Some before) (sym same) at)
     ∙ helper
+
+-- the entry of a record was confirmed in its zone
+pub zone_entry : EntriesKeepTheirZone → (s : Sight) (number id : ℕ) (before : Record) → IsKnown s
+    → record_of id (after s.front number) ≡ Some before → zone_of_entry before.id s.front ≡ before.original.zone
+zone_entry keep s number id before known at =
+    let same : before.id ≡ id = has_id_of id (after s.front number) before at in
+    keep s.sizes s.front number before.id before known.legal
+    (subst (λ i. record_of i (after s.front number) ≡ Some before) (sym same) at)
 
 module _ (states : StatesStay) (events : EventsStay) where
   -- the entry that was met is live under the packet's tuple wherever it is live
@@ -194,7 +202,7 @@ module _ (states : StatesStay) (events : EventsStay) where
     }
 
 -- the entry that was met is of the packet's protocol
-pub met_protocol : FoundKeepTheirProtocol → LiveRecordsHaveTheProtocol → RecordsAreOfOneProtocol → SameProtocolIsEquality
+pub met_protocol : FoundKeepTheirProtocol → LiveRecordsHaveTheProtocol → RecordsAreOfOneFlow → SameProtocolIsEquality
     → (s : Sight) (packet : FlowPacket) (met : Met) → IsKnown s → IsClassified packet → IsMet packet met s
     → is_of_entry packet.segment met.id s.front ≡ true
 met_protocol keep live records same s packet met known classified is =

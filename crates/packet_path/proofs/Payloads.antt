@@ -1,6 +1,7 @@
 -- What comes of the payload of a packet that an entry accepted.
-use Rattle.std.proofs.Common.{ℕ, ◌<◌, ◌≤◌, [], ◌∷◌, length, Option, Some, None, refl, subst, arith}
+use Rattle.std.proofs.Common.{◌≡◌, ℕ, ◌<◌, ◌≤◌, [], ◌∷◌, length, Option, Some, None, refl, subst, arith}
 use Rattle.std.specs.List.{AllByRecursion}
+use Rattle.std.specs.Prelude.{slice_get}
 use Rattle.expect_table.specs.declared.expectation.Want.{Want}
 use Rattle.expect_table.specs.declared.table.AddOutcome.{AddOutcome}
 use Rattle.expect_table.specs.declared.table.AddOutcome.TheVariants as add
@@ -8,8 +9,10 @@ use Rattle.history_book.specs.declared.sizes.Sizes.{Sizes}
 use Rattle.history_book.specs.declared.verdict.Ftp.{Ftp}
 use Rattle.history_book.specs.declared.verdict.Ftp.TheVariants as ftp
 use Rattle.history_book.specs.Desk.{IsGoneAt}
-use Rattle.history_book.specs.WentOn.{Saw}
-use Rattle.history_book.specs.DeskExpectations.{AddGives, AddsNothing, MakesExpect}
+use Rattle.history_book.specs.Entry.{zone_of_entry}
+use Rattle.history_book.specs.declared.event.Event.TheVariants.{Expect}
+use Rattle.history_book.specs.WentOn.{Saw, WentOn}
+use Rattle.history_book.specs.DeskExpectations.{AddGives, AddsNothing, MakesExpect, expectation_at}
 use Rattle.history_book.specs.Point.{At}
 use Rattle.history_book.specs.Sight.{Sight}
 use Rattle.history_book.specs.SightLaws.{RestingIsSeeing}
@@ -37,13 +40,16 @@ module _ (packet : FlowPacket) (found : Found) (touched : ℕ) where
   pub follows_foreign : RestingIsSeeing → (s : Sight) → Asks packet found None → Follows packet found touched s s ftp.Address
   follows_foreign resting s asks = silently s s ftp.Address (resting s) tt (refl, asks)
 
-  module _ (old new : Sight) (want : Want) (asked : Asks packet found (Some want)) (later : touched < length old.front) where
+  module _ (old new : Sight) (want : Want) (asked : Asks packet found (Some want)) (later : touched < length old.front)
+      (zone : zone_of_entry found.subject.id old.front ≡ found.subject.original.zone) where
     -- the entry expects it
     pub follows_expected : (id : ℕ) (replaced : Option ℕ) → MakesExpect found.subject.id want packet.moment old new id replaced
         → Follows packet found touched old new (ftp.Expected id)
     follows_expected id replaced (made, same) = record {
       further = expect_by packet found id want replaced ∷ [];
-      went = made.went;
+      went = subst (λ (z : ℕ). WentOn old new
+          (record { number = id; event = Expect (expectation_at id found.subject.id z want packet.moment) replaced packet.moment } ∷ []))
+          zone made.went;
       few = omega arith;
       points = tt;
       fits = record {
@@ -51,7 +57,11 @@ module _ (packet : FlowPacket) (found : Found) (touched : ℕ) where
         asked = asked;
         replaced = replaced;
         own = refl;
-        happened = record { event = made.happened; later = omega (arith, later, made.low) };
+        happened = record {
+          event = subst (λ (z : ℕ). slice_get new.front id ≡ Some (Expect (expectation_at id found.subject.id z want packet.moment) replaced packet.moment))
+              zone made.happened;
+          later = omega (arith, later, made.low);
+        };
       };
     }
 
@@ -62,8 +72,9 @@ module _ (packet : FlowPacket) (found : Found) (touched : ℕ) where
       asked = asked;
       own = refl;
       later = omega (arith, later, looked.low);
-      gives = subst (λ (z : Sizes). At new.front at (AddGives z.expectations at found.subject.id want packet.moment outcome))
-          looked.saw.went.pass.sizes looked.fact;
+      gives = subst (λ (z : Sizes). At new.front at (AddGives z.expectations at found.subject.id found.subject.original.zone want packet.moment outcome))
+          looked.saw.went.pass.sizes
+          (subst (λ (k : ℕ). At new.front at (AddGives new.sizes.expectations at found.subject.id k want packet.moment outcome)) zone looked.fact);
     }
 
     pub follows_clash : (id at : ℕ) → AddsNothing found.subject.id want packet.moment (add.Clash id) old new at

@@ -48,10 +48,10 @@ pub record Asks (packet : FlowPacket) (found : Found) (want : Option Want) : Typ
   pub names : NamesEnd found.direction packet.payload end
   pub wants : want_of found.direction found.subject.original found.subject.reply end ≡ want
 
--- the entry's Expect, as event n
+-- the entry's Expect, in its zone, as event n
 abbrev pub expect_by : FlowPacket → Found → ℕ → Want → Option ℕ → Note
 expect_by packet found n want replaced =
-    record { number = n; event = Expect (expectation_at n found.subject.id want packet.moment) replaced packet.moment }
+    record { number = n; event = Expect (expectation_at n found.subject.id found.subject.original.zone want packet.moment) replaced packet.moment }
 
 -- the entry expects what its payload asks for: the one further event is its Expect, past this one
 pub record ExpectsEnd (log : List Event) (packet : FlowPacket) (found : Found) (touched : ℕ) (further : List Note)
@@ -69,7 +69,7 @@ pub record RefusesEnd (sizes : Sizes) (log : List Event) (packet : FlowPacket) (
   pub asked : Asks packet found (Some want)
   pub own : further ≡ []
   pub later : touched < at
-  pub gives : At log at (AddGives sizes.expectations at found.subject.id want packet.moment outcome)
+  pub gives : At log at (AddGives sizes.expectations at found.subject.id found.subject.original.zone want packet.moment outcome)
 
 -- no further event; the payload asks for something, and at this point, past the event, the entry was not live
 pub record LosesMaster (log : List Event) (packet : FlowPacket) (found : Found) (touched : ℕ) (further : List Note)

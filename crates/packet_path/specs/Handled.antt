@@ -11,7 +11,7 @@ use Rattle.packet_path.specs.declared.setup.Setup.{Setup}
 use Rattle.packet_path.specs.Taken.{taken_by}
 use Rattle.packet_path.specs.Verdict.{FitsFrame}
 
--- Of a tracker that is set up so: the desk went on by the events of the verdict, at most eight, and the verdict fits the
+-- Of a tracker that is set up so: the desk went on by the events of the verdict, at most seven, and the verdict fits the
 -- frame on the new front: nothing of it is older than what the desk had seen, nor later than what it sees now. No place is
 -- held or owed. None was taken but for a packet that begins a flow, and for that one.
 pub record Handled (setup : Setup) (given : Given) (old new : Sight) (verdict : Verdict) : Type 0 where
@@ -19,7 +19,7 @@ pub record Handled (setup : Setup) (given : Given) (old new : Sight) (verdict : 
   pub went : WentOn old new own
   pub first : verdict.first ≡ length old.own
   pub made : verdict.made ≡ length own
-  pub few : length own ≤ 8
+  pub few : length own ≤ 7
   pub fits : FitsFrame setup old.sizes new.front (length old.front) given own verdict.class
   pub points : AllByRecursion (λ p. p ≤ length new.front) (points_of verdict.class)
   pub held : new.held ≡ []

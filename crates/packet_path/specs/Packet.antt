@@ -8,6 +8,7 @@ use Rattle.packet_headers.specs.declared.packet.Untracked.{Untracked}
 use Rattle.packet_headers.specs.declared.packet.Untracked.TheVariants as untracked
 use Rattle.packet_headers.specs.Classify.{packet_of}
 use Rattle.packet_path.specs.declared.packet.FlowView.{FlowView}
+use Rattle.tuple_core.specs.Tuple.{in_zone}
 use Rattle.tuple_core.specs.declared.Segment.{Segment}
 use Rattle.tuple_core.specs.declared.Tuple.{Tuple}
 use Rattle.history_book.specs.declared.verdict.UntrackedWhy.{UntrackedWhy}
@@ -34,9 +35,16 @@ payload_of bytes (packet.Error inner outer) = []
 abbrev pub given_by : List ℕ → Packet → ℕ → Given
 given_by bytes packet moment = record { packet = packet; moment = moment; payload = payload_of bytes packet }
 
--- of a frame of a file with these bytes
-unfoldable pub given_of : List ℕ → Frame → Given
-given_of bytes frame = given_by bytes (packet_of bytes frame) frame.moment
+-- the packet in a zone: the tuple of its flow, and the one in an error, are of that zone
+abbrev pub packet_in : ℕ → Packet → Packet
+packet_in zone (packet.Untracked why) = packet.Untracked why
+packet_in zone packet.Invalid = packet.Invalid
+packet_in zone (packet.Flow tuple segment span) = packet.Flow (in_zone zone tuple) segment span
+packet_in zone (packet.Error inner outer) = packet.Error (in_zone zone inner) outer
+
+-- of a frame of a file with these bytes, in the zone of its capture
+unfoldable pub given_of : ℕ → List ℕ → Frame → Given
+given_of zone bytes frame = given_by bytes (packet_in zone (packet_of bytes frame)) frame.moment
 
 -- a packet of a flow: its tuple, its segment, its moment in microseconds, and its payload as far as it was captured
 pub record FlowPacket : Type 0 where

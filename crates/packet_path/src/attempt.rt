@@ -23,8 +23,9 @@ use history_book::desk::Desk;
 use history_book::event::Why;
 use history_book::find::label;
 use history_book::laws::{
-    entries_keep_their_helper, events_stay, found_are_found_again, found_keep_their_protocol,
-    live_records_have_the_protocol, records_are_of_one_protocol, states_stay,
+    entries_keep_their_helper, entries_keep_their_zone, events_stay, found_are_found_again,
+    found_keep_their_protocol, live_records_have_the_protocol, records_are_of_one_flow,
+    states_stay,
 };
 use history_book::outcome::{FindOutcome, KillOutcome, TouchOutcome};
 use history_book::places::{give_up, one_hold_has_its_id};
@@ -87,7 +88,7 @@ fn reset_entry<R: Wait, D: Desk>(rt: &R, desk: &mut D, packet: &FlowView, met: &
     found_keep_their_protocol();
     live_records_have_the_protocol();
     one_hold_has_its_id();
-    records_are_of_one_protocol();
+    records_are_of_one_flow();
     same_protocol_is_equality();
     seeing_adds_up();
     states_stay();
@@ -133,7 +134,7 @@ fn end_entry<R: Wait, D: Desk>(
     found_keep_their_protocol();
     live_records_have_the_protocol();
     one_hold_has_its_id();
-    records_are_of_one_protocol();
+    records_are_of_one_flow();
     same_protocol_is_equality();
     seeing_adds_up();
     states_stay();
@@ -168,30 +169,22 @@ fn meet_entry<R: Wait, D: Desk>(
     ensures knows { IsKnown (D.sight desk.new) }
 {
     entries_keep_their_helper();
+    entries_keep_their_zone();
     events_stay();
     found_are_found_again();
     going_on_adds_up();
     found_keep_their_protocol();
     live_records_have_the_protocol();
     one_hold_has_its_id();
-    records_are_of_one_protocol();
+    records_are_of_one_flow();
     same_protocol_is_equality();
     seeing_adds_up();
     states_stay();
-    let FlowView {
-        segment,
-        moment,
-        ..
-    } = *packet;
-    let Met {
-        place,
-        id,
-        direction,
-        ..
-    } = *met;
-    match desk.touch(rt, place, direction, segment, moment) {
+    let (segment, moment) = (packet.segment, packet.moment);
+    let (id, direction) = (met.id, met.direction);
+    match desk.touch(rt, met.place, direction, segment, moment) {
         TouchOutcome::Touched { number, before } => {
-            let ftp = follow_payload(rt, desk, packet, place, &before, direction);
+            let ftp = follow_payload(rt, desk, packet, met.place, &before, direction);
             Attempt::Done(passed(&before, direction, number, ftp))
         }
         TouchOutcome::Ignored { at } => Attempt::Done(Class::Ignored { id, at }),

@@ -12,7 +12,7 @@ ghost use Rattle.packet_headers.specs.declared.packet.Packet.TheVariants.{Error}
 ghost use Rattle.packet_path.specs.Handled.{Handled};
 ghost use Rattle.packet_path.specs.Internal.Attempt.{IsClassified};
 ghost use Rattle.history_book.specs.Places.{HoldsNothing};
-ghost use Rattle.packet_path.specs.Packet.{bytes_in, cause_of, flow_packet, given_by, given_of, Given, IsFlow};
+ghost use Rattle.packet_path.specs.Packet.{bytes_in, cause_of, flow_packet, given_by, given_of, Given, IsFlow, packet_in};
 ghost use Rattle.history_book.specs.Mark.{points_of};
 ghost use Rattle.packet_path.specs.Taken.{taken_by};
 ghost use Rattle.packet_path.specs.Verdict.{FitsFrame};
@@ -121,13 +121,14 @@ fn bytes_in(bytes: &[u8], span: Span) -> &[u8]
     inside
 }
 
-/// Handles one packet of a file with these bytes, by what its headers say. Only a packet of a flow makes events.
+/// Handles one packet of a file with these bytes in a zone, by what its headers say. Only a packet of a flow makes events.
 fn handle_packet<R: Wait, D: Desk>(
     rt: &R,
     desk: &mut D,
     bytes: &[u8],
     packet: &Packet,
     moment: u64,
+    zone: u16,
     setup: &Setup,
 ) -> Verdict
     requires lawful { AllByRecursion IsLawfulRule setup.now.rules.items }
@@ -138,7 +139,7 @@ fn handle_packet<R: Wait, D: Desk>(
     requires empty { HoldsNothing (D.sight desk.old) }
     requires spare { 7 ≤ (D.sight desk.old).spare }
     requires knows { IsKnown (D.sight desk.old) }
-    ensures handled { Handled setup.now (given_by bytes.now packet.now moment)
+    ensures handled { Handled setup.now (given_by bytes.now (packet_in zone packet.now) moment)
         (D.sight desk.old) (D.sight desk.new) result }
     ensures knows { IsKnown (D.sight desk.new) }
 {
@@ -151,7 +152,7 @@ fn handle_packet<R: Wait, D: Desk>(
             payload,
         } => {
             let packet = FlowView {
-                tuple: *tuple,
+                tuple: tuple.in_zone(zone),
                 segment: *segment,
                 moment,
                 payload: bytes_in(bytes, *payload),
@@ -163,7 +164,7 @@ fn handle_packet<R: Wait, D: Desk>(
         Packet::Error {
             inner,
             outer_destination,
-        } => error_class(rt, desk, inner, *outer_destination),
+        } => error_class(rt, desk, &inner.in_zone(zone), *outer_destination),
     };
     Verdict {
         class,
@@ -172,8 +173,8 @@ fn handle_packet<R: Wait, D: Desk>(
     }
 }
 
-/// Handles one frame of a file with these bytes, with a desk that holds and owes nothing, and says what
-/// became of it. New flows are translated by the rules of the setup, and only a packet that begins one
+/// Handles one frame of a file with these bytes, whose packets are in a zone, with a desk that holds and owes
+/// nothing, and says what became of it. New flows are translated by the rules of the setup, and only a packet that begins one
 /// takes a place of the pool. Takes its memory first: `NoMemory` comes only where the desk had room for
 /// fewer than eight events, and then none was made, and the desk is as it was.
 pub fn handle<R: Wait, D: Desk>(
@@ -181,6 +182,7 @@ pub fn handle<R: Wait, D: Desk>(
     desk: &mut D,
     bytes: &[u8],
     frame: &Frame,
+    zone: u16,
     setup: &Setup,
 ) -> Result<Verdict, NoMemory>
     requires lawful { AllByRecursion IsLawfulRule setup.now.rules.items }
@@ -190,12 +192,12 @@ pub fn handle<R: Wait, D: Desk>(
     requires nothing_held { (D.sight desk.old).held ≡ [] }
     requires nothing_owed { (D.sight desk.old).owed ≡ [] }
     ensures handled { IfOk result
-        (Handled setup.now (given_of bytes.now frame.now) (D.sight desk.old) (D.sight desk.new)) }
+        (Handled setup.now (given_of zone bytes.now frame.now) (D.sight desk.old) (D.sight desk.new)) }
     ensures short { OnErr result ((D.sight desk.old).spare < 8) }
     ensures same { OnErr result (D.sight desk.new ≡ D.sight desk.old) }
     ensures knows { IsKnown (D.sight desk.new) }
 {
     desk.ready(8)?;
     let packet = classify(bytes, frame);
-    Ok(handle_packet(rt, desk, bytes, &packet, frame.moment, setup))
+    Ok(handle_packet(rt, desk, bytes, &packet, frame.moment, zone, setup))
 }

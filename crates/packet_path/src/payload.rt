@@ -3,7 +3,7 @@
 
 ghost use Rattle.std.specs.Prelude.{◌≡◌, ℕ, ◌<◌, ◌≤◌, ◌^◌, true, length};
 ghost use Rattle.history_book.specs.Desk.{SamePlaces};
-ghost use Rattle.history_book.specs.Entry.{is_helped_entry};
+ghost use Rattle.history_book.specs.Entry.{is_helped_entry, zone_of_entry};
 ghost use Rattle.history_book.specs.Held.{held_id, is_held_for_entry};
 ghost use Rattle.history_book.specs.Sight.{IsKnown};
 ghost use Rattle.packet_path.specs.FtpPart.{is_established, is_read};
@@ -80,6 +80,7 @@ pub fn follow_payload<R: Wait, D: Desk>(
     requires named { held_id place (D.sight desk.old).held ≡ before.now.id }
     requires helper { before.now.helper ≡ true →
         is_helped_entry before.now.id (D.sight desk.old).front ≡ true }
+    requires zone { zone_of_entry before.now.id (D.sight desk.old).front ≡ before.now.original.zone }
     requires timely { packet.now.moment ≤ 10 ^ 16 }
     requires spare { 1 ≤ (D.sight desk.old).spare }
     requires knows { IsKnown (D.sight desk.old) }

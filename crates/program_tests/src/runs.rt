@@ -19,6 +19,7 @@ mod summaries;
 mod threads;
 mod translated;
 mod words;
+mod zones;
 
 /// The name of each run's capture.
 const NAME: &str = "c.pcap";

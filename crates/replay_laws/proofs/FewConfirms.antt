@@ -102,7 +102,7 @@ read_none room now found further said (inl (names, e, rest)) = ap (λ (es : List
 read_none room now found further said (inr (inl (asks, e, rest))) = ap (λ (es : List Event). confirms es) e
 read_none room now found further said (inr (inr asked)) =
     adds_none now.packet found now.at asked.want
-    (add_outcome room now.state.expects (expectation_at now.at found.subject.id asked.want now.packet.moment) now.packet.moment)
+    (add_outcome room now.state.expects (expectation_at now.at found.subject.id found.subject.original.zone asked.want now.packet.moment) now.packet.moment)
     further said asked.added
 
 module _ (tracker : Configuration) (now : Situation) where

@@ -124,15 +124,15 @@ module _ (may : EventsMayHappen) (again : FoundAreFoundAgain) (resets : ResetsAr
     (tracker : TrackerSetup) (log : List Event) (legal : is_legal tracker.sizes log ≡ true) where
   -- what adding a wish at a point gave, as the reaction says it
   added : (packet : FlowPacket) (found : Found) (es : List Event) (said : Ftp) (want : Want) (m n : ℕ) (o : AddOutcome) → n ≡ m
-      → add_outcome tracker.sizes.expectations (after log n).expects (expectation_at n found.subject.id want packet.moment) packet.moment ≡ o
+      → add_outcome tracker.sizes.expectations (after log n).expects (expectation_at n found.subject.id found.subject.original.zone want packet.moment) packet.moment ≡ o
       → Adds packet found n want o es said
       → Adds packet found m want
-      (add_outcome tracker.sizes.expectations (after log m).expects (expectation_at m found.subject.id want packet.moment) packet.moment)
+      (add_outcome tracker.sizes.expectations (after log m).expects (expectation_at m found.subject.id found.subject.original.zone want packet.moment) packet.moment)
       es said
   added packet found es said want m n o same gives adds =
       subst
       (λ k. Adds packet found k want
-      (add_outcome tracker.sizes.expectations (after log k).expects (expectation_at k found.subject.id want packet.moment) packet.moment)
+      (add_outcome tracker.sizes.expectations (after log k).expects (expectation_at k found.subject.id found.subject.original.zone want packet.moment) packet.moment)
       es said)
       same
       (subst (λ (x : AddOutcome). Adds packet found n want x es said) (sym gives) adds)
@@ -147,10 +147,10 @@ module _ (may : EventsMayHappen) (again : FoundAreFoundAgain) (resets : ResetsAr
   read_behind packet k found es ftp.Address points live (empty, asks) = inr (inl (asks, none_noted (k + 1) es empty, refl))
   read_behind packet k found es (ftp.Expected id) points live x =
       let own = one_noted (k + 1) es _ x.own in
-      let legal_here : may_expect tracker.sizes (after log id) id (expectation_at id found.subject.id x.want packet.moment) x.replaced
+      let legal_here : may_expect tracker.sizes (after log id) id (expectation_at id found.subject.id found.subject.original.zone x.want packet.moment) x.replaced
       packet.moment ≡ true = may tracker.sizes log id _ legal x.happened.event in
       let o : AddOutcome = add_outcome tracker.sizes.expectations (after log id).expects
-      (expectation_at id found.subject.id x.want packet.moment) packet.moment in
+      (expectation_at id found.subject.id found.subject.original.zone x.want packet.moment) packet.moment in
       let is : is_added o x.replaced ≡ true = (and_parts _ (is_added o x.replaced) legal_here).1 in
       inr (inr (record {
         want = x.want;

@@ -45,11 +45,11 @@ module _ (unique : NamedEndsAreUnique) where
       let some : Some a.want ≡ Some b.want = asked_same now.packet found (Some a.want) (Some b.want) a.asked b.asked in
       let same : a.want ≡ b.want = cc in
       adds_same now.packet found now.at b.want
-      (add_outcome room now.state.expects (expectation_at now.at found.subject.id b.want now.packet.moment) now.packet.moment)
+      (add_outcome room now.state.expects (expectation_at now.at found.subject.id found.subject.original.zone b.want now.packet.moment) now.packet.moment)
       further other said told
       (subst
       (λ (w : Want). Adds now.packet found now.at w
-      (add_outcome room now.state.expects (expectation_at now.at found.subject.id w now.packet.moment) now.packet.moment)
+      (add_outcome room now.state.expects (expectation_at now.at found.subject.id found.subject.original.zone w now.packet.moment) now.packet.moment)
       further said)
       same a.added)
       b.added

@@ -224,7 +224,7 @@ Begins tracker now (Some part) reaction =
 -- adding what the payload asks for gives this
 abbrev pub Adds : FlowPacket → Found → ℕ → Want → AddOutcome → List Event → Ftp → Type 0
 Adds packet found number want (add.Added replaced) further said =
-    (further ≡ Expect (expectation_at number found.subject.id want packet.moment) replaced packet.moment ∷ [])
+    (further ≡ Expect (expectation_at number found.subject.id found.subject.original.zone want packet.moment) replaced packet.moment ∷ [])
     × (said ≡ ftp.Expected number)
 Adds packet found number want (add.Clash id) further said = (further ≡ []) × (said ≡ ftp.Clash id number)
 Adds packet found number want add.Full further said = (further ≡ []) × (said ≡ ftp.Full number)
@@ -234,7 +234,7 @@ pub record IsAsked (room : ℕ) (now : Situation) (found : Found) (further : Lis
   pub want : Want
   pub asked : Asks now.packet found (Some want)
   pub added : Adds now.packet found now.at want
-      (add_outcome room now.state.expects (expectation_at now.at found.subject.id want now.packet.moment) now.packet.moment)
+      (add_outcome room now.state.expects (expectation_at now.at found.subject.id found.subject.original.zone want now.packet.moment) now.packet.moment)
       further said
 
 -- what comes of the payload, once the entry was touched

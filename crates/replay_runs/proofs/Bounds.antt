@@ -51,14 +51,14 @@ module _ (tracker : TrackerSetup) (log : List Event) (end : ℕ) where
       verdicts_few n gss vss lists threads (λ i e below. few (suc i) e (omega (arith, below))) k d (omega (arith, within))
 
 -- the frames of a capture are no later than this
-latest_within : (bytes : List ℕ) (frames : List Frame) (moment : ℕ) → moment ≤ 10 ^ 16 → AreTimely frames
-    → latest moment (map (given_of bytes) frames) ≤ 10 ^ 16
+latest_within : (zone : ℕ) (bytes : List ℕ) (frames : List Frame) (moment : ℕ) → moment ≤ 10 ^ 16 → AreTimely frames
+    → latest moment (map (given_of zone bytes) frames) ≤ 10 ^ 16
 unfolding given_of
-latest_within bytes [] moment le timely = le
-latest_within bytes (f ∷ frames) moment le timely =
+latest_within zone bytes [] moment le timely = le
+latest_within zone bytes (f ∷ frames) moment le timely =
     let both = and_parts (is_timely f) (list_all is_timely frames) timely in
     let here : f.moment ≤ 10 ^ 16 = leb-true f.moment (10 ^ 16) both.0 in
-    latest_within bytes frames (max moment f.moment) (omega (arith, le, here)) both.1
+    latest_within zone bytes frames (max moment f.moment) (omega (arith, le, here)) both.1
 
 -- nor are those of several
 pub latest_of_within : (captures : List Capture) (moment : ℕ) → moment ≤ 10 ^ 16 → All CanBeReplayed captures
@@ -66,7 +66,7 @@ pub latest_of_within : (captures : List Capture) (moment : ℕ) → moment ≤ 1
 latest_of_within [] moment le can = le
 latest_of_within (c ∷ captures) moment le can =
     latest_of_within captures (latest moment (given_frames c))
-    (latest_within c.bytes.items c.frames.items moment le (can 0 c (omega arith)).timely)
+    (latest_within c.zone c.bytes.items c.frames.items moment le (can 0 c (omega arith)).timely)
     (λ k d within. can (suc k) d (omega (arith, within)))
 
 -- each of captures that have no more frames than this together can be replayed
@@ -86,6 +86,6 @@ can_replay (c ∷ captures) inside timely few (suc k) d within =
 pub given_few : (captures : List Capture) → All CanBeReplayed captures → All (λ (gs : List Given). length gs < 2 ^ 32) (map given_frames captures)
 given_few [] can k d within = absurd (omega (arith, within))
 given_few (c ∷ captures) can zero d within =
-    omega (arith, (can 0 c (omega arith)).few, length-map c.frames.items (given_of c.bytes.items))
+    omega (arith, (can 0 c (omega arith)).few, length-map c.frames.items (given_of c.zone c.bytes.items))
 given_few (c ∷ captures) can (suc k) d within =
     given_few captures (λ i e below. can (suc i) e (omega (arith, below))) k d (omega (arith, within))

@@ -218,11 +218,11 @@ module _ (going : GoingOnAddsUp) (still : VerdictsStillFit) (lower : LowerMarksF
   }
 
 -- what is handled of a frame is handled of what was given of it
-pub handled_at : (setup : Setup) (old new : Sight) (index : ℕ) (bytes : List ℕ) (frames : List Frame) (d : Frame) (e : Given) (v : Verdict)
-    → index < length frames → Handled setup (given_of bytes (get_or frames index d)) old new v
-    → Handled setup (get_or (map (given_of bytes) frames) index e) old new v
-handled_at setup old new index bytes frames d e v below handled =
-    subst (λ g. Handled setup g old new v) (sym (get_or-map (given_of bytes) frames index d e below)) handled
+pub handled_at : (setup : Setup) (old new : Sight) (index zone : ℕ) (bytes : List ℕ) (frames : List Frame) (d : Frame) (e : Given) (v : Verdict)
+    → index < length frames → Handled setup (given_of zone bytes (get_or frames index d)) old new v
+    → Handled setup (get_or (map (given_of zone bytes) frames) index e) old new v
+handled_at setup old new index zone bytes frames d e v below handled =
+    subst (λ g. Handled setup g old new v) (sym (get_or-map (given_of zone bytes) frames index d e below)) handled
 
 -- all packets were handled
 pub replayed_all : (setup : Setup) (packets : List Given) (index : ℕ) (old new : Sight) (verdicts : Roomed Verdict)

@@ -8,7 +8,7 @@ use Rattle.replay_runs.specs.Report.{Work}
 -- the work of these captures and this script
 abbrev pub work_of : List Capture → Script → Work
 work_of captures script = record {
-  captures = map (λ (c : Capture). map (given_of c.bytes.items) c.frames.items) captures;
+  captures = map (λ (c : Capture). map (given_of c.zone c.bytes.items) c.frames.items) captures;
   commands = script.commands.items;
   wait = script.wait;
 }

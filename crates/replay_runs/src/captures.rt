@@ -23,15 +23,16 @@ use packet_path::laws::{lower_marks_fit, verdicts_still_fit};
 use std::sync::Wait;
 use tuple_core::NoMemory;
 
-/// Handles the frames of a capture, whose file has these bytes, in their order, with a desk that holds
-/// and owes nothing, and says what became of each. Events are counted from the first of this capture. The thread of this
-/// number passes the gate before each.
+/// Handles the frames of a capture, whose file has these bytes and whose packets are in a zone, in their order, with a
+/// desk that holds and owes nothing, and says what became of each. Events are counted from the first of this capture.
+/// The thread of this number passes the gate before each.
 fn replay_frames<R: Wait, G: Gate, D: Desk>(
     rt: &R,
     shared: &Shared<'_, G>,
     desk: &mut D,
     bytes: &[u8],
     frames: &[Frame],
+    zone: u16,
     verdicts: &mut Verdicts,
     number: u32,
 ) -> Result<(), NoMemory>
@@ -44,7 +45,7 @@ fn replay_frames<R: Wait, G: Gate, D: Desk>(
     requires nothing_held { (D.sight desk.old).held ≡ [] }
     requires nothing_owed { (D.sight desk.old).owed ≡ [] }
     requires knows { IsKnown (D.sight desk.old) }
-    ensures replayed { OnOk result (Replayed shared.now.setup.now (map (given_of bytes.now) frames.now)
+    ensures replayed { OnOk result (Replayed shared.now.setup.now (map (given_of zone bytes.now) frames.now)
         (D.sight desk.old) (D.sight desk.new) verdicts.new.items) }
     ensures stopped { OnErr result (Stopped (D.sight desk.old) (D.sight desk.new)) }
 {
@@ -54,7 +55,7 @@ fn replay_frames<R: Wait, G: Gate, D: Desk>(
     let base = desk.made();
     'frames: for frame in frames {
         shared.gate.at(number, Crossing::BeforePacket);
-        let verdict = match handle(rt, desk, bytes, frame, shared.setup) {
+        let verdict = match handle(rt, desk, bytes, frame, zone, shared.setup) {
             Ok(verdict) => verdict,
             Err(error) => return Err(error),
         };
@@ -93,5 +94,14 @@ pub fn replay_capture<R: Wait, G: Gate, D: Desk>(
     let bytes = capture.bytes.as_slice();
     let frames = capture.frames.as_slice();
     desk.ready(2 * frames.len() as u64)?;
-    replay_frames(rt, shared, desk, bytes, frames, verdicts, number)
+    replay_frames(
+        rt,
+        shared,
+        desk,
+        bytes,
+        frames,
+        capture.zone,
+        verdicts,
+        number,
+    )
 }

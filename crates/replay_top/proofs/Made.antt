@@ -14,7 +14,7 @@ use Rattle.run_inputs.specs.declared.flaw.FileKind.TheVariants as kind
 use Rattle.run_inputs.specs.declared.input.Inputs.{Inputs}
 use Rattle.run_inputs.specs.Content.{Content, no_totals, rules, script, Totals, totals_with}
 use Rattle.run_inputs.specs.Inputs.{AreGiven, AreReadFrom}
-use Rattle.run_inputs.specs.Reading.{bytes_in, contents_in, GaveContents, GaveInputs, GaveOrigin, GaveRules, GaveScript}
+use Rattle.run_inputs.specs.Reading.{bytes_in, contents_in, GaveContents, GaveInputs, GaveOrigin, GaveRules, GaveScript, zones_in}
 use Rattle.run_inputs.specs.Made.{AreInputsOf}
 use Rattle.replay_top.specs.Internal.Replaying.{ReplaysInputs}
 use Rattle.replay_runs.specs.Replaying.{work_of}
@@ -51,34 +51,34 @@ no_commands given [] = refl
 no_commands given (c ∷ captures) = no_commands given captures
 
 abbrev given_of_capture : Capture → List Given
-given_of_capture c = map (given_of c.bytes.items) c.frames.items
+given_of_capture c = map (given_of c.zone c.bytes.items) c.frames.items
 
 -- what is given of captures
-given_captures : (captures : List Capture) → given_in (bytes_in captures) (contents_in captures) ≡ map given_of_capture captures
+given_captures : (captures : List Capture) → given_in (zones_in captures) (bytes_in captures) (contents_in captures) ≡ map given_of_capture captures
 given_captures [] = refl
 given_captures (c ∷ captures) = ap (λ (given : List (List Given)). given_of_capture c ∷ given) (given_captures captures)
 
 -- a script without a command, and captures alone
 captures_alone : (said : Script) (captures : List Capture) → said.commands.items ≡ [] → said.wait ≡ 0
-    → work_of captures said ≡ work_with (given_in (bytes_in captures) (contents_in captures)) (contents_in captures)
+    → work_of captures said ≡ work_with (given_in (zones_in captures) (bytes_in captures) (contents_in captures)) (contents_in captures)
 captures_alone said captures commands wait =
-    rw (commands, wait) (sym (no_commands (given_in (bytes_in captures) (contents_in captures)) captures
+    rw (commands, wait) (sym (no_commands (given_in (zones_in captures) (bytes_in captures) (contents_in captures)) captures
     ∙ ap (λ (given : List (List Given)). record { captures = given; commands = []; wait = 0 }) (given_captures captures)))
 
 -- what files say, of which the rules and the work are these
-record ReadFiles (files : Source) (inputs : List InputFile) (ruled : List Rule) (done : Work) : Type 0 where
+record ReadFiles (files : Source) (inputs : List InputFile) (zones : List ℕ) (ruled : List Rule) (done : Work) : Type 0 where
   bytes : List (List ℕ)
   contents : List Content
   given : AreGiven files inputs bytes
   read : AreReadFrom no_totals inputs bytes contents
   rules : ruled ≡ rules_in contents
-  work : done ≡ work_with (given_in bytes contents) contents
+  work : done ≡ work_with (given_in zones bytes contents) contents
 
 read_files : (files : Source) (r s : Option (List ℕ)) (names : List (List ℕ)) (ruled : List Rule) (said : Script) (captures : List Capture)
     → GaveRules files r ruled → GaveScript files s said
     → GaveContents files no_totals (files_of_kind kind.Capture names) (bytes_in captures) (contents_in captures)
     → ReadFiles files (files_of_kind kind.Rules (option_to_list r) ++ files_of_kind kind.Script (option_to_list s) ++ files_of_kind kind.Capture names)
-    ruled (work_of captures said)
+    (zones_in captures) ruled (work_of captures said)
 read_files files None None names ruled said captures gr gs gc = record {
   bytes = bytes_in captures;
   contents = contents_in captures;
@@ -113,15 +113,15 @@ read_files files (Some r) (Some s) names ruled said captures gr gs gc = record {
 }
 
 -- the same of all that is asked for
-record Worked (files : Source) (origin : Origin) (ruled : List Rule) (done : Work) : Type 0 where
+record Worked (files : Source) (origin : Origin) (zones : List ℕ) (ruled : List Rule) (done : Work) : Type 0 where
   bytes : List (List ℕ)
   contents : List Content
   inputs : AreInputsOf files origin bytes contents
   rules : ruled ≡ rules_in contents
-  work : done ≡ work_with (given_in bytes contents) contents
+  work : done ≡ work_with (given_in zones bytes contents) contents
 
 worked : (files : Source) (origin : Origin) (inputs : Inputs) → GaveOrigin files origin inputs
-    → Worked files origin inputs.rules.items (work_of inputs.captures.items inputs.script)
+    → Worked files origin (zones_in inputs.captures.items) inputs.rules.items (work_of inputs.captures.items inputs.script)
 worked files (named names) inputs gave =
     let all = read_files files names.rules names.script names.captures inputs.rules.items inputs.script inputs.captures.items gave.rules
     gave.script gave.captures in
@@ -138,7 +138,7 @@ worked files (made workload) inputs gave = record {
 pub replay_made : (files : Source) (asked : Request) (inputs : Inputs) (report : Report) → GaveInputs files asked inputs
     → ReplaysInputs asked inputs report → IsReplayOf files asked report
 replay_made files asked inputs report gave of =
-    let all = worked files asked.origin inputs gave in
+    let all = worked files asked.origin inputs gave.origin in
     record {
       bytes = all.bytes;
       contents = all.contents;
@@ -146,7 +146,8 @@ replay_made files asked inputs report gave of =
       setup = of.setup;
       rules = ap (λ (r : Roomed Rule). r.items) of.rules ∙ all.rules;
       ftp = of.ftp;
-      well_formed = subst (λ (w : Work). IsWellFormed (record { setup = of.setup; sizes = sizes_of asked }) w report) all.work of.well_formed;
+      well_formed = subst (λ (w : Work). IsWellFormed (record { setup = of.setup; sizes = sizes_of asked }) w report)
+          (all.work ∙ ap (λ (zones : List ℕ). work_with (given_in zones all.bytes all.contents) all.contents) gave.in_zones) of.well_formed;
     }
 
 -- there is one for each file that was read
@@ -174,4 +175,4 @@ counted files (made workload) inputs gave =
 
 pub captures_counted : (files : Source) (asked : Request) (inputs : Inputs) → GaveInputs files asked inputs
     → length inputs.captures.items ≡ threads_of asked.origin
-captures_counted files asked inputs gave = counted files asked.origin inputs gave
+captures_counted files asked inputs gave = counted files asked.origin inputs gave.origin

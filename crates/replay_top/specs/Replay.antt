@@ -1,5 +1,5 @@
 -- What a run of the program reports and prints.
-use Rattle.std.specs.Prelude.{◌≡◌, ℕ, ◌+◌, Bool, true, false, List, [], ◌∷◌, length, map}
+use Rattle.std.specs.Prelude.{◌≡◌, ℕ, ◌+◌, Bool, true, false, List, [], ◌∷◌, length, map, get_or, drop}
 use Rattle.command_words.specs.Words.{Origin, Request, made, named}
 use Rattle.ct_io.specs.Counts.{Rose}
 use Rattle.ct_io.specs.Source.{Source}
@@ -24,13 +24,15 @@ rules_in (rules said ∷ contents) = said
 rules_in (script commands wait ∷ contents) = rules_in contents
 rules_in (frames said ∷ contents) = rules_in contents
 
--- what was given of the frames of the captures among files with these bytes, which say this
-abbrev pub given_in : List (List ℕ) → List Content → List (List Given)
-given_in [] contents = []
-given_in (bytes ∷ more) [] = []
-given_in (bytes ∷ more) (rules said ∷ contents) = given_in more contents
-given_in (bytes ∷ more) (script commands wait ∷ contents) = given_in more contents
-given_in (bytes ∷ more) (frames said ∷ contents) = map (given_of bytes) said ∷ given_in more contents
+-- what was given of the frames of the captures among files with these bytes, which say this; the captures are in these
+-- zones, in their order, and in zone 0 past the list
+abbrev pub given_in : List ℕ → List (List ℕ) → List Content → List (List Given)
+given_in zones [] contents = []
+given_in zones (bytes ∷ more) [] = []
+given_in zones (bytes ∷ more) (rules said ∷ contents) = given_in zones more contents
+given_in zones (bytes ∷ more) (script commands wait ∷ contents) = given_in zones more contents
+given_in zones (bytes ∷ more) (frames said ∷ contents) =
+    map (given_of (get_or zones 0 0) bytes) said ∷ given_in (drop 1 zones) more contents
 
 -- the work with these captures, by the script of files that say this; without a script there is no command
 abbrev pub work_with : List (List Given) → List Content → Work
@@ -52,7 +54,8 @@ sizes_of asked =
     record { entries = asked.entries; buckets = asked.buckets; seed = 1; passes = threads_of asked.origin + 1; expectations = 1024 }
 
 -- The report is that of what is asked for: files that are named, which are read, or a workload that is made. It is well
--- formed for what their bytes say, with a tracker of the sizes, the rules and the ports of the helper that are asked for.
+-- formed for what their bytes say, each capture in its zone, with a tracker of the sizes, the rules and the ports of the helper
+-- that are asked for.
 -- Where the contents of a file are told, its bytes are these; else no more is said of them.
 pub record IsReplayOf (files : Source) (asked : Request) (report : Report) : Type 0 where
   pub bytes : List (List ℕ)
@@ -61,7 +64,7 @@ pub record IsReplayOf (files : Source) (asked : Request) (report : Report) : Typ
   pub setup : Setup
   pub rules : setup.rules.items ≡ rules_in contents
   pub ftp : setup.ftp.items ≡ asked.ftp
-  pub well_formed : IsWellFormed (record { setup = setup; sizes = sizes_of asked }) (work_with (given_in bytes contents) contents) report
+  pub well_formed : IsWellFormed (record { setup = setup; sizes = sizes_of asked }) (work_with (given_in asked.zones bytes contents) contents) report
 
 -- the report is that of what the words ask for
 abbrev pub IsReplay : List (List ℕ) → Source → Report → Type 0

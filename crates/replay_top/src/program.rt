@@ -157,12 +157,14 @@ fn refused<K: Sink>(why: Refusal, name: &str, err: &mut K) -> Run
 /// of a workload, replays the captures and performs the script's commands, and writes the report's text to `out`, or its
 /// summary, or one line to `err`.
 ///
-/// `words` are `ctreplay [--rules F] [--script F] [--entries N] [--buckets N] [--ftp LIST] [--summary] CAPTURE..`, or
-/// `ctreplay --make SEED --packets N --threads T [--entries N] [--buckets N] [--ftp LIST] [--summary]`, with which no
-/// file is read. The captures are replayed beside each other, each in a thread of its own, and beside them the commands of
-/// the script that stand before `wait` are performed in its thread; those behind it follow when all captures were
-/// replayed. New flows are translated by the rules, and connections to the ports of the list, or else to 21, have the
-/// helper of FTP. The tracker has room for so many entries, or else 65,536, and so many buckets, or else 16,384.
+/// `words` are `ctreplay [--rules F] [--script F] [--zones LIST] [--entries N] [--buckets N] [--ftp LIST] [--summary]
+/// CAPTURE..`, or `ctreplay --make SEED --packets N --threads T [--entries N] [--buckets N] [--ftp LIST]
+/// [--summary]`, with which no file is read. Each capture is in the zone that the list gives it, or in zone 0 without
+/// one; flows of different zones never meet. The captures are replayed beside each other, each in a thread of its own,
+/// and beside them the commands of the script that stand before `wait` are performed in its thread; those behind it
+/// follow when all captures were replayed. New flows are translated by the rules, and connections to the ports of the
+/// list, or else to 21, have the helper of FTP. The tracker has room for so many entries, or else 65,536, and so many
+/// buckets, or else 16,384.
 ///
 /// The statuses are 0 (all was written), 1 (the words are not of that form), 2 (a file is no file of rules, no script, or
 /// no capture), 3 (one could not be opened or read), 4 (the output could not be written), 5 (a number or a size is past

@@ -32,6 +32,10 @@ address_text a =
     decimal (a / 2 ^ 24) ++ codes "." ++ decimal (a / 2 ^ 16 % 256) ++ codes "." ++
     decimal (a / 2 ^ 8 % 256) ++ codes "." ++ decimal (a % 256)
 
+-- a zone; zone 0 is not printed
+abbrev pub zone_text : ℕ → List ℕ
+zone_text zone = if zone == 0 then [] else codes " zone=" ++ decimal zone
+
 -- what tells two flows between the same addresses apart: the ports; of ICMP (RFC 792) the type, the
 -- code and the identifier
 abbrev pub ends_text : Proto → ℕ → ℕ → List ℕ
@@ -101,7 +105,7 @@ flow_text r =
 unfoldable pub record_text : Record → List ℕ
 record_text r =
     flow_text r ++ codes " until=" ++ decimal r.part.deadline ++ state_text r.part.kind ++
-    master_text r.master ++ word_if r.helper (codes " helper")
+    master_text r.master ++ word_if r.helper (codes " helper") ++ zone_text r.original.zone
 
 abbrev pub why_text : Why → List ℕ
 why_text (Expired moment) = codes " expired"
@@ -129,11 +133,11 @@ want_text w =
     codes " src=" ++ address_text w.src ++ codes " dst=" ++ address_text w.dst ++
     codes " dport=" ++ decimal w.port
 
--- what is expected, for which entry and until when, and the older expectation that ends with that
+-- what is expected, for which entry and until when, the older expectation that ends with that, and the zone
 unfoldable pub expectation_text : Expectation → Option ℕ → List ℕ
 expectation_text e replaced =
     codes " master=" ++ decimal e.master ++ want_text e.want ++ codes " until=" ++
-    decimal e.deadline ++ replaced_text replaced
+    decimal e.deadline ++ replaced_text replaced ++ zone_text e.zone
 
 -- a packet met an expectation of this entry
 abbrev pub claimed_text : ℕ → ℕ → List ℕ

@@ -8,7 +8,7 @@ use Rattle.history_book.specs.declared.answer.Row.{Row}
 use Rattle.history_book.specs.declared.record.Record.{Record}
 use Rattle.proto_rules.specs.declared.PartKind.{PartKind}
 use Rattle.proto_rules.specs.declared.PartKind.TheVariants as kind
-use Rattle.report_text.specs.Piece.{address_text, point_text, state_word, tuple_text, word_if}
+use Rattle.report_text.specs.Piece.{address_text, point_text, state_word, tuple_text, word_if, zone_text}
 
 -- the word of a protocol, in eight places
 abbrev pub padded_word : Proto → List ℕ
@@ -43,10 +43,10 @@ tuples_text r =
     tuple_text r.original ++ unreplied_text r.part.replied ++ codes " " ++
     tuple_text r.reply ++ word_if r.part.assured (codes " [ASSURED]")
 
--- an entry at a moment
+-- an entry at a moment, and its zone
 unfoldable pub row_line : ℕ → Row → List ℕ
 row_line moment row =
-    columns_text moment row.subject ++ tuples_text row.subject ++ point_text row.at ++ codes "\n"
+    columns_text moment row.subject ++ tuples_text row.subject ++ zone_text row.subject.original.zone ++ point_text row.at ++ codes "\n"
 
 -- what is expected, and of which entry
 unfoldable pub expected_text : Expectation → List ℕ
@@ -54,7 +54,7 @@ expected_text e =
     codes " proto=6 src=" ++ address_text e.want.src ++ codes " dst=" ++ address_text e.want.dst ++
     codes " sport=0 dport=" ++ decimal e.want.port ++ codes " master=" ++ decimal e.master
 
--- an expectation at a moment and a point
+-- an expectation at a moment and a point, and its zone
 unfoldable pub expectation_line : ℕ → ℕ → Expectation → List ℕ
 expectation_line moment at e =
-    decimal (seconds_left moment e.deadline) ++ expected_text e ++ point_text at ++ codes "\n"
+    decimal (seconds_left moment e.deadline) ++ expected_text e ++ zone_text e.zone ++ point_text at ++ codes "\n"

@@ -2,7 +2,7 @@
 
 ghost use Rattle.std.specs.Prelude.{◌≤◌, ◌++◌, length};
 ghost use Rattle.report_text.specs.Page.{Adds, HasRoom};
-ghost use Rattle.report_text.specs.Piece.{address_text, claimed_text, class_text, direction_word, ends_text, entry_text, error_word, event_rest, event_text, event_word, expectation_text, flow_text, ftp_text, label_word, made_word, master_text, point_text, proto_word, record_text, replaced_text, state_text, state_word, thread_word, touched_text, tuple_text, untracked_word, want_text, who_text, why_text};
+ghost use Rattle.report_text.specs.Piece.{address_text, claimed_text, class_text, direction_word, ends_text, entry_text, error_word, event_rest, event_text, event_word, expectation_text, flow_text, ftp_text, label_word, made_word, master_text, point_text, proto_word, record_text, replaced_text, state_text, state_word, thread_word, touched_text, tuple_text, untracked_word, want_text, who_text, why_text, zone_text};
 
 use crate::page::Page;
 use expect_table::expectation::{Expectation, Want};
@@ -26,6 +26,17 @@ impl<'b> Page<'b> {
         self.number((address / 0x100 % 256) as u8);
         self.text(b".");
         self.number((address % 256) as u8);
+    }
+
+    /// Writes a zone that is not 0.
+    pub(crate) fn zone(&mut self, zone: u16)
+        requires { HasRoom 11 self.old }
+        ensures { Adds 11 (zone_text zone) self.old self.new }
+    {
+        if zone != 0 {
+            self.text(b" zone=");
+            self.number(zone);
+        }
     }
 
     /// Writes what tells the flows between two addresses apart.
@@ -172,8 +183,8 @@ impl<'b> Page<'b> {
     /// Writes a new entry.
     #[tactic(auto, unfolding(crate::specs::Piece::record_text))]
     fn record(&mut self, subject: &Record)
-        requires { HasRoom 218 self.old }
-        ensures { Adds 218 (record_text subject.now) self.old self.new }
+        requires { HasRoom 229 self.old }
+        ensures { Adds 229 (record_text subject.now) self.old self.new }
     {
         self.flow(subject);
         self.text(b" until=");
@@ -181,6 +192,7 @@ impl<'b> Page<'b> {
         self.state(subject.part.kind);
         self.master(subject.master);
         self.text_if(subject.helper, b" helper");
+        self.zone(subject.original.zone);
     }
 
     /// Writes why an entry was destroyed.
@@ -243,17 +255,18 @@ impl<'b> Page<'b> {
         self.number(want.port);
     }
 
-    /// Writes an expectation, and the older one that ends with that.
+    /// Writes an expectation, the older one that ends with that, and the zone.
     #[tactic(auto, unfolding(crate::specs::Piece::expectation_text))]
     fn expectation(&mut self, e: &Expectation, replaced: Option<u64>)
-        requires { HasRoom 137 self.old }
-        ensures { Adds 137 (expectation_text e.now replaced) self.old self.new }
+        requires { HasRoom 148 self.old }
+        ensures { Adds 148 (expectation_text e.now replaced) self.old self.new }
     {
         self.master(Some(e.master));
         self.want(&e.want);
         self.text(b" until=");
         self.number(e.deadline);
         self.replaced(replaced);
+        self.zone(e.zone);
     }
 
     /// Writes the expectation that a packet met, and its master.
@@ -283,8 +296,8 @@ impl<'b> Page<'b> {
 
     /// Writes what an event does.
     fn event_rest(&mut self, event: &Event)
-        requires { HasRoom 219 self.old }
-        ensures { Adds 219 (event_rest event.now) self.old self.new }
+        requires { HasRoom 230 self.old }
+        ensures { Adds 230 (event_rest event.now) self.old self.new }
     {
         match *event {
             Event::Confirm { subject } => {
@@ -323,8 +336,8 @@ impl<'b> Page<'b> {
     /// Writes an event, and who made it.
     #[tactic(auto, unfolding(crate::specs::Piece::event_text))]
     pub(crate) fn event(&mut self, script: usize, e: &Numbered)
-        requires { HasRoom 250 self.old }
-        ensures { Adds 250 (event_text (who_text script e.now.thread e.now.index) e.now.event)
+        requires { HasRoom 261 self.old }
+        ensures { Adds 261 (event_text (who_text script e.now.thread e.now.index) e.now.event)
             self.old self.new }
     {
         self.text(b" ");

@@ -104,6 +104,7 @@ impl<'b> Page<'b> {
     {
         self.columns(moment, &row.subject);
         self.tuples(&row.subject);
+        self.zone(row.subject.original.zone);
         self.point(row.at);
         self.text(b"\n");
     }
@@ -132,6 +133,7 @@ impl<'b> Page<'b> {
     {
         self.number(seconds_left(moment, e.deadline));
         self.expected(e);
+        self.zone(e.zone);
         self.point(at);
         self.text(b"\n");
     }

@@ -17,10 +17,12 @@ use tuple_core::{Direction, Kind, NoMemory, Proto, Segment, Tuple};
 
 mod answers;
 mod summary;
+mod zones;
 
 /// The flow of UDP from 10.0.0.1:5000 to 10.0.0.2:53.
 const QUERY: Tuple = Tuple {
     proto: Proto::Udp,
+    zone: 0,
     src: 0x0a00_0001,
     dst: 0x0a00_0002,
     a: 5000,
@@ -29,6 +31,7 @@ const QUERY: Tuple = Tuple {
 
 const ANSWER: Tuple = Tuple {
     proto: Proto::Udp,
+    zone: 0,
     src: 0x0a00_0002,
     dst: 0x0a00_0001,
     a: 53,
@@ -332,6 +335,7 @@ fn states_and_ends_of_tcp(rt: HostRuntime) -> Result<(), Fail> {
 fn opened(number: u64, index: u32, original: Tuple, helper: bool, master: Option<u64>) -> Numbered {
     let reply = Tuple {
         proto: Proto::Tcp,
+        zone: 0,
         src: original.dst,
         dst: original.src,
         a: original.b,
@@ -360,6 +364,7 @@ fn expect(number: u64, index: u32, want: Want, deadline: u64, replaced: Option<u
         id: number,
         master: 0,
         want,
+        zone: 0,
         deadline,
     };
     event(
@@ -410,6 +415,7 @@ script 0
 fn data_connection_is_expected(rt: HostRuntime) -> Result<(), Fail> {
     let flow = |src: u32, dst: u32, a: u16, b: u16| Tuple {
         proto: Proto::Tcp,
+        zone: 0,
         src,
         dst,
         a,
@@ -556,6 +562,7 @@ fn every_verdict() -> [Verdict; 24] {
 fn every_form(alloc: Global) -> Result<Report, NoMemory> {
     let echo = |src: u32, dst: u32, kind: u16| Tuple {
         proto: Proto::Icmp,
+        zone: 0,
         src,
         dst,
         a: 7,
@@ -563,6 +570,7 @@ fn every_form(alloc: Global) -> Result<Report, NoMemory> {
     };
     let control = Tuple {
         proto: Proto::Tcp,
+        zone: 0,
         src: 0xcb00_7105,
         dst: 0xc633_6415,
         a: 65535,

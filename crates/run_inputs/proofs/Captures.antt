@@ -1,6 +1,6 @@
 -- Reading captures one after the other.
-use Rattle.std.proofs.Common.{◌≡◌, ℕ, ◌+◌, ◌<◌, ◌≤◌, List, [], ◌∷◌, ◌++◌, length, take, drop, get_or, refl, sym, subst, ap, ◌∙◌, Bor, arith, add-one}
-use Rattle.std.specs.Prelude.{All}
+use Rattle.std.proofs.Common.{◌≡◌, ℕ, ◌+◌, ◌<◌, ◌≤◌, zero, suc, Some, List, [], ◌∷◌, ◌++◌, length, take, drop, get_or, refl, sym, subst, ap, ◌∙◌, Bor, arith, add-one}
+use Rattle.std.specs.Prelude.{All, slice_get}
 use Rattle.std.proofs.Math.Seq.{take-suc}
 use Rattle.std.proofs.lemmas.List.{length-append, length-map, length-take, map-append, take_all, take-append-drop}
 use Rattle.std.proofs.lemmas.List.Elements.{All-push}
@@ -11,7 +11,7 @@ use Rattle.capture_list.specs.declared.Capture.{Capture}
 use Rattle.run_inputs.specs.declared.flaw.FileKind.TheVariants as kind
 use Rattle.run_inputs.specs.declared.flaw.Refusal.{Refusal}
 use Rattle.run_inputs.specs.Content.{totals_with, frames, IsRead, most_capture_bytes, most_packets, no_totals, Totals}
-use Rattle.run_inputs.specs.Reading.{bytes_in, contents_in, GaveCapture, GaveCaptures, GaveContents, HasCauseFrom, IsGiven, part_of, totals_after}
+use Rattle.run_inputs.specs.Reading.{bytes_in, contents_in, GaveCapture, GaveCaptures, GaveContents, HasCauseFrom, IsGiven, part_of, totals_after, zones_in}
 use Rattle.capture_list.specs.Frames.{frames_in}
 use Rattle.run_inputs.specs.Files.{files_of_kind, InputFile}
 use Rattle.run_inputs.proofs.OneByOne.{cause_behind_all, cause_front, cause_later, is_given_later, same_faults, stays_then}
@@ -65,8 +65,25 @@ total_next : (before : Totals) (captures : List Capture) (capture : Capture)
 total_next before [] capture = refl
 total_next before (c ∷ captures) capture = total_next (totals_with before c.bytes.items (frames c.frames.items)) captures capture
 
--- the captures of the first so many names were read from files that are now in this state
-pub record SoFar (files now : Source) (names : List (Bor (List ℕ))) (index : ℕ) (captures : Roomed Capture) (totals : Totals) : Type 0 where
+-- the zones of the first captures, one more
+zones_next : (zones : List ℕ) (k z : ℕ) → slice_get zones k ≡ Some z → take (k + 1) zones ≡ take k zones ++ z ∷ []
+zones_next [] k z none = cc
+zones_next (x ∷ zones) zero z first = ap (λ (n : ℕ). n ∷ []) (some_same x z first)
+  where
+    some_same : (x z : ℕ) → Some x ≡ Some z → x ≡ z
+    some_same x z e = cc
+zones_next (x ∷ zones) (suc k) z there =
+    ap (λ n. take n (x ∷ zones)) (add-one (suc k)) ∙ ap (λ (rest : List ℕ). x ∷ rest) (sym (ap (λ n. take n zones) (add-one k)) ∙ zones_next zones k z there)
+
+-- one capture more that is in its zone
+pub in_zones_next : (zones : List ℕ) (k : ℕ) (captures : List Capture) (capture : Capture) → zones_in captures ≡ take k zones
+    → slice_get zones k ≡ Some capture.zone → zones_in (captures ++ capture ∷ []) ≡ take (k + 1) zones
+in_zones_next zones k captures capture so_far there =
+    map-append (λ (c : Capture). c.zone) captures (capture ∷ []) ∙ ap (λ (zs : List ℕ). zs ++ capture.zone ∷ []) so_far
+    ∙ sym (zones_next zones k capture.zone there)
+
+-- the captures of the first so many names were read from files that are now in this state, each in its zone
+pub record SoFar (files now : Source) (names : List (Bor (List ℕ))) (zones : List ℕ) (index : ℕ) (captures : Roomed Capture) (totals : Totals) : Type 0 where
   pub gave : GaveContents files no_totals (captures_of (take index names)) (bytes_in captures.items) (contents_in captures.items)
   pub total : totals_after no_totals (bytes_in captures.items) (contents_in captures.items) ≡ totals
   pub packets : totals.packets ≡ frames_in captures.items
@@ -75,14 +92,15 @@ pub record SoFar (files now : Source) (names : List (Bor (List ℕ))) (index : �
   pub number : length captures.items ≡ index
   pub inside : All (λ (c : Capture). AreInside c.bytes.items c.frames.items) captures.items
   pub timely : All (λ (c : Capture). AreTimely c.frames.items) captures.items
+  pub in_zones : zones_in captures.items ≡ take index zones
   pub room : length names ≤ captures.room
   pub stays : Stays files now
   pub same : SameFaults files now
 
 -- before the first
-pub captures_start : (files : Source) (names : List (Bor (List ℕ))) (captures : Roomed Capture) (totals : Totals)
-    → captures.items ≡ [] → totals ≡ no_totals → length names ≤ captures.room → SoFar files files names 0 captures totals
-captures_start files names captures totals none zero_totals room = record {
+pub captures_start : (files : Source) (names : List (Bor (List ℕ))) (zones : List ℕ) (captures : Roomed Capture) (totals : Totals)
+    → captures.items ≡ [] → totals ≡ no_totals → length names ≤ captures.room → SoFar files files names zones 0 captures totals
+captures_start files names zones captures totals none zero_totals room = record {
   gave = rw none (record { given = tt; read = tt });
   total = rw (none, zero_totals) refl;
   packets = rw (none, zero_totals) refl;
@@ -91,6 +109,7 @@ captures_start files names captures totals none zero_totals room = record {
   number = rw none refl;
   inside = rw none (λ k d below. absurd (omega (arith, below)));
   timely = rw none (λ k d below. absurd (omega (arith, below)));
+  in_zones = rw none refl;
   room = room;
   stays = record {
     contents = λ name. refl;
@@ -102,15 +121,15 @@ captures_start files names captures totals none zero_totals room = record {
   same = record { open_faults = λ name. refl; read_faults = refl };
 }
 
-module _ (files now next : Source) (names : List (Bor (List ℕ))) (index : ℕ) (captures : Roomed Capture) (totals : Totals)
-    (d : Bor (List ℕ)) (so_far : SoFar files now names index captures totals) (below : index < length names) (stays : Stays now next) where
+module _ (files now next : Source) (names : List (Bor (List ℕ))) (zones : List ℕ) (index : ℕ) (captures : Roomed Capture) (totals : Totals)
+    (d : Bor (List ℕ)) (so_far : SoFar files now names zones index captures totals) (below : index < length names) (stays : Stays now next) where
   -- it is read
   pub captures_next : (capture : Capture) (after : Roomed Capture) (more : Totals) → GaveCapture now totals (get_or names index d).now capture
-      → SameFaults now next
+      → slice_get zones index ≡ Some capture.zone → SameFaults now next
       → more ≡ totals_with totals capture.bytes.items (frames capture.frames.items)
       → after.items ≡ captures.items ++ capture ∷ [] → after.room ≡ captures.room
-      → SoFar files next names (index + 1) after more
-  captures_next capture after more gave same total items room =
+      → SoFar files next names zones (index + 1) after more
+  captures_next capture after more gave zone same total items room =
       let read : IsRead kind.Capture (totals_after no_totals (bytes_in captures.items) (contents_in captures.items)) capture.bytes.items (frames capture.frames.items) =
       rw so_far.total gave.read in
       let whole : GaveContents files no_totals (captures_of (take index names) ++ capture_file (get_or names index d).now ∷ [])
@@ -126,6 +145,7 @@ module _ (files now next : Source) (names : List (Bor (List ℕ))) (index : ℕ)
         number = rw items (omega (arith, so_far.number, length-append captures.items (capture ∷ [])));
         inside = rw items (All-push (λ (c : Capture). AreInside c.bytes.items c.frames.items) captures.items capture so_far.inside gave.inside);
         timely = rw items (All-push (λ (c : Capture). AreTimely c.frames.items) captures.items capture so_far.timely gave.timely);
+        in_zones = rw items (in_zones_next zones index captures.items capture so_far.in_zones zone);
         room = omega (arith, so_far.room, room);
         stays = stays_then files now next so_far.stays stays;
         same = same_faults files now next so_far.same same;
@@ -153,12 +173,14 @@ module _ (files now next : Source) (names : List (Bor (List ℕ))) (index : ℕ)
       (cause_front files (captures_of (drop (index + 1) names)) no_totals first (captures_of (take (index + 1) names)) next why upto)
 
 -- all are read
-pub captures_end : (files now : Source) (names : List (Bor (List ℕ))) (index : ℕ) (captures : Roomed Capture) (totals : Totals)
-    → SoFar files now names index captures totals → index ≡ length names → length names ≤ 63 → GaveCaptures files (texts names) captures.items
-captures_end files now names index captures totals so_far last few =
+pub captures_end : (files now : Source) (names : List (Bor (List ℕ))) (zones : List ℕ) (index : ℕ) (captures : Roomed Capture) (totals : Totals)
+    → SoFar files now names zones index captures totals → length zones ≡ length names → index ≡ length names → length names ≤ 63
+    → GaveCaptures files (texts names) zones captures.items
+captures_end files now names zones index captures totals so_far one_each last few =
     let all : take index names ≡ names = take_all index names (omega (arith, last)) in
     record {
       gave = subst (λ (ns : List (Bor (List ℕ))). GaveContents files no_totals (captures_of ns) (bytes_in captures.items) (contents_in captures.items)) all so_far.gave;
+      in_zones = so_far.in_zones ∙ take_all index zones (omega (arith, last, one_each));
       ready = record {
         threads = omega (arith, so_far.number, last, few);
         few = omega (arith, so_far.packets, so_far.few);

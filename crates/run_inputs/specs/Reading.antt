@@ -139,9 +139,13 @@ bytes_in captures = map (λ (c : Capture). c.bytes.items) captures
 abbrev pub contents_in : List Capture → List Content
 contents_in captures = map (λ (c : Capture). frames c.frames.items) captures
 
--- these captures were read, and can be replayed together
-pub record GaveCaptures (files : Source) (names : List (List ℕ)) (captures : List Capture) : Type 0 where
+abbrev pub zones_in : List Capture → List ℕ
+zones_in captures = map (λ (c : Capture). c.zone) captures
+
+-- these captures were read, each is in its zone, and they can be replayed together
+pub record GaveCaptures (files : Source) (names : List (List ℕ)) (zones : List ℕ) (captures : List Capture) : Type 0 where
   pub gave : GaveContents files no_totals (files_of_kind kind.Capture names) (bytes_in captures) (contents_in captures)
+  pub in_zones : zones_in captures ≡ zones
   pub ready : CanReplay captures
 
 -- all files of these names were read
@@ -164,9 +168,10 @@ abbrev pub GaveOrigin : Source → Origin → Inputs → Type 0
 GaveOrigin files (named names) inputs = GaveNamed files names inputs
 GaveOrigin files (made workload) inputs = GaveMade workload inputs
 
--- all that is asked for is there
-abbrev pub GaveInputs : Source → Request → Inputs → Type 0
-GaveInputs files asked inputs = GaveOrigin files asked.origin inputs
+-- all that is asked for is there, and each capture is in its zone
+pub record GaveInputs (files : Source) (asked : Request) (inputs : Inputs) : Type 0 where
+  pub origin : GaveOrigin files asked.origin inputs
+  pub in_zones : zones_in inputs.captures.items ≡ asked.zones
 
 -- ---- a capture by itself
 

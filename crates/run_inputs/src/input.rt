@@ -1,6 +1,6 @@
 //! The inputs of a run: files that are read, one after another.
 
-ghost use Rattle.std.specs.Prelude.{◌≡◌, ◌≤◌, [], ◌∷◌, ◌^◌, length, All, IfOk, option_map, option_to_list};
+ghost use Rattle.std.specs.Prelude.{◌≡◌, ◌<◌, ◌≤◌, [], ◌∷◌, ◌^◌, length, slice_get, All, IfOk, Some, option_map, option_to_list};
 ghost use Rattle.std.specs.List.{AllByRecursion};
 ghost use Rattle.command_words.specs.Asked.{asked_as, names_as, texts};
 ghost use Rattle.command_words.specs.Words.{AreNamesWithin, IsWithin};
@@ -8,7 +8,7 @@ ghost use Rattle.conntrack_cmd.specs.Moment.{moment_of};
 ghost use Rattle.ct_io.specs.Source.{Stays};
 ghost use Rattle.nat_setup.specs.Rule.{IsLawfulRule};
 ghost use Rattle.run_inputs.specs.Content.{totals_with, IsShortEnough, frames, most_bytes, most_packets, no_totals};
-ghost use Rattle.run_inputs.specs.Reading.{CaptureReadAs, GaveBytes, GaveCapture, GaveCaptures, GaveInputs, GaveNamed, GaveRules, GaveScript, HasRoomFor, most_read, part_of, ReadAs, too_long, totals_as};
+ghost use Rattle.run_inputs.specs.Reading.{CaptureReadAs, GaveBytes, GaveCapture, GaveCaptures, GaveInputs, GaveNamed, GaveRules, GaveScript, HasRoomFor, most_read, part_of, ReadAs, too_long, totals_as, zones_in};
 ghost use Rattle.run_inputs.specs.Files.{files_of, files_of_kind, files_of_names};
 
 use crate::flaw::{FileKind, Flaw, Refusal};
@@ -180,16 +180,18 @@ fn read_script_file<F: Files>(
     }
 }
 
-/// The capture that these bytes are, behind captures of this total. It has this number in the run.
+/// The capture that these bytes are, in this zone, behind captures of this total. It has this number in the run.
 fn capture_of(
     alloc: Global,
     bytes: Bytes,
+    zone: u16,
     file: usize,
     before: &CaptureTotals,
 ) -> Result<Capture, Refusal>
     requires fits { IsShortEnough FileKind.Capture (totals_as before.now) bytes.items }
     requires few { before.now.packets ≤ most_packets }
-    ensures { CaptureReadAs file (totals_as before.now) bytes.items result }
+    ensures read { CaptureReadAs file (totals_as before.now) bytes.items result }
+    ensures in_zone { IfOk result (λ capture. capture.zone ≡ zone) }
 {
     let frames = match read_capture(alloc, bytes.as_slice()) {
         Ok(frames) => frames,
@@ -207,14 +209,19 @@ fn capture_of(
             flaw: Flaw::TooManyPackets,
         });
     }
-    Ok(Capture { bytes, frames })
+    Ok(Capture {
+        bytes,
+        frames,
+        zone,
+    })
 }
 
-/// Reads the capture of this name, which has this number in the run and stands behind captures of this total.
+/// Reads the capture of this name, in this zone, which has this number in the run and stands behind captures of this total.
 fn read_capture_file<F: Files>(
     alloc: Global,
     files: &mut F,
     name: &str,
+    zone: u16,
     file: usize,
     before: &CaptureTotals,
 ) -> Result<Capture, Refusal>
@@ -222,13 +229,14 @@ fn read_capture_file<F: Files>(
     ensures reads { ReadAs (part_of (totals_as before.now) file (record { kind = FileKind.Capture; name = name.now } ∷ []))
         (λ capture. GaveCapture (F.source files.old) (totals_as before.now) name.now capture)
         (F.source files.old) (F.source files.new) result }
+    ensures in_zone { IfOk result (λ capture. capture.zone ≡ zone) }
     ensures stays { Stays (F.source files.old) (F.source files.new) }
 {
     let bytes = match read_input(alloc, files, FileKind::Capture, name, file, before) {
         Ok(bytes) => bytes,
         Err(why) => return Err(why),
     };
-    match capture_of(alloc, bytes, file, before) {
+    match capture_of(alloc, bytes, zone, file, before) {
         Ok(capture) => Ok(capture),
         Err(why) => Err(why),
     }
@@ -245,17 +253,27 @@ fn with_capture(before: &CaptureTotals, capture: &Capture) -> CaptureTotals
     }
 }
 
-/// Reads the captures of these names, the first of which has this number in the run.
+/// The zone of the capture at this index.
+pub(crate) fn zone_at(zones: &[u16], index: usize) -> u16
+    requires { index < length zones.now }
+    ensures { slice_get zones.now index ≡ Some result }
+{
+    zones[index]
+}
+
+/// Reads the captures of these names, each in its zone. The first of them has this number in the run.
 fn read_captures<F: Files>(
     alloc: Global,
     files: &mut F,
     names: &[&str],
+    zones: &[u16],
     first: usize,
 ) -> Result<Captures, Refusal>
+    requires zoned { length zones.now ≡ length names.now }
     requires few { length names.now ≤ 63 }
     requires first { first ≤ 2 }
     ensures reads { ReadAs (part_of no_totals first (files_of_kind FileKind.Capture (texts names.now)))
-        (λ captures. GaveCaptures (F.source files.old) (texts names.now) captures.items)
+        (λ captures. GaveCaptures (F.source files.old) (texts names.now) zones.now captures.items)
         (F.source files.old) (F.source files.new) result }
     ensures stays { Stays (F.source files.old) (F.source files.new) }
 {
@@ -265,7 +283,8 @@ fn read_captures<F: Files>(
     };
     let mut totals = NONE_BEFORE;
     'captures: for (index, name) in names.iter().enumerate() {
-        let capture = match read_capture_file(alloc, files, name, first + index, &totals) {
+        let zone = zone_at(zones, index);
+        let capture = match read_capture_file(alloc, files, name, zone, first + index, &totals) {
             Ok(capture) => capture,
             Err(why) => return Err(why),
         };
@@ -283,13 +302,20 @@ pub struct Inputs {
     pub captures: Captures,
 }
 
-/// Reads all files of these names: the rules, then the script, and then the captures in their order.
+/// Reads all files of these names: the rules, then the script, and then the captures in their order, each in its zone.
 #[tactic(auto, using(crate::proofs::All::rules_refused, crate::proofs::All::script_refused, crate::proofs::All::captures_refused))]
-fn read_named<F: Files>(alloc: Global, files: &mut F, names: &Named<'_>) -> Result<Inputs, Refusal>
-    requires { AreNamesWithin (names_as names.now) }
+fn read_named<F: Files>(
+    alloc: Global,
+    files: &mut F,
+    names: &Named<'_>,
+    zones: &[u16],
+) -> Result<Inputs, Refusal>
+    requires within { AreNamesWithin (names_as names.now) }
+    requires zoned { length zones.now ≡ length (names_as names.now).captures }
     ensures reads { ReadAs (part_of no_totals 0 (files_of_names (names_as names.now)))
         (λ inputs. GaveNamed (F.source files.old) (names_as names.now) inputs)
         (F.source files.old) (F.source files.new) result }
+    ensures in_zones { IfOk result (λ inputs. zones_in inputs.captures.items ≡ zones.now) }
     ensures stays { Stays (F.source files.old) (F.source files.new) }
 {
     let rules = match read_rule_file(alloc, files, names.rules) {
@@ -302,7 +328,13 @@ fn read_named<F: Files>(alloc: Global, files: &mut F, names: &Named<'_>) -> Resu
         Err(why) => return Err(why),
     };
     let first_capture = script_file + usize::from(names.script.is_some());
-    match read_captures(alloc, files, names.captures.as_slice(), first_capture) {
+    match read_captures(
+        alloc,
+        files,
+        names.captures.as_slice(),
+        zones,
+        first_capture,
+    ) {
         Ok(captures) => Ok(Inputs {
             rules,
             script,
@@ -312,7 +344,8 @@ fn read_named<F: Files>(alloc: Global, files: &mut F, names: &Named<'_>) -> Resu
     }
 }
 
-/// Reads all that is asked for: the files that are named, or else a made workload, for which no file is opened.
+/// Reads all that is asked for, each capture in its zone: the files that are named, or else a made workload, for which no
+/// file is opened.
 pub fn read_all<F: Files>(
     alloc: Global,
     files: &mut F,
@@ -326,8 +359,8 @@ pub fn read_all<F: Files>(
     ensures stays { Stays (F.source files.old) (F.source files.new) }
 {
     match &asked.origin {
-        Origin::Named(names) => read_named(alloc, files, names),
-        Origin::Made(workload) => match make_inputs(alloc, workload) {
+        Origin::Named(names) => read_named(alloc, files, names, asked.zones.as_slice()),
+        Origin::Made(workload) => match make_inputs(alloc, workload, asked.zones.as_slice()) {
             Ok(inputs) => Ok(inputs),
             Err(_) => Err(Refusal::NoMemory),
         },

@@ -4,8 +4,8 @@ use Rattle.std.specs.Prelude.{◌==◌, if◌then◌else◌}
 use Rattle.std.proofs.lemmas.Bool.{eq-eqb, ne_eqb}
 use Rattle.std.proofs.lemmas.List.Elements.{recursion_from_All}
 use Rattle.history_book.specs.History.{is_legal}
-use Rattle.history_book.specs.Laws.{RecordsAreOfOneProtocol}
-use Rattle.history_book.specs.Legality.{is_of_one_protocol, is_reason}
+use Rattle.history_book.specs.Laws.{RecordsAreOfOneFlow}
+use Rattle.history_book.specs.Legality.{is_of_one_flow, is_reason}
 use Rattle.history_book.specs.Record.{has_id}
 use Rattle.history_book.specs.State.{record_of}
 use Rattle.history_book.specs.declared.event.Event.{Event}
@@ -38,12 +38,12 @@ use Rattle.shared_desk.proofs.Linking.{none_up, same_buckets, same_shuts}
 use Rattle.shared_desk.proofs.Lowering.{both_down, else_all, else_gone, lowered_else}
 use Rattle.shared_desk.proofs.Members.{find_in, holds_in}
 
--- a live record is of one protocol
-of_protocol : RecordsAreOfOneProtocol → (z : Sizes) (log : List Event) (id : ℕ) (r : Record) → is_legal z log ≡ true → record_of id (state_after log) ≡ Some r
-    → is_of_one_protocol r ≡ true
+-- a live record is of one flow
+of_protocol : RecordsAreOfOneFlow → (z : Sizes) (log : List Event) (id : ℕ) (r : Record) → is_legal z log ≡ true → record_of id (state_after log) ≡ Some r
+    → is_of_one_flow r ≡ true
 of_protocol law z log id r legal live =
-    holds_in (λ r. is_of_one_protocol r ≡ true) r (records_after log)
-    (recursion_from_All (λ r. is_of_one_protocol r ≡ true) (records_after log) (law z log (length log) legal)) (find_in (has_id id) r (records_after log) live)
+    holds_in (λ r. is_of_one_flow r ≡ true) r (records_after log)
+    (recursion_from_All (λ r. is_of_one_flow r ≡ true) (records_after log) (law z log (length log) legal)) (find_in (has_id id) r (records_after log) live)
 
 -- the buckets that are shut are the same ones
 unlinked_shut : (z : Sizes) (place : ℕ) (s : HeldBuckets) → shut_buckets (unlinked_buckets z place s).shut ≡ shut_buckets s.shut
@@ -136,17 +136,17 @@ module _ (place : ℕ) (r : Record) (why : Why) (locked : Buckets) (v : PassSigh
           ∙ ap (λ (b : Bool). (if b then loose_hook (original_link place) r.original else hook_of (reply_link place) (loose_hook (reply_link place) r.reply ∷ v.view.buckets.hooks)).pair) apart
           ∙ ap (λ (b : Bool). (if b then loose_hook (reply_link place) r.reply else hook_of (reply_link place) v.view.buckets.hooks).pair) (here (reply_link place))
 
-      one_protocol : RecordsAreOfOneProtocol → is_of_one_protocol r ≡ true
-      one_protocol law = of_protocol law u.view.passes.sizes has.log r.id r has.all.legal has.before
+      one_flow : RecordsAreOfOneFlow → is_of_one_flow r ≡ true
+      one_flow law = of_protocol law u.view.passes.sizes has.log r.id r has.all.legal has.before
 
-      pub original_ready : RecordsAreOfOneProtocol → IsReady (sizes_of w) locked (original_link place) w.view.buckets.hooks
+      pub original_ready : RecordsAreOfOneFlow → IsReady (sizes_of w) locked (original_link place) w.view.buckets.hooks
       original_ready law =
-          is_ready (sizes_of w) locked (original_link place) r.original w.view.buckets.hooks (valid_original (flow_of r) (one_protocol law)) original_pair
+          is_ready (sizes_of w) locked (original_link place) r.original w.view.buckets.hooks (valid_original (flow_of r) (one_flow law)) original_pair
           (ap (λ (z : Sizes). has_bucket locked (bucket_in z r.original)) sizes ∙ has_original)
 
-      pub reply_ready : RecordsAreOfOneProtocol → IsReady (sizes_of w) locked (reply_link place) w.view.buckets.hooks
+      pub reply_ready : RecordsAreOfOneFlow → IsReady (sizes_of w) locked (reply_link place) w.view.buckets.hooks
       reply_ready law =
-          is_ready (sizes_of w) locked (reply_link place) r.reply w.view.buckets.hooks (valid_reply (flow_of r) (one_protocol law)) reply_pair
+          is_ready (sizes_of w) locked (reply_link place) r.reply w.view.buckets.hooks (valid_reply (flow_of r) (one_flow law)) reply_pair
           (ap (λ (z : Sizes). has_bucket locked (bucket_in z r.reply)) sizes ∙ has_reply)
 
       ended : HasEnded r why n v

@@ -2,9 +2,9 @@
 use Rattle.std.proofs.Common.{◌≡◌, ◌≢◌, ℕ, ◌+◌, ◌<◌, ◌≤◌, Bool, true, false, Option, Some, None, List, [], ◌∷◌, ◌++◌, length, map, refl, sym, ap, subst, ◌∙◌, arith, ⊎_elim}
 use Rattle.std.specs.Prelude.{◌==◌, ◌&&◌, ◌||◌, if◌then◌else◌, min, max}
 use Rattle.std.proofs.lemmas.Bool.{and_parts, cases_Bool, cases_eq, eq-eqb, eqb-true}
-use Rattle.history_book.specs.Entry.{is_flow_of_one_protocol, record_for}
+use Rattle.history_book.specs.Entry.{is_lawful_flow, record_for}
 use Rattle.history_book.specs.History.{is_legal}
-use Rattle.history_book.specs.Legality.{same_proto}
+use Rattle.history_book.specs.Legality.{is_of_one_zone, same_proto}
 use Rattle.history_book.specs.declared.event.Event.TheVariants.{Confirm}
 use Rattle.history_book.specs.declared.record.Flow.{Flow}
 use Rattle.history_book.specs.declared.record.Record.{Record}
@@ -74,19 +74,21 @@ either_shut locked b v shut e =
 
 -- THE FLOW
 
-pub valid_original : (flow : Flow) → is_flow_of_one_protocol flow ≡ true → is_valid flow.original ≡ true
+pub valid_original : (flow : Flow) → is_lawful_flow flow ≡ true → is_valid flow.original ≡ true
 valid_original flow e =
     (and_parts (is_valid flow.original) (is_valid flow.reply)
-    (and_parts (is_valid flow.original && is_valid flow.reply) (same_proto flow.original.proto (proto_of flow.part.kind))
-    (and_parts ((is_valid flow.original && is_valid flow.reply) && same_proto flow.original.proto (proto_of flow.part.kind))
-    (same_proto flow.reply.proto (proto_of flow.part.kind)) e).0).0).0
+    (and_parts (is_valid flow.original && is_valid flow.reply) (is_of_one_zone (record_for flow 0 0))
+    (and_parts (is_valid flow.original && is_valid flow.reply && is_of_one_zone (record_for flow 0 0)) (same_proto flow.original.proto (proto_of flow.part.kind))
+    (and_parts ((is_valid flow.original && is_valid flow.reply && is_of_one_zone (record_for flow 0 0)) && same_proto flow.original.proto (proto_of flow.part.kind))
+    (same_proto flow.reply.proto (proto_of flow.part.kind)) e).0).0).0).0
 
-pub valid_reply : (flow : Flow) → is_flow_of_one_protocol flow ≡ true → is_valid flow.reply ≡ true
+pub valid_reply : (flow : Flow) → is_lawful_flow flow ≡ true → is_valid flow.reply ≡ true
 valid_reply flow e =
     (and_parts (is_valid flow.original) (is_valid flow.reply)
-    (and_parts (is_valid flow.original && is_valid flow.reply) (same_proto flow.original.proto (proto_of flow.part.kind))
-    (and_parts ((is_valid flow.original && is_valid flow.reply) && same_proto flow.original.proto (proto_of flow.part.kind))
-    (same_proto flow.reply.proto (proto_of flow.part.kind)) e).0).0).1
+    (and_parts (is_valid flow.original && is_valid flow.reply) (is_of_one_zone (record_for flow 0 0))
+    (and_parts (is_valid flow.original && is_valid flow.reply && is_of_one_zone (record_for flow 0 0)) (same_proto flow.original.proto (proto_of flow.part.kind))
+    (and_parts ((is_valid flow.original && is_valid flow.reply && is_of_one_zone (record_for flow 0 0)) && same_proto flow.original.proto (proto_of flow.part.kind))
+    (same_proto flow.reply.proto (proto_of flow.part.kind)) e).0).0).0).1
 
 -- a link with a valid tuple of a locked bucket may come into its chain
 pub is_ready : (z : Sizes) (locked : Buckets) (x : ℕ) (t : Tuple) (hooks : List Hook) → is_valid t ≡ true → pair_at x hooks ≡ pair_of t

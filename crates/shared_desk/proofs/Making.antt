@@ -5,7 +5,7 @@ use Rattle.std.proofs.Common.{◌≡◌, ◌≢◌, ℕ, ◌+◌, ◌-◌, ◌*�
 use Rattle.std.proofs.lemmas.Bool.{and_parts, cases_Bool, cases_eq, cond_both, eq-eqb, eqb-true, false≢true, ne_eqb, or_cases, or_from, or_left, or_parts, or_right}
 use Rattle.room_list.specs.Roomed.{Roomed}
 use Rattle.history_book.specs.Desk.{ConfirmSays, IsClash}
-use Rattle.history_book.specs.Entry.{is_flow_of_one_protocol, record_for}
+use Rattle.history_book.specs.Entry.{is_lawful_flow, record_for}
 use Rattle.history_book.specs.Held as desk
 use Rattle.history_book.specs.History.{after}
 use Rattle.history_book.specs.Sight.{IsKnown}
@@ -242,7 +242,7 @@ module _ (v : PassSight) (notes : Roomed Note) (spare place : ℕ) (flow : Flow)
   held_too : desk.is_held place (map hold_of v.view.places.held) ≡ true
   held_too = desk_held place (map hold_of v.view.places.held) taken
 
-  pub can_confirm_flow : is_flow_of_one_protocol flow ≡ true → 1 ≤ spare → CanConfirmFlow place flow v
+  pub can_confirm_flow : is_lawful_flow flow ≡ true → 1 ≤ spare → CanConfirmFlow place flow v
   can_confirm_flow protocol room =
       let own : IsPrepared place v.view.places v.view.buckets.hooks = h.settled.taken place took in
       record {

@@ -2,7 +2,7 @@
 use Rattle.std.proofs.Common.{◌≡◌, ◌≢◌, ℕ, zero, suc, ◌+◌, ◌*◌, ◌<◌, Bool, true, false, Option, Some, None, List, [], ◌∷◌, refl, sym, ap, ◌∙◌, arith, ⊎_elim, ◌⊎◌, inl, inr}
 use Rattle.std.specs.Prelude.{◌==◌, ◌&&◌, if◌then◌else◌}
 use Rattle.std.proofs.lemmas.Bool.{and_from, and_parts, cases_Bool, eq-eqb, eqb-true, false≢true}
-use Rattle.history_book.specs.Legality.{is_of_one_protocol, same_id, same_proto}
+use Rattle.history_book.specs.Legality.{is_of_one_flow, is_of_one_zone, same_id, same_proto}
 use Rattle.history_book.specs.declared.record.Record.{Record}
 use Rattle.history_book.specs.declared.sizes.Sizes.{Sizes}
 use Rattle.proto_rules.specs.Protocol.{proto_of}
@@ -97,19 +97,20 @@ side_some z b w e any =
 
 -- THE RECORDS OF A LOCKED CHAIN
 
--- a record of one protocol has two valid tuples
-pub valid_tuples : (r : Record) → is_of_one_protocol r ≡ true → (is_valid r.original ≡ true) × (is_valid r.reply ≡ true)
+-- a record of one flow has two valid tuples
+pub valid_tuples : (r : Record) → is_of_one_flow r ≡ true → (is_valid r.original ≡ true) × (is_valid r.reply ≡ true)
 valid_tuples r e =
     and_parts (is_valid r.original) (is_valid r.reply)
-    (and_parts (is_valid r.original && is_valid r.reply) (same_proto r.original.proto (proto_of r.part.kind))
-    (and_parts ((is_valid r.original && is_valid r.reply) && same_proto r.original.proto (proto_of r.part.kind)) (same_proto r.reply.proto (proto_of r.part.kind)) e).0).0
+    (and_parts (is_valid r.original && is_valid r.reply) (is_of_one_zone r)
+    (and_parts (is_valid r.original && is_valid r.reply && is_of_one_zone r) (same_proto r.original.proto (proto_of r.part.kind))
+    (and_parts ((is_valid r.original && is_valid r.reply && is_of_one_zone r) && same_proto r.original.proto (proto_of r.part.kind)) (same_proto r.reply.proto (proto_of r.part.kind)) e).0).0).0
 
 -- the chain weighs what these records weigh in the bucket of the tuple
 abbrev pub AreLinked : Sizes → Tuple → List Entry → List Record → Type 0
 AreLinked z t chain rs = (weight : Entry → ℕ) → total weight chain ≡ total (links_in z (bucket_in z t) weight) rs
 
 module _ (z : Sizes) (t : Tuple) (chain : List Entry) (rs : List Record) (sums : AreLinked z t chain rs)
-    (valid : (r : Record) → IsIn r rs → is_of_one_protocol r ≡ true) (valid_t : is_valid t ≡ true) (words : WordsDetermineTheTuple) where
+    (valid : (r : Record) → IsIn r rs → is_of_one_flow r ≡ true) (valid_t : is_valid t ≡ true) (words : WordsDetermineTheTuple) where
   -- the record of an entry of the chain
   owner : (passed : List Entry) (e : Entry) (rest : List Entry) → chain ≡ rev_onto passed (e ∷ rest)
       → (r : Record) × IsIn r rs × ((is_entry e (original_of r) ≡ true) ⊎ (is_entry e (reply_of r) ≡ true))

@@ -7,7 +7,7 @@ use Rattle.expect_table.specs.declared.table.AddOutcome.{AddOutcome}
 use Rattle.expect_table.specs.declared.table.AddOutcome.TheVariants as add
 use Rattle.history_book.specs.DeskExpectations.{AddGives, AddsNothing, ExpectSays, MakesExpect, expectation_at}
 use Rattle.history_book.specs.Desk.{SamePlaces}
-use Rattle.history_book.specs.Entry.{is_helped_entry}
+use Rattle.history_book.specs.Entry.{is_helped_entry, zone_of_entry}
 use Rattle.history_book.specs.Held.{held_id, is_held_for_entry}
 use Rattle.history_book.specs.State.{record_of}
 use Rattle.history_book.specs.WentOn.{Looked}
@@ -41,7 +41,7 @@ module _ (v : PassSight) (notes : Roomed Note) (spare place : ℕ) (h : IsAtRest
   module _ (want : Want) (moment : ℕ) (w : PassSight) (made : Option Note) (is : Notes made v.view.seen.own w.view.seen.own) where
     pub rest_expecting : (o : ExpectOutcome) → Expects place want moment o v w → IsAtRest w (with_note made notes) (room_after made spare)
     rest_expecting (expect.Expected id replaced) e =
-        rest_made v notes spare h room id (Expect (expectation_at id e.master want moment) replaced moment) w e.made made is
+        rest_made v notes spare h room id (Expect (expectation_at id e.master (zone_of_entry e.master v.view.seen.front) want moment) replaced moment) w e.made made is
     rest_expecting (expect.MasterGone at) l = rest_left v notes spare place h held at IsNotLive w l made is
     rest_expecting (expect.Clash id at) l =
         rest_left v notes spare place h held at (IsRefused (sizes_of v).expectations at v.view.seen.front want moment (add.Clash id)) w l made is
@@ -52,17 +52,19 @@ module _ (v : PassSight) (notes : Roomed Note) (spare place : ℕ) (h : IsAtRest
         → AddsNothing (held_id place (map hold_of v.view.places.held)) want moment o (sight_of (clerk_at v spare)) (then_of v (clerk_at w (room_after made spare))) at
     refused_says o at l =
         subst (λ (z : Sizes). Looked (sight_of (clerk_at v spare)) (then_of v (clerk_at w (room_after made spare))) at
-        (AddGives z.expectations at (held_id place (map hold_of v.view.places.held)) want moment o)
+        (AddGives z.expectations at (held_id place (map hold_of v.view.places.held))
+        (zone_of_entry (held_id place (map hold_of v.view.places.held)) v.view.seen.front) want moment o)
         × SamePlaces (sight_of (clerk_at v spare)) (then_of v (clerk_at w (room_after made spare)))) (sym (ap sizes_of l.same))
-        (looks_left v notes spare place h held at (IsRefused (sizes_of v).expectations at want moment o) w l made is
-        (AddGives (sizes_of v).expectations at (held_id place (map hold_of v.view.places.held)) want moment o) (λ fact. fact))
+        (looks_left v notes spare place h held at (IsRefused (sizes_of v).expectations at v.view.seen.front want moment o) w l made is
+        (AddGives (sizes_of v).expectations at (held_id place (map hold_of v.view.places.held))
+        (zone_of_entry (held_id place (map hold_of v.view.places.held)) v.view.seen.front) want moment o) (λ fact. fact))
 
     pub says_expecting : (o : ExpectOutcome) → Expects place want moment o v w
         → ExpectSays place want moment (sight_of (clerk_at v spare)) (then_of v (clerk_at w (room_after made spare))) o
     says_expecting (expect.Expected id replaced) e =
         subst (λ (master : ℕ). MakesExpect master want moment (sight_of (clerk_at v spare)) (then_of v (clerk_at w (room_after made spare))) id replaced)
         (sym (e.its (held_id place (map hold_of v.view.places.held)) (kept v notes spare place h held)))
-        (says_made v notes spare h room id (Expect (expectation_at id e.master want moment) replaced moment) w e.made made is)
+        (says_made v notes spare h room id (Expect (expectation_at id e.master (zone_of_entry e.master v.view.seen.front) want moment) replaced moment) w e.made made is)
     says_expecting (expect.MasterGone at) l =
         looks_left v notes spare place h held at IsNotLive w l made is (λ s. record_of (held_id place (map hold_of v.view.places.held)) s ≡ None) (λ fact. fact)
     says_expecting (expect.Clash id at) l = refused_says (add.Clash id) at l

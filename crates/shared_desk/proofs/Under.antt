@@ -4,8 +4,8 @@ use Rattle.std.specs.Prelude.{not, find}
 use Rattle.std.proofs.lemmas.Bool.{cases_Bool, eq-eqb, false≢true, ne_eqb}
 use Rattle.std.proofs.lemmas.List.Elements.{recursion_from_All}
 use Rattle.history_book.specs.History.{is_legal}
-use Rattle.history_book.specs.Laws.{AreApart, RecordsAreApart, RecordsAreOfOneProtocol}
-use Rattle.history_book.specs.Legality.{is_of_one_protocol}
+use Rattle.history_book.specs.Laws.{AreApart, RecordsAreApart, RecordsAreOfOneFlow}
+use Rattle.history_book.specs.Legality.{is_of_one_flow}
 use Rattle.history_book.specs.Record.{has_original, has_place, has_reply}
 use Rattle.history_book.specs.State.{Found, is_unused, live_under, winner}
 use Rattle.history_book.specs.State as state
@@ -38,11 +38,11 @@ pub record AreLaws : Type 0 where
   pub words : WordsDetermineTheTuple
   pub same : SameTupleIsEquality
   pub apart : RecordsAreApart
-  pub one : RecordsAreOfOneProtocol
+  pub one : RecordsAreOfOneFlow
 
 module _ (z : Sizes) (log : List Event) (legal : is_legal z log ≡ true) (laws : AreLaws) where
-  pub valid_in : (r : Record) → IsIn r (records_after log) → is_of_one_protocol r ≡ true
-  valid_in r i = holds_in (λ r. is_of_one_protocol r ≡ true) r (records_after log) (recursion_from_All (λ r. is_of_one_protocol r ≡ true) (records_after log) (laws.one z log (length log) legal)) i
+  pub valid_in : (r : Record) → IsIn r (records_after log) → is_of_one_flow r ≡ true
+  valid_in r i = holds_in (λ r. is_of_one_flow r ≡ true) r (records_after log) (recursion_from_All (λ r. is_of_one_flow r ≡ true) (records_after log) (laws.one z log (length log) legal)) i
 
   pub one_original : (t : Tuple) (q r : Record) → IsIn q (records_after log) → IsIn r (records_after log) → q.original ≡ t → r.original ≡ t → q ≡ r
   one_original t q r i j e f =

@@ -9,11 +9,11 @@ use Rattle.expect_table.specs.declared.expectation.Want.{Want}
 use Rattle.expect_table.specs.declared.table.AddOutcome.{AddOutcome}
 use Rattle.expect_table.specs.declared.table.AddOutcome.TheVariants as add
 use Rattle.room_list.specs.Roomed.{Roomed}
-use Rattle.history_book.specs.DeskExpectations.{expectation_at}
-use Rattle.history_book.specs.Entry.{confirmed_by, is_helped_entry}
+use Rattle.history_book.specs.DeskExpectations.{AddGives, expectation_at}
+use Rattle.history_book.specs.Entry.{confirmed_by, is_helped_entry, zone_of, zone_of_entry}
 use Rattle.history_book.specs.History.{after, is_legal}
-use Rattle.history_book.specs.Laws.{EntriesKeepTheirHelper, ExpectationsAreInOrder}
-use Rattle.history_book.specs.Legality.{has_helper}
+use Rattle.history_book.specs.Laws.{EntriesKeepTheirHelper, EntriesKeepTheirZone, ExpectationsAreInOrder}
+use Rattle.history_book.specs.Legality.{has_helper, helps_in}
 use Rattle.history_book.specs.Point.{StartsWith}
 use Rattle.history_book.specs.State.{record_of}
 use Rattle.history_book.specs.declared.event.Event.{Event}
@@ -73,11 +73,21 @@ helper_stays id front log (more, same) e = by_event (slice_get front id) refl e
         ap (λ (es : List Event). has_helper (confirmed_by (slice_get es id))) same
         ∙ ap (λ (o : Option Event). has_helper (confirmed_by o)) (get_append front more id x is) ∙ e
 
+-- and it is in its zone
+pub zone_stays : (id : ℕ) (front log : List Event) → StartsWith log front → is_helped_entry id front ≡ true → zone_of_entry id front ≡ zone_of_entry id log
+zone_stays id front log (more, same) e = by_event (slice_get front id) refl e
+  where
+    by_event : (o : Option Event) → slice_get front id ≡ o → has_helper (confirmed_by o) ≡ true → zone_of_entry id front ≡ zone_of_entry id log
+    by_event None is e = absurd (false≢true e)
+    by_event (Some x) is e =
+        ap (λ (o : Option Event). zone_of (confirmed_by o)) (is ∙ sym (get_append front more id x is))
+        ∙ sym (ap (λ (es : List Event). zone_of (confirmed_by (slice_get es id))) same)
+
 -- under both turns the phase was loaded, which was LIVE, and then the history word, and the record was out
 module _ (place n word : ℕ) (want : Want) (moment : ℕ) (v u w : PassSight) (h : HasRecord place v) (s : SuitsExpect place moment v)
     (loads : LoadsPhase place v.view n u.view) (kept : u ≡ record v { view = u.view })
     (looks : Looks u.view word w.view) (kept' : w ≡ record u { view = w.view })
-    (live : 3 ≤ n) (before : Record) (out : Some before ≡ subject_in w.slots) (keep : EntriesKeepTheirHelper)
+    (live : 3 ≤ n) (before : Record) (out : Some before ≡ subject_in w.slots) (keep : EntriesKeepTheirHelper) (in_zone : EntriesKeepTheirZone)
     (x : PassSight) (still : x ≡ w) (at : ℕ) (point : at ≡ events_in word) where
   whole : x ≡ record v {
     view = record v.view { seen = record v.view.seen { front = w.view.seen.front }; walk = w.view.walk; readings = w.view.readings };
@@ -97,14 +107,26 @@ module _ (place n word : ℕ) (want : Want) (moment : ℕ) (v u w : PassSight) (
       ∙ ap (λ (k : ℕ). is_helped_entry k w.view.seen.front) (sym (its s.id s.kept))
       ∙ helper_stays s.id v.view.seen.front w.view.seen.front all.front s.helped
 
-  pub of_master : IsOfMaster (expectation_at at (n - 3) want moment) moment x
+  zoned : before.original.zone ≡ zone_of_entry (n - 3) v.view.seen.front
+  zoned =
+      let all = all_seen place n word v u w h loads kept looks kept' in
+      sym (in_zone (sizes_of v) w.view.seen.front (length w.view.seen.front) (n - 3) before all.legal live_then)
+      ∙ ap (λ (k : ℕ). zone_of_entry k w.view.seen.front) (sym (its s.id s.kept))
+      ∙ sym (zone_stays s.id v.view.seen.front w.view.seen.front all.front s.helped)
+      ∙ ap (λ (k : ℕ). zone_of_entry k v.view.seen.front) (its s.id s.kept)
+
+  helps : helps_in before.original.zone (Some before) ≡ true
+  helps = and_from before.helper (before.original.zone == before.original.zone) helped (eq-eqb before.original.zone before.original.zone refl)
+
+  pub of_master : IsOfMaster (expectation_at at (n - 3) before.original.zone want moment) moment x
   of_master =
       let phase : known_phase x.view.commit.hand ≡ n =
       ap (λ (k : PassSight). known_phase k.view.commit.hand) whole ∙ ap known_phase h.known ∙ phase_is place n word v u w h loads kept looks kept' live before out in
       record {
         shown = omega (arith, phase, live);
-        helper = ap (λ (k : PassSight). has_helper (known_record k.view.commit.hand)) whole ∙ ap (λ o. has_helper (known_record o)) h.known
-            ∙ ap has_helper (subject_is place n word v u w h loads kept looks kept' live before out) ∙ helped;
+        helper = ap (λ (k : PassSight). helps_in before.original.zone (known_record k.view.commit.hand)) whole
+            ∙ ap (λ o. helps_in before.original.zone (known_record o)) h.known
+            ∙ ap (helps_in before.original.zone) (subject_is place n word v u w h loads kept looks kept' live before out) ∙ helps;
         deadline = refl;
       }
 
@@ -123,25 +145,31 @@ module _ (place n word : ℕ) (want : Want) (moment : ℕ) (v u w : PassSight) (
     expects_then : table.items ≡ (state_after w.view.seen.front).expects
     expects_then = looks.expects table.items (ap (λ (k : View). k.expected) (loads.settled h.closed) ∙ knows.items)
 
-    refused : (o : AddOutcome) (a : ℕ) → Refuses (expectation_at at (n - 3) want moment) moment table o a (aside x) (aside y)
-        → IsLeft place a (IsRefused (sizes_of v).expectations a want moment o) (aside v) (aside y)
+    refused : (o : AddOutcome) (a : ℕ) → Refuses (expectation_at at (n - 3) before.original.zone want moment) moment table o a (aside x) (aside y)
+        → IsLeft place a (IsRefused (sizes_of v).expectations a v.view.seen.front want moment o) (aside v) (aside y)
     refused o a r =
-        subst (λ (z : PassSight). IsLeft place a (IsRefused (sizes_of v).expectations a want moment o) (aside v) z) (sym (r.same ∙ ap aside still))
-        (left_aside (left_now place n word v u w h loads kept looks kept' a (IsRefused (sizes_of v).expectations a want moment o) (r.point ∙ point)
-        (λ i held. record {
-          live = ap (λ (j : ℕ). has_helper (record_of j (state_after w.view.seen.front))) (its i held) ∙ ap has_helper live_then ∙ helped;
-          gives = (λ k. add_outcome (sym knows.room k) (sym expects_then k) (expectation_at (r.point k) (its i held k) want moment) moment) ∙ r.gives;
-        })))
+        subst (λ (z : PassSight). IsLeft place a (IsRefused (sizes_of v).expectations a v.view.seen.front want moment o) (aside v) z) (sym (r.same ∙ ap aside still))
+        (left_aside (left_now place n word v u w h loads kept looks kept' a (IsRefused (sizes_of v).expectations a v.view.seen.front want moment o) (r.point ∙ point)
+        (λ i held.
+        subst (λ (z : ℕ). AddGives (sizes_of v).expectations a i z want moment o (state_after w.view.seen.front))
+        (zoned ∙ ap (λ (j : ℕ). zone_of_entry j v.view.seen.front) (sym (its i held)))
+        (record {
+          live = ap (λ (j : ℕ). helps_in before.original.zone (record_of j (state_after w.view.seen.front))) (its i held)
+              ∙ ap (helps_in before.original.zone) live_then ∙ helps;
+          gives = (λ k. add_outcome (sym knows.room k) (sym expects_then k) (expectation_at (r.point k) (its i held k) before.original.zone want moment) moment)
+              ∙ r.gives;
+        }))))
       where
         left_aside : IsLeft place a (IsRefused (sizes_of v).expectations a v.view.seen.front want moment o) v w
             → IsLeft place a (IsRefused (sizes_of v).expectations a v.view.seen.front want moment o) (aside v) (aside w)
         left_aside l = record { same = ap aside l.same; all = told_aside v w.view.seen.front l.all; point = l.point; is = l.is }
 
-    pub added : (o : ExpectOutcome) → Adds (expectation_at at (n - 3) want moment) moment table o (aside x) (aside y) → Expects place want moment o (aside v) (aside y)
+    pub added : (o : ExpectOutcome) → Adds (expectation_at at (n - 3) before.original.zone want moment) moment table o (aside x) (aside y) → Expects place want moment o (aside v) (aside y)
     added (expect.Expected id replaced) m = record {
       master = n - 3;
       its = its;
-      made = made_from id (Expect (expectation_at id (n - 3) want moment) replaced moment) m;
+      made = subst (λ (z : ℕ). HasMade id (Expect (expectation_at id (n - 3) z want moment) replaced moment) (aside v) (aside y)) zoned
+          (made_from id (Expect (expectation_at id (n - 3) before.original.zone want moment) replaced moment) m);
     }
     added (expect.MasterGone a) r = absurd r
     added (expect.Clash id a) r = refused (add.Clash id) a r

@@ -9,6 +9,7 @@ use Rattle.tuple_core.specs.declared.Tuple.{Tuple}
 use Rattle.expect_table.specs.declared.expectation.Want.{Want}
 use Rattle.expect_table.specs.declared.table.AddOutcome.{AddOutcome}
 use Rattle.expect_table.specs.declared.table.AddOutcome.TheVariants as add
+use Rattle.history_book.specs.Entry.{zone_of_entry}
 use Rattle.history_book.specs.declared.sizes.Sizes.{Sizes}
 use Rattle.history_book.specs.declared.outcome.ExpectOutcome.{ExpectOutcome}
 use Rattle.history_book.specs.declared.outcome.ExpectOutcome.TheVariants as expect
@@ -112,7 +113,8 @@ module _ (table : Roomed Expectation) (v w x y : PassSight) (unturned : v.view.e
   expect_given place want moment (expect.Expected id replaced) e = record {
     master = e.master;
     its = λ i kept. e.its i (held_then place i kept);
-    made = made_given id (Expect (expectation_at id e.master want moment) replaced moment) e.made;
+    made = subst (λ (k : PassSight). HasMade id (Expect (expectation_at id e.master (zone_of_entry e.master k.view.seen.front) want moment) replaced moment) v y) h.same
+        (made_given id (Expect (expectation_at id e.master (zone_of_entry e.master w.view.seen.front) want moment) replaced moment) e.made);
   }
   expect_given place want moment (expect.MasterGone at) l = left_given place at IsNotLive l
   expect_given place want moment (expect.Clash id at) l = refused_given place at want moment (add.Clash id) l

@@ -1,7 +1,7 @@
 -- A flow becomes an entry: what a pass needs for it, and what it knows then.
 use Rattle.std.specs.Prelude.{◌≡◌, ℕ, ◌+◌, ◌<◌, ◌^◌, Bool, true, false, Some, None, List, [], ◌∷◌, ◌++◌, length, map}
 use Rattle.std.specs.List.{list_any}
-use Rattle.history_book.specs.Entry.{is_flow_of_one_protocol, record_for}
+use Rattle.history_book.specs.Entry.{is_lawful_flow, record_for}
 use Rattle.history_book.specs.History.{is_legal}
 use Rattle.history_book.specs.declared.event.Event.{Event}
 use Rattle.history_book.specs.declared.event.Event.TheVariants.{Confirm}
@@ -63,7 +63,7 @@ pub record CanCommit (place : ℕ) (flow : Flow) (locked : Buckets) (v : PassSig
   pub calm : v.view.commit.middle ≡ Calm
   pub carried : v.view.places.carried ≡ []
   pub few : length v.view.seen.own < 2 ^ 30
-  pub protocol : is_flow_of_one_protocol flow ≡ true
+  pub protocol : is_lawful_flow flow ≡ true
   pub original : hooks_of (original_link place) v.view.buckets.hooks ≡ 1
   pub reply : hooks_of (reply_link place) v.view.buckets.hooks ≡ 1
   pub down : is_any_up v.view.buckets.hooks ≡ false

@@ -1,7 +1,7 @@
 -- A flow is confirmed, or the entry that stands in its way is named.
 use Rattle.std.specs.Prelude.{◌≡◌, ℕ, ◌+◌, ◌<◌, ◌==◌, ◌^◌, Bool, true, false, if◌then◌else◌, Some, None, List, [], ◌∷◌, ◌++◌, length}
 use Rattle.history_book.specs.Desk.{IsClash}
-use Rattle.history_book.specs.Entry.{is_flow_of_one_protocol, record_for}
+use Rattle.history_book.specs.Entry.{is_lawful_flow, record_for}
 use Rattle.history_book.specs.History.{is_legal}
 use Rattle.history_book.specs.declared.event.Event.{Event}
 use Rattle.history_book.specs.declared.outcome.ConfirmOutcome.{ConfirmOutcome}
@@ -102,7 +102,7 @@ pub record CanEnter (place : ℕ) (flow : Flow) (v : PassSight) : Type 0 where
   pub free : v.view.free ≡ None
   pub carried : v.view.places.carried ≡ []
   pub few : length v.view.seen.own < 2 ^ 30
-  pub protocol : is_flow_of_one_protocol flow ≡ true
+  pub protocol : is_lawful_flow flow ≡ true
   pub original : hooks_of (original_link place) v.view.buckets.hooks ≡ 1
   pub reply : hooks_of (reply_link place) v.view.buckets.hooks ≡ 1
   pub down : is_any_up v.view.buckets.hooks ≡ false
@@ -127,7 +127,7 @@ pub record CanConfirmFlow (place : ℕ) (flow : Flow) (v : PassSight) : Type 0 w
   pub carried : v.view.places.carried ≡ []
   pub shut : v.view.buckets.shut ≡ []
   pub few : length v.view.seen.own < 2 ^ 30
-  pub protocol : is_flow_of_one_protocol flow ≡ true
+  pub protocol : is_lawful_flow flow ≡ true
 
 -- The flow is an entry, by the Confirm of this number, which was lawful after all events before it. The place is held for it. Of the
 -- hooks those of the place are gone. All else is as it was, but the tuples of hooks, the note of a walk and the readings.

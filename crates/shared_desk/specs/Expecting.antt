@@ -7,8 +7,8 @@ use Rattle.expect_table.specs.declared.table.AddOutcome.{AddOutcome}
 use Rattle.expect_table.specs.declared.table.AddOutcome.TheVariants as add
 use Rattle.room_list.specs.Roomed.{Roomed}
 use Rattle.history_book.specs.DeskExpectations.{AddGives, expectation_at}
-use Rattle.history_book.specs.Entry.{is_helped_entry}
-use Rattle.history_book.specs.Legality.{expected_for, has_helper}
+use Rattle.history_book.specs.Entry.{is_helped_entry, zone_of_entry}
+use Rattle.history_book.specs.Legality.{expected_for, helps_in}
 use Rattle.history_book.specs.declared.event.Event.{Event}
 use Rattle.history_book.specs.declared.event.Event.TheVariants.{Expect}
 use Rattle.history_book.specs.declared.outcome.ExpectOutcome.{ExpectOutcome}
@@ -28,15 +28,16 @@ pub record SuitsExpect (place moment : ℕ) (v : PassSight) : Type 0 where
   pub timely : moment ≤ 10 ^ 16
   pub few : length v.view.seen.own < 2 ^ 30
 
--- the entry for which the place is held is the master, and expects the connection by this event
+-- the entry for which the place is held is the master, and expects the connection, in the zone in which it was confirmed, by this event
 pub record IsExpected (place : ℕ) (want : Want) (moment id : ℕ) (replaced : Option ℕ) (v w : PassSight) : Type 0 where
   pub master : ℕ
   pub its : (i : ℕ) → is_kept_for place i v.view.places.held ≡ true → i ≡ master
-  pub made : HasMade id (Expect (expectation_at id master want moment) replaced moment) v w
+  pub made : HasMade id (Expect (expectation_at id master (zone_of_entry master v.view.seen.front) want moment) replaced moment) v w
 
--- adding what it expects gave this, in a tracker with room for so many expectations
-abbrev pub IsRefused : ℕ → ℕ → Want → ℕ → AddOutcome → ℕ → List Event → Type 0
-IsRefused room at want moment outcome id log = AddGives room at id want moment outcome (state_after log)
+-- adding what it expects, in the zone in which it was confirmed by this front, gave this, in a tracker with room for so many
+-- expectations
+abbrev pub IsRefused : ℕ → ℕ → List Event → Want → ℕ → AddOutcome → ℕ → List Event → Type 0
+IsRefused room at front want moment outcome id log = AddGives room at id (zone_of_entry id front) want moment outcome (state_after log)
 
 -- all else is as it was, but the note of a walk and the readings
 abbrev pub Expects : ℕ → Want → ℕ → ExpectOutcome → PassSight → PassSight → Type 0
@@ -49,11 +50,11 @@ Expects place want moment (expect.ExpectFull at) v w =
 
 -- UNDER BOTH TURNS
 
--- The pass has the turn of the record of a place that is LIVE of the master, which has the helper. The expectation ends 300 s after
--- the moment.
+-- The pass has the turn of the record of a place that is LIVE of the master, which has the helper and is in the zone. The
+-- expectation ends 300 s after the moment.
 pub record IsOfMaster (e : Expectation) (moment : ℕ) (v : PassSight) : Type 0 where
   pub shown : known_phase v.view.commit.hand ≡ 3 + e.master
-  pub helper : has_helper (known_record v.view.commit.hand) ≡ true
+  pub helper : helps_in e.zone (known_record v.view.commit.hand) ≡ true
   pub deadline : e.deadline ≡ moment + expected_for
 
 -- the table answers this to it, whose id is the point, and nothing changed

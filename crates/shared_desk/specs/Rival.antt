@@ -5,7 +5,7 @@ use Rattle.tuple_core.specs.declared.Direction.{Direction}
 use Rattle.tuple_core.specs.declared.Direction.TheVariants.{Original, Reply}
 use Rattle.tuple_core.specs.declared.Tuple.{Tuple}
 use Rattle.history_book.specs.Desk.{IsClash}
-use Rattle.history_book.specs.Entry.{is_flow_of_one_protocol}
+use Rattle.history_book.specs.Entry.{is_lawful_flow}
 use Rattle.history_book.specs.declared.outcome.ConfirmOutcome.{ConfirmOutcome}
 use Rattle.history_book.specs.declared.outcome.ConfirmOutcome.TheVariants.{Confirmed, Clash}
 use Rattle.history_book.specs.declared.record.Flow.{Flow}
@@ -57,7 +57,7 @@ pub record IsBlocked (place : ℕ) (flow : Flow) (rival : Rival) (v : PassSight)
   pub closed : holds_open v.view.places.held ≡ false
   pub down : is_any_up v.view.buckets.hooks ≡ false
   pub taken : is_taken place v.view.places.held ≡ true
-  pub protocol : is_flow_of_one_protocol flow ≡ true
+  pub protocol : is_lawful_flow flow ≡ true
   pub original_below : bucket_in (sizes_of v) flow.original < (sizes_of v).buckets
   pub reply_below : bucket_in (sizes_of v) flow.reply < (sizes_of v).buckets
   pub original_shut : 0 < shuts_of (bucket_in (sizes_of v) flow.original) v.view

@@ -4,7 +4,7 @@ ghost use Rattle.std.specs.Prelude.{◌≡◌, ◌+◌, ◌<◌, ◌≤◌, ◌^
 ghost use Rattle.entry_pool.specs.Take.{recycle_words, take_words};
 ghost use Rattle.history_book.specs.Desk.{ConfirmSays, CountSays, FindSays, HoldSays, IsReady, KillSays, PeekSays, RecycleSays, ReleaseSays, TakeSays, TouchSays};
 ghost use Rattle.history_book.specs.DeskExpectations.{ClaimSays, ExpectSays, ListsExpected, UnexpectSays};
-ghost use Rattle.history_book.specs.Entry.{is_flow_of_one_protocol, is_helped_entry, is_of_entry, suits_entry};
+ghost use Rattle.history_book.specs.Entry.{is_lawful_flow, is_helped_entry, is_of_entry, suits_entry};
 ghost use Rattle.history_book.specs.Legality.{reason_moment_of};
 ghost use Rattle.history_book.specs.Held.{held_id, is_held, is_held_for_entry, is_owed, is_taken};
 ghost use Rattle.history_book.specs.Sight.{IsKnown};
@@ -148,7 +148,7 @@ impl<'t, G: Gate> Desk for Clerk<'t, G> {
     /// clash was found it passes the gate, before the entry is made.
     fn confirm<R: Wait>(&mut self, rt: &R, place: u32, flow: &Flow) -> ConfirmOutcome
         requires taken { is_taken place (sight_of self.old).held ≡ true }
-        requires protocol { is_flow_of_one_protocol flow.now ≡ true }
+        requires protocol { is_lawful_flow flow.now ≡ true }
         requires spare { 1 ≤ (sight_of self.old).spare }
         ensures says { ConfirmSays place flow.now (sight_of self.old) (sight_of self.new) result }
         ensures own { ChangesWords (confirm_words flow.now place result) self.old.pass.view self.new.pass.view }

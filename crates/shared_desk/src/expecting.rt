@@ -16,7 +16,9 @@ use crate::expect_turn::{give_expects, take_expects};
 use expect_table::expectation::{Expectation, Want};
 use expect_table::table::{AddOutcome, ExpectTable};
 use history_book::event::{Event, Note};
-use history_book::laws::{entries_keep_their_helper, expectations_are_in_order};
+use history_book::laws::{
+    entries_keep_their_helper, entries_keep_their_zone, expectations_are_in_order,
+};
 use history_book::legality::expectation_at;
 use history_book::outcome::ExpectOutcome;
 use std::sync::Wait;
@@ -83,14 +85,15 @@ fn expect_known(
     ensures noted { Notes result.1 pass.old.view.seen.own pass.new.view.seen.own }
 {
     entries_keep_their_helper();
+    entries_keep_their_zone();
     let phase = pass.phase_load(place);
     let at = events_in(pass.history_load());
     if phase < LIVE {
         return (ExpectOutcome::MasterGone { at }, None);
     }
     match record_out(pass, place) {
-        Some(_) => {
-            let e = expectation_at(at, phase - LIVE, want, moment);
+        Some(master) => {
+            let e = expectation_at(at, phase - LIVE, master.original.zone, want, moment);
             add_expectation(pass, table, &e, moment)
         }
         None => (ExpectOutcome::MasterGone { at }, None),

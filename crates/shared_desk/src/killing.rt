@@ -15,7 +15,7 @@ use crate::expect_turn::{give_expects, take_expects};
 use bucket_table::lock::{Locked, unlock_two};
 use bucket_table::locked_chain::unlink;
 use history_book::event::{Event, Note, Why};
-use history_book::laws::records_are_of_one_protocol;
+use history_book::laws::records_are_of_one_flow;
 use history_book::legality::is_reason_for;
 use history_book::outcome::KillOutcome;
 use history_book::record::{Flow, Record};
@@ -53,7 +53,7 @@ fn destroy(pass: &mut Pass, locked: &Locked, place: u32, subject: &Record, why: 
     ensures destroys { DestroysLocked place subject.now why result pass.old pass.new }
     ensures words { ChangesWords (destroy_words place subject.now) pass.old.view pass.new.view }
 {
-    records_are_of_one_protocol();
+    records_are_of_one_flow();
     pass.phase_dead(place);
     let number = pass.destroy_add(Event::Destroy {
         id: subject.id,

@@ -8,8 +8,7 @@ ghost use Rattle.shared_desk.specs.Lookups.{LooksOnce};
 use bucket_table::finding;
 use bucket_table::finding::FindOnce;
 use history_book::laws::{
-    live_records_are_confirmed, records_are_apart, records_are_of_one_protocol,
-    same_tuple_is_equality,
+    live_records_are_confirmed, records_are_apart, records_are_of_one_flow, same_tuple_is_equality,
 };
 use track_rule::history_word::events_in;
 use track_rule::pass::Pass;
@@ -25,7 +24,7 @@ pub fn find_once(pass: &mut Pass, t: &Tuple) -> FindOnce
     words_determine_the_tuple();
     same_tuple_is_equality();
     records_are_apart();
-    records_are_of_one_protocol();
+    records_are_of_one_flow();
     live_records_are_confirmed();
     if is_valid(t) {
         return finding::find_once(pass, t);

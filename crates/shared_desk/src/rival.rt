@@ -10,7 +10,7 @@ ghost use Rattle.track_rule.specs.Sights.{sizes_of};
 
 use bucket_table::lock::Locked;
 use bucket_table::locked_chain::{walk, walk_reply};
-use history_book::laws::{records_are_apart, records_are_of_one_protocol, same_tuple_is_equality};
+use history_book::laws::{records_are_apart, records_are_of_one_flow, same_tuple_is_equality};
 use history_book::outcome::ConfirmOutcome;
 use history_book::record::Flow;
 use track_rule::history_word::events_in;
@@ -79,7 +79,7 @@ pub fn clash(pass: &mut Pass, place: u32, flow: &Flow, rival: &Rival) -> Confirm
     words_determine_the_tuple();
     same_tuple_is_equality();
     records_are_apart();
-    records_are_of_one_protocol();
+    records_are_of_one_flow();
     let _sizes = pass.sizes();
     let at = events_in(pass.history_load());
     let phase = pass.phase_load(rival.place);

@@ -201,20 +201,21 @@ low_both n p i (r ∷ rs) all any =
 -- one tuple has one pair of words
 pub same_pair : (t u : Tuple) → same_tuple t u ≡ true → pair_of t ≡ pair_of u
 same_pair t u e =
-    let one = and_parts (number_of t.proto == number_of u.proto && t.src == u.src && t.dst == u.dst && t.a == u.a) (t.b == u.b) e in
-    let two = and_parts (number_of t.proto == number_of u.proto && t.src == u.src && t.dst == u.dst) (t.a == u.a) one.0 in
-    let three = and_parts (number_of t.proto == number_of u.proto && t.src == u.src) (t.dst == u.dst) two.0 in
-    let four = and_parts (number_of t.proto == number_of u.proto) (t.src == u.src) three.0 in
+    let one = and_parts _ (t.b == u.b) e in
+    let two = and_parts _ (t.a == u.a) one.0 in
+    let three = and_parts _ (t.dst == u.dst) two.0 in
+    let four = and_parts _ (t.src == u.src) three.0 in
+    let five = and_parts (number_of t.proto == number_of u.proto) (t.zone == u.zone) four.0 in
     λ i. record {
       first = words (eqb-true t.src u.src four.1) (eqb-true t.dst u.dst three.1) i;
-      second = flow (eqb-true (number_of t.proto) (number_of u.proto) four.0) (eqb-true t.a u.a two.1) (eqb-true t.b u.b one.1) i;
+      second = flow (eqb-true t.zone u.zone five.1) (eqb-true (number_of t.proto) (number_of u.proto) five.0) (eqb-true t.a u.a two.1) (eqb-true t.b u.b one.1) i;
     }
   where
     words : t.src ≡ u.src → t.dst ≡ u.dst → address_word t ≡ address_word u
     words p q = omega (arith, p, q)
 
-    flow : number_of t.proto ≡ number_of u.proto → t.a ≡ u.a → t.b ≡ u.b → flow_word t ≡ flow_word u
-    flow p q r = omega (arith, p, q, r)
+    flow : t.zone ≡ u.zone → number_of t.proto ≡ number_of u.proto → t.a ≡ u.a → t.b ≡ u.b → flow_word t ≡ flow_word u
+    flow z p q r = omega (arith, z, p, q, r)
 
 -- an entry with a tuple weighs one in the bucket of the tuple
 pub weighs_one : (z : Sizes) (t : Tuple) (e : Entry) → e.pair ≡ pair_of t → side z (bucket_of z (pair_of t)) (has_pair (pair_of t)) e ≡ 1

@@ -13,7 +13,7 @@ use Rattle.tuple_core.specs.Hash.{mix}
 use Rattle.tuple_core.specs.declared.Tuple.{Tuple}
 use Rattle.history_book.specs.History.{after}
 use Rattle.history_book.specs.Laws.{StatesFollow}
-use Rattle.history_book.specs.Legality.{is_of_one_protocol, is_open_place, may_happen}
+use Rattle.history_book.specs.Legality.{is_of_one_flow, is_open_place, may_happen}
 use Rattle.history_book.specs.Record.{has_place}
 use Rattle.history_book.specs.Sizes.{AreWithinLimits}
 use Rattle.history_book.specs.State.{is_free, is_unused, next}
@@ -94,10 +94,10 @@ module _ (l : Ledger) (s : State Slot View) (id : ℕ) (v : View) (r : Record) (
       let n : ℕ = length l.log in
       let st = state_after l.log in
       let b : Record = born n r in
-      and_from (b.id == n && is_of_one_protocol b && is_open_place z b.place st && is_free b.original st) (is_free b.reply st)
-      (and_from (b.id == n && is_of_one_protocol b && is_open_place z b.place st) (is_free b.original st)
-      (and_from (b.id == n && is_of_one_protocol b) (is_open_place z b.place st)
-      (and_from (b.id == n) (is_of_one_protocol b) (eq-eqb n n refl) can.protocol)
+      and_from (b.id == n && is_of_one_flow b && is_open_place z b.place st && is_free b.original st) (is_free b.reply st)
+      (and_from (b.id == n && is_of_one_flow b && is_open_place z b.place st) (is_free b.original st)
+      (and_from (b.id == n && is_of_one_flow b) (is_open_place z b.place st)
+      (and_from (b.id == n) (is_of_one_flow b) (eq-eqb n n refl) can.protocol)
       (and_from (nat_lt b.place z.entries) (is_unused b.place st) (less b.place z.entries place_below) place_unused))
       (tuple_free (1 + 2 * r.place) r.original can.original))
       (tuple_free (2 + 2 * r.place) r.reply can.reply)

@@ -3,7 +3,7 @@ use Rattle.std.proofs.Common.{◌≡◌, ℕ, ◌+◌, ◌%◌, ◌^◌, ◌<◌
 use Rattle.std.specs.Prelude.{slice_index, slice_set, ◌-◌}
 use mathlib.Core.Option.{none}
 use Rattle.atomic_table.specs.Table.{Allows, Me, Step, keeps as unchanged, step}
-use Rattle.history_book.specs.Laws.{LegalHistoriesGoOn, LiveRecordsAreConfirmed, MastersHaveTheHelper, StatesFollow}
+use Rattle.history_book.specs.Laws.{LegalHistoriesGoOn, LiveRecordsAreConfirmed, MastersHelpInTheirZone, StatesFollow}
 use Rattle.history_book.specs.declared.record.Record.{Record}
 use Rattle.history_book.specs.declared.sizes.Sizes.{Sizes}
 use Rattle.expect_table.specs.declared.expectation.Expectation.{Expectation}
@@ -24,7 +24,7 @@ abbrev pub one_less : ℕ
 one_less = 2 ^ 64 - 2 ^ 40 + 1
 
 ending : (slots id : ℕ) (v : View) (c : List (ℕ × Slot)) (d : Destroying) (r : Record) → 0 < v.passes.shares → v.commit.middle ≡ Dying r → MayDestroy d v r
-    → StatesFollow → LegalHistoriesGoOn → LiveRecordsAreConfirmed → MastersHaveTheHelper
+    → StatesFollow → LegalHistoriesGoOn → LiveRecordsAreConfirmed → MastersHelpInTheirZone
     → Allows (RuleHolds v.passes.sizes) slots id (v, c) 0 (λ n. (n + one_less) % 2 ^ 64) (DestroyStep (Some d) (step slots 0 one_less 0 none) (v, c))
 ending slots id v c d r has_some dying may follow go_on low helped s (l, h) long at range =
     let z : Sizes = v.passes.sizes in
@@ -57,7 +57,7 @@ ending slots id v c d r has_some dying may follow go_on low helped s (l, h) long
 
 -- the same, as the event that is added says what it destroys
 pub adding_destroy : (slots id : ℕ) (v : View) (c : List (ℕ × Slot)) (o : Option Destroying) → 0 < v.passes.shares → CanDestroy o v → StatesFollow → LegalHistoriesGoOn
-    → LiveRecordsAreConfirmed → MastersHaveTheHelper
+    → LiveRecordsAreConfirmed → MastersHelpInTheirZone
     → Allows (RuleHolds v.passes.sizes) slots id (v, c) 0 (λ n. (n + one_less) % 2 ^ 64) (DestroyStep o (step slots 0 one_less 0 none) (v, c))
 adding_destroy slots id v c None has_some can follow go_on low helped = absurd can
 adding_destroy slots id v c (Some d) has_some can follow go_on low helped = by_middle v.commit.middle refl can

@@ -10,7 +10,7 @@ use Rattle.tuple_core.specs.declared.Tuple.{Tuple}
 use Rattle.expect_table.specs.Expectations.{without_master}
 use Rattle.expect_table.specs.declared.expectation.Expectation.{Expectation}
 use Rattle.history_book.specs.History.{is_legal}
-use Rattle.history_book.specs.Laws.{LegalHistoriesGoOn, LiveRecordsAreConfirmed, MastersHaveTheHelper, StatesFollow}
+use Rattle.history_book.specs.Laws.{LegalHistoriesGoOn, LiveRecordsAreConfirmed, MastersHelpInTheirZone, StatesFollow}
 use Rattle.history_book.specs.Legality.{may_destroy}
 use Rattle.history_book.specs.Record.{has_id}
 use Rattle.history_book.specs.State.{record_of}
@@ -99,7 +99,7 @@ ended_ledger l d r v = record l { log = with_destroy l.log d; chains = named_cha
 
 module _ (l : Ledger) (s : State Slot View) (id : ℕ) (v : View) (d : Destroying) (r : Record) (h : IsKept v.passes.sizes l s) (at : get_elem? s.views id ≡ some v)
     (has_some : 0 < v.passes.shares) (dying : v.commit.middle ≡ Dying r) (may : MayDestroy d v r) (follow : StatesFollow) (go_on : LegalHistoriesGoOn)
-    (low : LiveRecordsAreConfirmed) (helped : MastersHaveTheHelper) where
+    (low : LiveRecordsAreConfirmed) (helped : MastersHelpInTheirZone) where
   abbrev event : Event
   event = Destroy d.id d.why
 

@@ -11,7 +11,7 @@ use Rattle.expect_table.specs.Match as expected
 use Rattle.expect_table.specs.declared.expectation.Expectation.{Expectation}
 use Rattle.history_book.specs.History.{is_legal}
 use Rattle.history_book.specs.Laws.{LegalHistoriesGoOn, StatesFollow}
-use Rattle.history_book.specs.Legality.{expected_for, has_helper, is_added, may_claim, may_happen, may_unexpect}
+use Rattle.history_book.specs.Legality.{expected_for, helps_in, is_added, may_claim, may_happen, may_unexpect}
 use Rattle.history_book.specs.Record.{has_id}
 use Rattle.history_book.specs.State.{State, next, record_of}
 use Rattle.history_book.specs.declared.event.Event.{Event}
@@ -256,7 +256,7 @@ expect_lawful : (x : _) (v : View) → MayExpect x v → (n : ℕ) (s : State) �
 expect_lawful x v can n s expects lives =
     and_from _ _
     (and_from _ _ (and_from _ _ (eq-eqb n n refl) (eq-eqb x.deadline (x.moment + expected_for) can.deadline))
-    (ap has_helper (lives x.master can.shown) ∙ can.helper))
+    (ap (helps_in x.zone) (lives x.master can.shown) ∙ can.helper))
     (ap (λ (list : List Expectation). is_added (add_outcome v.passes.sizes.expectations list (expectation_as n x) x.moment) x.replaced) expects ∙ can.added n)
 
 pub can_expect : (e : Event) (v : View) → CanExpect (expect_in e) v → CanChange e v

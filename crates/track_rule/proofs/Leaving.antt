@@ -8,7 +8,7 @@ use lib.ListN.{get_elem?}
 use Rattle.expect_table.specs.Expectations.{without_master}
 use Rattle.expect_table.specs.Match.{is_of}
 use Rattle.expect_table.specs.declared.expectation.Expectation.{Expectation}
-use Rattle.history_book.specs.Legality.{has_helper}
+use Rattle.history_book.specs.Legality.{helps_in}
 use Rattle.history_book.specs.Record.{has_id}
 use Rattle.history_book.specs.State.{State, record_of}
 use Rattle.history_book.specs.declared.record.Record.{Record}
@@ -63,10 +63,11 @@ find_others i j (r ∷ rs) other =
 
 -- of an entry without the helper nothing is expected
 pub none_expected : (s : State) (i : ℕ) (r : Record) (es : List Expectation) → record_of i s ≡ Some r → r.helper ≡ false
-    → All (λ e. has_helper (record_of e.master s) ≡ true) es → without_master i es ≡ es
+    → All (λ e. helps_in e.zone (record_of e.master s) ≡ true) es → without_master i es ≡ es
 none_expected s i r [] its none all = refl
 none_expected s i r (e ∷ es) its none all =
     let off : is_of i e ≡ false = ne_eqb e.master i (λ k.
-    false≢true (sym none ∙ sym (ap has_helper (ap (λ (n : ℕ). record_of n s) k ∙ its)) ∙ all 0 e (omega arith))) in
+    false≢true (sym (ap (λ (b : Bool). b && r.original.zone == e.zone) none)
+    ∙ sym (ap (helps_in e.zone) (ap (λ (n : ℕ). record_of n s) k ∙ its)) ∙ all 0 e (omega arith))) in
     ap (λ (b : Bool). if not b then e ∷ without_master i es else without_master i es) off
     ∙ ap (λ xs. e ∷ xs) (none_expected s i r es its none (λ k d short. all (suc k) d (omega (arith, short))))

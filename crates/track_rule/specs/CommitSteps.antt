@@ -3,7 +3,7 @@ use Rattle.std.specs.Prelude.{◌≡◌, ℕ, ◌+◌, ◌*◌, ◌<◌, ◌≤�
 use Rattle.atomic_table.specs.Table.{Me, Step}
 use Rattle.tuple_core.specs.declared.Tuple.{Tuple}
 use Rattle.history_book.specs.History.{is_legal}
-use Rattle.history_book.specs.Legality.{is_of_one_protocol}
+use Rattle.history_book.specs.Legality.{is_of_one_flow}
 use Rattle.history_book.specs.declared.event.Event.{Event}
 use Rattle.history_book.specs.declared.event.Event.TheVariants.{Confirm, Touch, Destroy, Expect, Claim, Unexpect}
 use Rattle.history_book.specs.declared.record.Record.{Record}
@@ -51,7 +51,7 @@ pub record CanConfirm (r : Record) (v : View) : Type 0 where
   pub calm : v.commit.middle ≡ Calm
   pub reference : 0 < times r.place v.places.carried
   pub few : length v.seen.own < 2 ^ 30
-  pub protocol : is_of_one_protocol r ≡ true
+  pub protocol : is_of_one_flow r ≡ true
   pub original : HasLink (1 + 2 * r.place) r.original v
   pub reply : HasLink (2 + 2 * r.place) r.reply v
 

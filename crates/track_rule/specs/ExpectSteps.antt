@@ -8,7 +8,7 @@ use Rattle.expect_table.specs.Match.{has_id}
 use Rattle.expect_table.specs.declared.expectation.Expectation.{Expectation}
 use Rattle.expect_table.specs.declared.expectation.Want.{Want}
 use Rattle.history_book.specs.History.{is_legal}
-use Rattle.history_book.specs.Legality.{expected_for, has_helper, is_added, may_claim, may_happen, may_unexpect}
+use Rattle.history_book.specs.Legality.{expected_for, helps_in, is_added, may_claim, may_happen, may_unexpect}
 use Rattle.history_book.specs.State.{State, next, record_of}
 use Rattle.history_book.specs.declared.event.Event.{Event}
 use Rattle.history_book.specs.declared.event.Event.TheVariants.{Confirm, Touch, Destroy, Expect, Claim, Unexpect}
@@ -41,6 +41,7 @@ made_expected log e v = noted (stored 0 (packed (log ++ e ∷ []))) (record v {
 pub record Expecting : Type 0 where
   pub master : ℕ
   pub want : Want
+  pub zone : ℕ
   pub deadline : ℕ
   pub replaced : Option ℕ
   pub moment : ℕ
@@ -50,13 +51,13 @@ expect_in (Confirm r) = None
 expect_in (Touch id direction segment moment after) = None
 expect_in (Destroy id why) = None
 expect_in (Expect e replaced moment) =
-    Some (record { master = e.master; want = e.want; deadline = e.deadline; replaced = replaced; moment = moment })
+    Some (record { master = e.master; want = e.want; zone = e.zone; deadline = e.deadline; replaced = replaced; moment = moment })
 expect_in (Claim expectation master tuple moment) = None
 expect_in (Unexpect expectation moment) = None
 
 -- the expectation with a number, and its event
 abbrev pub expectation_as : ℕ → Expecting → Expectation
-expectation_as n x = record { id = n; master = x.master; want = x.want; deadline = x.deadline }
+expectation_as n x = record { id = n; master = x.master; want = x.want; zone = x.zone; deadline = x.deadline }
 
 abbrev pub expect_as : ℕ → Expecting → Event
 expect_as n x = Expect (expectation_as n x) x.replaced x.moment
@@ -65,13 +66,13 @@ expect_as n x = Expect (expectation_as n x) x.replaced x.moment
 abbrev pub with_expect : List Event → Expecting → List Event
 with_expect log x = log ++ expect_as (length log) x ∷ []
 
--- The pass has the turn of the expectations, and that of the record of a place that is LIVE of the master, which has the helper.
--- The expectation ends 300 s after the moment, and can be added in place of the older one, whatever its number is. The pass has
+-- The pass has the turn of the expectations, and that of the record of a place that is LIVE of the master, which has the helper
+-- and is in the zone. The expectation ends 300 s after the moment, and can be added in place of the older one, whatever its number is. The pass has
 -- room for an event.
 pub record MayExpect (x : Expecting) (v : View) : Type 0 where
   pub turn : is_some v.expected ≡ true
   pub shown : known_phase v.commit.hand ≡ 3 + x.master
-  pub helper : has_helper (known_record v.commit.hand) ≡ true
+  pub helper : helps_in x.zone (known_record v.commit.hand) ≡ true
   pub deadline : x.deadline ≡ x.moment + expected_for
   pub added : (n : ℕ) → is_added (add_outcome v.passes.sizes.expectations (known_expected v) (expectation_as n x) x.moment) x.replaced ≡ true
   pub few : length v.seen.own < 2 ^ 30

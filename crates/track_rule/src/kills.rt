@@ -18,7 +18,7 @@ use crate::view::View;
 use atomic_table::Play;
 use history_book::event::Event;
 use history_book::laws::{
-    legal_histories_go_on, live_records_are_confirmed, masters_have_the_helper, states_follow,
+    legal_histories_go_on, live_records_are_confirmed, masters_help_in_their_zone, states_follow,
 };
 use std::marker::{Brand, PhantomData};
 
@@ -72,7 +72,7 @@ impl<'b> Pass<'b> {
         let _event = event;
         legal_histories_go_on();
         live_records_are_confirmed();
-        masters_have_the_helper();
+        masters_help_in_their_zone();
         states_follow();
         let word = self
             .shared

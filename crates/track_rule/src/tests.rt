@@ -95,6 +95,7 @@ fn references_are_counted(rt: HostRuntime) -> Result<(), Fail> {
 /// From 10.0.0.1:1000 to 10.0.0.2:53 by UDP.
 const QUERY: Tuple = Tuple {
     proto: Proto::Udp,
+    zone: 0,
     src: 0x0A00_0001,
     dst: 0x0A00_0002,
     a: 1000,
@@ -104,6 +105,7 @@ const QUERY: Tuple = Tuple {
 /// The other way.
 const ANSWER: Tuple = Tuple {
     proto: Proto::Udp,
+    zone: 0,
     src: 0x0A00_0002,
     dst: 0x0A00_0001,
     a: 53,

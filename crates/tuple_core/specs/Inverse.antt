@@ -20,6 +20,7 @@ inverse_b Udp a b = a
 abbrev pub inverse : Tuple → Tuple
 inverse t = record {
   proto = t.proto;
+  zone = t.zone;
   src = t.dst;
   dst = t.src;
   a = inverse_a t.proto t.a t.b;

@@ -35,12 +35,17 @@ has_flow Udp b = true
 
 -- each number is in its field's range
 abbrev pub is_in_range : Tuple → Bool
-is_in_range t = nat_lt t.src (2 ^ 32) && nat_lt t.dst (2 ^ 32) && nat_lt t.a (2 ^ 16) && nat_lt t.b (2 ^ 16)
+is_in_range t =
+    nat_lt t.zone (2 ^ 16) && nat_lt t.src (2 ^ 32) && nat_lt t.dst (2 ^ 32) && nat_lt t.a (2 ^ 16) && nat_lt t.b (2 ^ 16)
 
 -- the tuple is of TCP, of UDP, or of an ICMP type that makes a flow
 abbrev pub is_valid : Tuple → Bool
 is_valid t = is_in_range t && has_flow t.proto t.b
 
--- the tuple of an ICMP flow
+-- the tuple of an ICMP flow, in zone 0
 abbrev pub icmp_tuple : (src dst kind code id : ℕ) → Tuple
-icmp_tuple src dst kind code id = record { proto = Icmp; src = src; dst = dst; a = id; b = kind * 256 + code }
+icmp_tuple src dst kind code id = record { proto = Icmp; zone = 0; src = src; dst = dst; a = id; b = kind * 256 + code }
+
+-- the same in another zone
+abbrev pub in_zone : ℕ → Tuple → Tuple
+in_zone zone t = record t { zone = zone }

@@ -6,7 +6,7 @@
 ghost use Rattle.std.specs.Prelude.{◌≡◌, IfErr, IfOk, is_ok, true};
 ghost use Rattle.tuple_core.specs.Inverse.{inverse};
 ghost use Rattle.tuple_core.specs.Laws.{InverseIsAnInvolution, InverseIsValid};
-ghost use Rattle.tuple_core.specs.Tuple.{icmp_tuple, is_query_type, is_valid, partner_of};
+ghost use Rattle.tuple_core.specs.Tuple.{icmp_tuple, in_zone, is_query_type, is_valid, partner_of};
 
 use std::alloc::AllocError;
 
@@ -73,6 +73,8 @@ pub enum Segment {
 #[derive(Clone, Copy, PartialEq, Eq)]
 pub struct Tuple {
     pub proto: Proto,
+    /// The zone of connection tracking: flows of different zones never meet.
+    pub zone: u16,
     /// The source address.
     pub src: u32,
     /// The destination address.
@@ -88,8 +90,8 @@ pub struct Tuple {
 pub struct BadIcmpType(pub u8);
 
 impl Tuple {
-    /// The tuple of an ICMP packet, by its type, its code and its identifier. A type that neither asks nor
-    /// answers is refused.
+    /// The tuple of an ICMP packet in zone 0, by its type, its code and its identifier. A type that neither
+    /// asks nor answers is refused.
     pub fn icmp(src: u32, dst: u32, kind: u8, code: u8, id: u16) -> Result<Tuple, BadIcmpType>
         ensures makes_a_flow { is_ok result ≡ is_query_type kind }
         ensures exact { IfOk result (λ t. t ≡ icmp_tuple src dst kind code id) }
@@ -101,11 +103,20 @@ impl Tuple {
         }
         Ok(Tuple {
             proto: Proto::Icmp,
+            zone: 0,
             src,
             dst,
             a: id,
             b: kind as u16 * 256 + code as u16,
         })
+    }
+
+    /// The same tuple in another zone.
+    pub fn in_zone(self, zone: u16) -> Tuple
+        ensures exact { result ≡ in_zone zone self }
+        ensures valid { is_valid result ≡ is_valid self }
+    {
+        Tuple { zone, ..self }
     }
 }
 
@@ -141,6 +152,7 @@ pub fn is_valid(t: &Tuple) -> bool
 {
     let Tuple {
         proto,
+        zone: _zone,
         src: _src,
         dst: _dst,
         a: _a,
@@ -153,7 +165,7 @@ pub fn is_valid(t: &Tuple) -> bool
 }
 
 /// The tuple of the packets that go the other way. Addresses and ports change places; of ICMP the
-/// type becomes its partner, and the identifier and the code stay.
+/// type becomes its partner, and the identifier and the code stay. The zone stays.
 pub fn invert(t: &Tuple) -> Tuple
     requires { is_valid t.now ≡ true }
     ensures exact { result ≡ inverse t.now }
@@ -165,6 +177,7 @@ pub fn invert(t: &Tuple) -> Tuple
     };
     Tuple {
         proto: t.proto,
+        zone: t.zone,
         src: t.dst,
         dst: t.src,
         a,

@@ -6,6 +6,7 @@ use crate::{Proto, Tuple, bucket_of, invert, is_valid, of_words, words};
 fn there(proto: Proto, a: u16, b: u16) -> Tuple {
     Tuple {
         proto,
+        zone: 0,
         src: 0x0a00_0001,
         dst: 0x0a00_0002,
         a,
@@ -17,6 +18,7 @@ fn there(proto: Proto, a: u16, b: u16) -> Tuple {
 fn back(proto: Proto, a: u16, b: u16) -> Tuple {
     Tuple {
         proto,
+        zone: 0,
         src: 0x0a00_0002,
         dst: 0x0a00_0001,
         a,
@@ -42,6 +44,7 @@ fn inverses(rt: HostRuntime) {
         assert!(rt; is_valid(&other), "at {d}");
         assert!(rt; invert(&one) == other, "at {b}");
         assert!(rt; invert(&other) == one, "at {d}");
+        assert!(rt; invert(&one.in_zone(7)) == other.in_zone(7), "at {b}");
     }
 }
 
@@ -88,6 +91,14 @@ fn words_there_and_back(rt: HostRuntime) {
         (there(Proto::Udp, 5000, 53), 0x0000_0011_1388_0035),
         (there(Proto::Tcp, 65535, 1), 0x0000_0006_ffff_0001),
         (there(Proto::Icmp, 77, 0x0d05), 0x0000_0001_004d_0d05),
+        (
+            there(Proto::Udp, 5000, 53).in_zone(1),
+            0x0000_0111_1388_0035,
+        ),
+        (
+            there(Proto::Tcp, 65535, 1).in_zone(65535),
+            0x00ff_ff06_ffff_0001,
+        ),
     ] {
         let [first, second] = words(&t);
         assert_eq!(rt; first, 0x0a00_0001_0a00_0002);
@@ -103,10 +114,11 @@ fn words_of_no_tuple(rt: HostRuntime) {
         0x0000_0000_1388_0035,
         0x0000_0002_1388_0035,
         0x0000_00ff_1388_0035,
-        // The number of UDP, with a bit above it.
-        0x0000_0111_1388_0035,
-        0x0001_0011_1388_0035,
+        // The number of UDP, with a bit above those of a zone.
+        0x0100_0011_1388_0035,
         0x8000_0011_1388_0035,
+        // Protocol 0 in zone 17.
+        0x0000_1100_1388_0035,
         // ICMP types 3 and 19.
         0x0000_0001_004d_0300,
         0x0000_0001_004d_1300,
@@ -126,5 +138,21 @@ fn buckets_of_two_tuples(rt: HostRuntime) {
         assert!(rt; buckets.is_power_of_two());
         assert_eq!(rt; bucket_of(&query, 0x0123_4567_89ab_cdef, buckets), of_query);
         assert_eq!(rt; bucket_of(&echo, 0, buckets), of_echo);
+    }
+}
+
+#[test]
+fn buckets_of_one_tuple_in_zones(rt: HostRuntime) {
+    let query = there(Proto::Udp, 5000, 53);
+    for (zone, buckets, bucket) in [
+        (0u16, 65536u32, 23041),
+        (1, 65536, 26369),
+        (65535, 65536, 19713),
+    ] {
+        assert!(rt; buckets.is_power_of_two());
+        assert_eq!(rt;
+            bucket_of(&query.in_zone(zone), 0x0123_4567_89ab_cdef, buckets),
+            bucket
+        );
     }
 }

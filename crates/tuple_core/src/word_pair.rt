@@ -33,12 +33,13 @@ fn proto_of(number: u64) -> Option<Proto>
     }
 }
 
-/// A tuple as two words: its addresses, and its protocol's number with what tells flows apart.
+/// A tuple as two words: its addresses, and its zone and its protocol's number with what tells flows apart.
 pub fn words(t: &Tuple) -> [u64; 2]
     ensures { result ≡ words_of t.now }
 {
     let Tuple {
         proto,
+        zone,
         src,
         dst,
         a,
@@ -46,7 +47,10 @@ pub fn words(t: &Tuple) -> [u64; 2]
     } = *t;
     [
         src as u64 * 0x1_0000_0000 + dst as u64,
-        number_of(proto) * 0x1_0000_0000 + a as u64 * 0x1_0000 + b as u64,
+        zone as u64 * 0x100_0000_0000
+            + number_of(proto) * 0x1_0000_0000
+            + a as u64 * 0x1_0000
+            + b as u64,
     ]
 }
 
@@ -58,9 +62,14 @@ pub fn of_words(w: [u64; 2]) -> Option<Tuple>
     ensures back { (t : Tuple) → is_valid t ≡ true → words_of t ≡ w → result ≡ Some t }
 {
     let [addresses, flow] = w;
-    let proto = proto_of(flow / 0x1_0000_0000)?;
+    let zone = flow / 0x100_0000_0000;
+    if zone >= 0x1_0000 {
+        return None;
+    }
+    let proto = proto_of(flow / 0x1_0000_0000 % 0x100)?;
     let t = Tuple {
         proto,
+        zone: zone as u16,
         src: (addresses / 0x1_0000_0000) as u32,
         dst: (addresses % 0x1_0000_0000) as u32,
         a: (flow / 0x1_0000 % 0x1_0000) as u16,

@@ -2,7 +2,7 @@
 use Rattle.std.proofs.Common.{◌≡◌, ℕ, ◌+◌, ◌-◌, ◌*◌, ◌≤◌, true, false, not, List, [], ◌∷◌, ◌++◌, length, refl, sym, ap, subst, ◌∙◌, ⊎_elim, arith, Option, Some, None, append-nil, length-append}
 use Rattle.std.specs.List.{slice_get}
 use Rattle.std.specs.Prelude.{◌||◌, ◌==◌}
-use Rattle.std.proofs.lemmas.Bool.{or_cases, or_from, or_left, or_parts, or_right}
+use Rattle.std.proofs.lemmas.Bool.{false≢true, or_cases, or_from, or_left, or_parts, or_right}
 use Rattle.expect_table.specs.declared.expectation.Want.{Want}
 use Rattle.tuple_core.specs.declared.Direction.{Direction}
 use Rattle.tuple_core.specs.declared.Segment.{Segment}
@@ -41,6 +41,8 @@ use Rattle.expect_table.specs.declared.expectation.Expectation.{Expectation}
 use Rattle.proto_rules.specs.declared.Outcome.TheVariants as outcome
 use Rattle.expect_table.specs.declared.table.AddOutcome.{AddOutcome}
 use Rattle.expect_table.specs.declared.table.AddOutcome.TheVariants as add
+use Rattle.history_book.specs.Entry.{confirmed_by, is_helped_entry, zone_of, zone_of_entry}
+use Rattle.history_book.specs.Legality.{has_helper}
 use Rattle.history_book.specs.Held.{held_id, is_at, is_held, is_owed}
 use Rattle.history_book.specs.History.{after}
 use Rattle.history_book.specs.Point.{StartsWith}
@@ -57,9 +59,18 @@ use Rattle.book_desk.specs.Internal.Seated.{pass_sight}
 use Rattle.book_desk.specs.Turn.Change.{confirmed_change, found_change, held_after, held_change, owed_after, released_change, taken_change}
 use Rattle.book_desk.specs.Turn.Steps.{HasTurn, ended, turned}
 use Rattle.book_desk.specs.Turn.Sums.{total}
-use Rattle.book_desk.proofs.Histories.{get_last}
+use Rattle.book_desk.proofs.Histories.{get_append, get_last}
 use Rattle.book_desk.proofs.Passes.Among.{Among, any_among, held_id_among, none_among}
 use Rattle.book_desk.proofs.Passes.Ended.{starts_on}
+
+-- an entry with the helper, which was confirmed then, is in its zone as the history goes on
+zone_on : (log front : List Event) (id : ℕ) → StartsWith log front → is_helped_entry id front ≡ true → zone_of_entry id front ≡ zone_of_entry id log
+zone_on log front id (rest, same) helped = by_event (slice_get front id) refl helped
+  where
+    by_event : (o : Option Event) → slice_get front id ≡ o → has_helper (confirmed_by o) ≡ true → zone_of_entry id front ≡ zone_of_entry id log
+    by_event None at none = absurd (false≢true none)
+    by_event (Some e) at has =
+        ap (λ (x : Option Event). zone_of (confirmed_by x)) (at ∙ sym (ap (λ l. slice_get l id) same ∙ get_append front rest id e at))
 
 -- the pass before and after, and one pass that kept everything before and after
 module _ (tracker : List ℕ) (v : View) (log : List Event) (b b' : Book) (made : Option Event) (notes : List Note) (less : ℕ) (has : HasTurn v log b) (taken : ℕ) where
@@ -369,27 +380,40 @@ module _ (tracker : List ℕ) (v : View) (log : List Event) (b b' : Book) (made 
   kill_places place why (kill.Gone at) (looked, same) = same
   kill_places place why (kill.Not subject at) (looked, reason, same) = same
 
+  -- the zone of the entry for which the place is held is that which the pass knows
+  its_zone : (place : ℕ) → is_held place v.held ≡ true → is_helped_entry (held_id place v.held) v.front ≡ true
+      → zone_of_entry (held_id place b.holds.items) log ≡ zone_of_entry (held_id place v.held) v.front
+  its_zone place there helped =
+      ap (λ (n : ℕ). zone_of_entry n log) (its_entry place there) ∙ sym (zone_on log v.front (held_id place v.held) has.all.front helped)
+
   -- with the room for expectations that the pass knows
   added : (place at : ℕ) (want : Want) (moment : ℕ) (o : AddOutcome) → is_held place v.held ≡ true
-      → Looked S' T' at (AddGives b'.sizes.expectations at (held_id place b.holds.items) want moment o)
-      → Looked A' (B' Same) at (AddGives v.sizes.expectations at (held_id place v.held) want moment o)
-  added place at want moment o there l =
-      subst (λ (room : ℕ). Looked A' (B' Same) at (AddGives room at (held_id place v.held) want moment o))
+      → is_helped_entry (held_id place v.held) v.front ≡ true
+      → Looked S' T' at (AddGives b'.sizes.expectations at (held_id place b.holds.items) (zone_of_entry (held_id place b.holds.items) log) want moment o)
+      → Looked A' (B' Same) at (AddGives v.sizes.expectations at (held_id place v.held) (zone_of_entry (held_id place v.held) v.front) want moment o)
+  added place at want moment o there helped l =
+      subst (λ (room : ℕ). Looked A' (B' Same) at (AddGives room at (held_id place v.held) (zone_of_entry (held_id place v.held) v.front) want moment o))
       (ap (λ (z : Sizes). z.expectations) (same_sizes ∙ has.sizes))
-      (looked_of place at (λ n. AddGives b'.sizes.expectations at n want moment o) there l)
+      (looked_of place at (λ n. AddGives b'.sizes.expectations at n (zone_of_entry (held_id place v.held) v.front) want moment o) there
+      (subst (λ (z : ℕ). Looked S' T' at (AddGives b'.sizes.expectations at (held_id place b.holds.items) z want moment o))
+      (its_zone place there helped) l))
 
   pub expect_says : (place : ℕ) (want : Want) (moment : ℕ) (o : ExpectOutcome) → is_held place v.held ≡ true
+      → is_helped_entry (held_id place v.held) v.front ≡ true
       → ExpectSays place want moment S' T' o → ExpectSays place want moment A' (B' Same) o
-  expect_says place want moment (expect.Expected id replaced) there (event, same) = (
-    subst (λ (n : ℕ). MadeEvent A' (B' Same) id (Expect (expectation_at id n want moment) replaced moment)) (its_entry place there) (made_of Same id _ event),
+  expect_says place want moment (expect.Expected id replaced) there helped (event, same) = (
+    subst (λ (n : ℕ). MadeEvent A' (B' Same) id
+        (Expect (expectation_at id n (zone_of_entry (held_id place v.held) v.front) want moment) replaced moment)) (its_entry place there)
+        (subst (λ (z : ℕ). MadeEvent A' (B' Same) id (Expect (expectation_at id (held_id place b.holds.items) z want moment) replaced moment))
+        (its_zone place there helped) (made_of Same id _ event)),
     record { held = refl; owed = refl },
   )
-  expect_says place want moment (expect.MasterGone at) there (looked, same) =
+  expect_says place want moment (expect.MasterGone at) there helped (looked, same) =
       (looked_of place at (λ n s. record_of n s ≡ None) there looked, record { held = refl; owed = refl })
-  expect_says place want moment (expect.Clash id at) there (looked, same) =
-      (added place at want moment (add.Clash id) there looked, record { held = refl; owed = refl })
-  expect_says place want moment (expect.ExpectFull at) there (looked, same) =
-      (added place at want moment add.Full there looked, record { held = refl; owed = refl })
+  expect_says place want moment (expect.Clash id at) there helped (looked, same) =
+      (added place at want moment (add.Clash id) there helped looked, record { held = refl; owed = refl })
+  expect_says place want moment (expect.ExpectFull at) there helped (looked, same) =
+      (added place at want moment add.Full there helped looked, record { held = refl; owed = refl })
 
   pub expect_places : (place : ℕ) (want : Want) (moment : ℕ) (o : ExpectOutcome) → ExpectSays place want moment S' T' o → SamePlaces S' T'
   expect_places place want moment (expect.Expected id replaced) (event, same) = same

@@ -23,7 +23,8 @@ use Rattle.history_book.specs.declared.outcome.UnexpectOutcome.{UnexpectOutcome}
 use Rattle.history_book.specs.declared.record.Flow.{Flow}
 use Rattle.history_book.specs.Desk.{ConfirmSays, FindSays, HoldSays, KillSays, PeekSays, RecycleSays, ReleaseSays, TakeSays, TouchSays}
 use Rattle.history_book.specs.DeskExpectations.{ClaimSays, ExpectSays, ListsExpected, UnexpectSays}
-use Rattle.history_book.specs.Held.{is_at, is_held, is_owed, is_taken}
+use Rattle.history_book.specs.Entry.{is_helped_entry}
+use Rattle.history_book.specs.Held.{held_id, is_at, is_held, is_owed, is_taken}
 use Rattle.history_book.specs.Sight.{Sight}
 use Rattle.book_desk.specs.declared.book.Book.{Book}
 use Rattle.book_desk.specs.declared.turn.change.PlaceChange.{PlaceChange}
@@ -226,10 +227,11 @@ expect_turn p me b b' made less place want moment o seated took stays sizes says
 pub expect_told : (p : Pass) (me : Me (Option Book) View) (b b' : Book) (q : PlaceChange) (made : Option Event) (less : ℕ) (place : ℕ) (want : Want) (moment : ℕ) (o : ExpectOutcome) (new : Pass)
     → (t : IsTurn p me b b' Same made less) → IsAfter p me b Same q made less new → new.taken ≡ p.taken
     → Tells b b' made (λ (old new : Sight). ExpectSays place want moment old new o) → is_held place p.seat.me.0.held ≡ true
+    → is_helped_entry (held_id place p.seat.me.0.held) p.seat.me.0.front ≡ true
     → ExpectSays place want moment (sight_at p) (sight_at new) o
-expect_told p me b b' q made less place want moment o new t a same says there =
+expect_told p me b b' q made less place want moment o new t a same says there helped =
     told p me b b' Same q made less new t a p.taken same (λ (old later : Sight). ExpectSays place want moment old later o)
-    (expect_says (numbers_of p.seat.table_id) p.seat.me.0 t.log b b' made p.notes.items less t.has p.taken t.sizes place want moment o there (says t.log less p.taken t.has.book))
+    (expect_says (numbers_of p.seat.table_id) p.seat.me.0 t.log b b' made p.notes.items less t.has p.taken t.sizes place want moment o there helped (says t.log less p.taken t.has.book))
 
 pub claim_turn : (p : Pass) (me : Me (Option Book) View) (b b' : Book) (made : Option Event) (less : ℕ) (t' : Tuple) (moment : ℕ) (o : ClaimOutcome) → IsSeated p → (took : TookBook p.seat.me.0 me b) → StaysBook b b' made → b'.sizes ≡ b.sizes
     → Tells b b' made (λ (old new : Sight). ClaimSays t' moment old new o) → p.spare ≡ spare_before less made → IsTurn p me b b' Same made less

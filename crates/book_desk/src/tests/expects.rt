@@ -43,6 +43,7 @@ fn sizes_for(expectations: u32) -> Sizes
 const CONTROL: Flow = Flow {
     original: Tuple {
         proto: Proto::Tcp,
+        zone: 0,
         src: 0x0a00_0001,
         dst: 0x0a00_0002,
         a: 5000,
@@ -50,6 +51,7 @@ const CONTROL: Flow = Flow {
     },
     reply: Tuple {
         proto: Proto::Tcp,
+        zone: 0,
         src: 0x0a00_0002,
         dst: 0x0a00_0001,
         a: 21,
@@ -69,6 +71,7 @@ const CONTROL: Flow = Flow {
 const OTHER_CONTROL: Flow = Flow {
     original: Tuple {
         proto: Proto::Tcp,
+        zone: 0,
         src: 0x0a00_0001,
         dst: 0x0a00_0002,
         a: 5001,
@@ -76,6 +79,7 @@ const OTHER_CONTROL: Flow = Flow {
     },
     reply: Tuple {
         proto: Proto::Tcp,
+        zone: 0,
         src: 0x0a00_0002,
         dst: 0x0a00_0001,
         a: 21,
@@ -94,6 +98,7 @@ const OTHER_CONTROL: Flow = Flow {
 /// The server connects to port 6000 of the client.
 const DATA: Tuple = Tuple {
     proto: Proto::Tcp,
+    zone: 0,
     src: 0x0a00_0002,
     dst: 0x0a00_0001,
     a: 20,

@@ -1,6 +1,6 @@
 //! Command lines of made workloads.
 
-use super::{fault, split};
+use super::{are_zeros, fault, split};
 use crate::{Asked, Origin, WordsError, WordsLimit, Workload, read_words};
 use std::alloc::{AllocError, Global};
 use std::test::Fail;
@@ -17,7 +17,9 @@ fn is_made(asked: &Asked<'_>, wanted: (u32, u32, u32), entries: u32, summary: bo
         ) => (seed, packets, threads) == wanted,
         Origin::Named(_) => false,
     };
-    made && asked.entries == entries && asked.summary == summary
+    made && are_zeros(asked.zones.as_slice(), wanted.2 as usize)
+        && asked.entries == entries
+        && asked.summary == summary
 }
 
 /// Whether the line asks for this.
@@ -96,6 +98,9 @@ fn no_workloads(rt: HostRuntime) -> Result<(), Fail> {
         "ctreplay --make 0 --packets 8 --threads 2 -- c",
         "ctreplay --make 0 --packets 8 --threads 2 --rules f",
         "ctreplay --make 0 --packets 8 --threads 2 --script s",
+        "ctreplay --make 0 --packets 8 --threads 2 --zones 1,2",
+        "ctreplay --zones 0,0 --make 0 --packets 8 --threads 2",
+        "ctreplay --make 0 --packets 8 --threads 2 --zones=",
         "ctreplay --make 0 --packets 8 --threads 2 ",
         "ctreplay --make= --packets 8 --threads 2",
         "ctreplay --make x --packets 8 --threads 2",

@@ -1,7 +1,7 @@
 //! The tracker that the two passes share, and what the other pass does to it.
 
 ghost use Rattle.std.specs.Prelude.{◌≡◌, ◌+◌, ◌≤◌, [], length, true, IfOk};
-ghost use Rattle.history_book.specs.Entry.{is_flow_of_one_protocol};
+ghost use Rattle.history_book.specs.Entry.{is_lawful_flow};
 ghost use Rattle.history_book.specs.Held.{is_held_for_entry};
 ghost use Rattle.history_book.specs.Sight.{IsKnown};
 ghost use Rattle.history_book.specs.Sizes.{AreWithinLimits};
@@ -97,13 +97,14 @@ pub struct Stage {
     pub others: u64,
 }
 
-/// Whether both tuples of the flow are valid and of the protocol of its part.
-fn is_of_one_protocol(flow: &Flow) -> bool
-    ensures { result ≡ is_flow_of_one_protocol flow.now }
+/// Whether both tuples of the flow are valid, of one zone, and of the protocol of its part.
+fn is_lawful_flow(flow: &Flow) -> bool
+    ensures { result ≡ is_lawful_flow flow.now }
 {
     let proto = proto_of(flow.part.kind);
     is_valid(&flow.original)
         && is_valid(&flow.reply)
+        && flow.reply.zone == flow.original.zone
         && flow.original.proto == proto
         && flow.reply.proto == proto
 }
@@ -236,7 +237,7 @@ fn confirm<R: Wait>(rt: &R, desk: &mut PlainDesk, flow: &Flow)
     requires room { length desk.old.held + length desk.old.owed ≤ 3 }
     ensures { Went desk.old desk.new 1 0 }
 {
-    if !is_of_one_protocol(flow) {
+    if !is_lawful_flow(flow) {
         return;
     }
     let TakeOutcome::Taken { place } = desk.take(rt) else {

@@ -21,6 +21,7 @@ const RST: [u8; 40] = [
 /// The tuple of the query.
 const ASKS: Tuple = Tuple {
     proto: Proto::Udp,
+    zone: 0,
     src: 0x0a00_0001,
     dst: 0x0a00_0002,
     a: 5000,
@@ -30,6 +31,7 @@ const ASKS: Tuple = Tuple {
 /// The tuple of its answer.
 const ANSWERS: Tuple = Tuple {
     proto: Proto::Udp,
+    zone: 0,
     src: 0x0a00_0002,
     dst: 0x0a00_0001,
     a: 53,
@@ -54,6 +56,7 @@ const ASKED: Flow = Flow {
 const OPENED: Flow = Flow {
     original: Tuple {
         proto: Proto::Tcp,
+        zone: 0,
         src: 0x0a00_0001,
         dst: 0x0a00_0002,
         a: 40_000,
@@ -61,6 +64,7 @@ const OPENED: Flow = Flow {
     },
     reply: Tuple {
         proto: Proto::Tcp,
+        zone: 0,
         src: 0x0a00_0002,
         dst: 0x0a00_0001,
         a: 80,

@@ -25,6 +25,7 @@ fn expected(id: u64, master: u64, port: u16) -> Expectation {
         id,
         master,
         want: want(port),
+        zone: 0,
         deadline: 300,
     }
 }
@@ -33,6 +34,7 @@ fn expected(id: u64, master: u64, port: u16) -> Expectation {
 fn packet(proto: Proto, port: u16) -> Tuple {
     Tuple {
         proto,
+        zone: 0,
         src: SERVER,
         dst: CLIENT,
         a: 20,
@@ -70,6 +72,10 @@ fn expectations_come_and_go(rt: HostRuntime) -> Result<(), Fail> {
     let due = added(&rt, &mut table, expected(6, 1, 40_001), 300);
     assert!(rt; matches!(due, AddOutcome::Added { replaced: None }));
     assert!(rt; ids(&rt, &table)?.as_slice() == [4, 6].as_slice());
+    // Of another zone nothing stands in the way: here there is no room.
+    let mut elsewhere = expected(7, 2, 40_001);
+    elsewhere.zone = 1;
+    assert!(rt; matches!(table.outcome(&elsewhere, 0), AddOutcome::Full));
     // There is no room for a third, but one of the same master takes the older one's place, also with its want.
     let full = added(&rt, &mut table, expected(7, 2, 40_002), 0);
     assert!(rt; matches!(full, AddOutcome::Full));
@@ -110,6 +116,9 @@ fn what_matches(rt: HostRuntime) -> Result<(), Fail> {
     assert!(rt; table.matching(&other, 0).is_none());
     other = packet(Proto::Tcp, 40_001);
     other.dst = SERVER;
+    assert!(rt; table.matching(&other, 0).is_none());
+    // The same in another zone.
+    other = packet(Proto::Tcp, 40_001).in_zone(1);
     assert!(rt; table.matching(&other, 0).is_none());
     // Any source port is expected.
     other = packet(Proto::Tcp, 40_001);

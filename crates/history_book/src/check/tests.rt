@@ -16,6 +16,7 @@ macro_rules! tuple {
     ($proto:ident, $src:literal, $dst:literal, $a:literal, $b:literal) => {
         Tuple {
             proto: Proto::$proto,
+            zone: 0,
             src: 0x0a00_0000 + $src,
             dst: 0x0a00_0000 + $dst,
             a: $a,
@@ -105,6 +106,7 @@ macro_rules! expects {
                     dst: 0x0a00_0001,
                     port: 40001,
                 },
+                zone: 0,
                 deadline: 302_000_000,
             },
             replaced: $older,

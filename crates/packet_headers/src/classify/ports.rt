@@ -21,6 +21,7 @@ pub fn ports_tuple(proto: Proto, addresses: Addresses, bytes: &[u8], at: usize) 
 {
     Tuple {
         proto,
+        zone: 0,
         src: addresses.source,
         dst: addresses.destination,
         a: big_u16_at(bytes, at),

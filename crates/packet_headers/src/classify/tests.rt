@@ -144,6 +144,7 @@ impl Flow {
 
 const QUERY: Tuple = Tuple {
     proto: Proto::Udp,
+    zone: 0,
     src: 0x0a00_0001,
     dst: 0x0a00_0002,
     a: 5000,
@@ -152,6 +153,7 @@ const QUERY: Tuple = Tuple {
 
 const WEB: Tuple = Tuple {
     proto: Proto::Tcp,
+    zone: 0,
     src: 0x0a00_0001,
     dst: 0xc633_6401,
     a: 40000,
@@ -160,6 +162,7 @@ const WEB: Tuple = Tuple {
 
 const PING: Tuple = Tuple {
     proto: Proto::Icmp,
+    zone: 0,
     src: 0x0a00_0001,
     dst: 0x0a00_0002,
     a: 77,

@@ -52,6 +52,7 @@ pub record IsMet (packet : FlowPacket) (met : Met) (s : Sight) : Type 0 where
 pub record IsReplyOf (t reply : Tuple) : Type 0 where
   pub valid : is_valid reply ≡ true
   pub protocol : reply.proto ≡ t.proto
+  pub zone : reply.zone ≡ t.zone
 
 -- nothing was live under the packet's tuple at this point, and from there on the reply tuple was found for it
 pub record IsFoundFor (setup : Setup) (packet : FlowPacket) (log : List Event) (absent_at : ℕ) (found : NewReply) : Type 0 where

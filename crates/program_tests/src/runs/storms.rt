@@ -158,6 +158,36 @@ fn expectations_that_clash(rt: HostRuntime) -> Result<(), Fail> {
     rages(&rt, &CASE)
 }
 
+/// What one thread with that session prints, four times: no thread meets another's flows, ports or expectations.
+const APART: &str = "\
+summary threads=4 packets=20 events=28 live=8
+NEW 4
+RELATED 4
+ESTABLISHED 8
+ESTABLISHED_REPLY 4
+";
+
+/// One session of FTP in four zones, on four threads.
+#[test]
+fn zones_that_have_the_same_flows(rt: HostRuntime) -> Result<(), Fail> {
+    static CASE: Case<'static> = Case {
+        words: &[
+            "ctreplay",
+            "--zones=0,1,256,65535",
+            "--buckets=1",
+            "--summary",
+            NAME,
+            NAME,
+            NAME,
+            NAME,
+        ],
+        files: &[(NAME, control!(40_010))],
+        out: Text::Is(APART),
+        ..REPLAYED
+    };
+    rages(&rt, &CASE)
+}
+
 /// Four threads have sixty flows each, two and two the same, in a table of forty places: flows drop each other, and clash
 /// with, or touch, entries that are dropped meanwhile.
 #[test]

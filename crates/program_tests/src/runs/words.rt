@@ -324,6 +324,26 @@ fn lists_of_ports(rt: HostRuntime) -> Result<(), Fail> {
     all_values(&rt, "--ftp", &PORT_LISTS)
 }
 
+static ZONE_LISTS: [(&str, u8, &str); 12] = [
+    ("0", 0, ""),
+    ("00000", 0, ""),
+    ("1,2", 1, USAGE),
+    ("0,", 1, USAGE),
+    (",0", 1, USAGE),
+    ("65536", 1, USAGE),
+    ("000000", 1, USAGE),
+    ("+0", 1, USAGE),
+    ("-1", 1, USAGE),
+    ("0 ", 1, USAGE),
+    ("zone", 1, USAGE),
+    ("", 1, USAGE),
+];
+
+#[test]
+fn lists_of_zones(rt: HostRuntime) -> Result<(), Fail> {
+    all_values(&rt, "--zones", &ZONE_LISTS)
+}
+
 /// 64 captures, which is one too many, and further faults.
 static LIMITS: [Row<'static>; 4] = [
     (

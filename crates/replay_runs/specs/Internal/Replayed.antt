@@ -11,7 +11,7 @@ use Rattle.replay_runs.specs.Report.{at_start, past_verdicts, TrackerSetup, Verd
 
 -- what was given of the frames of a capture
 abbrev pub given_frames : Capture → List Given
-given_frames c = map (given_of c.bytes.items) c.frames.items
+given_frames c = map (given_of c.zone c.bytes.items) c.frames.items
 
 -- the tracker of a desk, set up so
 abbrev pub tracker_with : Setup → Sight → TrackerSetup

@@ -38,6 +38,7 @@ const OPENED: Record = Record {
     place: 1,
     original: Tuple {
         proto: Proto::Tcp,
+        zone: 0,
         src: 0x0a00_0001,
         dst: 0x0a00_0002,
         a: 40_000,
@@ -45,6 +46,7 @@ const OPENED: Record = Record {
     },
     reply: Tuple {
         proto: Proto::Tcp,
+        zone: 0,
         src: 0x0a00_0002,
         dst: 0x0a00_0001,
         a: 80,
@@ -66,6 +68,7 @@ const ECHO: Record = Record {
     place: 2,
     original: Tuple {
         proto: Proto::Icmp,
+        zone: 0,
         src: 0x0a00_0001,
         dst: 0x0a00_0002,
         a: 7,
@@ -73,6 +76,7 @@ const ECHO: Record = Record {
     },
     reply: Tuple {
         proto: Proto::Icmp,
+        zone: 0,
         src: 0x0a00_0002,
         dst: 0x0a00_0001,
         a: 7,
@@ -89,7 +93,7 @@ const ECHO: Record = Record {
 };
 
 /// An answer between these points, by so many events.
-fn answer(said: Said, from: u64, to: u64, made: u64) -> Answer {
+pub(super) fn answer(said: Said, from: u64, to: u64, made: u64) -> Answer {
     Answer {
         said,
         from,
@@ -113,7 +117,7 @@ fn rows(alloc: Global, subjects: &[Record], at: u64) -> Result<Rows, NoMemory> {
 }
 
 /// A report of no event and no capture, with one answer more.
-fn answered(report: Report, said: Answer) -> Result<Report, NoMemory> {
+pub(super) fn answered(report: Report, said: Answer) -> Result<Report, NoMemory> {
     let Report {
         history,
         live,
@@ -177,6 +181,7 @@ fn expectations_and_an_expired_entry(rt: HostRuntime) -> Result<(), Fail> {
             dst: 0x0a00_0001,
             port: 40_002,
         },
+        zone: 0,
         deadline: 1_300_999_999,
     }])?;
     let report = report_of(alloc, &[], &[])?;
@@ -229,6 +234,7 @@ fn events_of_a_script(rt: HostRuntime) -> Result<(), Fail> {
         reply_dst: None,
         sport: None,
         dport: None,
+        zone: None,
     };
     let events = [
         query(0, 0, 1_030_000_000),

@@ -1,7 +1,7 @@
 //! Two clerks of one thread confirm flows, one after the other.
 
 ghost use Rattle.std.specs.Prelude.{◌≡◌, ◌+◌, ◌≤◌, true, false, None};
-ghost use Rattle.history_book.specs.Entry.{is_flow_of_one_protocol};
+ghost use Rattle.history_book.specs.Entry.{is_lawful_flow};
 ghost use Rattle.history_book.specs.Held.{is_held};
 ghost use Rattle.history_book.specs.Places.{HoldsNothing, HoldsOne};
 ghost use Rattle.history_book.specs.Sizes.{AreWithinLimits};
@@ -48,7 +48,7 @@ impl Gate for Passages {
 /// A clerk that keeps nothing confirms a flow that nobody has.
 pub fn make<G: Gate, R: Wait + Abort>(rt: &R, clerk: &mut Clerk<G>, flow: &Flow, id: u64)
     requires nothing { HoldsNothing (sight_of clerk.old) }
-    requires protocol { is_flow_of_one_protocol flow.now ≡ true }
+    requires protocol { is_lawful_flow flow.now ≡ true }
     requires spare { 1 ≤ (sight_of clerk.old).spare }
     ensures nothing { HoldsNothing (sight_of clerk.new) }
     ensures spare { (sight_of clerk.old).spare ≤ (sight_of clerk.new).spare + 1 }
@@ -67,9 +67,9 @@ fn after_two<R: Wait + Abort + AllocGlobal>(
     second: &Flow,
     third: &Flow,
 ) -> Result<ConfirmOutcome, Fail>
-    requires first { is_flow_of_one_protocol first.now ≡ true }
-    requires second { is_flow_of_one_protocol second.now ≡ true }
-    requires third { is_flow_of_one_protocol third.now ≡ true }
+    requires first { is_lawful_flow first.now ≡ true }
+    requires second { is_lawful_flow second.now ≡ true }
+    requires third { is_lawful_flow third.now ≡ true }
 {
     let (tracker, spot) = Tracker::new(rt.alloc(), sixteen_buckets())?;
     let gate = Passages::new();
@@ -137,7 +137,7 @@ fn clash_of<R: Wait + Abort + AllocGlobal>(
     rt: &R,
     third: &Flow,
 ) -> Result<(u64, bool, bool, u64), Fail>
-    requires { is_flow_of_one_protocol third.now ≡ true }
+    requires { is_lawful_flow third.now ≡ true }
 {
     let own = udp(0x0a00_0005, 7000, 0x0a00_0005, 7000);
     let to_six = udp(0x0a00_0005, 7000, 0x0a00_0006, 7000);
@@ -180,7 +180,7 @@ fn one_tuple_is_enough_for_a_clash(rt: HostRuntime) -> Result<(), Fail> {
 /// Takes a place, and confirms the first flow of all in it. Gives the place, which stays held.
 fn placed<G: Gate, R: Wait + Abort>(rt: &R, clerk: &mut Clerk<G>, flow: &Flow) -> u32
     requires nothing { HoldsNothing (sight_of clerk.old) }
-    requires protocol { is_flow_of_one_protocol flow.now ≡ true }
+    requires protocol { is_lawful_flow flow.now ≡ true }
     requires spare { 1 ≤ (sight_of clerk.old).spare }
     ensures { is_held result (sight_of clerk.new).held ≡ true }
 {
@@ -199,7 +199,7 @@ fn given_up<R: Wait + Abort + AllocGlobal>(
     flow: &Flow,
 ) -> Result<ReleaseOutcome, NoMemory>
     requires limits { AreWithinLimits sizes }
-    requires protocol { is_flow_of_one_protocol flow.now ≡ true }
+    requires protocol { is_lawful_flow flow.now ≡ true }
 {
     let (tracker, spot) = Tracker::new(rt.alloc(), sizes)?;
     let mut clerk = tracker.clerk(spot, &NoGate, 0);

@@ -1,7 +1,7 @@
 //! Four clerks, each on a thread of its own, confirm flows of which each pair of threads shares some.
 
 ghost use Rattle.std.specs.Prelude.{◌≡◌, ◌≤◌, true, []};
-ghost use Rattle.history_book.specs.Entry.{is_flow_of_one_protocol};
+ghost use Rattle.history_book.specs.Entry.{is_lawful_flow};
 ghost use Rattle.history_book.specs.Close.{CanClose};
 ghost use Rattle.history_book.specs.Leave.{CanTakeUp};
 ghost use Rattle.history_book.specs.Places.{HoldsNothing};
@@ -65,7 +65,7 @@ fn owner_of(thread: u8, index: u16) -> u8 {
 
 /// The flow of this index that is named after a thread.
 fn flow_of(owner: u8, index: u16) -> Flow
-    ensures { is_flow_of_one_protocol result ≡ true }
+    ensures { is_lawful_flow result ≡ true }
 {
     let address = 0x0a00_0000 + u32::from(owner) * 0x1_0000 + u32::from(index);
     flow(

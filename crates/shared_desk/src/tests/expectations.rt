@@ -1,7 +1,7 @@
 //! The entry for which a clerk holds a place expects a connection, which another clerk claims, ends or lists.
 
 ghost use Rattle.std.specs.Prelude.{◌≡◌, ◌+◌, ◌≤◌, ◌^◌, true, Some};
-ghost use Rattle.history_book.specs.Entry.{is_flow_of_one_protocol, is_helped_entry};
+ghost use Rattle.history_book.specs.Entry.{is_lawful_flow, is_helped_entry};
 ghost use Rattle.history_book.specs.Places.{HoldsNothing, HoldsOne};
 ghost use Rattle.history_book.specs.Sizes.{AreWithinLimits};
 ghost use Rattle.history_book.specs.WentOn.{IsSamePass};
@@ -44,7 +44,7 @@ pub fn sizes_for(expectations: u32) -> Sizes
 
 /// The flow of a client's port to a server, which has the helper.
 pub fn master(port: u16) -> Flow
-    ensures protocol { is_flow_of_one_protocol result ≡ true }
+    ensures protocol { is_lawful_flow result ≡ true }
     ensures helper { result.helper ≡ true }
 {
     let mut flow = flow(
@@ -68,6 +68,7 @@ pub fn want(port: u16) -> Want {
 pub fn wanted(port: u16) -> Tuple {
     Tuple {
         proto: Proto::Tcp,
+        zone: 0,
         src: 0x0a00_0002,
         dst: 0x0a00_0001,
         a: 20,

@@ -1,7 +1,7 @@
 //! Flows of UDP, and a clerk's way with one of them.
 
 ghost use Rattle.std.specs.Prelude.{◌≡◌, ◌+◌, ◌≤◌, true, Some, None, []};
-ghost use Rattle.history_book.specs.Entry.{is_flow_of_one_protocol, is_of_entry};
+ghost use Rattle.history_book.specs.Entry.{is_lawful_flow, is_of_entry};
 ghost use Rattle.history_book.specs.Held.{is_held, without};
 ghost use Rattle.history_book.specs.Places.{HoldsNothing, HoldsOne};
 ghost use Rattle.history_book.specs.WentOn.{IsSamePass};
@@ -21,12 +21,14 @@ use std::process::Abort;
 use std::sync::Wait;
 use tuple_core::{Proto, Tuple};
 
-/// The tuple of a packet of UDP from one address and port to another.
+/// The tuple of a packet of UDP from one address and port to another, in zone 0.
 pub fn udp(src: u32, a: u16, dst: u32, b: u16) -> Tuple
-    ensures { result.proto ≡ Udp }
+    ensures protocol { result.proto ≡ Udp }
+    ensures zone { result.zone ≡ 0 }
 {
     Tuple {
         proto: Proto::Udp,
+        zone: 0,
         src,
         dst,
         a,
@@ -34,11 +36,12 @@ pub fn udp(src: u32, a: u16, dst: u32, b: u16) -> Tuple
     }
 }
 
-/// A flow of UDP with these tuples, without the helper.
+/// A flow of UDP with these tuples of one zone, without the helper.
 pub fn flow(original: Tuple, reply: Tuple) -> Flow
     requires original { original.proto ≡ Udp }
     requires reply { reply.proto ≡ Udp }
-    ensures protocol { is_flow_of_one_protocol result ≡ true }
+    requires zone { reply.zone ≡ original.zone }
+    ensures protocol { is_lawful_flow result ≡ true }
     ensures kind { result.part.kind ≡ kind.Udp }
 {
     Flow {
@@ -57,7 +60,7 @@ pub fn flow(original: Tuple, reply: Tuple) -> Flow
 
 /// The query 10.0.0.1:5000 to 10.0.0.2:53 and its answer.
 pub fn query() -> Flow
-    ensures protocol { is_flow_of_one_protocol result ≡ true }
+    ensures protocol { is_lawful_flow result ≡ true }
     ensures kind { result.part.kind ≡ kind.Udp }
 {
     flow(
@@ -103,7 +106,7 @@ pub fn confirm_in<G: Gate, R: Wait>(
     flow: &Flow,
 ) -> ConfirmOutcome
     requires one { HoldsOne (record { place = place; id = None }) (sight_of clerk.old) }
-    requires protocol { is_flow_of_one_protocol flow.now ≡ true }
+    requires protocol { is_lawful_flow flow.now ≡ true }
     requires spare { 1 ≤ (sight_of clerk.old).spare }
     ensures nothing { HoldsNothing (sight_of clerk.new) }
     ensures same { IsSamePass (sight_of clerk.old) (sight_of clerk.new) }
@@ -117,7 +120,7 @@ pub fn confirm_in<G: Gate, R: Wait>(
 /// Takes a place for a flow, confirms it there, and gives the place up. None is that no place was free.
 pub fn answer<G: Gate, R: Wait>(rt: &R, clerk: &mut Clerk<G>, flow: &Flow) -> Option<ConfirmOutcome>
     requires nothing { HoldsNothing (sight_of clerk.old) }
-    requires protocol { is_flow_of_one_protocol flow.now ≡ true }
+    requires protocol { is_lawful_flow flow.now ≡ true }
     requires spare { 1 ≤ (sight_of clerk.old).spare }
     ensures nothing { HoldsNothing (sight_of clerk.new) }
     ensures same { IsSamePass (sight_of clerk.old) (sight_of clerk.new) }

@@ -1,7 +1,7 @@
 //! A clerk confirms a flow while another one stands in the middle of a confirm, in other buckets.
 
 ghost use Rattle.std.specs.Prelude.{◌≡◌, ◌≤◌, true};
-ghost use Rattle.history_book.specs.Entry.{is_flow_of_one_protocol};
+ghost use Rattle.history_book.specs.Entry.{is_lawful_flow};
 ghost use Rattle.history_book.specs.Places.{HoldsNothing};
 ghost use Rattle.history_book.specs.Sizes.{AreWithinLimits};
 ghost use Rattle.shared_desk.specs.Sights.{sight_of};
@@ -86,7 +86,7 @@ fn confirm_meanwhile<R: Wait>(
     flow: &Flow,
 ) -> Seen
     requires nothing { HoldsNothing (sight_of clerk.old) }
-    requires protocol { is_flow_of_one_protocol flow.now ≡ true }
+    requires protocol { is_lawful_flow flow.now ≡ true }
     requires spare { 1 ≤ (sight_of clerk.old).spare }
 {
     let inside = comes(&gate.inside);
@@ -115,16 +115,16 @@ fn both_confirm<R: Threads + Wait + Sync>(
     second: &Flow,
 ) -> (Option<ConfirmOutcome>, Seen)
     requires nothing { HoldsNothing (sight_of one.old) × HoldsNothing (sight_of two.old) }
-    requires protocol { (is_flow_of_one_protocol first.now ≡ true) × (is_flow_of_one_protocol second.now ≡ true) }
+    requires protocol { (is_lawful_flow first.now ≡ true) × (is_lawful_flow second.now ≡ true) }
     requires spare { (1 ≤ (sight_of one.old).spare) × (1 ≤ (sight_of two.old).spare) }
 {
     join_mut(
         rt,
         &mut ||
-            requires { HoldsNothing (sight_of one.now) × (is_flow_of_one_protocol first.now ≡ true) × (1 ≤ (sight_of one.now).spare) }
+            requires { HoldsNothing (sight_of one.now) × (is_lawful_flow first.now ≡ true) × (1 ≤ (sight_of one.now).spare) }
         { answer(rt, one, first) },
         &mut ||
-            requires { HoldsNothing (sight_of two.now) × (is_flow_of_one_protocol second.now ≡ true) × (1 ≤ (sight_of two.now).spare) }
+            requires { HoldsNothing (sight_of two.now) × (is_lawful_flow second.now ≡ true) × (1 ≤ (sight_of two.now).spare) }
         { confirm_meanwhile(rt, two, gate, first, second) },
     )
 }
@@ -143,7 +143,7 @@ fn are_apart(sizes: &Sizes, one: &Flow, two: &Flow) -> bool
 
 /// A query of 10.0.0.1 from this port, and its answer.
 fn query_from(port: u16) -> Flow
-    ensures { is_flow_of_one_protocol result ≡ true }
+    ensures { is_lawful_flow result ≡ true }
 {
     flow(
         udp(0x0a00_0001, port, 0x0a00_0002, 53),

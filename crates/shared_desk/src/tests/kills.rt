@@ -1,7 +1,7 @@
 //! A clerk destroys the entry for which it holds a place.
 
 ghost use Rattle.std.specs.Prelude.{◌≡◌, ◌+◌, ◌<◌, ◌≤◌, ◌^◌, true, Some, None, slice_get};
-ghost use Rattle.history_book.specs.Entry.{is_flow_of_one_protocol, record_for, suits_entry};
+ghost use Rattle.history_book.specs.Entry.{is_lawful_flow, record_for, suits_entry};
 ghost use Rattle.history_book.specs.declared.event.Event.TheVariants.{Confirm};
 ghost use Rattle.history_book.specs.Legality.{reason_moment_of};
 ghost use Rattle.history_book.specs.Places.{HoldsNothing, HoldsOne};
@@ -45,7 +45,7 @@ fn one_bucket() -> Sizes
 /// held.
 pub fn keep<G: Gate, R: Wait + Abort>(rt: &R, clerk: &mut Clerk<G>, flow: &Flow, id: u64) -> u32
     requires nothing { HoldsNothing (sight_of clerk.old) }
-    requires protocol { is_flow_of_one_protocol flow.now ≡ true }
+    requires protocol { is_lawful_flow flow.now ≡ true }
     requires spare { 1 ≤ (sight_of clerk.old).spare }
     ensures one { HoldsOne (record { place = result; id = Some id }) (sight_of clerk.new) }
     ensures below { result < (sight_of clerk.new).sizes.entries }

@@ -80,6 +80,7 @@ fn an_entry_is_found_by_either_tuple(rt: HostRuntime) -> Result<(), Fail> {
     find_none(&rt, &mut clerk, &udp(0x0a00_0001, 5001, 0x0a00_0002, 53), 1);
     let no_flow = Tuple {
         proto: Proto::Icmp,
+        zone: 0,
         src: 0x0a00_0001,
         dst: 0x0a00_0002,
         a: 1,

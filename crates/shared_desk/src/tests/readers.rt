@@ -1,7 +1,7 @@
 //! Two clerks look for flows, each on a thread of its own, while two others confirm and destroy them in the same buckets.
 
 ghost use Rattle.std.specs.Prelude.{◌≡◌, ◌+◌, ◌≤◌, ◌<◌, true, [], None};
-ghost use Rattle.history_book.specs.Entry.{is_flow_of_one_protocol};
+ghost use Rattle.history_book.specs.Entry.{is_lawful_flow};
 ghost use Rattle.history_book.specs.Held.{is_held, without};
 ghost use Rattle.history_book.specs.Places.{HoldsNothing, HoldsOne};
 ghost use Rattle.history_book.specs.Sizes.{AreWithinLimits};
@@ -63,7 +63,7 @@ fn sizes() -> Sizes
 
 /// The flow of this number.
 fn flow_of(number: u32) -> Flow
-    ensures protocol { is_flow_of_one_protocol result ≡ true }
+    ensures protocol { is_lawful_flow result ≡ true }
 {
     let port = (number % FLOWS) as u16;
     flow(
@@ -83,7 +83,7 @@ fn tuple_of(flow: &Flow, direction: Direction) -> Tuple {
 /// Confirms a flow in the one place that the clerk has taken, and destroys it again.
 fn confirm_and_kill<R: Wait>(rt: &R, clerk: &mut Clerk<NoGate>, place: u32, flow: &Flow)
     requires one { HoldsOne (record { place = place; id = None }) (sight_of clerk.old) }
-    requires protocol { is_flow_of_one_protocol flow.now ≡ true }
+    requires protocol { is_lawful_flow flow.now ≡ true }
     requires spare { 2 ≤ (sight_of clerk.old).spare }
     ensures held { is_held place (sight_of clerk.new).held ≡ true }
     ensures only { without place (sight_of clerk.new).held ≡ [] }
@@ -99,7 +99,7 @@ fn confirm_and_kill<R: Wait>(rt: &R, clerk: &mut Clerk<NoGate>, place: u32, flow
 /// Confirms a flow and destroys it again.
 fn write_once<R: Wait>(rt: &R, clerk: &mut Clerk<NoGate>, flow: &Flow)
     requires nothing { HoldsNothing (sight_of clerk.old) }
-    requires protocol { is_flow_of_one_protocol flow.now ≡ true }
+    requires protocol { is_lawful_flow flow.now ≡ true }
     requires spare { 2 ≤ (sight_of clerk.old).spare }
     ensures nothing { HoldsNothing (sight_of clerk.new) }
     ensures same { IsSamePass (sight_of clerk.old) (sight_of clerk.new) }

@@ -286,7 +286,7 @@ fn handled<R: Wait + Abort>(
         original: length,
         link: Link::Raw,
     };
-    handle(rt, desk, packet, &frame, setup)
+    handle(rt, desk, packet, &frame, 0, setup)
 }
 
 /// Asserts that a packet's verdict is as told.

@@ -43,6 +43,7 @@ const DATA: [u8; 40] = [
 /// The tuple of that segment.
 const DATA_TUPLE: Tuple = Tuple {
     proto: Proto::Tcp,
+    zone: 0,
     src: 0x0a00_0002,
     dst: 0x0a00_0001,
     a: 20,
@@ -52,6 +53,7 @@ const DATA_TUPLE: Tuple = Tuple {
 /// The tuples of control connections from the client's ports 40000, 40010 and 40020.
 const CONTROL: Tuple = Tuple {
     proto: Proto::Tcp,
+    zone: 0,
     src: 0x0a00_0001,
     dst: 0x0a00_0002,
     a: 40_000,
@@ -88,6 +90,7 @@ const DATA_FLOW: Flow = Flow {
     original: DATA_TUPLE,
     reply: Tuple {
         proto: Proto::Tcp,
+        zone: 0,
         src: 0x0a00_0001,
         dst: 0x0a00_0002,
         a: 40_001,
@@ -102,6 +105,7 @@ const SECOND_FLOW: Flow = Flow {
     original: SECOND_CONTROL,
     reply: Tuple {
         proto: Proto::Tcp,
+        zone: 0,
         src: 0x0a00_0002,
         dst: 0x0a00_0001,
         a: 21,
@@ -116,6 +120,7 @@ const THIRD_FLOW: Flow = Flow {
     original: THIRD_CONTROL,
     reply: Tuple {
         proto: Proto::Tcp,
+        zone: 0,
         src: 0x0a00_0002,
         dst: 0x0a00_0001,
         a: 21,

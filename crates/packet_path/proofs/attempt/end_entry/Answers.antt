@@ -22,7 +22,7 @@ kill-requires-clause-protocol g c =
     ap (λ id. suits_entry c.args.why id s.front) (c.one_hold_has_its_id.ensures c.args.met.now.place c.args.met.now.id s c.requires.met.holds)
     ∙ suits c.args.why s (flow_packet c.args.packet.now) c.args.met.now c.args.at c.requires.ends
     (met_protocol c.found_keep_their_protocol.ensures c.live_records_have_the_protocol.ensures
-    c.records_are_of_one_protocol.ensures c.same_protocol_is_equality.ensures s (flow_packet c.args.packet.now) c.args.met.now c.requires.knows
+    c.records_are_of_one_flow.ensures c.same_protocol_is_equality.ensures s (flow_packet c.args.packet.now) c.args.met.now c.requires.knows
     c.requires.classified c.requires.met)
 
 pub returns-in-Killed-clause-says : goal.returns-in-Killed-clause-says

@@ -9,7 +9,7 @@ use Rattle.history_book.specs.State.{record_of}
 use Rattle.proto_rules.specs.declared.Outcome.TheVariants as outcome
 use Rattle.packet_path.specs.Internal.Attempt.{Answers}
 use Rattle.packet_path.proofs.Attempts.{attempt_after, starts_longer}
-use Rattle.packet_path.proofs.Meetings.{has_id_of, helped_entry, left_as_it_is, met_protocol, touched}
+use Rattle.packet_path.proofs.Meetings.{has_id_of, helped_entry, left_as_it_is, met_protocol, touched, zone_entry}
 use Rattle.packet_path.specs.Packet.{flow_packet}
 use Rattle.packet_path.proofs.attempt.meet_entry.Goals as goal
 
@@ -18,7 +18,7 @@ touch-requires-clause-protocol g c =
     let s = g.D.Desk.sight c.args.desk.now in
     ap (λ id. is_of_entry c.args.packet.now.segment id s.front) (c.one_hold_has_its_id.ensures c.args.met.now.place c.args.met.now.id s c.requires.met.holds)
     ∙ met_protocol c.found_keep_their_protocol.ensures c.live_records_have_the_protocol.ensures
-    c.records_are_of_one_protocol.ensures c.same_protocol_is_equality.ensures s (flow_packet c.args.packet.now) c.args.met.now c.requires.knows
+    c.records_are_of_one_flow.ensures c.same_protocol_is_equality.ensures s (flow_packet c.args.packet.now) c.args.met.now c.requires.knows
     c.requires.classified c.requires.met
 
 pub follow_payload-ftp-requires-clause-named : goal.follow_payload-ftp-requires-clause-named
@@ -36,6 +36,12 @@ follow_payload-ftp-requires-clause-helper g c = λ helper.
     let s = g.D.Desk.sight c.args.desk.now in
     helped_entry c.entries_keep_their_helper.ensures (g.D.Desk.sight c.touch.new.self) c.in-Touched.number
     (held_id c.args.met.now.place s.held) c.in-Touched.before c.touch.ensures.knows c.in-Touched.ensures.says.found.fact helper
+
+pub follow_payload-ftp-requires-clause-zone : goal.follow_payload-ftp-requires-clause-zone
+follow_payload-ftp-requires-clause-zone g c =
+    zone_entry c.entries_keep_their_zone.ensures (g.D.Desk.sight c.touch.new.self) c.in-Touched.number
+    (held_id c.args.met.now.place (g.D.Desk.sight c.args.desk.now).held) c.in-Touched.before c.touch.ensures.knows
+    c.in-Touched.ensures.says.found.fact
 
 pub returns-in-Touched-clause-says : goal.returns-in-Touched-clause-says
 returns-in-Touched-clause-says g c = λ setup.

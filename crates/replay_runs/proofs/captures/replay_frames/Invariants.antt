@@ -5,4 +5,4 @@ use Rattle.replay_runs.proofs.captures.replay_frames.Given as goal
 
 abbrev pub invariant-frames : goal.invariant-frames
 invariant-frames g l =
-    IsReplayed l.shared.setup.now (map (given_of l.bytes) l.frames) l.frame-index (g.D.Desk.sight l.fn.desk) (g.D.Desk.sight l.desk) l.verdicts
+    IsReplayed l.shared.setup.now (map (given_of l.zone l.bytes) l.frames) l.frame-index (g.D.Desk.sight l.fn.desk) (g.D.Desk.sight l.desk) l.verdicts

@@ -6,5 +6,5 @@ use Rattle.replay_runs.proofs.script_run.latest_in.Given as goal
 
 abbrev pub invariant-frames : goal.invariant-frames
 invariant-frames l =
-    latest l.moment (map (given_of l.capture.bytes.items) (drop l.frame-index l.capture.frames.items))
+    latest l.moment (map (given_of l.capture.zone l.capture.bytes.items) (drop l.frame-index l.capture.frames.items))
     ≡ latest l.fn.moment (given_frames l.capture)

@@ -8,6 +8,6 @@ returns-in-Err-capture_of-clause-reads g c =
     let read = c.in-Ok.ensures.reads in (
       flaw_here (totals_as c.args.before.now) c.args.file (record { kind = kind.Capture; name = c.args.name.now })
           (g.F.Files.source c.args.files.now) (g.F.Files.source c.read_input.new.files) c.in-Ok.bytes.items c.in-Err-capture_of.why
-          read.0.given c.in-Err-capture_of.ensures,
+          read.0.given c.in-Err-capture_of.ensures.read,
       λ other. read.1,
     )

@@ -34,14 +34,14 @@ unlink-requires-clause-original_ready c =
     original_ready c.args.place c.args.subject.now c.args.why c.args.locked.now c.args.pass.now c.requires.knows c.requires.locked
     c.phase_dead.new.self c.phase_dead.ensures.shows c.phase_dead.ensures.kept
     c.destroy_add-number.result c.destroy_add-number.new.self c.destroy_add-number.ensures.adds c.destroy_add-number.ensures.kept
-    c.records_are_of_one_protocol.ensures
+    c.records_are_of_one_flow.ensures
 
 pub unlink-requires-clause-reply_ready : goal.unlink-requires-clause-reply_ready
 unlink-requires-clause-reply_ready c =
     reply_ready c.args.place c.args.subject.now c.args.why c.args.locked.now c.args.pass.now c.requires.knows c.requires.locked
     c.phase_dead.new.self c.phase_dead.ensures.shows c.phase_dead.ensures.kept
     c.destroy_add-number.result c.destroy_add-number.new.self c.destroy_add-number.ensures.adds c.destroy_add-number.ensures.kept
-    c.records_are_of_one_protocol.ensures
+    c.records_are_of_one_flow.ensures
 
 pub returns-clause-destroys : goal.returns-clause-destroys
 returns-clause-destroys c =

@@ -9,7 +9,7 @@ returns-then-is_valid-clause-says c =
       words = c.words_determine_the_tuple.ensures;
       same = c.same_tuple_is_equality.ensures;
       apart = c.records_are_apart.ensures;
-      one = c.records_are_of_one_protocol.ensures;
+      one = c.records_are_of_one_flow.ensures;
     } in
     looks_valid laws c.live_records_are_confirmed.ensures c.args.t.now (sym c.is_valid.ensures ∙ c.if-is_valid.true) c.find_once.result c.args.pass.now c.find_once.new.pass
     c.find_once.ensures.says
@@ -20,7 +20,7 @@ returns-clause-says c =
       words = c.words_determine_the_tuple.ensures;
       same = c.same_tuple_is_equality.ensures;
       apart = c.records_are_apart.ensures;
-      one = c.records_are_of_one_protocol.ensures;
+      one = c.records_are_of_one_flow.ensures;
     } in
     looks_invalid laws c.args.t.now (sym c.is_valid.ensures ∙ c.if-is_valid.false) c.history_load.result c.events_in.result c.args.pass.now c.history_load.new.self
     c.history_load.ensures.looks c.history_load.ensures.kept c.events_in.ensures

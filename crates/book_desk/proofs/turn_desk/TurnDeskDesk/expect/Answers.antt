@@ -55,7 +55,8 @@ returns-clause-says g c =
     let new : Pass = record p { seat = c.end_turn.new.seat; notes = c.note.new.notes; spare = c.note.new.spare } in
     let a : IsAfter p c.take_turn-book.new.seat.me c.take_turn-book.result Same Same c.expect-outcome.result.1 c.note.new.spare new =
     record { change = refl; table = c.end_turn.ensures.table ∙ c.take_turn-book.ensures.table; ended = c.end_turn.ensures.ended; sizes = refl; notes = c.note.ensures.items; room = c.note.ensures.room; spare = refl } in
-    rw (← c.self.view_is) (expect_told p c.take_turn-book.new.seat.me c.take_turn-book.result c.expect-outcome.new.self Same c.expect-outcome.result.1 c.note.new.spare c.args.place c.args.want c.args.moment c.expect-outcome.result.0 new t a refl c.expect-outcome.ensures.says (held_at_all c.args.place c.self.inside.pass.seat.me.0.held (ap (λ (s : Sight). is_held_for_entry c.args.place s.held) c.self.view_is ∙ c.requires.held)))
+    rw (← c.self.view_is) (expect_told p c.take_turn-book.new.seat.me c.take_turn-book.result c.expect-outcome.new.self Same c.expect-outcome.result.1 c.note.new.spare c.args.place c.args.want c.args.moment c.expect-outcome.result.0 new t a refl c.expect-outcome.ensures.says (held_at_all c.args.place c.self.inside.pass.seat.me.0.held (ap (λ (s : Sight). is_held_for_entry c.args.place s.held) c.self.view_is ∙ c.requires.held))
+    (ap (λ (s : Sight). is_helped_entry (held_id c.args.place s.held) s.front) c.self.view_is ∙ c.requires.helper))
 
 pub returns-clause-knows : goal.returns-clause-knows
 returns-clause-knows g c = (invariant_of-self g c).1.knows

@@ -20,7 +20,7 @@ fetch_add-word-requires g c =
       subst (λ (z : Sizes). Allows (RuleHolds z) slots p.seat.id p.seat.me 0 (λ n. (n + one_less) % 2 ^ 64)
           (DestroyStep (destroy_in g.J.Added.event) (step slots 0 one_less 0 none) p.seat.me))
           h.key_is (adding_destroy slots p.seat.id p.seat.me.0 p.seat.me.1 (destroy_in g.J.Added.event) h.right.some can c.states_follow.ensures c.legal_histories_go_on.ensures
-          c.live_records_are_confirmed.ensures c.masters_have_the_helper.ensures),
+          c.live_records_are_confirmed.ensures c.masters_help_in_their_zone.ensures),
     )
 
 pub invariant_of-self : goal.invariant_of-self
