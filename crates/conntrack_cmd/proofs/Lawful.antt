@@ -1,5 +1,5 @@
 -- The commands of a script are lawful.
-use Rattle.std.proofs.Common.{◌≡◌, ℕ, ◌+◌, ◌≤◌, ◌<◌, ◌^◌, nat_lt, arith, ◌&&◌, ◌||◌, Bool, true, false, is_none, nat_le, List, [], ◌∷◌, ◌++◌, length, Option, Some, None, Ok, Err, IfOk, IfSome, codes, bytes_eq, refl, sym, subst}
+use Rattle.std.proofs.Common.{◌≡◌, ℕ, ◌+◌, ◌≤◌, ◌<◌, ◌^◌, nat_lt, arith, ◌&&◌, ◌||◌, Bool, true, false, is_none, nat_le, List, [], ◌∷◌, ◌++◌, length, Option, Some, None, Ok, Err, IfOk, IfSome, codes, bytes_eq, refl, sym, subst, unwrap_or}
 use Rattle.std.proofs.lemmas.Result.{IfOk-at_ok}
 use Rattle.std.proofs.lemmas.Bool.Decides.{nat_tests}
 use Rattle.std.specs.List.{AllByRecursion}
@@ -18,7 +18,7 @@ use Rattle.conntrack_cmd.specs.declared.command.Command.TheVariants as command
 use Rattle.conntrack_cmd.specs.declared.command.LineMeaning.{LineMeaning}
 use Rattle.conntrack_cmd.specs.declared.command.LineMeaning.TheVariants as meaning
 use Rattle.conntrack_cmd.specs.declared.read.ScriptKind.TheVariants as kind
-use Rattle.conntrack_cmd.specs.Options.{beside_ports, everything, filter_of, flow_of, options_from, taken_proto, tuple_of, with_dport, with_dst, with_option, with_proto, with_sport, with_src}
+use Rattle.conntrack_cmd.specs.Options.{beside_ports, everything, filter_of, flow_of, options_from, taken_proto, tuple_of, with_dport, with_dst, with_option, with_proto, with_sport, with_src, with_zone}
 use Rattle.conntrack_cmd.specs.Line.{alone, command_of, expire_of, is_expect, line_of, list_of, moment_in, wait_of}
 use Rattle.conntrack_cmd.specs.Script.{commands_of, fault_at, has_wait, next_of, meanings_from, IsScript}
 use Rattle.conntrack_cmd.specs.ScriptLaws.{IsLawful, IsLawfulFilter}
@@ -38,6 +38,7 @@ record IsOfFlow (f : Filter) : Type 0 where
   dst : IfSome f.dst (λ n. n < 2 ^ 32)
   sport : IfSome f.sport (λ n. n < 2 ^ 16)
   dport : IfSome f.dport (λ n. n < 2 ^ 16)
+  zone : IfSome f.zone (λ n. n < 2 ^ 16)
 
 -- an option that is read, with its value
 option_read : {A : Type 0} (P : A → Type 0) (old value : Option A) (f : Option A → Filter) → IfSome value P
@@ -51,27 +52,32 @@ module _ (numbers : NumbersStayWithin) (ports : PortsAreSmall) (addresses : Addr
     kept_proto : IfOk (with_proto true f value) IsOfFlow
     kept_proto =
         option_read {A = Proto} (λ (p : Proto). has_ports (Some p) ≡ true) f.proto (taken_proto true (proto_named value)) (λ (p : Option Proto). record f { proto = p }) (ported (proto_named value))
-        (λ p has. record { proto = has; src = is.src; dst = is.dst; sport = is.sport; dport = is.dport })
+        (λ p has. record { proto = has; src = is.src; dst = is.dst; sport = is.sport; dport = is.dport; zone = is.zone })
 
     kept_src : IfOk (with_src f value) IsOfFlow
     kept_src =
         option_read {A = ℕ} (λ n. n < 2 ^ 32) f.src (address_of value) (λ (a : Option ℕ). record f { src = a }) (addresses value)
-        (λ a small. record { proto = is.proto; src = small; dst = is.dst; sport = is.sport; dport = is.dport })
+        (λ a small. record { proto = is.proto; src = small; dst = is.dst; sport = is.sport; dport = is.dport; zone = is.zone })
 
     kept_dst : IfOk (with_dst f value) IsOfFlow
     kept_dst =
         option_read {A = ℕ} (λ n. n < 2 ^ 32) f.dst (address_of value) (λ (a : Option ℕ). record f { dst = a }) (addresses value)
-        (λ a small. record { proto = is.proto; src = is.src; dst = small; sport = is.sport; dport = is.dport })
+        (λ a small. record { proto = is.proto; src = is.src; dst = small; sport = is.sport; dport = is.dport; zone = is.zone })
 
     kept_sport : IfOk (with_sport f value) IsOfFlow
     kept_sport =
         option_read {A = ℕ} (λ n. n < 2 ^ 16) f.sport (port_of 0 value) (λ (p : Option ℕ). record f { sport = p }) (ports 0 value)
-        (λ p small. record { proto = is.proto; src = is.src; dst = is.dst; sport = small; dport = is.dport })
+        (λ p small. record { proto = is.proto; src = is.src; dst = is.dst; sport = small; dport = is.dport; zone = is.zone })
 
     kept_dport : IfOk (with_dport f value) IsOfFlow
     kept_dport =
         option_read {A = ℕ} (λ n. n < 2 ^ 16) f.dport (port_of 0 value) (λ (p : Option ℕ). record f { dport = p }) (ports 0 value)
-        (λ p small. record { proto = is.proto; src = is.src; dst = is.dst; sport = is.sport; dport = small })
+        (λ p small. record { proto = is.proto; src = is.src; dst = is.dst; sport = is.sport; dport = small; zone = is.zone })
+
+    kept_zone : IfOk (with_zone f value) IsOfFlow
+    kept_zone =
+        option_read {A = ℕ} (λ n. n < 2 ^ 16) f.zone (port_of 0 value) (λ (z : Option ℕ). record f { zone = z }) (ports 0 value)
+        (λ z small. record { proto = is.proto; src = is.src; dst = is.dst; sport = is.sport; dport = is.dport; zone = small })
 
     kept : (name : List ℕ) → IfOk (with_option true f name value) IsOfFlow
     unfolding with_option
@@ -80,7 +86,8 @@ module _ (numbers : NumbersStayWithin) (ports : PortsAreSmall) (addresses : Addr
         (λ _. where_read IsOfFlow (bytes_eq name (codes "-s")) _ _ (λ _. kept_src)
         (λ _. where_read IsOfFlow (bytes_eq name (codes "-d")) _ _ (λ _. kept_dst)
         (λ _. where_read IsOfFlow (bytes_eq name (codes "--sport")) _ _ (λ _. kept_sport)
-        (λ _. where_read IsOfFlow (bytes_eq name (codes "--dport")) _ (Err kind.Option) (λ _. kept_dport) (λ _. tt)))))
+        (λ _. where_read IsOfFlow (bytes_eq name (codes "--dport")) _ _ (λ _. kept_dport)
+        (λ _. where_read IsOfFlow (bytes_eq name (codes "-w")) _ (Err kind.Option) (λ _. kept_zone) (λ _. tt))))))
 
   flow_words : (f : Filter) (words : List (List ℕ)) → IsOfFlow f → IfOk (options_from true f words) IsOfFlow
   unfolding options_from
@@ -89,13 +96,20 @@ module _ (numbers : NumbersStayWithin) (ports : PortsAreSmall) (addresses : Addr
   flow_words f (name ∷ value ∷ words) is =
       went_on {A = Filter} {B = Filter} IsOfFlow IsOfFlow (with_option true f name value) _ (kept f value is name) (λ g of. flow_words g words of)
 
-  in_range : (src dst a b : ℕ) → src < 2 ^ 32 → dst < 2 ^ 32 → a < 2 ^ 16 → b < 2 ^ 16 → (nat_lt src (2 ^ 32) && nat_lt dst (2 ^ 32) && nat_lt a (2 ^ 16) && nat_lt b (2 ^ 16)) ≡ true
-  in_range src dst a b first second third fourth = grind (arith, nat_tests)
+  in_range : (zone src dst a b : ℕ) → zone < 2 ^ 16 → src < 2 ^ 32 → dst < 2 ^ 32 → a < 2 ^ 16 → b < 2 ^ 16
+      → (nat_lt zone (2 ^ 16) && nat_lt src (2 ^ 32) && nat_lt dst (2 ^ 32) && nat_lt a (2 ^ 16) && nat_lt b (2 ^ 16)) ≡ true
+  in_range zone src dst a b in_zone first second third fourth = grind (arith, nat_tests)
 
-  valid : (proto : Proto) (src dst a b : ℕ) → has_ports (Some proto) ≡ true → src < 2 ^ 32 → dst < 2 ^ 32 → a < 2 ^ 16 → b < 2 ^ 16 → is_valid (record { proto = proto; src = src; dst = dst; a = a; b = b }) ≡ true
-  valid Icmp src dst a b is first second third fourth = absurd (cc)
-  valid Tcp src dst a b is first second third fourth = rw (in_range src dst a b first second third fourth)
-  valid Udp src dst a b is first second third fourth = rw (in_range src dst a b first second third fourth)
+  valid : (proto : Proto) (zone src dst a b : ℕ) → has_ports (Some proto) ≡ true → zone < 2 ^ 16 → src < 2 ^ 32 → dst < 2 ^ 32 → a < 2 ^ 16 → b < 2 ^ 16
+      → is_valid (record { proto = proto; zone = zone; src = src; dst = dst; a = a; b = b }) ≡ true
+  valid Icmp zone src dst a b is in_zone first second third fourth = absurd (cc)
+  valid Tcp zone src dst a b is in_zone first second third fourth = rw (in_range zone src dst a b in_zone first second third fourth)
+  valid Udp zone src dst a b is in_zone first second third fourth = rw (in_range zone src dst a b in_zone first second third fourth)
+
+  -- the zone that is told, or zone 0
+  told_or_first : (zone : Option ℕ) → IfSome zone (λ n. n < 2 ^ 16) → unwrap_or zone 0 < 2 ^ 16
+  told_or_first None low = omega arith
+  told_or_first (Some zone) low = low
 
   valid_flow : (f : Filter) → IsOfFlow f → IfOk (flow_of f) (λ t. is_valid t ≡ true)
   valid_flow f is =
@@ -104,10 +118,10 @@ module _ (numbers : NumbersStayWithin) (ports : PortsAreSmall) (addresses : Addr
       (λ src first. went_on {A = ℕ} {B = Tuple} (λ n. n < 2 ^ 32) (λ (t : Tuple). is_valid t ≡ true) (required kind.Option f.dst) _ (needed (λ n. n < 2 ^ 32) kind.Option f.dst is.dst)
       (λ dst second. went_on {A = ℕ} {B = Tuple} (λ n. n < 2 ^ 16) (λ (t : Tuple). is_valid t ≡ true) (required kind.Option f.sport) _ (needed (λ n. n < 2 ^ 16) kind.Option f.sport is.sport)
       (λ a third. went_on {A = ℕ} {B = Tuple} (λ n. n < 2 ^ 16) (λ (t : Tuple). is_valid t ≡ true) (required kind.Option f.dport) _ (needed (λ n. n < 2 ^ 16) kind.Option f.dport is.dport)
-      (λ b fourth. valid p src dst a b has first second third fourth)))))
+      (λ b fourth. valid p (unwrap_or f.zone 0) src dst a b has (told_or_first f.zone is.zone) first second third fourth)))))
 
   none_named : IsOfFlow everything
-  none_named = record { proto = tt; src = tt; dst = tt; sport = tt; dport = tt }
+  none_named = record { proto = tt; src = tt; dst = tt; sport = tt; dport = tt; zone = tt }
 
   valid_tuple : (words : List (List ℕ)) → IfOk (tuple_of words) (λ t. is_valid t ≡ true)
   valid_tuple words =

@@ -1,11 +1,12 @@
 //! What holds of all bytes as scripts, and of every answer that fits: each law is the contract of a function that does
 //! nothing but cite the laws of histories that it follows from.
 
-ghost use Rattle.conntrack_cmd.specs.Laws.{AnswersStillFit, LowerMarksFit};
+ghost use Rattle.conntrack_cmd.specs.Laws.{AnswersStillFit, LowerMarksFit, ZonedDeletesNameTheirZone, ZonedDeletesLeaveOtherZones, ZonedListsNameTheirZone};
 ghost use Rattle.conntrack_cmd.specs.ScriptLaws.{BytesHaveScriptOrFault, CommandsAreLawful, FaultsAreFirst, FaultsAreUnique, FirstAreFaults, LinesMakeScripts, ScriptsAreShort, ScriptsAreUnique, ScriptsHaveNoFault, ScriptsSayTheirCommands};
 
 use file_text::laws::{addresses_are_small, numbers_stay_within, ports_are_small};
-use history_book::laws::{events_stay, states_stay};
+use history_book::laws::{events_may_happen, events_stay, states_stay};
+use history_book::zone_laws::other_zones_stay;
 
 /// Bytes are one script at most.
 pub fn scripts_are_unique()
@@ -73,3 +74,23 @@ pub fn answers_still_fit()
 pub fn lower_marks_fit()
     ensures { LowerMarksFit }
 {}
+
+/// A list for one zone names entries of that zone alone.
+pub fn zoned_lists_name_their_zone()
+    ensures { ZonedListsNameTheirZone }
+{}
+
+/// So do the rows of a command that deletes in one zone.
+pub fn zoned_deletes_name_their_zone()
+    ensures { ZonedDeletesNameTheirZone }
+{
+    events_may_happen();
+}
+
+/// Each event of such a command destroys an entry of that zone, and leaves the parts of the others.
+pub fn zoned_deletes_leave_other_zones()
+    ensures { ZonedDeletesLeaveOtherZones }
+{
+    events_may_happen();
+    other_zones_stay();
+}

@@ -2,7 +2,7 @@
 
 ghost use Rattle.std.specs.Prelude.{◌≡◌, ◌≤◌, [], length, drop, get_or};
 ghost use Rattle.file_text.specs.Text.{words_of};
-ghost use Rattle.conntrack_cmd.specs.Options.{address_once, beside_ports, everything, filter_of, flow_of, options_from, port_once, taken_proto, tuple_of, with_option, with_reply};
+ghost use Rattle.conntrack_cmd.specs.Options.{address_once, beside_ports, everything, filter_of, flow_of, options_from, short_once, taken_proto, tuple_of, with_option, with_reply};
 
 use crate::read::ScriptKind;
 use file_text::lines::next_word;
@@ -30,9 +30,9 @@ fn address_once(old: Option<u32>, value: &[u8]) -> Result<Option<u32>, ScriptKin
     once(old, read, ScriptKind::Repeat)
 }
 
-/// The option with the port that is its value.
-fn port_once(old: Option<u16>, value: &[u8]) -> Result<Option<u16>, ScriptKind>
-    ensures { result ≡ port_once old value.now }
+/// The option with the port or the zone that is its value.
+fn short_once(old: Option<u16>, value: &[u8]) -> Result<Option<u16>, ScriptKind>
+    ensures { result ≡ short_once old value.now }
 {
     let read = read_port(value, 0).ok_or(ScriptKind::Value);
     once(old, read, ScriptKind::Repeat)
@@ -77,11 +77,14 @@ fn with_option(one: bool, filter: Filter, name: &[u8], value: &[u8]) -> Result<F
         let dst = address_once(filter.dst, value)?;
         Ok(Filter { dst, ..filter })
     } else if name == b"--sport".as_slice() {
-        let sport = port_once(filter.sport, value)?;
+        let sport = short_once(filter.sport, value)?;
         Ok(Filter { sport, ..filter })
     } else if name == b"--dport".as_slice() {
-        let dport = port_once(filter.dport, value)?;
+        let dport = short_once(filter.dport, value)?;
         Ok(Filter { dport, ..filter })
+    } else if name == b"-w".as_slice() {
+        let zone = short_once(filter.zone, value)?;
+        Ok(Filter { zone, ..filter })
     } else {
         with_reply(one, filter, name, value)
     }
@@ -112,6 +115,7 @@ fn read_options(one: bool, words: &[u8]) -> Result<Filter, ScriptKind>
         reply_dst: None,
         sport: None,
         dport: None,
+        zone: None,
     };
     let mut rest = words;
     'options: loop {
@@ -143,7 +147,7 @@ pub(crate) fn read_filter(words: &[u8]) -> Result<Filter, ScriptKind>
     beside_ports(filter)
 }
 
-/// The flow, where all five options tell it.
+/// The flow, where five options tell it; in zone 0, where no zone is told.
 fn flow_of(filter: Filter) -> Result<Tuple, ScriptKind>
     ensures { result ≡ flow_of filter }
 {
@@ -156,6 +160,7 @@ fn flow_of(filter: Filter) -> Result<Tuple, ScriptKind>
     ) {
         (Some(proto), Some(src), Some(dst), Some(a), Some(b)) => Ok(Tuple {
             proto,
+            zone: filter.zone.unwrap_or(0),
             src,
             dst,
             a,

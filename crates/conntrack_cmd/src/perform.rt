@@ -7,6 +7,7 @@ ghost use Rattle.history_book.specs.Sight.{IsKnown};
 ghost use Rattle.history_book.specs.WentOn.{WentOn};
 ghost use Rattle.conntrack_cmd.specs.Internal.Spoken.{Speaks};
 ghost use Rattle.conntrack_cmd.specs.Moment.{moment_of};
+ghost use Rattle.conntrack_cmd.specs.Laws.{NamesItsZone};
 ghost use Rattle.conntrack_cmd.specs.Performed.{Performed};
 
 use crate::command::Command;
@@ -16,6 +17,7 @@ use crate::looks::{count_live, list_expected, look_up};
 use crate::spoken::Spoken;
 use history_book::answer::{Answer, Rows};
 use history_book::desk::Desk;
+use history_book::laws::events_may_happen;
 use history_book::report::Expectations;
 use std::alloc::Global;
 use std::sync::Wait;
@@ -73,9 +75,8 @@ fn speak<R: Wait, D: Desk>(
     }
 }
 
-/// Performs a command at a moment in microseconds, and takes no place of the pool. All memory that it needs is taken
-/// before its first event: where that is wanting, it made no event.
-pub fn perform<R: Wait, D: Desk>(
+/// Performs a command at a moment in microseconds, as `perform` does.
+fn perform_command<R: Wait, D: Desk>(
     rt: &R,
     alloc: Global,
     desk: &mut D,
@@ -106,4 +107,35 @@ pub fn perform<R: Wait, D: Desk>(
         made,
         moment,
     })
+}
+
+/// Performs a command at a moment in microseconds, and takes no place of the pool. All memory that it needs is taken
+/// before its first event: where that is wanting, it made no event. Where a list or a command that deletes names a zone,
+/// its rows are of that zone alone.
+#[tactic(auto, using(crate::proofs::ZonedRows::names_its_zone))]
+pub fn perform<R: Wait, D: Desk>(
+    rt: &R,
+    alloc: Global,
+    desk: &mut D,
+    command: &Command,
+    moment: u64,
+) -> Result<Answer, NoMemory>
+    requires timely { moment ≤ 10 ^ 16 }
+    requires named { moment_of command.now ≤ 10 ^ 16 }
+    requires few { length (D.sight desk.old).own + (D.sight desk.old).sizes.entries + (D.sight desk.old).sizes.expectations ≤ 2 ^ 30 }
+    requires nothing_held { (D.sight desk.old).held ≡ [] }
+    requires nothing_owed { (D.sight desk.old).owed ≡ [] }
+    ensures performed { IfOk result (Performed command.now moment (D.sight desk.old) (D.sight desk.new)) }
+    ensures went { OnErr result (WentOn (D.sight desk.old) (D.sight desk.new) []) }
+    ensures held { OnErr result ((D.sight desk.new).held ≡ []) }
+    ensures owed { OnErr result ((D.sight desk.new).owed ≡ []) }
+    ensures zoned { IfOk result (NamesItsZone command.now) }
+    ensures none_taken { (D.sight desk.new).taken ≡ (D.sight desk.old).taken }
+    ensures knows { IsKnown (D.sight desk.new) }
+{
+    events_may_happen();
+    match perform_command(rt, alloc, desk, command, moment) {
+        Ok(answer) => Ok(answer),
+        Err(error) => Err(error),
+    }
 }

@@ -19,6 +19,8 @@ pub struct Filter {
     /// The source port and the destination port of the original tuple.
     pub sport: Option<u16>,
     pub dport: Option<u16>,
+    /// The zone.
+    pub zone: Option<u16>,
 }
 
 /// Whether no protocol is named, or this one.
@@ -41,12 +43,12 @@ fn is_address(named: Option<u32>, address: u32) -> bool
     }
 }
 
-/// Whether no port is named, or this one.
-fn is_port(named: Option<u16>, port: u16) -> bool
-    ensures { result ≡ is_number named port }
+/// Whether no port or zone is named, or this one.
+fn is_number(named: Option<u16>, number: u16) -> bool
+    ensures { result ≡ is_number named number }
 {
     match named {
-        Some(name) => name == port,
+        Some(name) => name == number,
         None => true,
     }
 }
@@ -60,6 +62,7 @@ pub fn passes(filter: &Filter, r: &Record) -> bool
         && is_address(filter.dst, r.original.dst)
         && is_address(filter.reply_src, r.reply.src)
         && is_address(filter.reply_dst, r.reply.dst)
-        && is_port(filter.sport, r.original.a)
-        && is_port(filter.dport, r.original.b)
+        && is_number(filter.sport, r.original.a)
+        && is_number(filter.dport, r.original.b)
+        && is_number(filter.zone, r.original.zone)
 }

@@ -73,6 +73,18 @@ fn faulty_options(rt: HostRuntime) -> Result<(), Fail> {
         ("-G -r 1.2.3.4", (1, 2)),
         ("-G -q", (1, 2)),
         ("-G expect", (1, 2)),
+        // A zone is no option of other commands.
+        ("-L expect -w 7", (1, 2)),
+        ("-L -w 7 expect", (1, 2)),
+        ("-F -w 7", (1, 2)),
+        ("-C -w 7", (1, 2)),
+        ("expire 5 -w 7", (1, 2)),
+        ("wait -w 7", (1, 2)),
+        ("-L -W 7", (1, 2)),
+        ("-L --zone 7", (1, 2)),
+        ("-L -w 7 8", (1, 2)),
+        ("-G -w 7", (1, 2)),
+        ("-G -w 7 -p tcp -s 1.2.3.4 -d 1.2.3.4 --sport 5", (1, 2)),
     ];
     for (text, want) in cases {
         assert_eq!(rt; answer(rt.alloc(), text.as_bytes())?, want, "{text}");
@@ -106,6 +118,20 @@ fn faulty_values(rt: HostRuntime) -> Result<(), Fail> {
         ("-L --dport x -y", (1, 3)),
         ("-L --sport", (1, 3)),
         ("-G --sport 65536", (1, 3)),
+        ("-L -w", (1, 3)),
+        ("-D -w", (1, 3)),
+        ("-G -w", (1, 3)),
+        ("-L -w 65536", (1, 3)),
+        ("-D -w 99999", (1, 3)),
+        ("-G -w 65536", (1, 3)),
+        ("-L -w 000007", (1, 3)),
+        ("-D -w 000000", (1, 3)),
+        ("-G -w 000007", (1, 3)),
+        ("-L -w -1", (1, 3)),
+        ("-D -w +1", (1, 3)),
+        ("-L -w x", (1, 3)),
+        ("-L -w 1,2", (1, 3)),
+        ("-L -w -p tcp", (1, 3)),
         ("wait\n-C\n \n-D -p\n-X", (4, 3)),
     ];
     for (text, want) in cases {
@@ -127,6 +153,11 @@ fn repeated_words(rt: HostRuntime) -> Result<(), Fail> {
         ("-D --dport 1 --dport 1", (1, 4)),
         ("-G -p udp -p icmp", (1, 4)),
         ("-G --sport 1 --dport 1 --sport x", (1, 4)),
+        ("-L -w 7 -w 7", (1, 4)),
+        ("-L -w 7 -w", (1, 4)),
+        ("-D -w 7 -p tcp -w 8", (1, 4)),
+        ("-G -w 0 -w 0", (1, 4)),
+        ("-G -w 0 -w 65536", (1, 4)),
         ("wait\nwait", (2, 4)),
         ("wait\n-C\n\n\twait \r\n-X", (4, 4)),
     ];
@@ -162,7 +193,7 @@ fn port_number(port: Option<u16>) -> u64 {
     }
 }
 
-fn filter_numbers(first: u64, filter: &Filter) -> [u64; 8] {
+fn filter_numbers(first: u64, filter: &Filter) -> [u64; 9] {
     [
         first,
         proto_number(filter.proto),
@@ -172,14 +203,15 @@ fn filter_numbers(first: u64, filter: &Filter) -> [u64; 8] {
         address_number(filter.reply_dst),
         port_number(filter.sport),
         port_number(filter.dport),
+        port_number(filter.zone),
     ]
 }
 
-/// A command as numbers: which, protocol, source and destination, those of the replies, the ports.
-fn numbers(command: &Command) -> [u64; 8] {
+/// A command as numbers: which, protocol, source and destination, those of the replies, the ports, the zone.
+fn numbers(command: &Command) -> [u64; 9] {
     match command {
         Command::List(filter) => filter_numbers(1, filter),
-        Command::ListExpect => [2, 0, 0, 0, 0, 0, 0, 0],
+        Command::ListExpect => [2, 0, 0, 0, 0, 0, 0, 0, 0],
         Command::Get(t) => [
             3,
             proto_number(Some(t.proto)),
@@ -189,11 +221,12 @@ fn numbers(command: &Command) -> [u64; 8] {
             0,
             u64::from(t.a),
             u64::from(t.b),
+            u64::from(t.zone),
         ],
         Command::Delete(filter) => filter_numbers(4, filter),
-        Command::Flush => [5, 0, 0, 0, 0, 0, 0, 0],
-        Command::Count => [6, 0, 0, 0, 0, 0, 0, 0],
-        Command::Expire(moment) => [7, *moment, 0, 0, 0, 0, 0, 0],
+        Command::Flush => [5, 0, 0, 0, 0, 0, 0, 0, 0],
+        Command::Count => [6, 0, 0, 0, 0, 0, 0, 0, 0],
+        Command::Expire(moment) => [7, *moment, 0, 0, 0, 0, 0, 0, 0],
     }
 }
 
@@ -201,37 +234,50 @@ fn numbers(command: &Command) -> [u64; 8] {
 fn good_lines(rt: HostRuntime) -> Result<(), Fail> {
     const TARGET: u64 = 0x0102_0304;
     let cases = [
-        ("-L", [1, NO, NO, NO, NO, NO, NO, NO]),
-        ("-L expect", [2, 0, 0, 0, 0, 0, 0, 0]),
-        (" \t-L\t expect \r\n", [2, 0, 0, 0, 0, 0, 0, 0]),
-        ("-L -p icmp", [1, 1, NO, NO, NO, NO, NO, NO]),
+        ("-L", [1, NO, NO, NO, NO, NO, NO, NO, NO]),
+        ("-L expect", [2, 0, 0, 0, 0, 0, 0, 0, 0]),
+        (" \t-L\t expect \r\n", [2, 0, 0, 0, 0, 0, 0, 0, 0]),
+        ("-L -p icmp", [1, 1, NO, NO, NO, NO, NO, NO, NO]),
         (
             "-L -p tcp -s 1.2.3.4 -d 0.0.0.0 -r 0.0.0.1 -q 255.255.255.255 --sport 00080 --dport 65535",
-            [1, 6, TARGET, 0, 1, 0xffff_ffff, 80, 65_535],
+            [1, 6, TARGET, 0, 1, 0xffff_ffff, 80, 65_535, NO],
         ),
         (
             "-L --dport 0 -q 0.0.0.4 -r 0.0.0.3 -d 0.0.0.2 -s 0.0.0.1 --sport 0 -p udp",
-            [1, 17, 1, 2, 3, 4, 0, 0],
+            [1, 17, 1, 2, 3, 4, 0, 0, NO],
         ),
-        ("-D", [4, NO, NO, NO, NO, NO, NO, NO]),
-        ("-D -r 1.2.3.4\r", [4, NO, NO, NO, TARGET, NO, NO, NO]),
-        ("-D -p udp --sport 7", [4, 17, NO, NO, NO, NO, 7, NO]),
+        ("-D", [4, NO, NO, NO, NO, NO, NO, NO, NO]),
+        ("-D -r 1.2.3.4\r", [4, NO, NO, NO, TARGET, NO, NO, NO, NO]),
+        ("-D -p udp --sport 7", [4, 17, NO, NO, NO, NO, 7, NO, NO]),
         (
             "-G -p tcp -s 1.2.3.4 -d 0.0.0.5 --sport 6 --dport 7",
-            [3, 6, TARGET, 5, 0, 0, 6, 7],
+            [3, 6, TARGET, 5, 0, 0, 6, 7, 0],
         ),
         (
             "#\n-G --dport 0 --sport 65535 -d 1.2.3.4 -p udp -s 0.0.0.0\n\n",
-            [3, 17, 0, TARGET, 0, 0, 65_535, 0],
+            [3, 17, 0, TARGET, 0, 0, 65_535, 0, 0],
         ),
-        ("-F", [5, 0, 0, 0, 0, 0, 0, 0]),
-        ("-C\n", [6, 0, 0, 0, 0, 0, 0, 0]),
-        ("expire 0", [7, 0, 0, 0, 0, 0, 0, 0]),
+        ("-L -w 7", [1, NO, NO, NO, NO, NO, NO, NO, 7]),
+        ("-L -w 0", [1, NO, NO, NO, NO, NO, NO, NO, 0]),
+        ("-L -w 65535", [1, NO, NO, NO, NO, NO, NO, NO, 65_535]),
+        ("-D -w 00008", [4, NO, NO, NO, NO, NO, NO, NO, 8]),
+        ("-D -w 1 -p icmp", [4, 1, NO, NO, NO, NO, NO, NO, 1]),
+        (
+            "-G -w 7 -p tcp -s 1.2.3.4 -d 0.0.0.5 --sport 6 --dport 7",
+            [3, 6, TARGET, 5, 0, 0, 6, 7, 7],
+        ),
+        (
+            "-G -p tcp -s 1.2.3.4 -d 0.0.0.5 --sport 6 --dport 7 -w 65535",
+            [3, 6, TARGET, 5, 0, 0, 6, 7, 65_535],
+        ),
+        ("-F", [5, 0, 0, 0, 0, 0, 0, 0, 0]),
+        ("-C\n", [6, 0, 0, 0, 0, 0, 0, 0, 0]),
+        ("expire 0", [7, 0, 0, 0, 0, 0, 0, 0, 0]),
         (
             "expire 10000000000000000",
-            [7, 10_000_000_000_000_000, 0, 0, 0, 0, 0, 0],
+            [7, 10_000_000_000_000_000, 0, 0, 0, 0, 0, 0, 0],
         ),
-        ("expire 00000000000000012", [7, 12, 0, 0, 0, 0, 0, 0]),
+        ("expire 00000000000000012", [7, 12, 0, 0, 0, 0, 0, 0, 0]),
     ];
     for (text, want) in cases {
         match read(rt.alloc(), text.as_bytes()) {
