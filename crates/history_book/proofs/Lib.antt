@@ -9,7 +9,7 @@ pub mod Passing
 pub mod Late
 pub mod Records
 pub mod Live
-pub mod OneProtocol
+pub mod OneFlow
 pub mod Again
 pub mod Expected
 pub mod Gone
@@ -17,7 +17,14 @@ pub mod HeldPlaces
 pub mod Placed
 pub mod Room
 pub mod Expecting
+pub mod Kept
+pub mod ZoneParts
+pub mod ZoneStates
+pub mod ZoneRuns
+pub mod ZoneNames
+pub mod ZoneHistories
 pub mod Checking
 pub mod Sights
 pub mod Examples
+pub mod ZoneExamples
 pub mod Merging

@@ -16,6 +16,8 @@ pub mod Internal
 pub mod Entry
 pub mod Laws
 pub mod StateLaws
+pub mod Zones
+pub mod ZoneLaws
 pub mod Held
 pub mod Sight
 pub mod WentOn

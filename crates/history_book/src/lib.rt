@@ -21,3 +21,4 @@ pub mod sizes;
 #[cfg(test)]
 mod tests;
 pub mod verdict;
+pub mod zone_laws;
