@@ -5,6 +5,8 @@ set -eu
 inside=ctreplay-inside-$$
 router=ctreplay-router-$$
 outside=ctreplay-outside-$$
+# Namespaces that a script makes besides.
+more_spaces=
 
 
 skip() {
@@ -36,7 +38,7 @@ finish() {
         kill "$process" 2>/dev/null || true
     done
     wait
-    for space in "$inside" "$router" "$outside"; do
+    for space in "$inside" "$router" "$outside" $more_spaces; do
         ip netns del "$space" 2>/dev/null || true
     done
     rm -rf "$room"
@@ -73,9 +75,9 @@ make_net() {
     in_space "$inside" sysctl -qw net.ipv4.ip_local_port_range='40000 40099'
 }
 
-# Nobody answers at 198.51.100.54; the FTP server's ports for data are 50000 to 50009.
+# Nobody answers at 198.51.100.54; the FTP server's ports for data are 50000 to 50009, or to $last_data_port.
 start_servers() {
-    mkdir "$room/web" "$room/ftp" "$room/empty"
+    mkdir -p "$room/web" "$room/ftp" "$room/empty"
     seq 1 400 >"$room/web/numbers"
     seq 1 200 >"$room/ftp/numbers"
     chmod 755 "$room" "$room/web" "$room/ftp" "$room/empty"
@@ -89,7 +91,7 @@ secure_chroot_dir=$room/empty
 seccomp_sandbox=NO
 isolate_network=NO
 pasv_min_port=50000
-pasv_max_port=50009
+pasv_max_port=${last_data_port:-50009}
 xferlog_enable=NO
 CONF
     in_space "$outside" iptables -A INPUT -d 198.51.100.54 -j DROP
