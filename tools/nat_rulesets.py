@@ -66,6 +66,38 @@ def read_ruleset(name, data):
     raise Trouble(f"{name}: it is neither of iptables-save nor of nft list ruleset")
 
 
+# Zones: rules of any table that choose one
+
+
+class ZoneRule:
+    """A rule by which packets get a zone: its place and text, the zone where it is a number, and whether it is of one direction alone."""
+
+    def __init__(self, place, text, direction, zone):
+        self.place, self.text, self.is_of_one = place, text, bool(direction)
+        self.zone = int(zone) if re.fullmatch(r"[0-9]{1,5}", zone) and int(zone) < 65536 else None
+
+
+def read_zone_rules(data):
+    """The rules of a ruleset that choose zones, in order of their lines."""
+    text = data.decode("utf-8", "replace")
+    lines = json_lines(text) if text.lstrip().startswith("{") else ((f"line {number}", line) for number, line in enumerate(text.splitlines(), 1))
+    for place, line in lines:
+        line = re.sub(r"^\[\d+:\d+\] | # handle \d+$", "", line.strip())
+        if line.startswith("#"):
+            continue
+        unquoted = re.sub(r'"[^"]*"', '""', line)
+        found = re.search(r"-[jg] CT\b.*? --zone(-orig|-reply)? (\S+)", unquoted) or re.search(r"\bct (?:(original|reply) )?zone set (\S+)", unquoted)
+        if found:
+            yield ZoneRule(place, line, found[1], found[2].strip(";"))
+
+
+def json_lines(text):
+    """The rules of nft's JSON as nft prints them, each with its handle."""
+    for item in json.loads(text)["nftables"]:
+        if rule := item.get("rule"):
+            yield f"handle {rule['handle']}", " ".join(filter(None, (expression_text(it) for it in rule["expr"])))
+
+
 # iptables-save
 
 
@@ -223,6 +255,8 @@ def read_words(rule, words):
         elif word == "xt":
             raise Unsaid("iptables made it, and nft's JSON has not all of its words: iptables-save -t nat or nft -a list ruleset has")
         else:
+            if word == "ct" and "zone" in words[:2]:
+                raise Unsaid("ct zone: a rule is for flows of every zone here")
             # A word such as tcp or ct tells nothing without what of it is wanted.
             raise Unsaid(f"{word} {words[0]} cannot be said" if word in KEYED and words else f"{word} cannot be said")
 

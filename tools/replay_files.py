@@ -6,6 +6,7 @@ import datetime
 import functools
 import gc
 import os
+import re
 import signal
 import struct
 import subprocess
@@ -19,8 +20,9 @@ Report = namedtuple("Report", "events threads script")
 Verdict = namedtuple("Verdict", "word why entry point last", defaults=[None])
 Rule = namedtuple("Rule", "line side options address low high text test")
 Packet = namedtuple("Packet", "kind why proto source target first second flags payload flow", defaults=[None] * 9)
-# As the program has it: of TCP and UDP `first` and `second` are the ports; of ICMP the identifier, and type and code.
-Flow = namedtuple("Flow", "proto source target first second")
+# As the program has it: of TCP and UDP `first` and `second` are the ports; of ICMP the identifier, and type and code. A
+# packet's zone is its capture's; no bytes of it tell it.
+Flow = namedtuple("Flow", "proto source target first second zone", defaults=[0])
 
 PROTOCOLS = {1: "icmp", 6: "tcp", 17: "udp"}
 PROTOCOL_NUMBERS = {name: number for number, name in PROTOCOLS.items()}
@@ -32,6 +34,7 @@ LINKS = (1, 101)
 IP_HEADER = struct.Struct(">HxxHxBxxII")
 REFUSED = ("FULL", "NOPORT", "CLASH")
 LONGEST_FRAME = 262_144
+MOST_ZONE = 65_535
 
 
 class Trouble(Exception):
@@ -200,6 +203,11 @@ def packet_of(frame):
     return READERS[name](data[header:total], total - header, source, target)
 
 
+def in_zone(packet, zone):
+    """A packet of a capture of this zone."""
+    return packet._replace(flow=packet.flow._replace(zone=zone)) if zone and packet.flow else packet
+
+
 def read_udp(body, length, source, target):
     if length < 8 or len(body) < 6 or not 8 <= struct.unpack_from(">H", body, 4)[0] <= length:
         return Packet("invalid", "the UDP header is cut, or its length is wrong", "udp", source, target)
@@ -235,8 +243,8 @@ def read_icmp(body, length, source, target):
 READERS = {"icmp": read_icmp, "tcp": read_tcp, "udp": read_udp}
 
 
-def inner_flow(packet):
-    """The flow of the packet that an ICMP error repeats, as that packet had it, or None."""
+def inner_flow(packet, zone=0):
+    """The flow of the packet that an ICMP error of this zone repeats, as that packet had it, or None."""
     inner = packet.payload
     header, name = (inner[0] & 15) * 4, PROTOCOLS.get(inner[9])
     if not name or header < 20 or len(inner) < header + (6 if name == "icmp" else 4):
@@ -244,8 +252,8 @@ def inner_flow(packet):
     source, target = struct.unpack_from(">II", inner, 12)
     if name == "icmp":
         kind, code, _, identifier = struct.unpack_from(">BBHH", inner, header)
-        return Flow(name, source, target, identifier, kind * 256 + code) if kind in ICMP_PAIRS else None
-    return Flow(name, source, target, *struct.unpack_from(">HH", inner, header))
+        return Flow(name, source, target, identifier, kind * 256 + code, zone) if kind in ICMP_PAIRS else None
+    return Flow(name, source, target, *struct.unpack_from(">HH", inner, header), zone)
 
 
 def packet_text_short(inner):
@@ -292,8 +300,8 @@ def packet_text(frame):
 def inverse(flow):
     """The tuple of the packets that go the other way."""
     if flow.proto == "icmp":
-        return Flow("icmp", flow.target, flow.source, flow.first, ICMP_PAIRS[flow.second >> 8] * 256 + flow.second % 256)
-    return Flow(flow.proto, flow.target, flow.source, flow.second, flow.first)
+        return Flow("icmp", flow.target, flow.source, flow.first, ICMP_PAIRS[flow.second >> 8] * 256 + flow.second % 256, flow.zone)
+    return Flow(flow.proto, flow.target, flow.source, flow.second, flow.first, flow.zone)
 
 
 @functools.lru_cache(maxsize=1 << 18)
@@ -303,10 +311,16 @@ def pair_of(flow):
 
 
 def ends_text(flow):
+    """A flow, with its zone where that is not 0."""
     source, target = address_text(flow.source), address_text(flow.target)
     if flow.proto == "icmp":
-        return f"icmp {source} > {target} type {flow.second >> 8} code {flow.second & 255} id {flow.first}"
-    return f"{flow.proto} {source}:{flow.first} > {target}:{flow.second}"
+        return f"icmp {source} > {target} type {flow.second >> 8} code {flow.second & 255} id {flow.first}{zone_text(flow.zone)}"
+    return f"{flow.proto} {source}:{flow.first} > {target}:{flow.second}{zone_text(flow.zone)}"
+
+
+def zone_text(zone):
+    """A zone as a report prints it: 0 is not said."""
+    return f" zone={zone}" if zone else ""
 
 
 def tuple_text(flow):
@@ -317,12 +331,22 @@ def tuple_text(flow):
     return f"{ends} sport={flow.first} dport={flow.second}"
 
 
-def flow_of_words(proto, words):
-    """The tuple of these words of a report."""
+def flow_of_words(proto, words, zone=0):
+    """The tuple of these words of a report, in a zone."""
     source, target = address_number(words[0][4:]), address_number(words[1][4:])
     if proto == "icmp":
-        return Flow(proto, source, target, int(words[4][3:]), int(words[2][5:]) * 256 + int(words[3][5:]))
-    return Flow(proto, source, target, int(words[2][6:]), int(words[3][6:]))
+        return Flow(proto, source, target, int(words[4][3:]), int(words[2][5:]) * 256 + int(words[3][5:]), zone)
+    return Flow(proto, source, target, int(words[2][6:]), int(words[3][6:]), zone)
+
+
+def zone_of_words(words):
+    """The zone that ends these words, 0 where none does. None is said elsewhere, and 0 never is."""
+    said = [word for word in words if word.startswith("zone=")]
+    if not said:
+        return 0
+    if len(said) > 1 or words[-1] != said[0] or not re.fullmatch(r"zone=[1-9]\d{0,4}", said[0]) or int(said[0][5:]) > MOST_ZONE:
+        raise ValueError("a zone that no report has")
+    return int(said[0][5:])
 
 
 # Reports
@@ -357,9 +381,9 @@ def split_report(lines):
 
 class Event:
     """An event of the history: its number, its kind, who made it, the entry that it is of, its line, the deadline that it gives
-    that entry or None, and of a confirm both tuples."""
+    that entry or None, of a confirm both tuples, and of a confirm or an expect the zone."""
 
-    __slots__ = ("number", "kind", "thread", "index", "entry", "text", "until", "flows")
+    __slots__ = ("number", "kind", "thread", "index", "entry", "text", "until", "flows", "zone")
 
     @property
     def fields(self):
@@ -369,18 +393,21 @@ class Event:
 
 def event_of(line):
     words, event = line.split(), Event()
-    event.number, event.kind, event.text, event.until, event.flows = int(words[0]), words[1], line, None, None
+    event.number, event.kind, event.text, event.until, event.flows, event.zone = int(words[0]), words[1], line, None, None, None
     thread, _, index = words[2].partition(".")
     event.thread, event.index = thread if thread == "s" else int(thread), int(index)
     if event.kind == "touch":
         event.entry, event.until = int(words[3][3:]), int(words[5][6:])
     elif event.kind == "confirm":
-        width = 5 if words[3] == "icmp" else 4
-        event.flows = (flow_of_words(words[3], words[4 : 4 + width]), flow_of_words(words[3], words[4 + width : 4 + 2 * width]))
+        width, event.zone = 5 if words[3] == "icmp" else 4, zone_of_words(words) if " zone=" in line else 0
+        event.flows = tuple(flow_of_words(words[3], words[at : at + width], event.zone) for at in (4, 4 + width))
         event.entry, event.until = event.number, int(words[4 + 2 * width][6:])
     else:
         fields = event.fields
         event.entry = int(fields.get("id", fields.get("master", -1)))
+        event.zone = zone_of_words(words) if event.kind == "expect" else None
+    if event.zone is None and " zone=" in line:
+        raise ValueError("a zone where none is said")
     return event
 
 
@@ -404,17 +431,33 @@ def verdict_of(text):
 
 
 def check_history(report, sizes):
-    """Each event has its number, was made by a packet that is there, and is of an entry that is live."""
-    live = set()
+    """Each event has its number, was made by a packet that is there, and is of an entry that is live; no two live entries share a tuple."""
+    live, taken = set(), set()
     for at, event in enumerate(report.events):
         if event.number != at or event.thread != "s" and not 0 <= event.index < sizes[event.thread]:
             raise ValueError("an event of no packet, or with another number")
         if event.kind == "confirm":
             live.add(at)
+            if not taken.isdisjoint(event.flows):
+                raise ValueError("a tuple that is live is taken again")
+            taken.update(event.flows)
         elif event.kind in ("touch", "destroy", "expect", "claim") and event.entry not in live:
             raise ValueError("an event of no live entry")
         if event.kind == "destroy":
             live.remove(event.entry)
+            taken.difference_update(report.events[event.entry].flows)
+        if event.kind in ("expect", "claim") or event.kind == "confirm" and " master=" in event.text:
+            check_master(report.events, event)
+
+
+def check_master(events, event):
+    """What an entry expects, and what begins by that, is in its zone."""
+    fields = event.fields
+    master = events[int(fields["master"])]
+    if master.kind != "confirm" or event.zone not in (None, master.zone):
+        raise ValueError("an entry or an expectation in another zone than its master")
+    if event.kind == "claim" and (events[int(fields["expect"])].kind, events[int(fields["expect"])].entry) != ("expect", event.entry):
+        raise ValueError("a claim of what was not expected")
 
 
 def check_verdicts(events, threads):
@@ -429,10 +472,54 @@ def check_verdicts(events, threads):
                 raise ValueError("a verdict whose points fall, or were not reached")
 
 
-class Work:
-    """A report with its captures, of which each has to have a frame for each verdict."""
+def zones_said(report, verdicts):
+    """The zone of each capture, by the entries of its packets, or None where none has one. Room alone is shared: a packet
+    may drop an entry of another zone."""
+    found = [set() for _ in verdicts]
+    for event in report.events:
+        if event.thread != "s" and event.kind != "unexpect" and not event.text.endswith(" dropped"):
+            found[event.thread].add(report.events[event.entry].zone)
+    for said, own in zip(found, verdicts):
+        said.update(report.events[verdict.entry].zone for verdict in own if verdict.entry is not None)
+    if any(len(said) > 1 for said in found) or any(" zone=" in text for texts in report.threads for text in texts):
+        raise ValueError("a capture of two zones, or a verdict that says one")
+    return [said.pop() if said else None for said in found]
 
-    def __init__(self, report_name, names):
+
+def read_zones(text, count):
+    """The zones of so many captures, from the value of --zones."""
+    zones = text.split(",")
+    if len(zones) != count or not all(re.fullmatch(r"[0-9]{1,5}", zone) and int(zone) <= MOST_ZONE for zone in zones):
+        raise Trouble(f"--zones has one number from 0 to {MOST_ZONE} for each capture, {count} here, between commas, and {text} is none such")
+    return [int(zone) for zone in zones]
+
+
+def check_rows(report):
+    """The rows of the script's part are of entries that there were, and of their zones."""
+    entries = {event.flows for event in report.events if event.kind == "confirm"}
+    for line in report.script:
+        if " src=" not in line:
+            continue
+        *words, point = line.split()
+        zone = zone_of_words(words)
+        if point[0] != "@":
+            raise ValueError("a row without its point")
+        if words[1] == "proto=6":
+            is_right = report.events[int(words[6][7:])].zone == zone
+        else:
+            at, width = [place for place, word in enumerate(words) if word.startswith("src=")], 5 if words[0] == "icmp" else 4
+            is_right = tuple(flow_of_words(words[0], words[place : place + width], zone) for place in at) in entries
+        if not is_right:
+            raise ValueError("a row of no entry, or of another zone")
+
+
+class Work:
+    """A report with its captures, of which each has to have a frame for each verdict, and the zone of each capture.
+
+    A report says a capture's zone by its entries alone; `zones`, the value of --zones, says it where there is none.
+    """
+
+    def __init__(self, report_name, names, zones=None):
         self.report, self.names = read_report(report_name), names
         self.captures = [read_capture(name) for name in names]
         wanted, found = [len(verdicts) for verdicts in self.report.threads], [len(frames) for frames in self.captures]
@@ -442,9 +529,25 @@ class Work:
             check_history(self.report, found)
             self.verdicts = [[verdict_of(text) for text in texts] for texts in self.report.threads]
             check_verdicts(self.report.events, self.verdicts)
-        except (IndexError, ValueError, KeyError) as error:
+            check_rows(self.report)
+            said = zones_said(self.report, self.verdicts)
+        except (IndexError, ValueError, KeyError, Trouble) as error:
             raise Trouble(f"{report_name}: the report is cut or changed") from error
+        self.zones = self.zones_of(report_name, said, zones)
         self.check_packets(report_name)
+
+    def zones_of(self, report_name, said, text):
+        """The zone of each capture: what the report says, and where that is nothing what --zones says."""
+        given = read_zones(text, len(self.names)) if text is not None else [None if any(said) else 0] * len(self.names)
+        zones = []
+        for thread, (zone, named) in enumerate(zip(said, given)):
+            if zone is not None and named is not None and text is not None and zone != named:
+                raise Trouble(f"--zones {text} is not the report's: in {report_name} capture {thread}, {self.names[thread]}, has zone {zone}")
+            chosen = named if zone is None else zone
+            if chosen is None and any(verdict.point is not None for verdict in self.verdicts[thread]):
+                raise Trouble(f"{report_name} does not say which zone {self.names[thread]} has, as none of its packets has an entry: --zones LIST says it")
+            zones.append(chosen or 0)
+        return zones
 
     def check_packets(self, report_name):
         """Each packet that began or renewed an entry has one of its tuples: of a confirm the original one.
@@ -466,7 +569,7 @@ class Work:
 
     @functools.cached_property
     def packets(self):
-        return [[packet_of(frame) for frame in frames] for frames in self.captures]
+        return [[in_zone(packet_of(frame), zone) for frame in frames] for frames, zone in zip(self.captures, self.zones)]
 
     @functools.cached_property
     def start(self):

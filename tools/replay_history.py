@@ -65,8 +65,7 @@ def row_text(life, part, moment):
     pieces += [state] if state else []
     pieces += [files.tuple_text(original)] + ([] if "replied" in words else ["[UNREPLIED]"]) + [files.tuple_text(reply)]
     pieces += ["[ASSURED]"] if "assured" in words else []
-    zone = life.confirm.fields.get("zone")
-    return " ".join(pieces + ([f"zone={zone}"] if zone else []))
+    return " ".join(pieces) + files.zone_text(original.zone)
 
 
 # The history, point by point
@@ -155,15 +154,15 @@ class Table:
 def ends_held(flow):
     """For what ends of a translation a tuple that is live takes a number, and which: as `place_of` names these ends."""
     if flow.proto == "icmp":
-        yield ("icmp", "snat", flow.target, flow.source, flow.second), flow.first
-        yield ("icmp", "dnat", flow.source, flow.target, flow.second), flow.first
+        yield ("icmp", "snat", flow.target, flow.source, flow.second, flow.zone), flow.first
+        yield ("icmp", "dnat", flow.source, flow.target, flow.second, flow.zone), flow.first
     else:
-        yield (flow.proto, "snat", flow.target, flow.source, flow.first), flow.second
-        yield (flow.proto, "dnat", flow.source, flow.target, flow.second), flow.first
+        yield (flow.proto, "snat", flow.target, flow.source, flow.first, flow.zone), flow.second
+        yield (flow.proto, "dnat", flow.source, flow.target, flow.second, flow.zone), flow.first
 
 
 def place_of(rule, flow):
-    """What the numbers of a rule are shared by for this flow: all flows of one end that differ in the number alone."""
+    """What the numbers of a rule are shared by for this flow: all flows of one end and one zone that differ in the number alone."""
     low, high = files.numbers_of(rule, flow)
     other = files.inverse(flow)
     if flow.proto == "icmp":
@@ -171,7 +170,7 @@ def place_of(rule, flow):
     else:
         fixed = other.first if rule.side == "snat" else other.second
     remote = other.source if rule.side == "snat" else other.target
-    return (flow.proto, rule.side, rule.address, remote, fixed), low, high
+    return (flow.proto, rule.side, rule.address, remote, fixed, flow.zone), low, high
 
 
 def holders_of(live, rule, flow):
