@@ -17,6 +17,7 @@ The parts:
   rules     files of rules of random bytes and words, of one line, of a million lines, with NUL bytes and open ends
   scripts   the same of scripts
   files     names of what is no file of bytes, and files that never end
+  zones     lists of zones, good and wrong ones
   outputs   an output that is full, closed, or read no further
   storms    many captures at once, full pools, one bucket, clashes, expiry, control connections of FTP (damaged_storms.py)
 A file is read, and then its report is checked with report_check.py; or it is refused by the one line that FORMATS has for its
@@ -227,6 +228,25 @@ def file_cases():
         yield Case(f"files: {name} of {len(words)}", words, files, judge)
 
 
+def zone_cases():
+    """Lists of zones, good and wrong ones."""
+    capture = read_bytes("crates", "ctreplay", "data", "c.pcap")
+    good, usage = {"c.pcap": capture}, is_refused(1, "the words are not of the stated form")
+    for text in ("", ",", "1,", ",1", "1,2", "1,2,3", "+1", "1 ", " 1", "1;2", "0x1", "1.0", "65536", "99999", "000001", "100000", "\u0661", "one"):
+        yield Case(f"zones: {text!r}", (f"--zones={text}", "c.pcap"), good, usage)
+    for name, words in (
+        ("twice", ("--zones=1", "--zones=1", "c.pcap")),
+        ("no value", ("c.pcap", "--zones")),
+        ("one for two", ("--zones", "1", "c.pcap", "c.pcap")),
+        ("no capture", ("--zones", "1")),
+        ("a made workload", ("--make", "0", "--packets", "8", "--threads", "1", "--zones", "1")),
+    ):
+        yield Case(f"zones: {name}", words, good, usage)
+    for text, zone in (("0", 0), ("00000", 0), ("7", 7), ("00007", 7), ("65535", 65535)):
+        inputs = inputs_of([capture], zones=[zone])
+        yield Case(f"zones: {text}", ("--zones", text, "c.pcap"), good, is_read(lambda report, inputs=inputs: check(report, inputs)))
+
+
 def shell_case(name, words, files, line, judge):
     return Case(f"outputs: {name}: {line}", words, files, judge, line)
 
@@ -328,6 +348,7 @@ def all_parts(given):
         "rules": lambda: text_cases("rules", given.seed, count),
         "scripts": lambda: text_cases("script", given.seed, count),
         "files": file_cases,
+        "zones": zone_cases,
         "outputs": output_cases,
     }
 

@@ -8,7 +8,7 @@ from tracker_rules import Command, Rule, address_of
 MOST_BYTES = 1_048_576
 MOST_LINES = 256
 RULE_OPTIONS = ("-p", "-s", "-d", "--sport", "--dport")
-FILTER_OPTIONS = ("-p", "-s", "-d", "-r", "-q", "--sport", "--dport")
+FILTER_OPTIONS = ("-p", "-s", "-d", "-r", "-q", "--sport", "--dport", "-w")
 LOOKUP_OPTIONS = ("-p", "-s", "-d", "--sport", "--dport")
 
 
@@ -105,7 +105,7 @@ def read_rules(data):
 def read_value(name, value, lookup):
     if name == "-p":
         demand(value in ("tcp", "udp") + (() if lookup else ("icmp",)), "value")
-    elif name in ("--sport", "--dport"):
+    elif name in ("--sport", "--dport", "-w"):
         demand(number_in(value, 0, 65535, 5), "value")
     else:
         demand(is_address(value), "value")
@@ -122,7 +122,7 @@ def read_filter(words, names, lookup=False):
         options[name], left = left[1], left[2:]
     ports = "--sport" in options or "--dport" in options
     demand(not ports or options.get("-p") in ("tcp", "udp"), "option")
-    demand(not lookup or len(options) == len(names), "option")
+    demand(not lookup or options.keys() >= set(LOOKUP_OPTIONS), "option")
     return options
 
 
@@ -134,7 +134,7 @@ def read_command(words):
     if word in ("-L", "-D"):
         return Command(word, read_filter(behind, FILTER_OPTIONS), None)
     if word == "-G":
-        return Command(word, read_filter(behind, LOOKUP_OPTIONS, lookup=True), None)
+        return Command(word, read_filter(behind, (*LOOKUP_OPTIONS, "-w"), lookup=True), None)
     if word in ("-F", "-C"):
         demand(not behind, "option")
         return Command(word, {}, None)
@@ -170,7 +170,7 @@ RULE_WORDS = (
     " 000053 00053 # \x00 snat\x00 \xff to\r"
 ).split(" ")
 SCRIPT_WORDS = (
-    "-L -G -D -F -C expire wait expect -p tcp udp icmp -s -d -r -q --sport --dport 10.0.0.1 10.0.0.2 10.0.0.1/8 256.0.0.1 5000 53"
+    "-L -G -D -F -C expire wait expect -p tcp udp icmp -s -d -r -q -w --sport --dport 10.0.0.1 10.0.0.2 10.0.0.1/8 256.0.0.1 5000 53"
     " 0 65535 65536 000053 1000500000 10000000000000000 10000000000000001 000000000000000001 # \x00 -L\x00 \xff wait\r"
 ).split(" ")
 GOOD_RULES = (
@@ -189,6 +189,10 @@ GOOD_COMMANDS = (
     "wait",
     "-G -p udp -s 10.0.0.1 -d 10.0.0.2 --sport 5000 --dport 53",
     "-L -p udp -s 10.0.0.1 --dport 53",
+    "-D -w 7",
+    "-L -w 00000 -p udp",
+    "-G -w 0 -p udp -s 10.0.0.1 -d 10.0.0.2 --sport 5000 --dport 53",
+    "-G -p udp -s 10.0.0.1 -d 10.0.0.2 --sport 5000 -w 65535 --dport 53",
 )
 
 

@@ -180,6 +180,21 @@ PYTHON
     wait "$client" || true
 }
 
+# One flow in three zones, and what each command of conntrack does with -w and without it.
+zones() {
+    local zone words
+    title 'one flow in the zones 0, 1 and 2: what conntrack finds, and which commands take -w'
+    for zone in 0 1 2; do
+        in_space "$router" conntrack -I -w "$zone" -p udp -s 10.0.0.1 -d 10.0.0.2 --sport 5000 --dport 53 --timeout 100 2>/dev/null || true
+    done
+    local flow='-p udp -s 10.0.0.1 -d 10.0.0.2 --sport 5000 --dport 53'
+    for words in -L '-L -w 1' '-L -w 0' "-G $flow" "-G -w 1 $flow" '-L expect -w 1' '-C -w 1' '-F -w 1' '-D -w 2' -D; do
+        printf '%s\n' "-- conntrack $words"
+        # shellcheck disable=SC2086
+        in_space "$router" conntrack $words 2>&1 | grep -v '^Try ' || true
+    done
+}
+
 full_table() {
     title 'sixty queries that nobody answers, with room for forty entries: entries, and queries that came out'
     local before
@@ -204,7 +219,7 @@ PYTHON
 uname -r
 make_net
 start_servers
-for row in "${@:-syn_again unacknowledged udp_assured active passive_inside fragments hairpin taken half_closed expectation}"; do
+for row in "${@:-syn_again unacknowledged udp_assured active passive_inside fragments hairpin taken half_closed expectation zones}"; do
     # shellcheck disable=SC2086
     for name in $row; do
         flush

@@ -25,7 +25,8 @@ def read_events(lines, count):
         thread, packet = (int(part) for part in words[2].split("."))
         makers.append((thread, packet))
         if words[1] == "confirm":
-            tuples = {" ".join(words[4:8]), " ".join(words[8:12])}
+            zone = words[-1] if words[-1].startswith("zone=") else ""
+            tuples = {" ".join([*ends, zone]) for ends in (words[4:8], words[8:12])}
             if any(t in by_tuple for t in tuples):
                 fault(f"event {number} confirms a tuple that is live")
             live[number] = tuples

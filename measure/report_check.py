@@ -2,7 +2,8 @@
 """Checks a report of ctreplay against the captures, rules and script that it is of. Written from docs/FORMATS.md and
 docs/DEFINITIONS.md, and not from the program. It is a module: thread_rows.py calls it.
 
-What it checks. Events are numbered from 0. Each was made by a packet or command that exists, in the order of its thread,
+What it checks. A packet, its entry, and what that expects are of its capture's zone, and flows of different zones never
+meet; only room is shared. Events are numbered from 0. Each was made by a packet or command that exists, in the order of its thread,
 and its whole line is the one that the rules give in the state that the events before it leave: a confirm is of free
 tuples, one that an entry begins with, with the right deadline, state, master and helper; a touch, destroy, expect or
 claim is of what is live then. Never are more live than there may be. Each verdict is of its packet, in order, and says
@@ -22,7 +23,7 @@ import re
 from bisect import bisect_right
 from tracker_rules import (
     address_of, address_text, is_meant, is_reply_of, may_go, named_end, NUMBERS, Refused, rule_for, SECOND, start_of,
-    step_of, Tuple, tuple_text, want,
+    step_of, Tuple, tuple_text, want, zone_text,
 )
 
 
@@ -58,16 +59,20 @@ class Entry:
 class Expectation:
     """What an entry expects, with the number of the event that ended it."""
 
-    def __init__(self, number, master, source, destination, port, deadline):
+    def __init__(self, number, master, zone, source, destination, port, deadline):
         self.number, self.master, self.deadline, self.end = number, master, deadline, None
-        self.source, self.destination, self.port = source, destination, port
+        self.zone, self.source, self.destination, self.port = zone, source, destination, port
+
+    def ends(self):
+        """What another expectation shares with it where the two clash."""
+        return self.zone, self.source, self.destination, self.port
 
     def is_there(self, point):
         return self.number < point and (self.end is None or point <= self.end)
 
     def meets(self, flow, moment):
-        ends = (flow.source, flow.destination, flow.second)
-        return flow.proto == "tcp" and moment < self.deadline and ends == (self.source, self.destination, self.port)
+        ends = (flow.zone, flow.source, flow.destination, flow.second)
+        return flow.proto == "tcp" and moment < self.deadline and ends == self.ends()
 
 
 class History:
@@ -148,7 +153,7 @@ class History:
         packet = self.packet(who, number)
         part, flow = start_of(packet), packet.tuple
         want(part is not None, f"event {number} is of a packet with which no entry begins")
-        reply = reply_in(words, flow.proto)
+        reply = reply_in(words, flow.proto, flow.zone)
         want(reply is not None and is_reply_of(self.inputs.rules, flow, reply), f"event {number} has a wrong reply tuple")
         for one in (flow, reply):
             want(self.live_under(one, number) is None, f"event {number} confirms a tuple that is live")
@@ -161,7 +166,7 @@ class History:
         text = f"{flow.proto} {tuple_text(flow)} {tuple_text(reply)} until={part.deadline}"
         text += f" state={part.state}" if part.state else ""
         text += f" master={master}" if master is not None else ""
-        return text + (" helper" if helper else "")
+        return text + (" helper" if helper else "") + zone_text(flow.zone)
 
     def read_touch(self, number, words, who):
         packet = self.packet(who, number)
@@ -211,7 +216,8 @@ class History:
         want(end[0] == packet.tuple.source, f"event {number} expects a connection to another address")
         source = entry.reply.source if direction == "original" else entry.original.source
         deadline = packet.moment + 300 * SECOND
-        new = Expectation(number, entry.number, source, end[0], end[1], deadline)
+        zone = entry.original.zone
+        new = Expectation(number, entry.number, zone, source, end[0], end[1], deadline)
         others = self.expected_at(number)
         replaced = [one for one in others if one.master == entry.number]
         want(not self.rivals(new, packet.moment, number), f"event {number} expects what another entry expects")
@@ -219,14 +225,13 @@ class History:
             one.end = number
         self.expected[number] = new
         text = f"master={entry.number} src={address_text(source)} dst={address_text(end[0])} dport={end[1]}"
-        return f"{text} until={deadline}" + "".join(f" replaces={one.number}" for one in replaced)
+        return f"{text} until={deadline}" + "".join(f" replaces={one.number}" for one in replaced) + zone_text(zone)
 
     def rivals(self, new, moment, point):
-        ends = (new.source, new.destination, new.port)
         return [
             one
             for one in self.expected_at(point)
-            if one.master != new.master and moment < one.deadline and ends == (one.source, one.destination, one.port)
+            if one.master != new.master and moment < one.deadline and new.ends() == one.ends()
         ]
 
     def read_claim(self, number, words, who):
@@ -246,8 +251,8 @@ class History:
         return f"expect={one.number} expired"
 
 
-def reply_in(words, proto):
-    """The second tuple of a confirm."""
+def reply_in(words, proto, zone):
+    """The second tuple of a confirm of this zone."""
     length = 5 if proto == "icmp" else 4
     values = [word.partition("=")[2] for word in words[4 + length : 4 + 2 * length]]
     try:
@@ -258,8 +263,8 @@ def reply_in(words, proto):
     if len(numbers) != length - 2:
         return None
     if proto == "icmp":
-        return Tuple(proto, *ends, numbers[2], numbers[0] * 256 + numbers[1])
-    return Tuple(proto, *ends, *numbers)
+        return Tuple(proto, *ends, numbers[2], numbers[0] * 256 + numbers[1], zone)
+    return Tuple(proto, *ends, *numbers, zone)
 
 
 # The verdicts.
@@ -482,7 +487,7 @@ class Thread:
         else:
             history.live(entry.number, point)
             source = entry.reply.source if direction == "original" else entry.original.source
-            new = Expectation(0, entry.number, source, end[0], end[1], 0)
+            new = Expectation(0, entry.number, entry.original.zone, source, end[0], end[1], 0)
             rivals = history.rivals(new, self.packet.moment, point)
             want(rivals and rivals[0].number == int(rival), f"{self.name} names a rival that is none")
 
@@ -495,7 +500,8 @@ def row_of(entry, point, moment):
     left = max(0, part.deadline - moment) // SECOND
     text = f"{proto:<8} {NUMBERS[proto]} {left} " + (f"{part.state} " if part.state else "")
     text += tuple_text(entry.original) + ("" if part.replied else " [UNREPLIED]")
-    return f"{text} {tuple_text(entry.reply)}" + (" [ASSURED]" if part.assured else "") + f" @{point}"
+    text += f" {tuple_text(entry.reply)}" + (" [ASSURED]" if part.assured else "")
+    return f"{text}{zone_text(entry.original.zone)} @{point}"
 
 
 class Script:
@@ -567,7 +573,9 @@ class Script:
     def judge_list(self, command, begin, end, rows):
         last, listed = -1, set()
         for row in rows:
-            point = int(row.rpartition("@")[2])
+            tail = re.search(rf" @{NUMBER}$", row)
+            want(tail, f"{self.name} has a row without its point: {row}")
+            point = int(tail.group(1))
             want(begin <= point <= end, f"{self.name} has a row beyond its points")
             found = [one for one in self.meant_at(command.options, point) if row_of(one, point, self.moment) == row]
             want(len(found) == 1, f"{self.name} has a row of no entry: {row}")
@@ -579,7 +587,7 @@ class Script:
 
     def judge_get(self, command, point, rows):
         options = command.options
-        numbers = int(options["--sport"]), int(options["--dport"])
+        numbers = int(options["--sport"]), int(options["--dport"]), int(options.get("-w", 0))
         flow = Tuple(options["-p"], address_of(options["-s"]), address_of(options["-d"]), *numbers)
         entry = self.history.live_under(flow, point)
         want(rows == ([] if entry is None else [row_of(entry, point, self.moment)]), f"{self.name} is another entry")
@@ -589,7 +597,7 @@ class Script:
         for one in self.history.expected_at(point):
             left = max(0, one.deadline - self.moment) // SECOND
             ends = f"src={address_text(one.source)} dst={address_text(one.destination)} sport=0 dport={one.port}"
-            texts.append(f"{left} proto=6 {ends} master={one.master} @{point}")
+            texts.append(f"{left} proto=6 {ends} master={one.master}{zone_text(one.zone)} @{point}")
         want(rows == texts, f"{self.name} lists other expectations")
 
     def judge_expired(self, moment, begin, end):

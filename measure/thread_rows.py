@@ -18,9 +18,12 @@ The cases: a query and its answer, a control connection of FTP, a script, and an
 of each thread's own ("apart") and with the same flows on all threads in another order ("same"); one flow of UDP on four
 threads; pools that are too small for eight threads, and one of forty places in which the flows of four drop each other.
 Apart, each thread's events and verdicts are those of the example, but for numbers and points. Buckets are 1, 16 or 16384,
-from run to run.
+from run to run. Besides, the cases "zones": the same flows, addresses, rules and FTP sessions in four zones on four threads,
+with places for all: the first words of each thread's verdicts, and the rows of `-L -w` for its zone, are those of its capture
+replayed alone. Also where rules have few ports, so that each zone's clients compete for them.
 """
 import argparse
+import functools
 import os
 import re
 import struct
@@ -32,7 +35,7 @@ from collections import namedtuple
 from concurrent.futures import ThreadPoolExecutor
 
 from report_check import check
-from tracker_rules import Refused, inputs_of, want
+from tracker_rules import Refused, inputs_of, want, zone_text
 
 HERE = os.path.dirname(os.path.abspath(__file__))
 TOP = os.path.dirname(HERE)
@@ -42,7 +45,7 @@ BEGUN = 1_000_000_000
 # How many flows each thread has of a row.
 FLOWS = {"query": 24, "sweep": 16, "ftp": 8, "office": 4}
 # What is to be so of a run's history and report beside the checker's rules: `holds` says it.
-Case = namedtuple("Case", "name captures rules script entries holds")
+Case = namedtuple("Case", "name captures rules script entries holds zones", defaults=[None])
 SWEEP = """wait
 -L
 -D -p udp
@@ -253,6 +256,81 @@ def is_full(entries, threads, word):
     return holds
 
 
+# Zones of which one is none that is said, and two are the least and the greatest that are.
+ZONES = (7, 0, 65535, 1)
+
+
+def first_words(report, thread):
+    """The first words of a thread's verdicts."""
+    lines = report.splitlines()
+    begin = next(at for at, line in enumerate(lines) if line.startswith(f"thread {thread} packets "))
+    count = int(lines[begin].split()[3])
+    return [line.split(" ")[1] for line in lines[begin + 1 : begin + 1 + count]]
+
+
+def rows_of_zones(report):
+    """The rows of each list, and of each deletion, of the script, without points, in an order that is no run's."""
+    found, rows = {}, []
+    for line in report[report.index("\nscript ") :].splitlines()[2:]:
+        if " src=" in line:
+            rows.append(line.rpartition(" @")[0])
+        else:
+            rows = found.setdefault(int(line.split(" ")[0]), [])
+    return [sorted(rows) for _, rows in sorted(found.items())]
+
+
+def zone_script(zones):
+    """Lists each zone's entries, deletes those of the first, and lists all zones again."""
+    lists = [f"-L -w {zone}" for zone in zones]
+    return "\n".join(["wait", *lists, f"-D -w {zones[0]}", *lists]) + "\n"
+
+
+def is_as_each_alone(zones):
+    """Each capture's verdicts have the first words, and its zone the rows, that they have where it is replayed alone; a deletion in
+    the first zone leaves those of the others."""
+
+    def holds(history, report, alone):
+        rows, count = rows_of_zones(report), len(zones)
+        for thread, (zone, one) in enumerate(zip(zones, alone)):
+            want(first_words(report, thread) == first_words(one, 0), f"the verdicts of thread {thread} are not those of its capture alone")
+            mine = rows_of_zones(one)[0]
+            want(mine and rows[thread] == mine, f"the rows of zone {zone} are not those of its capture alone")
+            want(rows[count + 1 + thread] == ([] if thread == 0 else mine), f"behind the deletion zone {zone} has other rows")
+        want(rows[count] == rows[0], "what was deleted is not the first zone")
+
+    return holds
+
+
+def rival_captures(threads):
+    """Clients of one network that ask for two servers through a rule of few ports, one after the other and again, in each thread."""
+    sent = [
+        (BEGUN + 1000 * (200 * turn + 5 * client + server), query(0x0A000001 + client, 0x0A010001 + server, 5000 + client % 3, back))
+        for turn in range(2)
+        for client in range(12)
+        for server in range(2)
+        for back in (False,)
+    ]
+    return [capture(sent)] * threads
+
+
+def zone_cases(row):
+    """The same captures in each of four zones, through one file of rules."""
+    few = "snat -s 10.0.0.0/24 -p udp to 192.0.2.1:5000-5004\n"
+    office = captures_same(row["office"], 4)
+    made = {
+        "query": (captures_same(row["query"], 4), ""),
+        "ftp": (captures_same(row["ftp"], 4), ""),
+        "office": (office, row["office"].rules),
+        "equal": ([office[0]] * 4, row["office"].rules),
+        "ftp-equal": (captures_same(row["ftp"], 1) * 4, ""),
+        "ports": (rival_captures(4), few),
+    }
+    return [
+        Case(f"zones-{name}", captures, rules, zone_script(ZONES), 4096, is_as_each_alone(ZONES), ZONES)
+        for name, (captures, rules) in made.items()
+    ]
+
+
 def pool_captures(threads, flows, rounds, turns=(False, True)):
     """Each thread asks for flows of its own, and again after they are expired. Each turn of a flow is a query, or an answer."""
     return [
@@ -291,6 +369,9 @@ def all_cases():
         Case("pool-assured", pool_captures(8, 60, 1, (False, True, False)), "", "", 120, is_full(120, 8, " FULL @")),
         Case("pool-same", pool_captures(1, 40, 3) * 8, "", "-C\n-L\nwait\n-C\n", 34, any_history),
         Case("pool-drops", pool_captures(2, 60, 2) * 2, "", "", 40, any_history),
+        # Flows of four zones that are the same drop each other: room is shared.
+        Case("pool-zones", pool_captures(1, 60, 2) * 4, "", "", 40, any_history, ZONES),
+        *zone_cases(row),
     ]
 
 
@@ -307,6 +388,8 @@ def place(case, folder):
                 file.write(text)
             words += [option, name]
     words += ["--entries", str(case.entries)]
+    if case.zones:
+        words += ["--zones", ",".join(str(zone) for zone in case.zones)]
     for thread, data in enumerate(case.captures):
         words.append(os.path.join(folder, f"{thread}.pcap"))
         with open(words[-1], "wb") as file:
@@ -347,11 +430,26 @@ def keep(folder, case, number, report, why):
             file.write(text)
 
 
+def reports_alone(case, program):
+    """The report of each capture replayed alone in its zone, which lists that."""
+    found = []
+    for data, zone in zip(case.captures, case.zones):
+        one = case._replace(captures=[data], zones=[zone], script=f"wait\n-L -w {zone}\n")
+        with tempfile.TemporaryDirectory() as folder:
+            _, report, why = run_once(program, place(one, folder), 0)
+        if why:
+            sys.exit(f"thread_rows: {case.name}: a capture alone: {why}")
+        found.append(report)
+    return found
+
+
 def run_case(case, given):
     """Runs a case. Gives whether each report was good."""
     begin, changes, words = time.time(), [], {}
-    inputs = inputs_of(case.captures, case.rules, case.script, case.entries)
+    inputs = inputs_of(case.captures, case.rules, case.script, case.entries, zones=case.zones)
     with tempfile.TemporaryDirectory() as folder, ThreadPoolExecutor(given.jobs) as pool:
+        if case.name.startswith("zones-"):
+            case = case._replace(holds=functools.partial(case.holds, alone=reports_alone(case, given.program)))
         line = place(case, folder)
         for begun in range(0, given.runs, 50):
             numbers = range(begun, min(begun + 50, given.runs))
@@ -487,6 +585,55 @@ thread 0 packets 3
 script 0
 """
 
+# The query and its answer in zone 1 on one thread, and in zone 2 on the other; and a script.
+ZONED = """events 5
+0 confirm 0.0 udp src=10.0.0.1 dst=10.0.0.2 sport=5000 dport=53 src=10.0.0.2 dst=10.0.0.1 sport=53 dport=5000 until=1030000000 zone=1
+1 confirm 1.0 udp src=10.0.0.1 dst=10.0.0.2 sport=5000 dport=53 src=10.0.0.2 dst=10.0.0.1 sport=53 dport=5000 until=1030000000 zone=2
+2 touch 0.1 id=0 reply until=1120500000 replied
+3 touch 1.1 id=1 reply until=1120500000 replied
+4 destroy s.3 id=1 deleted
+thread 0 packets 2
+0 NEW id=0 @1
+1 ESTABLISHED_REPLY id=0 @3
+thread 1 packets 2
+0 NEW id=1 @2
+1 ESTABLISHED_REPLY id=1 @4
+script 5
+0 list 1 @4 @4
+udp      17 120 src=10.0.0.1 dst=10.0.0.2 sport=5000 dport=53 src=10.0.0.2 dst=10.0.0.1 sport=53 dport=5000 zone=2 @4
+1 get 1 @4
+udp      17 120 src=10.0.0.1 dst=10.0.0.2 sport=5000 dport=53 src=10.0.0.2 dst=10.0.0.1 sport=53 dport=5000 zone=1 @4
+2 get 0 @4
+3 deleted 1 @4 @5
+udp      17 120 src=10.0.0.1 dst=10.0.0.2 sport=5000 dport=53 src=10.0.0.2 dst=10.0.0.1 sport=53 dport=5000 zone=2 @4
+4 list 1 @5 @5
+udp      17 120 src=10.0.0.1 dst=10.0.0.2 sport=5000 dport=53 src=10.0.0.2 dst=10.0.0.1 sport=53 dport=5000 zone=1 @5
+"""
+ZONED_SCRIPT = """wait
+-L -w 2
+-G -w 1 -p udp -s 10.0.0.1 -d 10.0.0.2 --sport 5000 --dport 53
+-G -p udp -s 10.0.0.1 -d 10.0.0.2 --sport 5000 --dport 53
+-D -w 2
+-L
+"""
+
+
+def in_two_zones(report, zones):
+    """A report of one capture, twice: on two threads, one behind the other, in these zones."""
+    lines = report.splitlines()
+    count = int(lines[0].split()[1])
+    events, threads = [], []
+    for thread, zone in enumerate(zones):
+        later = lambda found, base=thread * count: f"{found[1]}{int(found[2]) + base}"
+        for line in lines[1 : 1 + count]:
+            number, word, who, rest = line.split(" ", 3)
+            rest = re.sub(r"((?:^id|\bmaster|\bexpect|\breplaces)=)(\d+)", later, rest)
+            said = zone_text(zone) if word in ("confirm", "expect") else ""
+            events.append(f"{len(events)} {word} {thread}.{who[2:]} {rest}{said}")
+        verdicts = [re.sub(r"(\b(?:id|expect)=|@)(\d+)", later, line) for line in lines[2 + count : -1]]
+        threads += [f"thread {thread} packets {len(verdicts)}", *verdicts]
+    return "\n".join([f"events {len(events)}", *events, *threads, "script 0"]) + "\n"
+
 
 def asked(*steps):
     """A capture of queries of UDP and of answers, each with its moment and the client's port; a negative port is an answer."""
@@ -558,6 +705,65 @@ def drop_damages():
     ]
 
 
+def zone_damages(data):
+    """Of the same flows and FTP sessions in two zones."""
+    row = ZONED[ZONED.index("udp      17") : ZONED.index(" zone=2 @4")]
+    ftp = in_two_zones(example("docs/FORMATS.md", "events 11"), (0, 65535))
+    return [
+        (
+            ZONED,
+            inputs_of(data("c.pcap", "c.pcap"), "", ZONED_SCRIPT, zones=(1, 2)),
+            [
+                ("until=1030000000 zone=1", "until=1030000000"),
+                ("until=1030000000 zone=1", "until=1030000000 zone=2"),
+                ("until=1030000000 zone=1", "until=1030000000 zone=01"),
+                ("until=1030000000 zone=1", "until=1030000000 zone=1 "),
+                ("until=1030000000 zone=1", "zone=1 until=1030000000"),
+                ("until=1030000000 zone=2", "until=1030000000 zone=1"),
+                ("until=1030000000 zone=2", "until=1030000000 zone=0"),
+                ("2 touch 0.1 id=0", "2 touch 0.1 id=1"),
+                ("3 touch 1.1 id=1", "3 touch 1.1 id=0"),
+                ("3 touch 1.1 id=1 reply until=1120500000 replied", "3 touch 1.1 id=1 reply until=1120500000 replied zone=2"),
+                ("4 destroy s.3 id=1 deleted", "4 destroy s.3 id=0 deleted"),
+                ("4 destroy s.3 id=1 deleted", "4 destroy s.3 id=1 deleted zone=2"),
+                ("1 ESTABLISHED_REPLY id=0 @3", "1 ESTABLISHED_REPLY id=1 @3"),
+                ("0 NEW id=1 @2", "0 MERGED id=0 @2"),
+                ("0 NEW id=1 @2", "0 CLASH id=0 @2"),
+                ("0 list 1 @4 @4\n" + row + " zone=2", "0 list 1 @4 @4\n" + row + " zone=1"),
+                ("0 list 1 @4 @4\n" + row + " zone=2", "0 list 1 @4 @4\n" + row),
+                ("0 list 1 @4 @4\n" + row + " zone=2 @4", "0 list 1 @4 @4\n" + row + " @4 zone=2"),
+                ("0 list 1 @4 @4\n" + row + " zone=2 @4\n", "0 list 0 @4 @4\n"),
+                ("0 list 1 @4 @4\n", "0 list 2 @4 @4\n" + row + " zone=1 @4\n"),
+                ("1 get 1 @4\n" + row + " zone=1 @4\n", "1 get 0 @4\n"),
+                ("1 get 1 @4\n" + row + " zone=1", "1 get 1 @4\n" + row + " zone=2"),
+                ("2 get 0 @4\n", "2 get 1 @4\n" + row + " @4\n"),
+                ("2 get 0 @4\n", "2 get 1 @4\n" + row + " zone=1 @4\n"),
+                ("3 deleted 1 @4 @5\n" + row + " zone=2", "3 deleted 1 @4 @5\n" + row + " zone=1"),
+                ("4 list 1 @5 @5\n" + row + " zone=1", "4 list 1 @5 @5\n" + row + " zone=2"),
+                ("4 list 1 @5 @5\n" + row + " zone=1 @5\n", "4 list 0 @5 @5\n"),
+            ],
+        ),
+        (
+            ftp,
+            inputs_of(data("ftp.pcap", "ftp.pcap"), zones=(0, 65535)),
+            [
+                ("until=304000000 zone=65535", "until=304000000"),
+                ("until=304000000 zone=65535", "until=304000000 zone=65536"),
+                ("4 expect 0.3 master=0", "4 expect 0.3 master=11"),
+                ("15 expect 1.3 master=11", "15 expect 1.3 master=0"),
+                (" replaces=15 zone=65535", " zone=65535 replaces=15"),
+                (" replaces=15 zone=65535", " replaces=6 zone=65535"),
+                ("19 claim 1.6 expect=17 master=11", "19 claim 1.6 expect=6 master=0"),
+                ("state=SYN_SENT master=11 zone=65535", "state=SYN_SENT master=0 zone=65535"),
+                ("state=SYN_SENT master=11 zone=65535", "state=SYN_SENT zone=65535"),
+                ("state=SYN_SENT helper zone=65535", "state=SYN_SENT zone=65535 helper"),
+                ("3 ESTABLISHED id=11 @15 ftp expect=15", "3 ESTABLISHED id=11 @15 ftp clash=6 @16"),
+                ("3 ESTABLISHED id=11 @15 ftp expect=15", "3 ESTABLISHED id=11 @15 ftp expect=4"),
+            ],
+        ),
+    ]
+
+
 def damages():
     """Examples, each with its inputs and damages: texts of the report, and what stands in the place of each."""
     data = lambda *names: [read_bytes(DATA, name) for name in names]
@@ -623,6 +829,7 @@ def damages():
             ],
         ),
         *drop_damages(),
+        *zone_damages(data),
     ]
 
 

@@ -32,7 +32,7 @@ NUMBERS = {"icmp": 1, "tcp": 6, "udp": 17}
 PARTNERS = {8: 0, 0: 8, 13: 14, 14: 13, 15: 16, 16: 15, 17: 18, 18: 17}
 ASKS = (8, 13, 15, 17)
 
-Tuple = namedtuple("Tuple", "proto source destination first second")
+Tuple = namedtuple("Tuple", "proto source destination first second zone", defaults=[0])
 Packet = namedtuple("Packet", "moment tuple kind payload")
 Part = namedtuple("Part", "state replied assured deadline")
 Rule = namedtuple("Rule", "kind options address low high")
@@ -136,9 +136,23 @@ def read_script(text):
     return commands, len(commands) if wait is None else wait
 
 
-def inputs_of(captures, rules="", script="", entries=65536, ports=(21,)):
+def inputs_of(captures, rules="", script="", entries=65536, ports=(21,), zones=None):
     commands, wait = read_script(script)
-    return Inputs([read_capture(data) for data in captures], read_rules(rules), commands, wait, entries, ports)
+    packets = [read_capture(data) for data in captures]
+    return Inputs(in_zones(packets, zones or [0] * len(captures)), read_rules(rules), commands, wait, entries, ports)
+
+
+def in_zones(captures, zones):
+    """The packets of captures, each of its capture's zone."""
+    return [
+        [packet._replace(tuple=packet.tuple._replace(zone=zone)) for packet in packets]
+        for packets, zone in zip(captures, zones, strict=True)
+    ]
+
+
+def zone_text(zone):
+    """What of a zone is said at the end of a line: nothing where it is 0."""
+    return f" zone={zone}" if zone else ""
 
 
 # Flows.
@@ -154,8 +168,8 @@ def tuple_text(flow):
 def inverse(flow):
     if flow.proto == "icmp":
         second = PARTNERS[flow.second >> 8] * 256 + flow.second % 256
-        return Tuple("icmp", flow.destination, flow.source, flow.first, second)
-    return Tuple(flow.proto, flow.destination, flow.source, flow.second, flow.first)
+        return Tuple("icmp", flow.destination, flow.source, flow.first, second, flow.zone)
+    return Tuple(flow.proto, flow.destination, flow.source, flow.second, flow.first, flow.zone)
 
 
 def is_within(address, network):
@@ -173,6 +187,7 @@ def is_meant(options, original, reply):
         "-q": lambda value: is_within(reply.destination, value),
         "--sport": lambda value: original.first == int(value),
         "--dport": lambda value: original.second == int(value),
+        "-w": lambda value: original.zone == int(value),
     }
     return all(tests[name](value) for name, value in options.items())
 
