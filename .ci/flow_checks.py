@@ -456,10 +456,11 @@ def check_let_in(room):
 
 def dropped_report(room, capture):
     """A report with an early drop and with zones, made from one of `refused_capture`."""
-    events = [line for line in read(report_of(room, capture)).splitlines() if " confirm " in line]
+    events = [line for line in read(report_of(room, capture)).splitlines() if " confirm " in line or " destroy " in line]
+    events = [line.replace(" id=2 expired", " id=3 expired") for line in events]
     events.insert(2, "2 destroy 0.2 id=0 dropped")
     renumbered = [re.sub(r"^\d+", str(at), line) + (" zone=7" if " confirm " in line else "") for at, line in enumerate(events)]
-    verdicts = ["0 NEW id=0 @1", "1 NEW id=1 @2", "2 NEW id=3 @4", "3 NEW id=3 @4", "4 NEW id=3 @4", "5 NEW id=4 @5", "6 NEW id=5 @6"]
+    verdicts = ["0 NEW id=0 @1", "1 NEW id=1 @2", "2 NEW id=3 @4", "3 NEW id=3 @4", "4 NEW id=3 @4", "5 NEW id=5 @6", "6 NEW id=6 @7"]
     made_report = [f"events {len(renumbered)}", *renumbered, "thread 0 packets 7", *verdicts, "script 0"]
     return write(room, "dropped.report", "\n".join(made_report) + "\n")
 
@@ -467,7 +468,7 @@ def dropped_report(room, capture):
 def check_dropped(room, capture):
     """An entry that made room for another is a flow that was dropped."""
     name, texts = dropped_report(room, capture), ("1 dropped, no rule", "zone 7", "dropped packet 2 ")
-    texts += ("udp 10.0.0.1:5000 > 198.51.100.1:53; entry 0, not assured, made room for udp 10.0.0.3:5000 > 198.51.100.1:53; 2 places held by 10.0.0.1 (1), 10.0.0.2 (1)",)
+    texts += ("udp 10.0.0.1:5000 > 198.51.100.1:53 zone=7; entry 0, not assured, made room for udp 10.0.0.3:5000 > 198.51.100.1:53 zone=7; 2 places held by 10.0.0.1 (1), 10.0.0.2 (1)",)
     wants("tools/refused: an early drop, and a zone", tool("refused", name, capture), 1, *texts)
 
 

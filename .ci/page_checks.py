@@ -9,6 +9,7 @@ import browser
 import flow_checks
 import made_packets as made
 import work_checks
+import zone_checks
 from checking import DATA, EXAMPLES, PROGRAM, TOOLS, count, module, read, refuses, report_of, run, tool, wants, write
 import replay_files as files
 import replay_history as history
@@ -95,6 +96,9 @@ def check_words(room, chromium):
     articles = flow_checks.articles_capture(room)
     check_sentences(room, chromium, "articles of segments", report_of(room, articles, name="articles"), [articles], None, ["there an ACK", "with an RST", "with a FIN", "with a SYN+ACK"])
     check_sentences(room, chromium, "one side of a NAT", report, [paths["office.in.pcap"]], paths["office.rules"])
+    rules, zoned, names = zone_checks.made_zones(room)
+    check_sentences(room, chromium, "two zones", zoned, names, rules, ["for it in zone 65535", "Entry 2 had it in zone 0; flows", "in zone 0, so it began entry 0"])
+    check_sentences(room, chromium, "two zones without rules", zoned, names)
     report = report_of(room, "--entries", "4", paths["office.in.pcap"], paths["late.pcap"], name="full")
     for name in ("tcp", "ftp", "reset", "nat"):
         capture = f"{DATA}/{name}.pcap"
@@ -314,14 +318,30 @@ def check_drops(room, chromium):
     tool("page", "--to", f"{room}/drop.html", report, capture)
     chromium.open(f"{room}/drop.html", "view=refused")
     bars, rows = chromium.value("lanes.slice(1, 3).map((lane) => lane.bars.length)"), shown_rows(chromium)
-    good = bars == [0, 1] and len(rows) == 1 and "dropped" in rows[0] and "udp 10.0.0.1:5000 > 198.51.100.1:53, 0 later" in rows[0]
+    good = bars == [0, 1] and len(rows) == 1 and "dropped" in rows[0] and "udp 10.0.0.1:5000 > 198.51.100.1:53 zone=7, 0 later" in rows[0]
     count("tools/page: a drop", good, f"{bars} {rows}")
     at = START + 3 * SECOND
     wanted = tool("table", "--at", str(at), report, capture).stdout.splitlines()
+    check_zone_filter(room, chromium)
     for zone, lines in (("7", wanted), ("8", [])):
         chromium.open(f"{room}/drop.html", f"text=1&at={at}&zone={zone}")
         found = shown_rows(chromium)
         count(f"tools/page: the filter zone {zone}", found == lines and (not found or found[0].endswith("zone=7")), found)
+
+
+def check_zone_filter(room, chromium):
+    """The packets, the entries and the refused flows of one zone."""
+    rules, report, names = zone_checks.made_zones(room)
+    tool("page", "--rules", rules, "--to", f"{room}/zones.html", report, *names)
+    for zone, sizes in (("", (5, 8, 1)), ("0", (3, 3, 0)), ("65535", (2, 5, 1)), ("7", (0, 0, 0))):
+        found = []
+        for view in ("table", "packets", "refused"):
+            chromium.open(f"{room}/zones.html", f"view={view}&at={START + SECOND}" + (f"&zone={zone}" if zone else ""))
+            found.append(chromium.value("rows.length"))
+        count(f"tools/page: what is shown of zone {zone or 'any'}", tuple(found) == sizes, found)
+    chromium.open(f"{room}/zones.html")
+    boxes = chromium.value("[...byId('zone').options].map((it) => it.value)")
+    count("tools/page: a box with the zones", boxes == ["", "0", "65535"] and not chromium.value("byId('zone').hidden"), boxes)
 
 
 def check_troubles(room):
