@@ -1,0 +1,95 @@
+"""What the documents name: each name of docs/DEFINITIONS.md stands in its file, and each of a crate's page somewhere."""
+import functools
+import glob
+import os
+import re
+
+from checking import TOP, count, read
+
+SPAN = re.compile(r"`([^`]+)`")
+NAME = re.compile(r"[A-Za-z_][\w']*")
+
+
+@functools.cache
+def text_of(crate, file):
+    """The text of a crate's file of this name, or of its path's end; None where there is none."""
+    folder = os.path.join(TOP, "crates", crate)
+    found = glob.glob(os.path.join(folder, "**", file), recursive=True)
+    texts = [read(os.path.dirname(path), os.path.basename(path)) for path in sorted(found) if f"{os.sep}proofs{os.sep}" not in path]
+    return "\n".join(texts) if texts else None
+
+
+def is_crate(word):
+    return os.path.isdir(os.path.join(TOP, "crates", word))
+
+
+def misplaced_in(place, crate):
+    """How many names a row's place has, and which of them do not stand in their file."""
+    file, names, wrong = None, 0, []
+    for word in SPAN.findall(place):
+        if word.endswith((".antt", ".rt")):
+            file = word
+            if text_of(crate, file) is None:
+                wrong.append(f"{crate}/{file}")
+        elif is_crate(word):
+            crate, file = word, None
+        elif file and NAME.fullmatch(word):
+            names += 1
+            if not re.search(rf"(?<![\w']){re.escape(word)}(?![\w'])", text_of(crate, file) or ""):
+                wrong.append(f"{word} in {crate}/{file}")
+    return names, wrong
+
+
+def usual_crate(line, before):
+    """The crate that a table's places are in where they name none: the latest that the text before it names."""
+    named = [word for word in SPAN.findall(line) if is_crate(word)]
+    return named[-1] if named else before
+
+
+def misplaced(text):
+    """How many names the tables' places have, and which of them do not stand in their file."""
+    names, wrong, crate = 0, [], ""
+    for line in text.splitlines():
+        if not line.startswith("|"):
+            crate = usual_crate(line, crate)
+        cells = line.split(" | ")
+        if line.startswith("| ") and len(cells) >= 3:
+            more, bad = misplaced_in(cells[2], crate)
+            names, wrong = names + more, wrong + bad
+    return names, wrong
+
+
+def check_names():
+    text = read(os.path.join(TOP, "docs"), "DEFINITIONS.md")
+    names, wrong = misplaced(text)
+    count("DEFINITIONS: each name stands in its file", names > 500 and not wrong, "; ".join(wrong[:9]))
+    _, found = misplaced(text.replace("`inverse`", "`inverted`").replace("`TcpTable.antt`", "`TcpTables.antt`"))
+    count("DEFINITIONS: a name or a file that is gone is told", len(found) >= 2 and any("inverted" in it for it in found), str(found))
+
+
+@functools.cache
+def all_text():
+    """What stands in the sources and the definitions of all crates."""
+    files = glob.glob(os.path.join(TOP, "crates", "*", "src", "**", "*.rt"), recursive=True)
+    files += glob.glob(os.path.join(TOP, "crates", "*", "specs", "**", "*.antt"), recursive=True)
+    return "\n".join(read(file) for file in sorted(files))
+
+
+def unknown_in(page):
+    """The names of a crate's page that stand in no source and no definition; a word without capitals or `_` may be anything."""
+    names = {word for word in SPAN.findall(page) if NAME.fullmatch(word) and not word.islower() or "_" in word and NAME.fullmatch(word)}
+    return sorted(name for name in names if not is_crate(name) and not re.search(rf"(?<![\w']){re.escape(name)}(?![\w'])", all_text()))
+
+
+def check_crate_pages():
+    pages = sorted(glob.glob(os.path.join(TOP, "crates", "*", "README.md")))
+    long = [page for page in pages if len(read(page).split()) > 600]
+    count("crates: a page has at most 600 words", pages and not long, "; ".join(long))
+    unknown = {page: unknown_in(read(page)) for page in pages}
+    count("crates: what a page names is there", not any(unknown.values()), str({page: names for page, names in unknown.items() if names}))
+    count("crates: a name that is gone is told", unknown_in("`IsNowhere` and `is_valid` and `nowhere_at_all`") == ["IsNowhere", "nowhere_at_all"])
+
+
+def check_all():
+    check_names()
+    check_crate_pages()
