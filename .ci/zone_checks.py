@@ -302,8 +302,11 @@ def check_unsaid(room):
         read_too = [report, report] if word == "compare" else [report]
         last = [*read_too, names[0], lone]
         refuses(f"tools/{word}: a capture whose zone no report says", tool(word, *words, *last), "does not say which zone", "lone.pcap has", "--zones LIST says it")
-        ran = tool(word, *words, "--zones", "3,5", *last)
-        count(f"tools/{word}: and with --zones", ran.returncode in (0, 1) and not ran.stderr, ran.stderr)
+        if word == "draw" and not shutil.which("gnuplot"):
+            print("skipped: tools/draw: and with --zones: there is no gnuplot")
+        else:
+            ran = tool(word, *words, "--zones", "3,5", *last)
+            count(f"tools/{word}: and with --zones", ran.returncode in (0, 1) and not ran.stderr, ran.stderr)
         refuses(f"tools/{word}: zones that are not the report's", tool(word, *words, "--zones", "4,5", *last), "--zones 4,5 is not the report's", "has zone 3")
         refuses(f"tools/{word}: a wrong list", tool(word, *words, "--zones", "3", *last), "one number from 0 to 65535 for each capture, 2 here")
     wants("tools/check: its packet", tool("check", "--zones", "3,5", report, names[0], lone), 1, "no entry of its zone, 5, and answer entries of zone 3")
