@@ -6,7 +6,7 @@ use Rattle.track_rule.specs.Layout.{phase_word, refs_word}
 use Rattle.track_rule.specs.Readings.{stored}
 use Rattle.track_rule.specs.declared.view.Reading.{Reading}
 
--- the references, the phase and the next links of a place are such words
+-- the references and the phase of a place are such words
 pub record PlaceIsNamed (z : Sizes) (place value : ℕ) : Type 0 where
   pub refs : is_some_refs z (stored (refs_word z place) value) ≡ true
   pub phase : is_some_phase value z (stored (phase_word z place) value) ≡ true

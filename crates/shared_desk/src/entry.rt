@@ -58,7 +58,7 @@ pub fn peek<R: Wait>(rt: &R, pass: &mut Pass, place: u32) -> PeekOutcome
     outcome
 }
 
-/// TouchesLive the entry for which a place is held, under the turn of the place's record.
+/// Touches the entry for which a place is held, under the turn of the place's record.
 fn touch_record(pass: &mut Pass, place: u32, packet: &Packet) -> (TouchOutcome, Option<MadeTouch>)
     requires has { HasRecord place pass.old }
     requires suits { SuitsEntry place packet.now pass.old }

@@ -74,7 +74,7 @@ fn find_empty<R: Wait>(rt: &R, pass: &mut Pass, place: u32) -> Option<HoldOutcom
     }
 }
 
-/// HoldsLive the place to which the pass has just got a reference for the entry that is live in it; else gives the reference back and
+/// Holds the place to which the pass has just got a reference for the entry that is live in it; else gives the reference back and
 /// looks whether no live entry has the place.
 fn keep_live<R: Wait>(rt: &R, pass: &mut Pass, place: u32) -> Option<HoldOutcome>
     requires { HasNewest place Testing pass.old }
@@ -103,7 +103,7 @@ fn try_once<R: Wait>(rt: &R, pass: &mut Pass, place: u32) -> Option<HoldOutcome>
     }
 }
 
-/// HoldsLive a place for the entry that is live in it, if one is. It may wait for the turn of the place's record, and for that of the free
+/// Holds a place for the entry that is live in it, if one is. It may wait for the turn of the place's record, and for that of the free
 /// list.
 pub fn hold<R: Wait>(rt: &R, pass: &mut Pass, place: u32) -> HoldOutcome
     requires { CanHold place pass.old }

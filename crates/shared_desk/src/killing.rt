@@ -43,7 +43,7 @@ fn flow_of(subject: &Record) -> Flow
     }
 }
 
-/// DestroysLocked the entry of a place while both buckets of its tuples are locked: the place is DEAD, the Destroy is made, and both links
+/// Destroys the entry of a place while both buckets of its tuples are locked: the place is DEAD, the Destroy is made, and both links
 /// come out of their chains. Gives the number of the Destroy.
 fn destroy(pass: &mut Pass, locked: &Locked, place: u32, subject: &Record, why: Why) -> u64
     requires knows { KnowsRecord place subject.now pass.old }
