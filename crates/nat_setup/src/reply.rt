@@ -27,46 +27,21 @@ fn changed_at(side: Side, t: &Tuple, address: u32, number: u16) -> Tuple
     ensures exact { result ≡ changed_at side t.now t.now.proto address number }
     ensures valid { is_valid result ≡ true }
 {
-    let Tuple {
-        proto,
-        zone,
-        src,
-        dst,
-        a,
-        b,
-    } = *t;
-    match (side, proto) {
+    match (side, t.proto) {
         (Side::Source, _) => Tuple {
-            proto,
-            zone,
             src: address,
-            dst,
             a: number,
-            b,
+            ..*t
         },
         (Side::Destination, Proto::Icmp) => Tuple {
-            proto,
-            zone,
-            src,
             dst: address,
             a: number,
-            b,
+            ..*t
         },
-        (Side::Destination, Proto::Tcp) => Tuple {
-            proto,
-            zone,
-            src,
+        (Side::Destination, Proto::Tcp | Proto::Udp) => Tuple {
             dst: address,
-            a,
             b: number,
-        },
-        (Side::Destination, Proto::Udp) => Tuple {
-            proto,
-            zone,
-            src,
-            dst: address,
-            a,
-            b: number,
+            ..*t
         },
     }
 }
