@@ -452,6 +452,16 @@ impl<'b> Page<'b> {
         self.point(point);
     }
 
+    /// Writes these words, and two points of the history.
+    fn words_between(&mut self, words: &[u8], from: u64, to: u64)
+        requires few { length words.now ≤ 16 }
+        requires room { HasRoom 60 self.old }
+        ensures { Adds 60 (words.now ++ point_text from ++ point_text to) self.old self.new }
+    {
+        self.words_at(words, from);
+        self.point(to);
+    }
+
     /// Writes these words, the entry of a packet, and a point of the history.
     fn words_of(&mut self, words: &[u8], id: u64, point: u64)
         requires few { length words.now ≤ 16 }
@@ -498,14 +508,8 @@ impl<'b> Page<'b> {
             Class::Ignored { id, at } => self.words_of(b"IGNORED", id, at),
             Class::Merged { id, at, .. } => self.words_of(b"MERGED", id, at),
             Class::Clash { id, at, .. } => self.words_of(b"CLASH", id, at),
-            Class::NoPort { from, to } => {
-                self.words_at(b"NOPORT", from);
-                self.point(to);
-            }
-            Class::Full { from, at } => {
-                self.words_at(b"FULL", from);
-                self.point(at);
-            }
+            Class::NoPort { from, to } => self.words_between(b"NOPORT", from, to),
+            Class::Full { from, at } => self.words_between(b"FULL", from, at),
             Class::Contended { id, at } => self.words_of(b"CONTENDED", id, at),
         }
     }
