@@ -18,6 +18,11 @@ abbrev pub EventsHaveZones : Type 0
 EventsHaveZones =
     (sizes : Sizes) (s : State) (n : ℕ) (e : Event) → may_happen sizes s n e ≡ true → event_zone s e ≢ None
 
+-- in any state, there is room for each event that may happen
+abbrev pub EventsHaveRoom : Type 0
+EventsHaveRoom =
+    (sizes : Sizes) (s : State) (n : ℕ) (e : Event) → may_happen sizes s n e ≡ true → has_room_for sizes s e ≡ true
+
 -- in any state of a legal history, an event that may happen leaves the part of each zone but its own as it is
 abbrev pub OtherZonesStay : Type 0
 OtherZonesStay =

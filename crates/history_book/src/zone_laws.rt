@@ -1,7 +1,7 @@
 //! No zone depends on another: what holds of the parts of a zone in the states of a legal history, and of its
 //! events. Each law is the contract of a function that does nothing but cite the laws that it follows from.
 
-ghost use Rattle.history_book.specs.ZoneLaws.{EventsHaveZones, OtherZonesStay, ZonedDeletesStayInTheirZone};
+ghost use Rattle.history_book.specs.ZoneLaws.{EventsHaveRoom, EventsHaveZones, OtherZonesStay, ZonedDeletesStayInTheirZone};
 ghost use Rattle.history_book.specs.ZoneLaws.{ZonesAreApart, ZonesAreFoundAlone, ZonesCountTheirEvents};
 ghost use Rattle.history_book.specs.ZoneLaws.{ZonesHaveHistories, ZonesStandAlone};
 
@@ -13,6 +13,12 @@ use crate::laws::{
 /// Each event that may happen has a zone.
 pub fn events_have_zones()
     ensures { EventsHaveZones }
+{}
+
+/// There is room for each event that may happen.
+#[tactic(auto, using(crate::proofs::ZoneRuns::may_room))]
+pub fn events_have_room()
+    ensures { EventsHaveRoom }
 {}
 
 /// In a state of a legal history, an event leaves the part of each zone but its own as it is.
