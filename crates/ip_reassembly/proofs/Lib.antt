@@ -1,0 +1,13 @@
+pub mod Same
+pub mod Order
+pub mod Fill
+pub mod Filling
+pub mod Join
+pub mod Sound
+pub mod Complete
+pub mod Known
+pub mod Data
+pub mod Frames
+pub mod Reread
+pub mod Append
+pub mod ByTwo
