@@ -8,7 +8,7 @@ use Rattle.file_text.specs.Text.{port_of}
 use Rattle.command_words.specs.Words.{app, asked_of, found_from, found_in, FoundWords, number_of, Origin, Request, table_app, with_values, within_limits, workload_of, zones_for, zones_in}
 use Rattle.command_words.specs.declared.WordsError.{WordsError}
 use Rattle.command_words.specs.declared.WordsError.TheVariants.{Usage}
-use Rattle.command_words.specs.WordsLaws.{CapturesAlone, CapturesOfAnyName, CapturesWithRules, MadeBesideCaptures, SummaryOfCaptures, WordsWithoutCaptures, ZonesBesideMade, ZonesOfCaptures, ZonesOfOtherCaptures, begins_with_dash}
+use Rattle.command_words.specs.WordsLaws.{CapturesAlone, CapturesOfAnyName, CapturesWithRules, DefragOfCaptures, MadeBesideCaptures, SummaryOfCaptures, WordsWithoutCaptures, ZonesBesideMade, ZonesOfCaptures, ZonesOfOtherCaptures, begins_with_dash}
 
 pub any_name : CapturesOfAnyName
 unfolding asked_of found_in app table_app clap_on_literals ones
@@ -32,6 +32,10 @@ with_rules program rules capture = refl
 pub summary : SummaryOfCaptures
 unfolding asked_of found_in app table_app clap_on_literals ones
 summary program capture = refl
+
+pub defrag : DefragOfCaptures
+unfolding asked_of found_in app table_app clap_on_literals ones
+defrag program capture = refl
 
 pub beside : MadeBesideCaptures
 unfolding asked_of found_in app table_app clap_on_literals ones

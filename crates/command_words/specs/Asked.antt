@@ -40,6 +40,7 @@ asked_as asked = record {
   buckets = asked.buckets;
   ftp = asked.ftp.items;
   summary = asked.summary;
+  defrag = asked.defrag;
 }
 
 -- the answer is the one that is wanted, or want of memory

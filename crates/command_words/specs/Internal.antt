@@ -20,6 +20,7 @@ given_as found = record {
   buckets = option_map (λ s. s.now) found.buckets;
   ftp = option_map (λ s. s.now) found.ftp;
   summary = found.summary;
+  defrag = found.defrag;
 }
 
 abbrev pub wide_as : Wide → Workload
@@ -42,6 +43,7 @@ formed_as formed = record {
   buckets = formed.buckets;
   ftp = formed.ftp.items;
   summary = formed.summary;
+  defrag = formed.defrag;
 }
 
 -- it is the value that no limit is passed with, or the limit

@@ -33,20 +33,22 @@ bare_app = record {
   subs = [];
 }
 
--- five options: two files, and what the tracker has room for
+-- six options: two files, the zones of captures, and what the tracker has room for
 unfoldable pub table_app : App
 table_app = with_rule
+    (with_rule
     (with_rule
     (with_rule
     (with_rule
     (with_rule bare_app
     (option_rule (codes "rules")))
     (option_rule (codes "script")))
+    (option_rule (codes "zones")))
     (option_rule (codes "entries")))
     (option_rule (codes "buckets")))
     (option_rule (codes "ftp"))
 
--- the command: these, the zones of captures, three more for a made workload, one that takes no value, and the captures
+-- the command: these, three more for a made workload, two that take no value, and the captures
 unfoldable pub app : App
 app = with_rule
     (with_rule
@@ -54,11 +56,11 @@ app = with_rule
     (with_rule
     (with_rule
     (with_rule table_app
-    (option_rule (codes "zones")))
     (option_rule (codes "make")))
     (option_rule (codes "packets")))
     (option_rule (codes "threads")))
     (flag_rule (codes "summary")))
+    (flag_rule (codes "defrag")))
     captures_rule
 
 -- ---- what clap finds in the words
@@ -69,7 +71,7 @@ pub record Names : Type 0 where
   pub script : Option (List ℕ)
   pub captures : List (List ℕ)
 
--- the values of the options that stand there, whether the flag does, and the captures
+-- the values of the options that stand there, which of the flags do, and the captures
 pub record FoundWords : Type 0 where
   pub names : Names
   pub zones : Option (List ℕ)
@@ -80,6 +82,7 @@ pub record FoundWords : Type 0 where
   pub buckets : Option (List ℕ)
   pub ftp : Option (List ℕ)
   pub summary : Bool
+  pub defrag : Bool
 
 -- clap gives a flag that stands the value `true`, and another one the value `false`
 abbrev pub is_set : Option (List ℕ) → Bool
@@ -101,6 +104,7 @@ found_by rows = record {
   buckets = first_of (codes "buckets") rows;
   ftp = first_of (codes "ftp") rows;
   summary = is_set (first_of (codes "summary") rows);
+  defrag = is_set (first_of (codes "defrag") rows);
 }
 
 -- nothing is given where clap finds a fault
@@ -180,6 +184,7 @@ pub record Request : Type 0 where
   pub buckets : ℕ
   pub ftp : List ℕ
   pub summary : Bool
+  pub defrag : Bool
 
 -- how many captures there are
 abbrev pub capture_count : Origin → ℕ
@@ -237,6 +242,7 @@ with_values given =
       buckets = buckets;
       ftp = ports;
       summary = given.summary;
+      defrag = given.defrag;
     })
 
 -- ---- the limits

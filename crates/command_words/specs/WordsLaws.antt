@@ -17,6 +17,7 @@ usual names = record {
   buckets = 16384;
   ftp = 21 ∷ [];
   summary = false;
+  defrag = false;
 }
 
 -- a capture, and no other file
@@ -41,6 +42,11 @@ CapturesWithRules = (program rules capture : List ℕ)
 abbrev pub SummaryOfCaptures : Type 0
 SummaryOfCaptures = (program capture : List ℕ)
     → asked_of (program ∷ codes "--summary" ∷ codes "--" ∷ capture ∷ []) ≡ Ok (record (usual (captured capture)) { summary = true })
+
+-- with another flag its fragments are put together
+abbrev pub DefragOfCaptures : Type 0
+DefragOfCaptures = (program capture : List ℕ)
+    → asked_of (program ∷ codes "--defrag" ∷ codes "--" ∷ capture ∷ []) ≡ Ok (record (usual (captured capture)) { defrag = true })
 
 -- a made workload stands beside no capture, whatever its seed is
 abbrev pub MadeBesideCaptures : Type 0

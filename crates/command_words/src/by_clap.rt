@@ -16,7 +16,7 @@ use room_list::RoomList;
 use std::alloc::{AllocError, Global};
 use tuple_core::NoMemory;
 
-/// The values of the options that stand in the words, whether the flag does, and the captures.
+/// The values of the options that stand in the words, which of the flags do, and the captures.
 #[derive(Drop)]
 pub(crate) struct Found<'w> {
     pub(crate) names: Named<'w>,
@@ -28,6 +28,7 @@ pub(crate) struct Found<'w> {
     pub(crate) buckets: Option<&'w str>,
     pub(crate) ftp: Option<&'w str>,
     pub(crate) summary: bool,
+    pub(crate) defrag: bool,
 }
 
 /// An option that takes one value.
@@ -84,7 +85,7 @@ fn with_captures(alloc: Global, command: Command<'_>) -> Result<Command<'_>, All
     command.arg(Arg::new(alloc, "captures").action(ArgAction::Append))
 }
 
-/// The command with five of its options.
+/// The command with six of its options.
 #[tactic(auto, unfolding(crate::specs::Words::table_app))]
 fn table_command<'w>(alloc: Global) -> Result<Command<'w>, AllocError>
     ensures { IfOk result (λ command. app_of command ≡ table_app) }
@@ -92,6 +93,7 @@ fn table_command<'w>(alloc: Global) -> Result<Command<'w>, AllocError>
     let command = bare(alloc);
     let command = with_option(alloc, command, "rules")?;
     let command = with_option(alloc, command, "script")?;
+    let command = with_option(alloc, command, "zones")?;
     let command = with_option(alloc, command, "entries")?;
     let command = with_option(alloc, command, "buckets")?;
     with_option(alloc, command, "ftp")
@@ -103,11 +105,11 @@ fn command<'w>(alloc: Global) -> Result<Command<'w>, AllocError>
     ensures { IfOk result (λ command. app_of command ≡ app) }
 {
     let command = table_command(alloc)?;
-    let command = with_option(alloc, command, "zones")?;
     let command = with_option(alloc, command, "make")?;
     let command = with_option(alloc, command, "packets")?;
     let command = with_option(alloc, command, "threads")?;
     let command = with_flag(alloc, command, "summary")?;
+    let command = with_flag(alloc, command, "defrag")?;
     with_captures(alloc, command)
 }
 
@@ -174,5 +176,6 @@ pub(crate) fn find<'w>(alloc: Global, words: &'w [String]) -> Result<Found<'w>, 
         buckets: value(&matches, "buckets"),
         ftp: value(&matches, "ftp"),
         summary: is_set(&matches, "summary"),
+        defrag: is_set(&matches, "defrag"),
     })
 }

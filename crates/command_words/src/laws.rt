@@ -1,6 +1,6 @@
 //! What words ask for: each law is the contract of a function that does nothing.
 
-ghost use Rattle.command_words.specs.WordsLaws.{CapturesAlone, CapturesOfAnyName, CapturesWithRules, MadeBesideCaptures, SummaryOfCaptures, WordsWantNoMemory, WordsWithoutCaptures, ZonesBesideMade, ZonesOfCaptures, ZonesOfOtherCaptures};
+ghost use Rattle.command_words.specs.WordsLaws.{CapturesAlone, CapturesOfAnyName, CapturesWithRules, DefragOfCaptures, MadeBesideCaptures, SummaryOfCaptures, WordsWantNoMemory, WordsWithoutCaptures, ZonesBesideMade, ZonesOfCaptures, ZonesOfOtherCaptures};
 
 /// A capture whose name does not begin with `-` is asked for by its name alone.
 pub fn captures_alone()
@@ -20,6 +20,11 @@ pub fn captures_with_rules()
 /// A summary of it is asked for by a flag before it.
 pub fn summary_of_captures()
     ensures { SummaryOfCaptures }
+{}
+
+/// Its fragments are put together by another flag before it.
+pub fn defrag_of_captures()
+    ensures { DefragOfCaptures }
 {}
 
 /// A capture beside a made workload is not of the form.

@@ -67,6 +67,8 @@ pub struct Asked<'w> {
     pub ftp: RoomList<u16>,
     /// Whether a summary is written in place of the whole report.
     pub summary: bool,
+    /// Whether the fragments of each capture are put together.
+    pub defrag: bool,
 }
 
 /// What there is too much of, or too little.
@@ -212,6 +214,7 @@ fn limit(alloc: Global, formed: Formed<'_>) -> Result<Asked<'_>, WordsError>
         buckets,
         ftp,
         summary,
+        defrag,
     } = formed;
     if entries < 1 || entries > MOST {
         return Err(WordsError::Limit(WordsLimit::Entries));
@@ -231,6 +234,7 @@ fn limit(alloc: Global, formed: Formed<'_>) -> Result<Asked<'_>, WordsError>
         buckets: buckets as u32,
         ftp,
         summary,
+        defrag,
     })
 }
 

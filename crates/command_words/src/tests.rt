@@ -36,6 +36,7 @@ struct Wanted<'a> {
     buckets: u32,
     ftp: &'a [u16],
     summary: bool,
+    defrag: bool,
 }
 
 /// What is wanted of a line without options.
@@ -48,6 +49,7 @@ const USUAL: Wanted<'static> = Wanted {
     buckets: 16_384,
     ftp: &[21],
     summary: false,
+    defrag: false,
 };
 
 /// Whether these are the files that are wanted.
@@ -82,6 +84,7 @@ fn is_wanted(asked: &Asked<'_>, wanted: &Wanted<'_>) -> bool {
         && asked.buckets == wanted.buckets
         && asked.ftp.as_slice() == wanted.ftp
         && asked.summary == wanted.summary
+        && asked.defrag == wanted.defrag
 }
 
 /// Whether the line asks for what is wanted.
@@ -108,6 +111,7 @@ fn missing_words(rt: HostRuntime) -> Result<(), Fail> {
         "ctreplay c --zones",
         "ctreplay --zones 1",
         "ctreplay --summary",
+        "ctreplay --defrag",
     ];
     for line in lines {
         assert!(rt;
@@ -137,6 +141,10 @@ fn repeated_and_unknown_options(rt: HostRuntime) -> Result<(), Fail> {
         "ctreplay --summary --summary c",
         "ctreplay --summary=true c",
         "ctreplay --summary= c",
+        "ctreplay --defrag --defrag c",
+        "ctreplay --defrag=true c",
+        "ctreplay --defrag= c",
+        "ctreplay --defra c",
         "ctreplay -s c",
         "ctreplay --make 0 --make 0 --packets 8 --threads 2",
         "ctreplay --make 0 --packets 8 --packets 8 --threads 2",
@@ -513,6 +521,25 @@ fn summaries(rt: HostRuntime) -> Result<(), Fail> {
 }
 
 #[test]
+fn fragments(rt: HostRuntime) -> Result<(), Fail> {
+    let cases = [
+        ("ctreplay --defrag c", ["c"].as_slice(), true),
+        ("ctreplay c --defrag", ["c"].as_slice(), true),
+        ("ctreplay -- --defrag", ["--defrag"].as_slice(), false),
+        ("ctreplay --defrag false c", ["false", "c"].as_slice(), true),
+    ];
+    for (line, captures, defrag) in cases {
+        let wanted = Wanted {
+            captures,
+            defrag,
+            ..USUAL
+        };
+        assert!(rt; asks(rt.alloc(), line, &wanted)?, "{line}");
+    }
+    Ok(())
+}
+
+#[test]
 fn all_options(rt: HostRuntime) -> Result<(), Fail> {
     let wanted = Wanted {
         rules: Some("f"),
@@ -523,9 +550,10 @@ fn all_options(rt: HostRuntime) -> Result<(), Fail> {
         buckets: 32,
         ftp: &[2121],
         summary: true,
+        defrag: true,
     };
     let line =
-        "ctreplay a --ftp 2121 --script s --buckets 32 b --zones 3,0,9 --summary --rules f --entries 10 -- -x";
+        "ctreplay a --ftp 2121 --script s --buckets 32 b --zones 3,0,9 --summary --rules f --entries 10 --defrag -- -x";
     assert!(rt; asks(rt.alloc(), line, &wanted)?);
     Ok(())
 }

@@ -49,6 +49,7 @@ pub(crate) struct Formed<'w> {
     pub(crate) buckets: u64,
     pub(crate) ftp: RoomList<u16>,
     pub(crate) summary: bool,
+    pub(crate) defrag: bool,
 }
 
 /// The number that the text writes.
@@ -231,5 +232,6 @@ pub(crate) fn form(alloc: Global, found: Found<'_>) -> Result<Formed<'_>, WordsE
         buckets,
         ftp,
         summary: found.summary,
+        defrag: found.defrag,
     })
 }

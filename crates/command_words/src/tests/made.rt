@@ -5,8 +5,9 @@ use crate::{Asked, Origin, WordsError, WordsLimit, Workload, read_words};
 use std::alloc::{AllocError, Global};
 use std::test::Fail;
 
-/// Whether this workload is asked for, with a table of so many entries, and a summary or not.
-fn is_made(asked: &Asked<'_>, wanted: (u32, u32, u32), entries: u32, summary: bool) -> bool {
+/// Whether this workload is asked for, with a table of so many entries, and of the two flags, for a summary and for
+/// fragments, with these.
+fn is_made(asked: &Asked<'_>, wanted: (u32, u32, u32), entries: u32, flags: (bool, bool)) -> bool {
     let made = match asked.origin {
         Origin::Made(
             Workload {
@@ -19,7 +20,7 @@ fn is_made(asked: &Asked<'_>, wanted: (u32, u32, u32), entries: u32, summary: bo
     };
     made && are_zeros(asked.zones.as_slice(), wanted.2 as usize)
         && asked.entries == entries
-        && asked.summary == summary
+        && (asked.summary, asked.defrag) == flags
 }
 
 /// Whether the line asks for this.
@@ -28,11 +29,11 @@ fn makes(
     line: &str,
     wanted: (u32, u32, u32),
     entries: u32,
-    summary: bool,
+    flags: (bool, bool),
 ) -> Result<bool, AllocError> {
     let words = split(alloc, line)?;
     match read_words(alloc, words.as_slice()) {
-        Ok(asked) => Ok(is_made(&asked, wanted, entries, summary)),
+        Ok(asked) => Ok(is_made(&asked, wanted, entries, flags)),
         Err(_) => Ok(false),
     }
 }
@@ -57,23 +58,31 @@ fn workloads(rt: HostRuntime) -> Result<(), Fail> {
         ),
     ];
     for (line, wanted) in cases {
-        assert!(rt; makes(rt.alloc(), line, wanted, 65_536, false)?, "{line}");
+        assert!(rt;
+            makes(rt.alloc(), line, wanted, 65_536, (false, false))?,
+            "{line}"
+        );
     }
     let table = [
         (
             "ctreplay --make 0 --packets 8 --threads 2 --entries 4",
             4,
-            false,
+            (false, false),
         ),
         (
             "ctreplay --entries 5 --summary --make 0 --packets 8 --threads 2",
             5,
-            true,
+            (true, false),
+        ),
+        (
+            "ctreplay --make 0 --packets 8 --threads 2 --defrag",
+            65_536,
+            (false, true),
         ),
     ];
-    for (line, entries, summary) in table {
+    for (line, entries, flags) in table {
         assert!(rt;
-            makes(rt.alloc(), line, (0, 8, 2), entries, summary)?,
+            makes(rt.alloc(), line, (0, 8, 2), entries, flags)?,
             "{line}"
         );
     }
