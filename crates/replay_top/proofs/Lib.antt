@@ -1,3 +1,4 @@
 pub mod Collecting
 pub mod Findings
 pub mod Made
+pub mod Reassembled

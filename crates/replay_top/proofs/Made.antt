@@ -1,5 +1,5 @@
 -- What a report of all files that are asked for is.
-use Rattle.std.proofs.Common.{◌≡◌, ℕ, Option, Some, None, List, [], ◌∷◌, ◌++◌, length, map, suc, refl, sym, subst, ap, ◌∙◌}
+use Rattle.std.proofs.Common.{◌≡◌, ℕ, Bool, false, Option, Some, None, List, [], ◌∷◌, ◌++◌, length, map, suc, refl, sym, subst, ap, ◌∙◌}
 use Rattle.std.specs.Prelude.{Err, IfOk, Ok, option_to_list, Result}
 use Rattle.std.proofs.lemmas.List.{length-map}
 use Rattle.command_words.specs.Words.{made, named, Origin, Request}
@@ -8,7 +8,7 @@ use Rattle.ct_io.specs.Source.{Source}
 use Rattle.history_book.specs.declared.report.Report.{Report}
 use Rattle.history_book.specs.declared.sizes.Sizes.{Sizes}
 use Rattle.nat_setup.specs.declared.rule.Rule.{Rule}
-use Rattle.packet_path.specs.Packet.{Given, given_of}
+use Rattle.packet_path.specs.Packet.{Given}
 use Rattle.capture_list.specs.declared.Capture.{Capture}
 use Rattle.run_inputs.specs.declared.flaw.FileKind.TheVariants as kind
 use Rattle.run_inputs.specs.declared.input.Inputs.{Inputs}
@@ -16,7 +16,7 @@ use Rattle.run_inputs.specs.Content.{Content, no_totals, rules, script, Totals, 
 use Rattle.run_inputs.specs.Inputs.{AreGiven, AreReadFrom}
 use Rattle.run_inputs.specs.Reading.{bytes_in, contents_in, GaveContents, GaveInputs, GaveOrigin, GaveRules, GaveScript, zones_in}
 use Rattle.run_inputs.specs.Made.{AreInputsOf}
-use Rattle.replay_top.specs.Internal.Replaying.{ReplaysInputs}
+use Rattle.replay_top.specs.Internal.Replaying.{ReplaysInputs, given_of_capture, work_in}
 use Rattle.replay_runs.specs.Replaying.{work_of}
 use Rattle.replay_top.specs.Replay.{given_in, IsReplayOf, rules_in, sizes_of, threads_of, work_with}
 use Rattle.made_captures.specs.MadeCapture.{made_capture}
@@ -26,19 +26,22 @@ use Rattle.run_inputs.specs.Files.{files_of_kind, InputFile}
 use Rattle.room_list.specs.Roomed.{Roomed}
 
 -- a report of inputs that were set up as it is asked for is what is asked for
-pub inputs_replayed : (asked : Request) (inputs : Inputs) (ftp : Roomed ℕ) (sizes : Sizes) {E : Type 0} (result : Result Report E)
+pub inputs_replayed : (asked : Request) (inputs : Inputs) (captures : List Capture) (ftp : Roomed ℕ) (sizes : Sizes) {E : Type 0} (result : Result Report E)
+    → map (given_of_capture false) captures ≡ map (given_of_capture asked.defrag) inputs.captures.items
     → ftp.items ≡ asked.ftp → sizes ≡ sizes_of asked
     → IfOk result (IsWellFormed (record { setup = record { rules = inputs.rules; ftp = ftp }; sizes = sizes })
-    (work_of inputs.captures.items inputs.script))
+    (work_of captures inputs.script))
     → IfOk result (ReplaysInputs asked inputs)
-inputs_replayed asked inputs ftp sizes (Ok report) copied sized well_formed = record {
+inputs_replayed asked inputs captures ftp sizes (Ok report) same copied sized well_formed = record {
   setup = record { rules = inputs.rules; ftp = ftp };
   rules = refl;
   ftp = copied;
-  well_formed = subst (λ (z : Sizes). IsWellFormed (record { setup = record { rules = inputs.rules; ftp = ftp }; sizes = z })
-      (work_of inputs.captures.items inputs.script) report) sized well_formed;
+  well_formed = subst (λ (given : List (List Given)). IsWellFormed (record { setup = record { rules = inputs.rules; ftp = ftp }; sizes = sizes_of asked })
+      (record { captures = given; commands = inputs.script.commands.items; wait = inputs.script.wait }) report) same
+      (subst (λ (z : Sizes). IsWellFormed (record { setup = record { rules = inputs.rules; ftp = ftp }; sizes = z })
+      (work_of captures inputs.script) report) sized well_formed);
 }
-inputs_replayed asked inputs ftp sizes (Err error) copied sized well_formed = tt
+inputs_replayed asked inputs captures ftp sizes (Err error) same copied sized well_formed = tt
 
 -- without a file of rules there are none, and without a script there is no command
 no_rules : (captures : List Capture) → rules_in (contents_in captures) ≡ []
@@ -50,95 +53,93 @@ no_commands : (given : List (List Given)) (captures : List Capture)
 no_commands given [] = refl
 no_commands given (c ∷ captures) = no_commands given captures
 
-abbrev given_of_capture : Capture → List Given
-given_of_capture c = map (given_of c.zone c.bytes.items) c.frames.items
-
 -- what is given of captures
-given_captures : (captures : List Capture) → given_in (zones_in captures) (bytes_in captures) (contents_in captures) ≡ map given_of_capture captures
-given_captures [] = refl
-given_captures (c ∷ captures) = ap (λ (given : List (List Given)). given_of_capture c ∷ given) (given_captures captures)
+given_captures : (defrag : Bool) (captures : List Capture)
+    → given_in defrag (zones_in captures) (bytes_in captures) (contents_in captures) ≡ map (given_of_capture defrag) captures
+given_captures defrag [] = refl
+given_captures defrag (c ∷ captures) = ap (λ (given : List (List Given)). given_of_capture defrag c ∷ given) (given_captures defrag captures)
 
 -- a script without a command, and captures alone
-captures_alone : (said : Script) (captures : List Capture) → said.commands.items ≡ [] → said.wait ≡ 0
-    → work_of captures said ≡ work_with (given_in (zones_in captures) (bytes_in captures) (contents_in captures)) (contents_in captures)
-captures_alone said captures commands wait =
-    rw (commands, wait) (sym (no_commands (given_in (zones_in captures) (bytes_in captures) (contents_in captures)) captures
-    ∙ ap (λ (given : List (List Given)). record { captures = given; commands = []; wait = 0 }) (given_captures captures)))
+captures_alone : (defrag : Bool) (said : Script) (captures : List Capture) → said.commands.items ≡ [] → said.wait ≡ 0
+    → work_in defrag captures said ≡ work_with (given_in defrag (zones_in captures) (bytes_in captures) (contents_in captures)) (contents_in captures)
+captures_alone defrag said captures commands wait =
+    rw (commands, wait) (sym (no_commands (given_in defrag (zones_in captures) (bytes_in captures) (contents_in captures)) captures
+    ∙ ap (λ (given : List (List Given)). record { captures = given; commands = []; wait = 0 }) (given_captures defrag captures)))
 
 -- what files say, of which the rules and the work are these
-record ReadFiles (files : Source) (inputs : List InputFile) (zones : List ℕ) (ruled : List Rule) (done : Work) : Type 0 where
+record ReadFiles (files : Source) (inputs : List InputFile) (defrag : Bool) (zones : List ℕ) (ruled : List Rule) (done : Work) : Type 0 where
   bytes : List (List ℕ)
   contents : List Content
   given : AreGiven files inputs bytes
   read : AreReadFrom no_totals inputs bytes contents
   rules : ruled ≡ rules_in contents
-  work : done ≡ work_with (given_in zones bytes contents) contents
+  work : done ≡ work_with (given_in defrag zones bytes contents) contents
 
-read_files : (files : Source) (r s : Option (List ℕ)) (names : List (List ℕ)) (ruled : List Rule) (said : Script) (captures : List Capture)
+read_files : (files : Source) (r s : Option (List ℕ)) (names : List (List ℕ)) (defrag : Bool) (ruled : List Rule) (said : Script) (captures : List Capture)
     → GaveRules files r ruled → GaveScript files s said
     → GaveContents files no_totals (files_of_kind kind.Capture names) (bytes_in captures) (contents_in captures)
     → ReadFiles files (files_of_kind kind.Rules (option_to_list r) ++ files_of_kind kind.Script (option_to_list s) ++ files_of_kind kind.Capture names)
-    (zones_in captures) ruled (work_of captures said)
-read_files files None None names ruled said captures gr gs gc = record {
+    defrag (zones_in captures) ruled (work_in defrag captures said)
+read_files files None None names defrag ruled said captures gr gs gc = record {
   bytes = bytes_in captures;
   contents = contents_in captures;
   given = gc.given;
   read = gc.read;
   rules = gr ∙ sym (no_rules captures);
-  work = captures_alone said captures gs.0 gs.1;
+  work = captures_alone defrag said captures gs.0 gs.1;
 }
-read_files files None (Some s) names ruled said captures gr gs gc = record {
+read_files files None (Some s) names defrag ruled said captures gr gs gc = record {
   bytes = gs.bytes ∷ bytes_in captures;
   contents = script said.commands.items said.wait ∷ contents_in captures;
   given = (gs.given, gc.given);
   read = (gs.read, gc.read);
   rules = gr ∙ sym (no_rules captures);
-  work = sym (ap (λ (given : List (List Given)). record { captures = given; commands = said.commands.items; wait = said.wait }) (given_captures captures));
+  work = sym (ap (λ (given : List (List Given)). record { captures = given; commands = said.commands.items; wait = said.wait }) (given_captures defrag captures));
 }
-read_files files (Some r) None names ruled said captures gr gs gc = record {
+read_files files (Some r) None names defrag ruled said captures gr gs gc = record {
   bytes = gr.bytes ∷ bytes_in captures;
   contents = rules ruled ∷ contents_in captures;
   given = (gr.given, gc.given);
   read = (gr.read, gc.read);
   rules = refl;
-  work = captures_alone said captures gs.0 gs.1;
+  work = captures_alone defrag said captures gs.0 gs.1;
 }
-read_files files (Some r) (Some s) names ruled said captures gr gs gc = record {
+read_files files (Some r) (Some s) names defrag ruled said captures gr gs gc = record {
   bytes = gr.bytes ∷ gs.bytes ∷ bytes_in captures;
   contents = rules ruled ∷ script said.commands.items said.wait ∷ contents_in captures;
   given = (gr.given, (gs.given, gc.given));
   read = (gr.read, (gs.read, gc.read));
   rules = refl;
-  work = sym (ap (λ (given : List (List Given)). record { captures = given; commands = said.commands.items; wait = said.wait }) (given_captures captures));
+  work = sym (ap (λ (given : List (List Given)). record { captures = given; commands = said.commands.items; wait = said.wait }) (given_captures defrag captures));
 }
 
 -- the same of all that is asked for
-record Worked (files : Source) (origin : Origin) (zones : List ℕ) (ruled : List Rule) (done : Work) : Type 0 where
+record Worked (files : Source) (origin : Origin) (defrag : Bool) (zones : List ℕ) (ruled : List Rule) (done : Work) : Type 0 where
   bytes : List (List ℕ)
   contents : List Content
   inputs : AreInputsOf files origin bytes contents
   rules : ruled ≡ rules_in contents
-  work : done ≡ work_with (given_in zones bytes contents) contents
+  work : done ≡ work_with (given_in defrag zones bytes contents) contents
 
-worked : (files : Source) (origin : Origin) (inputs : Inputs) → GaveOrigin files origin inputs
-    → Worked files origin (zones_in inputs.captures.items) inputs.rules.items (work_of inputs.captures.items inputs.script)
-worked files (named names) inputs gave =
-    let all = read_files files names.rules names.script names.captures inputs.rules.items inputs.script inputs.captures.items gave.rules
+worked : (files : Source) (origin : Origin) (defrag : Bool) (inputs : Inputs) → GaveOrigin files origin inputs
+    → Worked files origin defrag (zones_in inputs.captures.items) inputs.rules.items (work_in defrag inputs.captures.items inputs.script)
+worked files (named names) defrag inputs gave =
+    let all = read_files files names.rules names.script names.captures defrag inputs.rules.items inputs.script inputs.captures.items gave.rules
     gave.script gave.captures in
     record { bytes = all.bytes; contents = all.contents; inputs = (all.given, all.read); rules = all.rules; work = all.work }
-worked files (made workload) inputs gave = record {
+worked files (made workload) defrag inputs gave = record {
   bytes = bytes_in inputs.captures.items;
   contents = contents_in inputs.captures.items;
   inputs = gave.captures;
   rules = gave.rules ∙ sym (no_rules inputs.captures.items);
-  work = captures_alone inputs.script inputs.captures.items gave.commands gave.wait;
+  work = captures_alone defrag inputs.script inputs.captures.items gave.commands gave.wait;
 }
 
 -- a report of what was read is one of what is asked for
 pub replay_made : (files : Source) (asked : Request) (inputs : Inputs) (report : Report) → GaveInputs files asked inputs
     → ReplaysInputs asked inputs report → IsReplayOf files asked report
 replay_made files asked inputs report gave of =
-    let all = worked files asked.origin inputs gave.origin in
+    let all = worked files asked.origin asked.defrag inputs gave.origin in
     record {
       bytes = all.bytes;
       contents = all.contents;
@@ -147,7 +148,7 @@ replay_made files asked inputs report gave of =
       rules = ap (λ (r : Roomed Rule). r.items) of.rules ∙ all.rules;
       ftp = of.ftp;
       well_formed = subst (λ (w : Work). IsWellFormed (record { setup = of.setup; sizes = sizes_of asked }) w report)
-          (all.work ∙ ap (λ (zones : List ℕ). work_with (given_in zones all.bytes all.contents) all.contents) gave.in_zones) of.well_formed;
+          (all.work ∙ ap (λ (zones : List ℕ). work_with (given_in asked.defrag zones all.bytes all.contents) all.contents) gave.in_zones) of.well_formed;
     }
 
 -- there is one for each file that was read

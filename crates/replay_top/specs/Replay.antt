@@ -4,7 +4,9 @@ use Rattle.command_words.specs.Words.{Origin, Request, made, named}
 use Rattle.ct_io.specs.Counts.{Rose}
 use Rattle.ct_io.specs.Source.{Source}
 use Rattle.ct_io.specs.Tape.{Tape}
+use Rattle.ip_reassembly.specs.Defragged.{defragged}
 use Rattle.nat_setup.specs.declared.rule.Rule.{Rule}
+use Rattle.packet_headers.specs.declared.frame.Frame.{Frame}
 use Rattle.packet_path.specs.Packet.{Given, given_of}
 use Rattle.packet_path.specs.declared.setup.Setup.{Setup}
 use Rattle.history_book.specs.declared.report.Report.{Report}
@@ -24,15 +26,21 @@ rules_in (rules said ∷ contents) = said
 rules_in (script commands wait ∷ contents) = rules_in contents
 rules_in (frames said ∷ contents) = rules_in contents
 
--- what was given of the frames of the captures among files with these bytes, which say this; the captures are in these
--- zones, in their order, and in zone 0 past the list
-abbrev pub given_in : List ℕ → List (List ℕ) → List Content → List (List Given)
-given_in zones [] contents = []
-given_in zones (bytes ∷ more) [] = []
-given_in zones (bytes ∷ more) (rules said ∷ contents) = given_in zones more contents
-given_in zones (bytes ∷ more) (script commands wait ∷ contents) = given_in zones more contents
-given_in zones (bytes ∷ more) (frames said ∷ contents) =
-    map (given_of (get_or zones 0 0) bytes) said ∷ given_in (drop 1 zones) more contents
+-- what was given of these frames of a capture with these bytes, in a zone; where that is asked for, its fragments are
+-- put together first
+abbrev pub given_frames : Bool → ℕ → List ℕ → List Frame → List Given
+given_frames false zone bytes said = map (given_of zone bytes) said
+given_frames true zone bytes said = map (given_of zone (defragged bytes said).bytes) (defragged bytes said).frames
+
+-- the same of the captures among files with these bytes, which say this; the captures are in these zones, in their
+-- order, and in zone 0 past the list
+abbrev pub given_in : Bool → List ℕ → List (List ℕ) → List Content → List (List Given)
+given_in defrag zones [] contents = []
+given_in defrag zones (bytes ∷ more) [] = []
+given_in defrag zones (bytes ∷ more) (rules said ∷ contents) = given_in defrag zones more contents
+given_in defrag zones (bytes ∷ more) (script commands wait ∷ contents) = given_in defrag zones more contents
+given_in defrag zones (bytes ∷ more) (frames said ∷ contents) =
+    given_frames defrag (get_or zones 0 0) bytes said ∷ given_in defrag (drop 1 zones) more contents
 
 -- the work with these captures, by the script of files that say this; without a script there is no command
 abbrev pub work_with : List (List Given) → List Content → Work
@@ -54,8 +62,8 @@ sizes_of asked =
     record { entries = asked.entries; buckets = asked.buckets; seed = 1; passes = threads_of asked.origin + 1; expectations = 1024 }
 
 -- The report is that of what is asked for: files that are named, which are read, or a workload that is made. It is well
--- formed for what their bytes say, each capture in its zone, with a tracker of the sizes, the rules and the ports of the helper
--- that are asked for.
+-- formed for what their bytes say, each capture in its zone, its fragments put together where that is asked for, with a
+-- tracker of the sizes, the rules and the ports of the helper that are asked for.
 -- Where the contents of a file are told, its bytes are these; else no more is said of them.
 pub record IsReplayOf (files : Source) (asked : Request) (report : Report) : Type 0 where
   pub bytes : List (List ℕ)
@@ -64,7 +72,7 @@ pub record IsReplayOf (files : Source) (asked : Request) (report : Report) : Typ
   pub setup : Setup
   pub rules : setup.rules.items ≡ rules_in contents
   pub ftp : setup.ftp.items ≡ asked.ftp
-  pub well_formed : IsWellFormed (record { setup = setup; sizes = sizes_of asked }) (work_with (given_in asked.zones bytes contents) contents) report
+  pub well_formed : IsWellFormed (record { setup = setup; sizes = sizes_of asked }) (work_with (given_in asked.defrag asked.zones bytes contents) contents) report
 
 -- the report is that of what the words ask for
 abbrev pub IsReplay : List (List ℕ) → Source → Report → Type 0

@@ -5,6 +5,7 @@ mod ending;
 mod error_line;
 mod process;
 mod program;
+mod reassembly;
 mod replay;
 mod sizes;
 

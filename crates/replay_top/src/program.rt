@@ -18,6 +18,7 @@ ghost use Rattle.run_inputs.specs.Files.{files_named, files_of};
 
 use crate::ending::{Ending, Run, refusal_for};
 use crate::error_line::{name_among, tell_not_written, tell_refusal};
+use crate::reassembly::as_replayed;
 use crate::replay::replay;
 use crate::sizes::sizes_of;
 use command_words::{Asked, read_words};
@@ -64,6 +65,7 @@ fn replay_inputs<R: Threads + Wait + Sync, G: Gate + Sync>(
         script,
         captures,
     } = inputs;
+    let captures = as_replayed(alloc, asked.defrag, captures)?;
     let ftp = copied(alloc, &asked.ftp)?;
     let setup = Setup { rules, ftp };
     replay(rt, alloc, &sizes_of(asked), captures, &script, &setup, gate)
@@ -157,10 +159,11 @@ fn refused<K: Sink>(why: Refusal, name: &str, err: &mut K) -> Run
 /// of a workload, replays the captures and performs the script's commands, and writes the report's text to `out`, or its
 /// summary, or one line to `err`.
 ///
-/// `words` are `ctreplay [--rules F] [--script F] [--zones LIST] [--entries N] [--buckets N] [--ftp LIST] [--summary]
-/// CAPTURE..`, or `ctreplay --make SEED --packets N --threads T [--entries N] [--buckets N] [--ftp LIST]
-/// [--summary]`, with which no file is read. Each capture is in the zone that the list gives it, or in zone 0 without
-/// one; flows of different zones never meet. The captures are replayed beside each other, each in a thread of its own,
+/// `words` are `ctreplay [--rules F] [--script F] [--zones LIST] [--defrag] [--entries N] [--buckets N] [--ftp LIST]
+/// [--summary] CAPTURE..`, or `ctreplay --make SEED --packets N --threads T [--defrag] [--entries N] [--buckets N]
+/// [--ftp LIST] [--summary]`, with which no file is read. Each capture is in the zone that the list gives it, or in zone
+/// 0 without one; flows of different zones never meet. With `--defrag` the fragments of each capture are put together
+/// first. The captures are replayed beside each other, each in a thread of its own,
 /// and beside them the commands of the script that stand before `wait` are performed in its thread; those behind it
 /// follow when all captures were replayed. New flows are translated by the rules, and connections to the ports of the
 /// list, or else to 21, have the helper of FTP. The tracker has room for so many entries, or else 65,536, and so many
