@@ -9,6 +9,7 @@ mod captures;
 mod confirms;
 mod devices;
 mod flows;
+mod fragments;
 mod ftp;
 mod made;
 mod pools;
