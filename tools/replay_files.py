@@ -13,6 +13,7 @@ import subprocess
 import sys
 from collections import namedtuple
 
+import fragments
 import refusal_hints as hints
 
 Frame = namedtuple("Frame", "moment link data length")
@@ -33,6 +34,7 @@ VALID_FLAGS = {0x02, 0x04, 0x10, 0x11, 0x12, 0x14, 0x22, 0x30, 0x31}
 LINKS = (1, 101)
 IP_HEADER = struct.Struct(">HxxHxBxxII")
 REFUSED = ("FULL", "NOPORT", "CLASH")
+FRAGMENT = "UNTRACKED fragment"
 LONGEST_FRAME = 262_144
 MOST_ZONE = 65_535
 
@@ -494,6 +496,11 @@ def read_zones(text, count):
     return [int(zone) for zone in zones]
 
 
+def reassembled(frames, texts):
+    """A capture's fragments put together; None where none stayed by the report, and so none was put together."""
+    return fragments.Reassembly(frames) if FRAGMENT in texts else None
+
+
 def check_rows(report):
     """The rows of the script's part are of entries that there were, and of their zones."""
     entries = {event.flows for event in report.events if event.kind == "confirm"}
@@ -516,10 +523,12 @@ def check_rows(report):
 class Work:
     """A report with its captures, of which each has to have a frame for each verdict, and the zone of each capture.
 
-    A report says a capture's zone by its entries alone; `zones`, the value of --zones, says it where there is none.
+    A report says a capture's zone by its entries alone; `zones`, the value of --zones, says it where there is none. It says
+    by its datagrams alone that it was made with --defrag; `defrag` says it where there is none. Then the captures are those
+    with their fragments put together, and `whole` has how.
     """
 
-    def __init__(self, report_name, names, zones=None):
+    def __init__(self, report_name, names, zones=None, defrag=False):
         self.report, self.names = read_report(report_name), names
         self.captures = [read_capture(name) for name in names]
         wanted, found = [len(verdicts) for verdicts in self.report.threads], [len(frames) for frames in self.captures]
@@ -534,6 +543,11 @@ class Work:
         except (IndexError, ValueError, KeyError, Trouble) as error:
             raise Trouble(f"{report_name}: the report is cut or changed") from error
         self.zones = self.zones_of(report_name, said, zones)
+        self.whole = [reassembled(frames, texts) for frames, texts in zip(self.captures, self.report.threads)]
+        self.defrag = self.find_defrag(report_name, defrag)
+        if self.defrag:
+            self.captures = [whole.frames if whole else frames for frames, whole in zip(self.captures, self.whole)]
+        self.check_fragments(report_name)
         self.check_packets(report_name)
 
     def zones_of(self, report_name, said, text):
@@ -548,6 +562,33 @@ class Work:
                 raise Trouble(f"{report_name} does not say which zone {self.names[thread]} has, as none of its packets has an entry: --zones LIST says it")
             zones.append(chosen or 0)
         return zones
+
+    def find_defrag(self, report_name, asked):
+        """Whether the report was made with --defrag: by what it says of the frames that complete datagrams, or else as asked."""
+        said = [self.report.threads[thread][index] != FRAGMENT for thread, whole in enumerate(self.whole) if whole for index in whole.completed]
+        if any(said) and not all(said):
+            raise Trouble(f"{report_name}: the report is cut or changed")
+        if said and asked and not said[0]:
+            raise Trouble(f"{report_name} was made without --defrag: its captures have datagrams to be put together, and it has none")
+        return asked or any(said)
+
+    def check_fragments(self, report_name):
+        """Each frame that is a fragment has that verdict, and no other has it."""
+        for packets, texts in zip(self.packets, self.report.threads):
+            if any((packet.kind == "fragment") != (text == FRAGMENT) for packet, text in zip(packets, texts)):
+                raise Trouble(f"{report_name}: the report is cut or changed, or of other captures: of a fragment it says something else, or of another packet that it is one")
+
+    def why_of(self, thread, index, first=0):
+        """Why a packet is untracked, invalid or an error; of a fragment, where these were put together, what became of it."""
+        packet = self.packets[thread][index]
+        if packet.kind == "fragment" and self.defrag:
+            return fragments.fragment_text(self.whole[thread], index, first)
+        return packet.why
+
+    def whole_of(self, thread, index, first=0):
+        """Of which packets a packet was put together, or nothing."""
+        group = self.whole[thread].completed.get(index) if self.defrag and self.whole[thread] else None
+        return fragments.whole_text(group, first) if group else ""
 
     def check_packets(self, report_name):
         """Each packet that began or renewed an entry has one of its tuples: of a confirm the original one.
