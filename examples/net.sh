@@ -21,6 +21,8 @@ done
 ip netns add "$inside" 2>/dev/null || skip 'network namespaces are not allowed'
 room=$(mktemp -d)
 started=
+# Those of them that a script has put by while it ends others.
+servers=
 
 in_space() {
     ip netns exec "$@"
@@ -34,7 +36,7 @@ start() {
 
 finish() {
     local process space
-    for process in $started; do
+    for process in $started $servers; do
         kill "$process" 2>/dev/null || true
     done
     wait
