@@ -199,9 +199,9 @@ class Reassembly:
         return found | {index: "cut" if flaw.startswith("only") else "wrong in itself" for index, flaw in self.flaws.items()}
 
     def cut_of(self, group):
-        """The first fragment of a group's key that is no piece, from its leader's time on as long as it waited; or None."""
+        """The first fragment of a group's key that is no piece, within 30 s of its leader; or None."""
         leader = group.pieces[0]
-        found = (index for index in self.cut.get(leader.key, ()) if 0 <= self.frames[index].moment - leader.moment < PATIENCE)
+        found = (index for index in self.cut.get(leader.key, ()) if abs(self.frames[index].moment - leader.moment) < PATIENCE)
         return next(found, None)
 
 
