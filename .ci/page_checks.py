@@ -102,7 +102,7 @@ def check_words(room, chromium):
     large = os.path.join(EXAMPLES, "large")
     check_sentences(room, chromium, "fragments that are put together", f"{large}.report", [f"{large}.pcap"], f"{large}.rules", ["which packet 6 completed; that one", "and its bytes 1480 to 2959 are in none."])
     chromium.open(f"{room}/said.html", "view=packets&packet=0.6")
-    said = chromium.value("document.getElementById('whole').textContent")
+    said = chromium.value("document.getElementById('joined').textContent")
     count("tools/page: of which packets a datagram was put together", said == files.Work(f"{large}.report", [f"{large}.pcap"]).whole_of(0, 6) != "", said)
     report = report_of(room, "--entries", "4", paths["office.in.pcap"], paths["late.pcap"], name="full")
     for name in ("tcp", "ftp", "reset", "nat"):

@@ -120,6 +120,60 @@ PYTHON
     entries
 }
 
+# Answers in pieces that are made by hand: LOW-HIGH of an answer's 64 bytes, '!' where the piece has other bytes, '+' where more
+# come behind it though it has the end, 'o' where it has options, '~N' for seconds before it.
+reassembly() {
+    title 'answers in pieces made by hand: how many bytes came to the client, of 56, and the header of what came out'
+    in_space "$router" sysctl -qw net.ipv4.ipfrag_time=2
+    start "$router" tcpdump -Z root -U -i in0 -w "$room/reassembly.out" 'src host 198.51.100.53 and udp'
+    sleep 1
+    local port=40200 pieces
+    for pieces in '0-24 24-64' '24-64 0-24' '0-24 0-24 24-64' '0-40 24-64' '0-24 8-64 16-32 24-64' '0-24 0-24! 24-64' '0-24 8-16! 24-64' \
+        '0-24 16-40! 24-64' '0-24 16-40! 0-24 24-64' '0-20+ 24-64' '0-24o 24-64' '0-24 ~1 24-64' '0-24 ~3 24-64' '0-24 24-64 24-64 0-24'; do
+        in_space "$inside" python3 - "$port" "$room/ready" <<'PYTHON' &
+import socket, sys
+call = socket.socket(socket.AF_INET, socket.SOCK_DGRAM)
+call.bind(("192.168.1.10", int(sys.argv[1])))
+call.sendto(b"x", ("198.51.100.53", 5353))
+open(sys.argv[2], "w").close()
+call.settimeout(4)
+found = []
+try:
+    while True:
+        data = call.recv(65536)
+        found.append(f"{len(data)}{'' if data == bytes(range(8, 64)) else ', other bytes'}")
+        call.settimeout(0.5)
+except TimeoutError:
+    print(" and ".join(found) or "none")
+PYTHON
+        local client=$!
+        while [ ! -e "$room/ready" ]; do sleep 0.05; done
+        rm "$room/ready"
+        printf '%s: ' "$pieces"
+        in_space "$outside" python3 - "$port" "$pieces" <<'PYTHON'
+import socket, struct, sys, time
+port = int(sys.argv[1])
+data = struct.pack(">HHHH", 5353, port, 64, 0) + bytes(range(8, 64))
+raw = socket.socket(socket.AF_INET, socket.SOCK_RAW, socket.IPPROTO_RAW)
+for word in sys.argv[2].split():
+    if word[0] == "~":
+        time.sleep(int(word[1:]))
+        continue
+    low, high = map(int, word.rstrip("!+o").split("-"))
+    body = bytes(byte ^ 255 for byte in data[low:high]) if "!" in word else data[low:high]
+    options = bytes([1]) * 4 if "o" in word else b""
+    place = (high < 64 or "+" in word) << 13 | low // 8
+    head = struct.pack(">BBHHHBBH", 0x45 + len(options) // 4, 0, 20 + len(options) + len(body), port, place, 64, 17, 0)
+    raw.sendto(head + socket.inet_aton("198.51.100.53") + socket.inet_aton("203.0.113.5") + options + body, ("203.0.113.5", 0))
+PYTHON
+        wait "$client" || true
+        port=$((port + 1))
+    done
+    sleep 1
+    tcpdump -nvr "$room/reassembly.out" 2>/dev/null | grep -o 'options (.*)' || echo 'no options came out'
+    in_space "$router" sysctl -qw net.ipv4.ipfrag_time=30
+}
+
 hairpin() {
     title 'a client that asks the server beside it by the outer address: both translations of one flow'
     in_space "$router" iptables -t nat -A PREROUTING -d 203.0.113.5 -p tcp --dport 8080 -j DNAT --to-destination 192.168.1.10:8000
@@ -219,7 +273,7 @@ PYTHON
 uname -r
 make_net
 start_servers
-for row in "${@:-syn_again unacknowledged udp_assured active passive_inside fragments hairpin taken half_closed expectation zones}"; do
+for row in "${@:-syn_again unacknowledged udp_assured active passive_inside fragments reassembly hairpin taken half_closed expectation zones}"; do
     # shellcheck disable=SC2086
     for name in $row; do
         flush
