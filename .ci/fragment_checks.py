@@ -184,7 +184,7 @@ def check_random(room):
         for why in whole.left().values():
             met[why] = met.get(why, 0) + 1
     count(f"--defrag: the reports of {CAPTURES} captures made at random (seed {SEED}) are those of the module's datagrams", not wrong, wrong)
-    kinds = {"a hole", "30 s", "pieces that disagree", "cut", "wrong in itself"}
+    kinds = {"a hole", "30 s", "pieces that disagree", "cut by the capture", "wrong in itself"}
     count("--defrag: they have datagrams, and fragments that stayed for each reason", datagrams > 100 and partly > 20 and set(met) == kinds, f"{datagrams} {partly} {met}")
 
 
@@ -283,7 +283,7 @@ def check_check(room):
     without, kept = report_of(room, *LARGE, "large.pcap"), ["--rules", "large.rules", "large.report", "large.pcap"]
     ran = tool("check", *LARGE, without, "large.pcap")
     wants("tools/check: fragments that --defrag puts together", ran, 1, "large.pcap: 11 packets are UNTRACKED fragment: with --defrag ctreplay puts 3 datagrams together of 9 of them\n")
-    text = "large.pcap: 2 of 11 fragments made no datagram (2 for a hole); tools/why --defrag says of each what is missing\n"
+    text = "large.pcap: 2 of 11 fragments made no datagram (a hole: 2); tools/why --defrag says of each what is missing\n"
     ran = tool("check", *kept)
     count("tools/check: what stayed with --defrag", (ran.returncode, ran.stdout) == (1, text), ran.stdout)
     ran = tool("check", "--defrag", *kept)
@@ -291,7 +291,7 @@ def check_check(room):
     lost = lost_capture(room)
     report = report_of(room, "--defrag", lost, name="lost.report")
     ran = tool("check", report, lost)
-    wants("tools/check: why fragments stayed", ran, 1, "9 of 11 fragments made no datagram (4 for pieces that disagree, 2 for a hole, 1 for 30 s, 1 for cut, 1 for wrong in itself)")
+    wants("tools/check: why fragments stayed", ran, 1, "9 of 11 fragments made no datagram (pieces that disagree: 4, a hole: 2, 30 s: 1, cut by the capture: 1, wrong in itself: 1)")
 
 
 def check_others(room):

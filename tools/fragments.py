@@ -196,7 +196,7 @@ class Reassembly:
     def left(self):
         """Of each fragment of which no datagram was made why, in a word or two."""
         found = {piece.index: why_incomplete(group) for group in self.groups if group.completed is None for piece in group.pieces}
-        return found | {index: "cut" if flaw.startswith("only") else "wrong in itself" for index, flaw in self.flaws.items()}
+        return found | {index: "cut by the capture" if flaw.startswith("only") else "wrong in itself" for index, flaw in self.flaws.items()}
 
     def cut_of(self, group):
         """The first fragment of a group's key that is no piece, within 30 s of its leader; or None."""
