@@ -6,7 +6,7 @@ import re
 import struct
 
 import made_packets as made
-from checking import EXAMPLES, PROGRAM, TOP, count, module, read, refuses, report_of, run, tool, wants, write
+from checking import EXAMPLES, PROGRAM, TOP, count, counted_lines, module, read, refuses, report_of, run, tool, wants, write
 import fragments
 import replay_files as files
 import zone_checks
@@ -338,7 +338,29 @@ def check_from_inside(room):
     wants("tools/from-inside: without --defrag fragments are as they stand", again, 0, "13 of 13 packets, 0 of them and 0 errors readdressed")
 
 
+def check_work(room):
+    """Many fragments cost what they are, also where they are all of one datagram that never is whole."""
+    query = made.udp(CLIENT, 5000, SERVER, 53, bytes(8192))
+    kinds = {
+        "of datagrams": lambda at: piece(query, 24 * (at % 2), (24, 8200)[at % 2], at // 2),
+        "of one hole": lambda at: piece(query, 8 * (at % 1000 + 1), 8 * (at % 1000 + 2), 7),
+        "that are last, and alone": lambda at: piece(query, 8000, 8200, at),
+        "of one last piece": lambda at: piece(query, 8000, 8200, 7),
+        "that disagree": lambda at: piece(query, 0, 8, 7) if at % 2 else last_piece(query, 0, 8 + at % 7, 7),
+    }
+    page, check = module("page"), module("check")
+    for name, sent in kinds.items():
+        lines = []
+        for size in (1000, 4000):
+            capture = made.write(f"{room}/many.pcap", [(START + at, sent(at)) for at in range(size)])
+            report = report_of(room, "--defrag", capture, name="many.report")
+            lines.append(sum(counted_lines(it.main, [*words, report, capture]) for it, words in ((check, []), (page, ["--to", f"{room}/many.html"]))))
+        count(f"tools/check and page: the work on four times as many fragments {name}", lines[1] < 5 * lines[0], lines)
+
+
 def check_hints():
+    usage = module("hint").USAGE
+    count("README.md: the usage that tools/hint says", f"\n{usage}\n" in read(TOP, "README.md"), usage)
     hint, line = module("hint").hint_of, "ctreplay: the words are not of the stated form"
     cases = [(["--defrag", "--defrag", "c.pcap"], "--defrag stands twice"), (["--defrag=1", "c.pcap"], "--defrag has no value"), (["--summary=x", "c.pcap"], "--summary has no value"), (["--defrag"], "no capture is named"), (["--defrag", "--bad", "c.pcap"], "not known is --bad")]
     for words, text in cases:
@@ -356,4 +378,5 @@ def check_all(room):
     check_check(room)
     check_others(room)
     check_from_inside(room)
+    check_work(room)
     check_hints()

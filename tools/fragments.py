@@ -4,15 +4,18 @@ Written from the definitions in crates/ip_reassembly/specs, not from the program
 capture, each frame that completes a datagram in the form of that datagram, and of each other fragment why it stayed.
 Nothing here is proved.
 """
+from bisect import bisect_left, bisect_right, insort
 from collections import namedtuple
 
 # A fragment that is put together with others: the bytes from `low` up to `high` of a datagram's data.
 Piece = namedtuple("Piece", "index moment key low high last header data")
+# Bytes of a group's data that a piece, by its number, was the first to give.
+Part = namedtuple("Part", "low high data index")
 
 ETHERNET, RAW = 1, 101
 MOST_DATA = 65_515
 PATIENCE = 30_000_000
-SPANS = 3
+SPANS, NAMES = 3, 12
 
 
 # What a frame says
@@ -86,83 +89,88 @@ def piece_of(index, moment, data):
 class Group:
     """The pieces of one key from a leader on, in the order of their frames.
 
-    `clash` is what two of them disagree about, or None. `completed` is the number of the frame that completed the datagram,
-    or None; such a group takes no more pieces. `late` is the number of the piece that came too late for it, or None.
+    `parts` are the spans of bytes that are known, in order and apart, each with the piece that gave it. `end` is the first
+    last piece, and `highest` one that goes furthest. `clash` is what two pieces disagree about, or None. `completed` is the
+    number of the frame that completed the datagram, or None; such a group takes no more pieces. `late` is the number of the
+    piece that came too late for it, or None.
     """
 
     def __init__(self):
-        self.pieces, self.clash, self.completed, self.late = [], None, None, None
-        self.end, self.data, self.known, self.covered = None, bytearray(), bytearray(), 0
+        self.pieces, self.parts, self.covered, self.end, self.highest = [], [], 0, None, None
+        self.clash, self.completed, self.late = None, None, None
 
     def takes(self, piece):
         """Whether a piece of the group's key belongs to it, and does not lead the next one."""
         return self.completed is None and piece.moment < self.pieces[0].moment + PATIENCE
 
     def add(self, piece):
-        self.clash = self.clash or self.end_clash(piece) or self.byte_clash(piece)
+        met = self.met_by(piece)
+        self.clash = self.clash or self.end_clash(piece) or byte_clash(met, piece)
         self.pieces.append(piece)
         if piece.last and self.end is None:
             self.end = piece
-        self.fill(piece)
+        if self.highest is None or piece.high > self.highest.high:
+            self.highest = piece
+        self.fill(piece, met)
         if self.clash is None and self.end and self.covered == self.end.high:
             self.completed = piece.index
 
+    def met_by(self, piece):
+        """The parts that have bytes of a piece."""
+        at = bisect_right(self.parts, piece.low, key=lambda part: part.low)
+        at -= at > 0 and self.parts[at - 1].high > piece.low
+        after = bisect_left(self.parts, piece.high, key=lambda part: part.low)
+        return self.parts[at:after]
+
     def end_clash(self, piece):
-        """The piece before with which this one disagrees about the datagram's end, with both ends; or None."""
+        """The piece before with which this one disagrees about the datagram's end, and where that is; or None."""
         if self.end and (piece.high > self.end.high or piece.last and piece.high != self.end.high):
             return "end", self.end, piece, self.end.high
-        highest = max(self.pieces, key=lambda it: it.high, default=None) if piece.last else None
-        return ("end", piece, highest, piece.high) if highest and highest.high > piece.high else None
+        is_beyond = piece.last and self.highest and self.highest.high > piece.high
+        return ("end", piece, self.highest, piece.high) if is_beyond else None
 
-    def byte_clash(self, piece):
-        """The piece before that has another byte for a place of this one, and the place; or None."""
-        before, known = self.data[piece.low : piece.high], self.known[piece.low : piece.high]
-        if 1 not in known or before == piece.data:
-            return None
-        for at, (is_known, byte) in enumerate(zip(known, before)):
-            if is_known and byte != piece.data[at]:
-                place = piece.low + at
-                return "byte", next(it for it in self.pieces if it.low <= place < it.high), piece, place
-        return None
-
-    def fill(self, piece):
-        """Keeps the bytes of a piece. Which of two different ones is kept is the same, as nothing is made of these."""
-        room = piece.high - len(self.data)
-        if room > 0:
-            self.data += bytes(room)
-            self.known += bytes(room)
-        before = self.known.count(1, piece.low, piece.high)
-        self.data[piece.low : piece.high] = piece.data
-        self.known[piece.low : piece.high] = b"\x01" * len(piece.data)
-        self.covered += len(piece.data) - before
+    def fill(self, piece, met):
+        """Makes parts of those bytes of a piece that were not known."""
+        low = piece.low
+        for high, after in [*((part.low, part.high) for part in met), (piece.high, piece.high)]:
+            if low < high:
+                insort(self.parts, Part(low, high, piece.data[low - piece.low : high - piece.low], piece.index))
+                self.covered += high - low
+            low = max(low, after)
 
     def holes(self):
-        """The spans of bytes that no piece covers, up to the end or to the last byte that is known."""
-        found, at = [], self.known.find(0)
-        while at >= 0:
-            after = self.known.find(1, at)
-            found.append((at, after))
-            at = self.known.find(0, after)
-        return found
+        """The spans of bytes that no piece covers, up to the highest one that is known."""
+        lows = [0, *(part.high for part in self.parts)]
+        return [(low, part.low) for low, part in zip(lows, self.parts) if low < part.low]
 
     def datagram(self):
         """The whole packet: the header of the first piece with offset 0, without options and as that of no fragment, and the data."""
         head = next(piece.header for piece in self.pieces if piece.low == 0)
         length = 20 + self.end.high
-        return b"\x45" + head[1:2] + length.to_bytes(2, "big") + head[4:6] + bytes(2) + head[8:20] + bytes(self.data)
+        return b"\x45" + head[1:2] + length.to_bytes(2, "big") + head[4:6] + bytes(2) + head[8:20] + b"".join(part.data for part in self.parts)
+
+
+def byte_clash(parts, piece):
+    """The first part that has another byte than a piece for the same place, and the place; or None."""
+    for part in parts:
+        low, high = max(part.low, piece.low), min(part.high, piece.high)
+        one, other = part.data[low - part.low : high - part.low], piece.data[low - piece.low : high - piece.low]
+        if one != other:
+            return "byte", part, piece, low + next(at for at, pair in enumerate(zip(one, other)) if pair[0] != pair[1])
+    return None
 
 
 class Reassembly:
     """The frames of a capture with its fragments put together; each frame keeps its number and its moment.
 
-    `groups` are in the order of their leaders. `group_of` has the group of each piece, and `flaws` why another fragment is
-    no piece, each by the number of the frame; `cut` has the numbers of these by their key. `completed` has the group of each
-    datagram, by the number of the frame that completed it.
+    `groups` are in the order of their leaders. `group_of` has the group of each piece and the piece, and `flaws` why another
+    fragment is no piece, each by the number of the frame; `cut` has the numbers of these by their key. `completed` has the
+    group of each datagram, by the number of the frame that completed it.
     """
 
     def __init__(self, frames):
         self.frames, self.groups, self.group_of, self.flaws, self.cut, self.completed = [], [], {}, {}, {}, {}
-        latest = {}
+        latest, self.told = {}, {}
         for index, frame in enumerate(frames):
             data = ip_packet(frame)
             self.frames.append(self.read(latest, index, frame, data) if data and is_fragment(data) else frame)
@@ -182,7 +190,7 @@ class Reassembly:
             group = latest[piece.key] = Group()
             self.groups.append(group)
         group.add(piece)
-        self.group_of[index] = group
+        self.group_of[index] = group, piece
         if group.completed is None:
             return frame
         self.completed[index] = group
@@ -204,6 +212,12 @@ class Reassembly:
         found = (index for index in self.cut.get(leader.key, ()) if abs(self.frames[index].moment - leader.moment) < PATIENCE)
         return next(found, None)
 
+    def why_never(self, group, first):
+        """Why a group never was complete, reckoned once for all its pieces."""
+        if (id(group), first) not in self.told:
+            self.told[id(group), first] = incomplete_text(self, group, first)
+        return self.told[id(group), first]
+
 
 def why_incomplete(group):
     """Why a group made no datagram, in a word or two."""
@@ -222,14 +236,14 @@ def listed(names):
 
 
 def packets_text(group, first):
-    """The packets of a group, by their numbers."""
-    return f"packet{'s' if len(group.pieces) > 1 else ''} {listed(piece.index + first for piece in group.pieces)}"
+    """The packets of a group, by their numbers; of many the first ones."""
+    more = [f"{len(group.pieces) - NAMES} more"] if len(group.pieces) > NAMES else []
+    return f"packet{'s' if len(group.pieces) > 1 else ''} {listed([*(piece.index + first for piece in group.pieces[:NAMES]), *more])}"
 
 
 def whole_text(group, first=0):
     """Of which packets a datagram was put together."""
-    size, number = len(group.data), group.pieces[0].key[3]
-    return f"put together of {packets_text(group, first)}: {size} bytes of data, identification {number}"
+    return f"put together of {packets_text(group, first)}: {group.end.high} bytes of data, identification {group.pieces[0].key[3]}"
 
 
 def clash_text(group, first):
@@ -267,9 +281,8 @@ def fragment_text(whole, index, first=0):
     text = "it is a fragment of an IP packet"
     if index in whole.flaws:
         return f"{text}, and is put together with no other: {whole.flaws[index]}"
-    group = whole.group_of[index]
-    piece = next(piece for piece in group.pieces if piece.index == index)
+    group, piece = whole.group_of[index]
     text += f", the bytes {piece.low} to {piece.high - 1} of a datagram"
     if group.completed is None:
-        return f"{text} that was never whole: {incomplete_text(whole, group, first)}"
-    return f"{text} of {len(group.data)} bytes of data, which packet {group.completed + first} completed; that one has the verdict on the whole"
+        return f"{text} that was never whole: {whole.why_never(group, first)}"
+    return f"{text} of {group.end.high} bytes of data, which packet {group.completed + first} completed; that one has the verdict on the whole"
