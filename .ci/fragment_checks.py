@@ -154,12 +154,14 @@ def frames_at_random(dice):
 
 
 def write_frames(name, sent, link, dice=None):
-    """A capture of these packets, under Ethernet or not; at times one is cut by the capture."""
+    """A capture of these packets, under Ethernet or not; at times one is cut by the capture, or has bytes behind it."""
     front = bytes(12) + b"\x08\x00" if link == 1 else b""
     frames = []
     for moment, data in sent:
-        kept = data[: dice.randrange(20, len(data))] if dice and dice.random() < 0.03 and len(data) > 21 else data
-        frames.append(files.Frame(moment, link, front + kept, len(front + data)))
+        turn = dice.random() if dice else 1
+        kept = data[: dice.randrange(20, len(data))] if turn < 0.03 and len(data) > 21 else data
+        behind = b"\xff" * 6 if 0.03 <= turn < 0.2 else b""
+        frames.append(files.Frame(moment, link, front + kept + behind, len(front + data + behind)))
     files.write_capture(name, frames, link)
     return name
 
@@ -224,6 +226,13 @@ def check_by_hand(room):
     sent = [(START + low, piece(longest, low, min(low + 1480, 65_515), 7)) for low in range(0, 65_515, 1480)]
     words, whole, _ = flows_of(sent, room)
     count("--defrag: the longest datagram", words[-1] == "NEW" and whole.frames[-1].data[20:] == longest[20:] and set(words[:-1]) == {stay}, words[-1])
+    apart = [made.write(f"{room}/{name}.pcap", [(START, data)]) for name, data in (("front", front), ("back", back))]
+    said = run([PROGRAM, "--defrag", *apart]).stdout
+    wanted = f"events 0\nthread 0 packets 1\n0 {stay}\nthread 1 packets 1\n0 {stay}\nscript 0\n"
+    count("--defrag: pieces in two captures", said == wanted, said)
+    said = run([PROGRAM, "--defrag", "--zones", "7,9", *[made.write(f"{room}/both.pcap", [(START, front), (START, back)])] * 2]).stdout
+    good = sorted(re.findall(r"^\d confirm ([01]\.1) udp .* (zone=[79])$", said, re.MULTILINE)) == [("0.1", "zone=7"), ("1.1", "zone=9")] and said.count(f"\n0 {stay}\n1 NEW id=") == 2
+    count("--defrag: one datagram in each of two zones", good, said)
     text = b"PORT 10,0,0,1,200,10\r\n"
     opened = [made.tcp(CLIENT, 5000, SERVER, 21, "S"), made.tcp(SERVER, 21, CLIENT, 5000, "SA"), made.tcp(CLIENT, 5000, SERVER, 21, "A")]
     named = made.tcp(CLIENT, 5000, SERVER, 21, "PA", text)
