@@ -1,4 +1,4 @@
-"""What the documents name: each name of docs/DEFINITIONS.md stands in its file, and each of a crate's page somewhere."""
+"""What the documents name: each name of docs/DEFINITIONS.md and docs/HEADLINE.md stands in its file, and each of a crate's page somewhere."""
 import functools
 import glob
 import os
@@ -67,6 +67,20 @@ def check_names():
     count("DEFINITIONS: a name or a file that is gone is told", len(found) >= 2 and any("inverted" in it for it in found), str(found))
 
 
+def check_headline():
+    """Each part of the headline has its names, of definitions and of tests, and the parts are the whole sentence."""
+    rows = [line.split(" | ") for line in read(TOP, "docs", "HEADLINE.md").splitlines() if line.startswith("| ")]
+    found = [misplaced_in(cell, "") for row in rows for cell in row[2:4]]
+    names, wrong = sum(number for number, _ in found), [name for _, names in found for name in names]
+    count("HEADLINE: each name stands in its file", names > 60 and not wrong, "; ".join(wrong[:9]))
+    _, gone = misplaced_in("`history_book`, `Legality.antt`: `may_happen`, `may_not_happen`; `Legal.antt`: `may_happen`", "")
+    count("HEADLINE: a name or a file that is gone is told", len(gone) == 3, str(gone))
+    sentence = re.search(r"^> \*\*(.+)\*\*$", read(TOP, "README.md"), re.MULTILINE)[1]
+    parts = [row[0].removeprefix("| ") for row in rows]
+    count("HEADLINE: its parts are the README's sentence", sentence in " ".join(parts), " ".join(parts))
+    count("HEADLINE: a part that is left out is told", sentence not in " ".join(parts[:3] + parts[4:]))
+
+
 @functools.cache
 def all_text():
     """What stands in the sources and the definitions of all crates."""
@@ -92,4 +106,5 @@ def check_crate_pages():
 
 def check_all():
     check_names()
+    check_headline()
     check_crate_pages()
