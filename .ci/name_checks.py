@@ -82,17 +82,17 @@ def check_headline():
 
 
 @functools.cache
-def all_text():
-    """What stands in the sources and the definitions of all crates."""
+def all_names():
+    """The words of the sources and the definitions of all crates."""
     files = glob.glob(os.path.join(TOP, "crates", "*", "src", "**", "*.rt"), recursive=True)
     files += glob.glob(os.path.join(TOP, "crates", "*", "specs", "**", "*.antt"), recursive=True)
-    return "\n".join(read(file) for file in sorted(files))
+    return frozenset(name for file in sorted(files) for name in NAME.findall(read(file)))
 
 
 def unknown_in(page):
     """The names of a crate's page that stand in no source and no definition; a word without capitals or `_` may be anything."""
     names = {word for word in SPAN.findall(page) if NAME.fullmatch(word) and not word.islower() or "_" in word and NAME.fullmatch(word)}
-    return sorted(name for name in names if not is_crate(name) and not re.search(rf"(?<![\w']){re.escape(name)}(?![\w'])", all_text()))
+    return sorted(name for name in names if not is_crate(name) and name not in all_names())
 
 
 def check_crate_pages():
