@@ -11,3 +11,4 @@ pub mod Frames
 pub mod Reread
 pub mod Append
 pub mod ByTwo
+pub mod Unfragmented

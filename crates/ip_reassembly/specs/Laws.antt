@@ -1,8 +1,12 @@
--- What holds of every group, piece by piece.
-use Rattle.std.specs.Prelude.{◌≡◌, ◌≤◌, ◌<◌, ℕ, true, List, Some, slice_get}
+-- What holds of every group, piece by piece; and of a capture without pieces.
+use Rattle.std.specs.Prelude.{◌≡◌, ◌≤◌, ◌<◌, ℕ, true, List, None, Some, slice_get}
+use Rattle.std.specs.List.{AllByRecursion}
+use Rattle.packet_headers.specs.declared.frame.Frame.{Frame}
+use Rattle.ip_reassembly.specs.Defragged.{defragged}
 use Rattle.ip_reassembly.specs.declared.piece.Piece.{Piece}
 use Rattle.ip_reassembly.specs.Part.{covers, value}
 use Rattle.ip_reassembly.specs.Group.{agree, is_complete}
+use Rattle.ip_reassembly.specs.Piece.{piece_of}
 
 -- any two pieces give each byte that both cover the same value, and no piece goes beyond a last one; so
 -- all last pieces have one end
@@ -29,3 +33,8 @@ pub record IsWhole (bytes : List ℕ) (group : List Piece) : Type 0 where
 abbrev pub CompleteGroupsAreWhole : Type 0
 CompleteGroupsAreWhole = (bytes : List ℕ) (group : List Piece)
     → (is_complete bytes group ≡ true → IsWhole bytes group) × (IsWhole bytes group → is_complete bytes group ≡ true)
+
+-- a capture of which no frame is a piece stays as it is
+abbrev pub CapturesWithoutPiecesStay : Type 0
+CapturesWithoutPiecesStay = (bytes : List ℕ) (frames : List Frame) → AllByRecursion (λ f. piece_of bytes f ≡ None) frames
+    → ((defragged bytes frames).bytes ≡ bytes) × ((defragged bytes frames).frames ≡ frames)
