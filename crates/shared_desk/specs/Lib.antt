@@ -15,6 +15,5 @@ pub mod ExpectTurn
 pub mod Claiming
 pub mod Expecting
 pub mod Holding
-pub mod TestCrew
 pub mod Lookups
 pub mod FindsOnce

@@ -15,8 +15,6 @@ pub mod laws;
 mod lookup;
 mod noting;
 mod rival;
-#[cfg(test)]
-mod tests;
 mod touching;
 pub mod tracker;
 mod tuples;

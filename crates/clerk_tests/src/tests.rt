@@ -1,0 +1,119 @@
+//! Clerks of one tracker, one after the other and on threads.
+
+ghost use Rattle.std.specs.Prelude.{◌≡◌, ◌<◌, None};
+ghost use Rattle.history_book.specs.Places.{HoldsNothing, HoldsOne};
+ghost use Rattle.history_book.specs.Sizes.{AreWithinLimits};
+ghost use Rattle.history_book.specs.WentOn.{IsSamePass};
+ghost use Rattle.shared_desk.specs.Sights.{sight_of};
+
+use ct_io::{Gate, NoGate};
+use history_book::desk::Desk;
+use history_book::outcome::{ReleaseOutcome, TakeOutcome};
+use history_book::sizes::Sizes;
+use shared_desk::clerk::Clerk;
+use shared_desk::tracker::Tracker;
+use std::process::Abort;
+use std::sync::Wait;
+use std::test::Fail;
+
+mod claims;
+mod confirms;
+mod crowd;
+mod desks;
+mod expectations;
+mod flows;
+mod halt;
+mod holds;
+mod kills;
+mod lookups;
+mod readers;
+mod touches;
+
+/// A pool of two places, for two passes.
+fn sizes() -> Sizes
+    ensures limits { AreWithinLimits result }
+    ensures passes { result.passes ≡ 2 }
+{
+    Sizes {
+        entries: 2,
+        buckets: 1,
+        seed: 0,
+        passes: 2,
+        expectations: 0,
+    }
+}
+
+/// A pool of four places with sixteen buckets, for two passes.
+fn sixteen_buckets() -> Sizes
+    ensures limits { AreWithinLimits result }
+    ensures passes { result.passes ≡ 2 }
+{
+    Sizes {
+        entries: 4,
+        buckets: 16,
+        seed: 1,
+        passes: 2,
+        expectations: 0,
+    }
+}
+
+/// Takes the one place that the clerk then holds.
+fn take_one<G: Gate, R: Wait + Abort>(rt: &R, clerk: &mut Clerk<G>) -> u32
+    requires { HoldsNothing (sight_of clerk.old) }
+    ensures one { HoldsOne (record { place = result; id = None }) (sight_of clerk.new) }
+    ensures below { result < (sight_of clerk.new).sizes.entries }
+    ensures same { IsSamePass (sight_of clerk.old) (sight_of clerk.new) }
+    ensures spare { (sight_of clerk.new).spare ≡ (sight_of clerk.old).spare }
+{
+    let TakeOutcome::Taken { place } = clerk.take(rt) else {
+        panic!(rt; "a place was free");
+    };
+    place
+}
+
+/// Gives up the one place that the clerk holds, which nobody else does, and makes it free.
+fn give_back<G: Gate, R: Wait + Abort>(rt: &R, clerk: &mut Clerk<G>, place: u32)
+    requires { HoldsOne (record { place = place; id = None }) (sight_of clerk.old) }
+    ensures nothing { HoldsNothing (sight_of clerk.new) }
+    ensures same { IsSamePass (sight_of clerk.old) (sight_of clerk.new) }
+{
+    let ReleaseOutcome::Last = clerk.release_now(place) else {
+        panic!(rt; "nobody else had the place");
+    };
+    clerk.recycle(rt, place);
+}
+
+#[test]
+fn a_further_clerk_is_joined(rt: HostRuntime) -> Result<(), Fail> {
+    let (tracker, spot) = Tracker::new(rt.alloc(), sizes())?;
+    let mut one = tracker.clerk(spot, &NoGate, 0);
+    let mut two = one.split(1, 1);
+    let place = take_one(&rt, &mut two);
+    give_back(&rt, &mut two, place);
+    let notes = one.join(two);
+    assert_eq!(rt; notes.len(), 0);
+    let left = one.leave();
+    let closed = tracker.close(left);
+    assert_eq!(rt; closed.events, 0);
+    assert_eq!(rt; closed.live, 0);
+    assert_eq!(rt; closed.notes.len(), 0);
+    Ok(())
+}
+
+#[test]
+fn a_pool_is_full(rt: HostRuntime) -> Result<(), Fail> {
+    let (tracker, spot) = Tracker::new(rt.alloc(), sizes())?;
+    let mut one = tracker.clerk(spot, &NoGate, 0);
+    one.ready(2)?;
+    let first = take_one(&rt, &mut one);
+    let TakeOutcome::Taken { place } = one.take(&rt) else {
+        panic!(rt; "a place was free");
+    };
+    assert!(rt; first != place);
+    let full = one.take(&rt);
+    assert!(rt; matches!(full, TakeOutcome::Full { at: 0 }));
+    let count = one.count_now();
+    assert_eq!(rt; count.live, 0);
+    assert_eq!(rt; count.at, 0);
+    Ok(())
+}

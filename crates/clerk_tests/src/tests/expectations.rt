@@ -1,0 +1,318 @@
+//! The entry for which a clerk holds a place expects a connection, which another clerk claims, ends or lists.
+
+ghost use Rattle.std.specs.Prelude.{◌≡◌, ◌+◌, ◌≤◌, ◌^◌, true, Some};
+ghost use Rattle.history_book.specs.Entry.{is_lawful_flow, is_helped_entry};
+ghost use Rattle.history_book.specs.Places.{HoldsNothing, HoldsOne};
+ghost use Rattle.history_book.specs.Sizes.{AreWithinLimits};
+ghost use Rattle.history_book.specs.WentOn.{IsSamePass};
+ghost use Rattle.shared_desk.specs.Sights.{sight_of};
+
+use super::flows::{flow, udp};
+use super::kills::keep;
+use ct_io::{Gate, NoGate};
+use expect_table::expectation::{Expectation, Want};
+use history_book::desk::Desk;
+use history_book::event::Why;
+use history_book::laws::events_stay;
+use history_book::outcome::{ClaimOutcome, ExpectOutcome, KillOutcome, UnexpectOutcome};
+use history_book::places::one_hold_has_its_id;
+use history_book::record::Flow;
+use history_book::report::Expectations;
+use history_book::sizes::Sizes;
+use shared_desk::clerk::Clerk;
+use shared_desk::tracker::Tracker;
+use std::process::Abort;
+use std::sync::Wait;
+use std::test::Fail;
+use tuple_core::{Proto, Tuple};
+
+/// A pool of four places with room for so many expectations, for two passes.
+pub fn sizes_for(expectations: u32) -> Sizes
+    requires { expectations ≤ 2 }
+    ensures limits { AreWithinLimits result }
+    ensures passes { result.passes ≡ 2 }
+    ensures room { result.expectations ≡ expectations }
+{
+    Sizes {
+        entries: 4,
+        buckets: 1,
+        seed: 1,
+        passes: 2,
+        expectations,
+    }
+}
+
+/// The flow of a client's port to a server, which has the helper.
+pub fn master(port: u16) -> Flow
+    ensures protocol { is_lawful_flow result ≡ true }
+    ensures helper { result.helper ≡ true }
+{
+    let mut flow = flow(
+        udp(0x0a00_0001, port, 0x0a00_0002, 21),
+        udp(0x0a00_0002, 21, 0x0a00_0001, port),
+    );
+    flow.helper = true;
+    flow
+}
+
+/// A connection of the server to this port of the client.
+pub fn want(port: u16) -> Want {
+    Want {
+        src: 0x0a00_0002,
+        dst: 0x0a00_0001,
+        port,
+    }
+}
+
+/// The tuple of its first packet.
+pub fn wanted(port: u16) -> Tuple {
+    Tuple {
+        proto: Proto::Tcp,
+        zone: 0,
+        src: 0x0a00_0002,
+        dst: 0x0a00_0001,
+        a: 20,
+        b: port,
+    }
+}
+
+/// A clerk that keeps nothing makes the flow an entry under this id. Gives the place, which stays held.
+fn keep_master<G: Gate, R: Wait + Abort>(rt: &R, clerk: &mut Clerk<G>, port: u16, id: u64) -> u32
+    requires nothing { HoldsNothing (sight_of clerk.old) }
+    requires spare { 1 ≤ (sight_of clerk.old).spare }
+    ensures one { HoldsOne (record { place = result; id = Some id }) (sight_of clerk.new) }
+    ensures helper { is_helped_entry id (sight_of clerk.new).front ≡ true }
+    ensures same { IsSamePass (sight_of clerk.old) (sight_of clerk.new) }
+    ensures spare { (sight_of clerk.old).spare ≤ (sight_of clerk.new).spare + 1 }
+{
+    keep(rt, clerk, &master(port), id)
+}
+
+/// The entry of this id, whose place is the only one that the clerk holds, expects a connection to this port from a moment on.
+pub fn expect<G: Gate, R: Wait>(
+    rt: &R,
+    clerk: &mut Clerk<G>,
+    place: u32,
+    id: u64,
+    port: u16,
+    moment: u64,
+) -> ExpectOutcome
+    requires one { HoldsOne (record { place = place; id = Some id }) (sight_of clerk.old) }
+    requires helper { is_helped_entry id (sight_of clerk.old).front ≡ true }
+    requires timely { moment ≤ 10 ^ 16 }
+    requires spare { 1 ≤ (sight_of clerk.old).spare }
+    ensures one { HoldsOne (record { place = place; id = Some id }) (sight_of clerk.new) }
+    ensures helper { is_helped_entry id (sight_of clerk.new).front ≡ true }
+    ensures same { IsSamePass (sight_of clerk.old) (sight_of clerk.new) }
+    ensures spare { (sight_of clerk.old).spare ≤ (sight_of clerk.new).spare + 1 }
+{
+    let _ = id;
+    events_stay();
+    one_hold_has_its_id();
+    clerk.expect(rt, place, want(port), moment)
+}
+
+/// A packet to this port claims at a moment what is expected there.
+fn claim<G: Gate, R: Wait>(rt: &R, clerk: &mut Clerk<G>, port: u16, moment: u64) -> ClaimOutcome
+    requires { 1 ≤ (sight_of clerk.old).spare }
+    ensures same { IsSamePass (sight_of clerk.old) (sight_of clerk.new) }
+    ensures spare { (sight_of clerk.old).spare ≤ (sight_of clerk.new).spare + 1 }
+{
+    clerk.claim(rt, &wanted(port), moment)
+}
+
+/// It claims nothing at this point.
+fn claim_none<G: Gate, R: Wait + Abort>(
+    rt: &R,
+    clerk: &mut Clerk<G>,
+    port: u16,
+    moment: u64,
+    point: u64,
+)
+    requires { 1 ≤ (sight_of clerk.old).spare }
+    ensures same { IsSamePass (sight_of clerk.old) (sight_of clerk.new) }
+    ensures spare { (sight_of clerk.old).spare ≤ (sight_of clerk.new).spare + 1 }
+{
+    let ClaimOutcome::Unclaimed { at } = claim(rt, clerk, port, moment) else {
+        panic!(rt; "nothing is expected there");
+    };
+    assert_eq!(rt; at, point);
+}
+
+/// The expectation of this id is ended at a moment, if it is due no longer.
+fn unexpect<G: Gate, R: Wait>(rt: &R, clerk: &mut Clerk<G>, id: u64, moment: u64) -> UnexpectOutcome
+    requires { 1 ≤ (sight_of clerk.old).spare }
+    ensures spare { (sight_of clerk.old).spare ≤ (sight_of clerk.new).spare + 1 }
+{
+    clerk.unexpect(rt, id, moment)
+}
+
+/// The expectation that stands alone in the table at this point.
+fn only<G: Gate, R: Wait + Abort>(
+    rt: &R,
+    clerk: &mut Clerk<G>,
+    listed: &mut Expectations,
+    at: u64,
+) -> Expectation
+    requires { (sight_of clerk.old).sizes.expectations ≤ listed.old.room }
+    ensures same { IsSamePass (sight_of clerk.old) (sight_of clerk.new) }
+    ensures spare { (sight_of clerk.new).spare ≡ (sight_of clerk.old).spare }
+    ensures room { listed.new.room ≡ listed.old.room }
+{
+    let point = clerk.expects(rt, listed);
+    assert_eq!(rt; point, at);
+    let &[e] = listed.as_slice() else {
+        panic!(rt; "one connection is expected");
+    };
+    e
+}
+
+/// What is expected is listed.
+#[test]
+fn what_is_expected_is_listed(rt: HostRuntime) -> Result<(), Fail> {
+    let (tracker, spot) = Tracker::new(rt.alloc(), sizes_for(2))?;
+    let mut one = tracker.clerk(spot, &NoGate, 0);
+    let mut two = one.split(1, 1);
+    one.ready(2)?;
+    let mut listed = Expectations::new(rt.alloc(), 2)?;
+    let place = keep_master(&rt, &mut one, 5000, 0);
+    let _ = expect(&rt, &mut one, place, 0, 2001, 1_000_000);
+    let e = only(&rt, &mut two, &mut listed, 2);
+    assert_eq!(rt; (e.id, e.master, e.deadline), (1, 0, 301_000_000));
+    assert_eq!(rt;
+        (e.want.src, e.want.dst, e.want.port),
+        (0x0a00_0002, 0x0a00_0001, 2001)
+    );
+    Ok(())
+}
+
+/// What is expected is claimed by the first packet that it matches in time, and by no other one.
+#[test]
+fn an_expected_connection_is_claimed(rt: HostRuntime) -> Result<(), Fail> {
+    let (tracker, spot) = Tracker::new(rt.alloc(), sizes_for(2))?;
+    let mut one = tracker.clerk(spot, &NoGate, 0);
+    let mut two = one.split(1, 1);
+    one.ready(2)?;
+    two.ready(4)?;
+    let place = keep_master(&rt, &mut one, 5000, 0);
+    let _ = expect(&rt, &mut one, place, 0, 2001, 1_000_000);
+    claim_none(&rt, &mut two, 2002, 2_000_000, 2);
+    claim_none(&rt, &mut two, 2001, 301_000_000, 2);
+    let ClaimOutcome::Claimed {
+        number,
+        expectation,
+        master,
+    } = claim(&rt, &mut two, 2001, 300_999_999)
+    else {
+        panic!(rt; "the connection is expected");
+    };
+    assert_eq!(rt; (number, expectation, master), (2, 1, 0));
+    claim_none(&rt, &mut two, 2001, 2_000_000, 3);
+    Ok(())
+}
+
+/// An entry that expects another connection expects the older one no longer.
+#[test]
+fn an_older_expectation_is_replaced(rt: HostRuntime) -> Result<(), Fail> {
+    let (tracker, spot) = Tracker::new(rt.alloc(), sizes_for(2))?;
+    let mut one = tracker.clerk(spot, &NoGate, 0);
+    let mut two = one.split(1, 1);
+    one.ready(3)?;
+    two.ready(1)?;
+    let mut listed = Expectations::new(rt.alloc(), 2)?;
+    let place = keep_master(&rt, &mut one, 5000, 0);
+    let _ = expect(&rt, &mut one, place, 0, 2001, 1_000_000);
+    let ExpectOutcome::Expected { id, replaced } = expect(&rt, &mut one, place, 0, 2002, 2_000_000)
+    else {
+        panic!(rt; "the older one is replaced");
+    };
+    assert_eq!(rt; (id, replaced), (2, Some(1)));
+    let e = only(&rt, &mut two, &mut listed, 3);
+    assert_eq!(rt; (e.id, e.want.port, e.deadline), (2, 2002, 302_000_000));
+    claim_none(&rt, &mut two, 2001, 2_000_000, 3);
+    Ok(())
+}
+
+/// Two entries expect one connection, of which the second is refused; and a table with room for one expectation has none for another.
+#[test]
+fn a_second_master_is_refused(rt: HostRuntime) -> Result<(), Fail> {
+    let (tracker, spot) = Tracker::new(rt.alloc(), sizes_for(1))?;
+    let mut one = tracker.clerk(spot, &NoGate, 0);
+    let mut two = one.split(1, 1);
+    one.ready(2)?;
+    two.ready(4)?;
+    let first = keep_master(&rt, &mut one, 5000, 0);
+    let second = keep_master(&rt, &mut two, 5001, 1);
+    let _ = expect(&rt, &mut one, first, 0, 2001, 1_000_000);
+    let clash = expect(&rt, &mut two, second, 1, 2001, 2_000_000);
+    assert!(rt; matches!(clash, ExpectOutcome::Clash { id: 2, at: 3 }));
+    let full = expect(&rt, &mut two, second, 1, 2002, 2_000_000);
+    assert!(rt; matches!(full, ExpectOutcome::ExpectFull { at: 3 }));
+    Ok(())
+}
+
+/// An expectation is ended when it is due no longer, and once.
+#[test]
+fn an_expectation_ends_when_it_is_due_no_longer(rt: HostRuntime) -> Result<(), Fail> {
+    let (tracker, spot) = Tracker::new(rt.alloc(), sizes_for(1))?;
+    let mut one = tracker.clerk(spot, &NoGate, 0);
+    let mut two = one.split(1, 1);
+    one.ready(2)?;
+    two.ready(3)?;
+    let place = keep_master(&rt, &mut one, 5000, 0);
+    let _ = expect(&rt, &mut one, place, 0, 2001, 1_000_000);
+    let early = unexpect(&rt, &mut two, 1, 300_999_999);
+    assert!(rt;
+        matches!(
+            early,
+            UnexpectOutcome::Not {
+                deadline: 301_000_000,
+                at: 2
+            }
+        )
+    );
+    let due = unexpect(&rt, &mut two, 1, 301_000_000);
+    assert!(rt; matches!(due, UnexpectOutcome::Removed { number: 2 }));
+    let again = unexpect(&rt, &mut two, 1, 301_000_000);
+    assert!(rt; matches!(again, UnexpectOutcome::Gone { at: 3 }));
+    Ok(())
+}
+
+/// The entry of this id is destroyed, by the event of this number, and its place stays held.
+fn end<G: Gate, R: Wait + Abort>(rt: &R, clerk: &mut Clerk<G>, place: u32, id: u64, number: u64)
+    requires one { HoldsOne (record { place = place; id = Some id }) (sight_of clerk.old) }
+    requires helper { is_helped_entry id (sight_of clerk.old).front ≡ true }
+    requires spare { 1 ≤ (sight_of clerk.old).spare }
+    ensures one { HoldsOne (record { place = place; id = Some id }) (sight_of clerk.new) }
+    ensures helper { is_helped_entry id (sight_of clerk.new).front ≡ true }
+    ensures same { IsSamePass (sight_of clerk.old) (sight_of clerk.new) }
+    ensures spare { (sight_of clerk.old).spare ≤ (sight_of clerk.new).spare + 1 }
+{
+    let _ = id;
+    events_stay();
+    let KillOutcome::Killed { number: made, .. } = clerk.kill(rt, place, Why::Flushed) else {
+        panic!(rt; "the reason holds of every entry");
+    };
+    assert_eq!(rt; made, number);
+}
+
+/// What an entry expected ends with it, what another one expects stays, and an entry that is gone expects no more.
+#[test]
+fn what_an_entry_expected_ends_with_it(rt: HostRuntime) -> Result<(), Fail> {
+    let (tracker, spot) = Tracker::new(rt.alloc(), sizes_for(2))?;
+    let mut one = tracker.clerk(spot, &NoGate, 0);
+    let mut two = one.split(1, 1);
+    one.ready(4)?;
+    two.ready(2)?;
+    let mut listed = Expectations::new(rt.alloc(), 2)?;
+    let first = keep_master(&rt, &mut one, 5000, 0);
+    let second = keep_master(&rt, &mut two, 5001, 1);
+    let _ = expect(&rt, &mut one, first, 0, 2001, 1_000_000);
+    let _ = expect(&rt, &mut two, second, 1, 2002, 1_000_000);
+    end(&rt, &mut one, first, 0, 4);
+    let e = only(&rt, &mut two, &mut listed, 5);
+    assert_eq!(rt; (e.id, e.master), (3, 1));
+    let gone = expect(&rt, &mut one, first, 0, 2001, 2_000_000);
+    assert!(rt; matches!(gone, ExpectOutcome::MasterGone { at: 5 }));
+    Ok(())
+}

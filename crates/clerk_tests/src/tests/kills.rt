@@ -1,0 +1,204 @@
+//! A clerk destroys the entry for which it holds a place.
+
+ghost use Rattle.std.specs.Prelude.{◌≡◌, ◌+◌, ◌<◌, ◌≤◌, ◌^◌, true, Some, None, slice_get};
+ghost use Rattle.history_book.specs.Entry.{is_lawful_flow, record_for, suits_entry};
+ghost use Rattle.history_book.specs.declared.event.Event.TheVariants.{Confirm};
+ghost use Rattle.history_book.specs.Legality.{reason_moment_of};
+ghost use Rattle.history_book.specs.Places.{HoldsNothing, HoldsOne};
+ghost use Rattle.history_book.specs.Sizes.{AreWithinLimits};
+ghost use Rattle.history_book.specs.WentOn.{IsSamePass};
+ghost use Rattle.shared_desk.specs.Sights.{sight_of};
+
+use super::confirms::make;
+use super::flows::{answer, flow, query, udp};
+use super::{sixteen_buckets, sizes};
+use ct_io::{Gate, NoGate};
+use history_book::desk::Desk;
+use history_book::event::Why;
+use history_book::outcome::{
+    ConfirmOutcome, KillOutcome, PeekOutcome, ReleaseOutcome, TakeOutcome,
+};
+use history_book::record::Flow;
+use history_book::sizes::Sizes;
+use shared_desk::clerk::Clerk;
+use shared_desk::tracker::Tracker;
+use std::process::Abort;
+use std::sync::Wait;
+use std::test::Fail;
+use tuple_core::NoMemory;
+
+/// A pool of four places with one bucket, for two passes.
+fn one_bucket() -> Sizes
+    ensures limits { AreWithinLimits result }
+    ensures passes { result.passes ≡ 2 }
+{
+    Sizes {
+        entries: 4,
+        buckets: 1,
+        seed: 1,
+        passes: 2,
+        expectations: 0,
+    }
+}
+
+/// A clerk that keeps nothing takes a place, and confirms a flow there that nobody has, under this id. Gives the place, which stays
+/// held.
+pub fn keep<G: Gate, R: Wait + Abort>(rt: &R, clerk: &mut Clerk<G>, flow: &Flow, id: u64) -> u32
+    requires nothing { HoldsNothing (sight_of clerk.old) }
+    requires protocol { is_lawful_flow flow.now ≡ true }
+    requires spare { 1 ≤ (sight_of clerk.old).spare }
+    ensures one { HoldsOne (record { place = result; id = Some id }) (sight_of clerk.new) }
+    ensures below { result < (sight_of clerk.new).sizes.entries }
+    ensures event { slice_get (sight_of clerk.new).front id ≡ Some (Confirm (record_for flow.now id result)) }
+    ensures same { IsSamePass (sight_of clerk.old) (sight_of clerk.new) }
+    ensures spare { (sight_of clerk.old).spare ≤ (sight_of clerk.new).spare + 1 }
+{
+    let TakeOutcome::Taken { place } = clerk.take(rt) else {
+        panic!(rt; "a place was free");
+    };
+    let ConfirmOutcome::Confirmed { id: made } = clerk.confirm(rt, place, flow) else {
+        panic!(rt; "nobody has the flow");
+    };
+    assert_eq!(rt; made, id);
+    place
+}
+
+/// Gives up the one place that the clerk holds, whose entry is destroyed and which nobody else holds, and makes it free.
+fn let_go<G: Gate, R: Wait + Abort>(rt: &R, clerk: &mut Clerk<G>, place: u32, id: u64)
+    requires { HoldsOne (record { place = place; id = Some id }) (sight_of clerk.old) }
+    ensures nothing { HoldsNothing (sight_of clerk.new) }
+    ensures same { IsSamePass (sight_of clerk.old) (sight_of clerk.new) }
+    ensures spare { (sight_of clerk.new).spare ≡ (sight_of clerk.old).spare }
+{
+    let _ = id;
+    let ReleaseOutcome::Last = clerk.release_now(place) else {
+        panic!(rt; "the table has let go of the place");
+    };
+    clerk.recycle(rt, place);
+}
+
+/// Destroys the entry of this id by the event of this number, which is the newest one. Its place is the only one that the clerk holds,
+/// and nobody else does; it becomes free.
+fn destroy<G: Gate, R: Wait + Abort>(
+    rt: &R,
+    clerk: &mut Clerk<G>,
+    place: u32,
+    id: u64,
+    why: Why,
+    number: u32,
+)
+    requires one { HoldsOne (record { place = place; id = Some id }) (sight_of clerk.old) }
+    requires protocol { suits_entry why id (sight_of clerk.old).front ≡ true }
+    requires timely { reason_moment_of why ≤ 10 ^ 16 }
+    requires spare { 1 ≤ (sight_of clerk.old).spare }
+    ensures nothing { HoldsNothing (sight_of clerk.new) }
+    ensures same { IsSamePass (sight_of clerk.old) (sight_of clerk.new) }
+    ensures spare { (sight_of clerk.old).spare ≤ (sight_of clerk.new).spare + 1 }
+{
+    let KillOutcome::Killed {
+        number: made,
+        subject,
+    } = clerk.kill(rt, place, why)
+    else {
+        panic!(rt; "the reason holds");
+    };
+    assert_eq!(rt; made, number as u64);
+    assert_eq!(rt; (subject.id, subject.place), (id, place));
+    let PeekOutcome::Gone { at } = clerk.peek(rt, place) else {
+        panic!(rt; "the entry is destroyed");
+    };
+    assert_eq!(rt; at, number as u64 + 1);
+    let_go(rt, clerk, place, id);
+}
+
+/// An entry that is destroyed is read no more, and its place is free when its clerk gives it up.
+#[test]
+fn an_entry_is_destroyed(rt: HostRuntime) -> Result<(), Fail> {
+    let (tracker, spot) = Tracker::new(rt.alloc(), sizes())?;
+    let mut clerk = tracker.clerk(spot, &NoGate, 0);
+    clerk.ready(2)?;
+    let place = keep(&rt, &mut clerk, &query(), 0);
+    destroy(&rt, &mut clerk, place, 0, Why::Flushed, 1);
+    let count = clerk.count_now();
+    assert_eq!(rt; (count.live, count.at), (0, 2));
+    let left = clerk.leave();
+    let closed = tracker.close(left);
+    assert_eq!(rt; (closed.events, closed.live), (2, 0));
+    assert_eq!(rt; closed.notes.len(), 2);
+    Ok(())
+}
+
+/// What a kill answers that is to end the first entry as expired at this moment. Its deadline is 31 s.
+fn expired_at<R: Wait + Abort + AllocGlobal>(rt: &R, moment: u64) -> Result<KillOutcome, NoMemory> {
+    let (tracker, spot) = Tracker::new(rt.alloc(), sizes())?;
+    let mut clerk = tracker.clerk(spot, &NoGate, 0);
+    clerk.ready(2)?;
+    let place = keep(rt, &mut clerk, &query(), 0);
+    Ok(clerk.kill(rt, place, Why::Expired { moment }))
+}
+
+#[test]
+fn an_entry_is_spared_until_its_deadline(rt: HostRuntime) -> Result<(), Fail> {
+    let KillOutcome::Not { subject, at } = expired_at(&rt, 30_999_999)? else {
+        panic!(rt; "the entry is not expired yet");
+    };
+    assert_eq!(rt; (subject.id, subject.part.deadline, at), (0, 31_000_000, 1));
+    let KillOutcome::Killed { number, subject } = expired_at(&rt, 31_000_000)? else {
+        panic!(rt; "the entry is expired");
+    };
+    assert_eq!(rt; (subject.id, number), (0, 1));
+    Ok(())
+}
+
+/// Of three entries, two of another clerk's, the second one is destroyed, and its flow is confirmed anew by the other clerk. The first
+/// and the third one stay.
+fn confirmed_anew<R: Wait + Abort + AllocGlobal>(rt: &R, sizes: Sizes) -> Result<(), Fail>
+    requires limits { AreWithinLimits sizes }
+    requires passes { sizes.passes ≡ 2 }
+{
+    let first = flow(udp(1, 1, 2, 2), udp(2, 2, 1, 1));
+    let third = flow(udp(3, 3, 4, 4), udp(4, 4, 3, 3));
+    let (tracker, spot) = Tracker::new(rt.alloc(), sizes)?;
+    let mut one = tracker.clerk(spot, &NoGate, 0);
+    let mut two = one.split(1, 1);
+    one.ready(2)?;
+    two.ready(5)?;
+    make(rt, &mut two, &first, 0);
+    let place = keep(rt, &mut one, &query(), 1);
+    make(rt, &mut two, &third, 2);
+    destroy(rt, &mut one, place, 1, Why::Flushed, 3);
+    let of_first = answer(rt, &mut two, &first);
+    assert!(rt;
+        matches!(
+            of_first,
+            Some(ConfirmOutcome::Clash {
+                id: 0,
+                both: true,
+                at: 4,
+                ..
+            })
+        )
+    );
+    let of_third = answer(rt, &mut two, &third);
+    assert!(rt;
+        matches!(
+            of_third,
+            Some(ConfirmOutcome::Clash {
+                id: 2,
+                both: true,
+                at: 4,
+                ..
+            })
+        )
+    );
+    make(rt, &mut two, &query(), 4);
+    let count = one.count_now();
+    assert_eq!(rt; (count.live, count.at), (3, 5));
+    Ok(())
+}
+
+#[test]
+fn a_destroyed_flow_is_confirmed_anew(rt: HostRuntime) -> Result<(), Fail> {
+    confirmed_anew(&rt, one_bucket())?;
+    confirmed_anew(&rt, sixteen_buckets())
+}
