@@ -11,7 +11,7 @@ use crate::book::Book;
 use crate::noting::{count_taken, note};
 use expect_table::expectation::Want;
 use history_book::desk::Desk;
-use history_book::event::Why;
+use history_book::event::{Note, Why};
 use history_book::outcome::{
     ClaimOutcome, ConfirmOutcome, ExpectOutcome, FindOutcome, HoldOutcome, KillOutcome, LiveCount,
     PeekOutcome, ReleaseOutcome, TakeOutcome, TouchOutcome, UnexpectOutcome,
@@ -90,6 +90,10 @@ impl Desk for PlainDesk {
 
     fn made(&self) -> u64 {
         self.notes.len() as u64
+    }
+
+    fn own(&self, index: u64) -> Note {
+        *self.notes.at(index as usize)
     }
 
     fn ready(&mut self, k: u64) -> Result<(), NoMemory> {

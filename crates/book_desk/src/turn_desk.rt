@@ -24,7 +24,7 @@ use atomic_table::Table;
 use ct_io::Gate;
 use expect_table::expectation::Want;
 use history_book::desk::Desk;
-use history_book::event::Why;
+use history_book::event::{Note, Why};
 use history_book::many_threads::SharedDesk;
 use history_book::outcome::{
     ClaimOutcome, ConfirmOutcome, ExpectOutcome, FindOutcome, HoldOutcome, KillOutcome, LiveCount,
@@ -212,6 +212,10 @@ impl<'t, G: Gate> Desk for TurnDesk<'t, G> {
 
     fn made(&self) -> u64 {
         self.pass.notes.len() as u64
+    }
+
+    fn own(&self, index: u64) -> Note {
+        *self.pass.notes.at(index as usize)
     }
 
     fn ready(&mut self, k: u64) -> Result<(), NoMemory> {

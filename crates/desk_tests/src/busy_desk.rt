@@ -102,6 +102,10 @@ impl Desk for BusyDesk {
         self.notes.len() as u64
     }
 
+    fn own(&self, index: u64) -> Note {
+        *self.notes.at(index as usize)
+    }
+
     fn ready(&mut self, k: u64) -> Result<(), NoMemory> {
         if self.spare >= k {
             return Ok(());

@@ -1,7 +1,7 @@
 //! One thread's handle on the tracker. Every tracker stands behind this trait, and all that is above is
 //! written and proved once over it.
 
-ghost use Rattle.std.specs.Prelude.{◌≡◌, ◌+◌, ◌<◌, ◌≤◌, ◌^◌, true, length, OnOk, OnErr};
+ghost use Rattle.std.specs.Prelude.{◌≡◌, ◌+◌, ◌<◌, ◌≤◌, ◌^◌, true, length, slice_get, OnOk, OnErr};
 ghost use Rattle.history_book.specs.Desk.{ConfirmSays, CountSays, FindSays, HoldSays, IsReady};
 ghost use Rattle.history_book.specs.Desk.{KillSays, PeekSays, RecycleSays, ReleaseSays};
 ghost use Rattle.history_book.specs.Desk.{TakeSays, TouchSays};
@@ -11,7 +11,7 @@ ghost use Rattle.history_book.specs.Held.{held_id, is_held, is_held_for_entry, i
 ghost use Rattle.history_book.specs.Legality.{reason_moment_of};
 ghost use Rattle.history_book.specs.Sight.{IsKnown, Sight};
 
-use crate::event::Why;
+use crate::event::{Note, Why};
 use crate::outcome::{
     ClaimOutcome, ConfirmOutcome, ExpectOutcome, FindOutcome, HoldOutcome, KillOutcome, LiveCount,
     PeekOutcome, ReleaseOutcome, TakeOutcome, TouchOutcome, UnexpectOutcome,
@@ -53,6 +53,12 @@ pub trait Desk {
     /// The number of own events.
     fn made(&self) -> u64
         ensures exact { result ≡ length (sight self.now).own }
+        ensures knows { IsKnown (sight self.now) };
+
+    /// The own event at `index`, in order of number.
+    fn own(&self, index: u64) -> Note
+        requires { index < length (sight self.now).own }
+        ensures exact { slice_get (sight self.now).own index ≡ Some result }
         ensures knows { IsKnown (sight self.now) };
 
     /// Makes room for `k` further own events.

@@ -27,7 +27,7 @@ use ct_io::Gate;
 use entry_pool::take::{recycle, take};
 use expect_table::expectation::Want;
 use history_book::desk::Desk;
-use history_book::event::Why;
+use history_book::event::{Note, Why};
 use history_book::laws::states_stay;
 use history_book::many_threads::SharedDesk;
 use history_book::outcome::{
@@ -87,6 +87,10 @@ impl<'t, G: Gate> Desk for Clerk<'t, G> {
 
     fn made(&self) -> u64 {
         self.notes.len() as u64
+    }
+
+    fn own(&self, index: u64) -> Note {
+        *self.notes.at(index as usize)
     }
 
     /// Makes room for `k` further own events.

@@ -5,7 +5,7 @@ ghost use Rattle.history_book.specs.Places.{HoldsNothing};
 
 use expect_table::expectation::Want;
 use history_book::desk::Desk;
-use history_book::event::Why;
+use history_book::event::{Note, Why};
 use history_book::outcome::{
     ClaimOutcome, ConfirmOutcome, ExpectOutcome, FindOutcome, HoldOutcome, KillOutcome, LiveCount,
     PeekOutcome, ReleaseOutcome, TakeOutcome, TouchOutcome, UnexpectOutcome,
@@ -71,6 +71,10 @@ impl<D: Desk + Drop> Desk for Overtaken<D> {
 
     fn made(&self) -> u64 {
         self.desk.made()
+    }
+
+    fn own(&self, index: u64) -> Note {
+        self.desk.own(index)
     }
 
     fn ready(&mut self, k: u64) -> Result<(), NoMemory> {
