@@ -1,11 +1,13 @@
 //! Points at which a test may hold a worker back.
 
-/// The points of a worker's way at which it passes a gate.
+/// The points of a worker's or a listener's way at which it passes a gate.
 #[derive(Clone, Copy)]
 pub enum Crossing {
     BeforePacket,
     BeforeCommand,
     InConfirm,
+    /// A listener has taken a note.
+    Heard,
 }
 
 /// A gate that workers pass. It may make a worker wait, and changes nothing else.

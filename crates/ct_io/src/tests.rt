@@ -99,4 +99,5 @@ fn an_open_gate() {
     NoGate.at(0, Crossing::BeforePacket);
     NoGate.at(1, Crossing::BeforeCommand);
     NoGate.at(2, Crossing::InConfirm);
+    NoGate.at(3, Crossing::Heard);
 }

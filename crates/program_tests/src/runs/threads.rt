@@ -169,7 +169,7 @@ impl Gate for Counted {
                 };
                 count.fetch_add(1, Ordering::SeqCst);
             }
-            Crossing::BeforeCommand | Crossing::InConfirm => {}
+            Crossing::BeforeCommand | Crossing::InConfirm | Crossing::Heard => {}
         }
     }
 }
