@@ -1,0 +1,5 @@
+pub mod Finishing
+pub mod Laying
+pub mod Lists
+pub mod Orders
+pub mod Pumping

@@ -1,0 +1,4 @@
+pub mod Line
+pub mod Pump
+pub mod Order
+pub mod Internal
