@@ -2,3 +2,4 @@ pub mod Line
 pub mod Pump
 pub mod Order
 pub mod Internal
+pub mod Told

@@ -8,3 +8,5 @@ pub mod hearing;
 pub mod line;
 pub mod sending;
 mod talk;
+#[cfg(test)]
+mod tests;

@@ -152,6 +152,7 @@ impl Sendings {
             ((self.old.items ≡ []) × (self.new.items ≡ []))
             (λ sending. self.old.items ≡ self.new.items ++ sending ∷ []) }
         ensures room { self.new.room ≡ self.old.room }
+        ensures fits { length self.old.items ≤ self.old.room }
     {
         self.items.pop()
     }
