@@ -1,5 +1,5 @@
 //! A line from threads that make events to one that listens: each thread sends its own events through a queue of its own,
-//! and never waits for the listener.
+//! and waits for no room in it.
 #![tactic(auto)]
 
 mod ear;
