@@ -123,7 +123,8 @@ fn two_senders_are_told_apart(rt: HostRuntime) -> Result<(), Fail> {
     assert!(rt; sendings.len() == 2);
     assert!(rt; !is_all(pump_at(&rt, &line, &mut sendings, 1, &other)));
     line.hush();
-    hearing.listen(&rt, &line, &NoGate, 3)?;
+    // Where memory is wanting here, what was not heard is still in the queues.
+    let _ = hearing.listen(&rt, &line, &NoGate, 3);
     let heard = line.finish(&rt, hearing, sendings)?;
     assert!(rt; heard.len() == 2);
     assert!(rt; are_first(heard.at(0).as_slice(), PORT, 3));

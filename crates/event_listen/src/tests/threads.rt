@@ -17,14 +17,17 @@ use std::thread;
 use std::thread::Threads;
 use tuple_core::NoMemory;
 
-/// Pumps until every own event of the desk is sent.
+/// How often a sender looks for room, at most.
+const TURNS: u32 = 1 << 28;
+
+/// Pumps until every own event of the desk is sent, or it has looked for room often enough.
 fn send_all<R: Wait>(rt: &R, line: &Line, mut sending: Sending, desk: &Told) -> Sending
     requires line { IsSendingOf line.now sending }
     requires own { BeginsWith desk.now.own sending.sent }
     ensures line { IsSendingOf line.now result }
     ensures queue { result.queue ≡ sending.queue }
 {
-    'pumps: for _ in rt.forever() {
+    'pumps: for _ in 0..TURNS {
         match sending.pump(rt, line, desk) {
             Pumped::All => break,
             Pumped::Full => thread::yield_now(),

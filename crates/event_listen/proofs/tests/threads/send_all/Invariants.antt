@@ -4,6 +4,4 @@ use Rattle.event_listen.specs.Pump.{BeginsWith}
 use Rattle.event_listen.proofs.tests.threads.send_all.Given as goal
 
 abbrev pub invariant-pumps : goal.invariant-pumps
-invariant-pumps g l =
-    (goal.iterator-pumps g).can_next l.iterator' × (goal.iterator-pumps g).is_finite l.iterator' × IsSendingOf l.line l.sending × (l.sending.queue ≡ l.fn.sending.queue)
-    × BeginsWith l.desk.own l.sending.sent
+invariant-pumps g l = IsSendingOf l.line l.sending × (l.sending.queue ≡ l.fn.sending.queue) × BeginsWith l.desk.own l.sending.sent
