@@ -190,3 +190,20 @@ fn sixty_three_senders(rt: HostRuntime) -> Result<(), Fail> {
     }
     Ok(())
 }
+
+#[test]
+fn ends_in_a_list(rt: HostRuntime) -> Result<(), Fail> {
+    let mut sendings = Line::new(rt.alloc(), 2, 1)?.2;
+    let mut others = Sendings::new(rt.alloc(), 0)?;
+    others.reserve(1)?;
+    let Some(last) = sendings.pop() else {
+        panic!(rt; "no end")
+    };
+    others.push(last);
+    assert!(rt; others.len() == 1);
+    assert_eq!(rt; others.at(0).sent(), 0);
+    others.clear();
+    assert!(rt; others.pop().is_none());
+    assert_eq!(rt; sendings.len(), 1);
+    Ok(())
+}
