@@ -8,7 +8,7 @@ use Rattle.clap.specs.declared.parser.matches.Found.{Found}
 use Rattle.clap.proofs.OnLiterals.{clap_on_literals}
 use Rattle.clap.proofs.WalkLemmas.{first_value-rows, raw_values-rows}
 use Rattle.file_text.specs.Reading.{required}
-use Rattle.command_words.specs.Words.{app, found_by, found_from, found_in, table_app}
+use Rattle.command_words.specs.Words.{app, found_by, found_from, found_in, table_app, workload_app}
 use Rattle.command_words.specs.declared.WordsError.TheVariants.{Usage}
 
 pub first_found : (f : Found) (id : List ℕ) → first_value f id ≡ first_of id (rows_of f)
@@ -18,11 +18,11 @@ pub all_found : (f : Found) (id : List ℕ) → option_map raw_values (matched_o
 all_found = raw_values-rows
 
 app_is_simple : is_simple app ≡ true
-unfolding app table_app clap_on_literals
+unfolding app workload_app table_app clap_on_literals
 app_is_simple = refl
 
 app_is_free : is_simple_and_free app ≡ true
-unfolding app table_app clap_on_literals
+unfolding app workload_app table_app clap_on_literals
 app_is_free = refl
 
 -- clap took the words

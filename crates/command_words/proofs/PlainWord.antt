@@ -7,7 +7,7 @@ use Rattle.clap.specs.Simple.{built, entered}
 use Rattle.clap.specs.Walk.{after_step, arg_by_index, finished, Held, idle, nothing_held, settled, Step, to_positional, value, Walk, walk_from, walked, word_met}
 use Rattle.clap.specs.Words.{fault_of, Kinds, matches_of, Row, Rule, Shape}
 use Rattle.clap.proofs.OnLiterals.{clap_on_literals}
-use Rattle.command_words.specs.Words.{app, table_app}
+use Rattle.command_words.specs.Words.{app, table_app, workload_app}
 use Rattle.command_words.specs.WordsLaws.{begins_with_dash}
 
 -- it is a value, where nothing waits for one
@@ -48,22 +48,22 @@ faults_at_end first w =
     (check_fault (built app).top (finished rules w.held) (is_some (entered (built app) w.stopped))))))
 
 rows_of_walk : (program word : List ℕ) → matches_of app (program ∷ word ∷ []) ≡ rows_at_end (walked rules [] (walk_from nothing_held) word)
-unfolding app table_app
+unfolding app workload_app table_app
 rows_of_walk program word = refl
 
 rows_of_value : (program word : List ℕ) → rows_at_end (first_walk rules word) ≡ matches_of app (program ∷ (45 ∷ 45 ∷ []) ∷ word ∷ [])
-unfolding app table_app clap_on_literals
+unfolding app workload_app table_app clap_on_literals
 rows_of_value program word = refl
 
 faults_of_walk : (program word : List ℕ) → fault_of app (program ∷ word ∷ [])
     ≡ faults_at_end (turn_fault (built app).top [] (walk_from nothing_held) word) (walked rules [] (walk_from nothing_held) word)
-unfolding app table_app walk_fault
+unfolding app workload_app table_app walk_fault
 faults_of_walk program word = refl
 
 faults_of_value : (program word : List ℕ) →
     faults_at_end (or_else [] (step_fault (built app).top 1 nothing_held value)) (first_walk rules word)
     ≡ fault_of app (program ∷ (45 ∷ 45 ∷ []) ∷ word ∷ [])
-unfolding app table_app clap_on_literals
+unfolding app workload_app table_app clap_on_literals
 faults_of_value program word = refl
 
 -- clap takes such a word as it takes one behind `--`

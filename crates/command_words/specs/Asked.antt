@@ -41,6 +41,7 @@ asked_as asked = record {
   ftp = asked.ftp.items;
   summary = asked.summary;
   defrag = asked.defrag;
+  listen = asked.listen;
 }
 
 -- the answer is the one that is wanted, or want of memory

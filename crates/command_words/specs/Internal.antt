@@ -21,6 +21,7 @@ given_as found = record {
   ftp = option_map (λ s. s.now) found.ftp;
   summary = found.summary;
   defrag = found.defrag;
+  listen = found.listen;
 }
 
 abbrev pub wide_as : Wide → Workload
@@ -44,6 +45,7 @@ formed_as formed = record {
   ftp = formed.ftp.items;
   summary = formed.summary;
   defrag = formed.defrag;
+  listen = formed.listen;
 }
 
 -- it is the value that no limit is passed with, or the limit

@@ -48,19 +48,24 @@ table_app = with_rule
     (option_rule (codes "buckets")))
     (option_rule (codes "ftp"))
 
--- the command: these, three more for a made workload, two that take no value, and the captures
-unfoldable pub app : App
-app = with_rule
-    (with_rule
-    (with_rule
-    (with_rule
+-- three more: those of a made workload
+unfoldable pub workload_app : App
+workload_app = with_rule
     (with_rule
     (with_rule table_app
     (option_rule (codes "make")))
     (option_rule (codes "packets")))
-    (option_rule (codes "threads")))
+    (option_rule (codes "threads"))
+
+-- the command: all of these, three flags, which take no value, and the captures
+unfoldable pub app : App
+app = with_rule
+    (with_rule
+    (with_rule
+    (with_rule workload_app
     (flag_rule (codes "summary")))
     (flag_rule (codes "defrag")))
+    (flag_rule (codes "listen")))
     captures_rule
 
 -- ---- what clap finds in the words
@@ -83,6 +88,7 @@ pub record FoundWords : Type 0 where
   pub ftp : Option (List ℕ)
   pub summary : Bool
   pub defrag : Bool
+  pub listen : Bool
 
 -- clap gives a flag that stands the value `true`, and another one the value `false`
 abbrev pub is_set : Option (List ℕ) → Bool
@@ -105,6 +111,7 @@ found_by rows = record {
   ftp = first_of (codes "ftp") rows;
   summary = is_set (first_of (codes "summary") rows);
   defrag = is_set (first_of (codes "defrag") rows);
+  listen = is_set (first_of (codes "listen") rows);
 }
 
 -- nothing is given where clap finds a fault
@@ -185,6 +192,7 @@ pub record Request : Type 0 where
   pub ftp : List ℕ
   pub summary : Bool
   pub defrag : Bool
+  pub listen : Bool
 
 -- how many captures there are
 abbrev pub capture_count : Origin → ℕ
@@ -243,6 +251,7 @@ with_values given =
       ftp = ports;
       summary = given.summary;
       defrag = given.defrag;
+      listen = given.listen;
     })
 
 -- ---- the limits

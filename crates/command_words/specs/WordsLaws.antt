@@ -18,6 +18,7 @@ usual names = record {
   ftp = 21 ∷ [];
   summary = false;
   defrag = false;
+  listen = false;
 }
 
 -- a capture, and no other file
@@ -47,6 +48,11 @@ SummaryOfCaptures = (program capture : List ℕ)
 abbrev pub DefragOfCaptures : Type 0
 DefragOfCaptures = (program capture : List ℕ)
     → asked_of (program ∷ codes "--defrag" ∷ codes "--" ∷ capture ∷ []) ≡ Ok (record (usual (captured capture)) { defrag = true })
+
+-- with a third one a listener is
+abbrev pub ListenOfCaptures : Type 0
+ListenOfCaptures = (program capture : List ℕ)
+    → asked_of (program ∷ codes "--listen" ∷ codes "--" ∷ capture ∷ []) ≡ Ok (record (usual (captured capture)) { listen = true })
 
 -- a made workload stands beside no capture, whatever its seed is
 abbrev pub MadeBesideCaptures : Type 0

@@ -6,7 +6,7 @@ ghost use Rattle.clap.specs.Words.{all_of, app_of, first_of, found_of, rows_of, 
 ghost use Rattle.file_text.specs.Reading.{required};
 ghost use Rattle.command_words.specs.Asked.{IsOrNoMemory, texts};
 ghost use Rattle.command_words.specs.Internal.{given_as};
-ghost use Rattle.command_words.specs.Words.{app, bare_app, captures_rule, flag_rule, found_by, found_in, is_set, option_rule, table_app};
+ghost use Rattle.command_words.specs.Words.{app, bare_app, captures_rule, flag_rule, found_by, found_in, is_set, option_rule, table_app, workload_app};
 ghost use Rattle.command_words.specs.declared.WordsError.TheVariants.{Usage};
 
 use crate::{Named, WordsError};
@@ -29,6 +29,7 @@ pub(crate) struct Found<'w> {
     pub(crate) ftp: Option<&'w str>,
     pub(crate) summary: bool,
     pub(crate) defrag: bool,
+    pub(crate) listen: bool,
 }
 
 /// An option that takes one value.
@@ -99,17 +100,26 @@ fn table_command<'w>(alloc: Global) -> Result<Command<'w>, AllocError>
     with_option(alloc, command, "ftp")
 }
 
+/// The command with these and the three of a made workload.
+#[tactic(auto, unfolding(crate::specs::Words::workload_app))]
+fn workload_command<'w>(alloc: Global) -> Result<Command<'w>, AllocError>
+    ensures { IfOk result (λ command. app_of command ≡ workload_app) }
+{
+    let command = table_command(alloc)?;
+    let command = with_option(alloc, command, "make")?;
+    let command = with_option(alloc, command, "packets")?;
+    with_option(alloc, command, "threads")
+}
+
 /// The command.
 #[tactic(auto, unfolding(crate::specs::Words::app))]
 fn command<'w>(alloc: Global) -> Result<Command<'w>, AllocError>
     ensures { IfOk result (λ command. app_of command ≡ app) }
 {
-    let command = table_command(alloc)?;
-    let command = with_option(alloc, command, "make")?;
-    let command = with_option(alloc, command, "packets")?;
-    let command = with_option(alloc, command, "threads")?;
+    let command = workload_command(alloc)?;
     let command = with_flag(alloc, command, "summary")?;
     let command = with_flag(alloc, command, "defrag")?;
+    let command = with_flag(alloc, command, "listen")?;
     with_captures(alloc, command)
 }
 
@@ -177,5 +187,6 @@ pub(crate) fn find<'w>(alloc: Global, words: &'w [String]) -> Result<Found<'w>, 
         ftp: value(&matches, "ftp"),
         summary: is_set(&matches, "summary"),
         defrag: is_set(&matches, "defrag"),
+        listen: is_set(&matches, "listen"),
     })
 }

@@ -1,6 +1,6 @@
 //! What words ask for: each law is the contract of a function that does nothing.
 
-ghost use Rattle.command_words.specs.WordsLaws.{CapturesAlone, CapturesOfAnyName, CapturesWithRules, DefragOfCaptures, MadeBesideCaptures, SummaryOfCaptures, WordsWantNoMemory, WordsWithoutCaptures, ZonesBesideMade, ZonesOfCaptures, ZonesOfOtherCaptures};
+ghost use Rattle.command_words.specs.WordsLaws.{CapturesAlone, CapturesOfAnyName, CapturesWithRules, DefragOfCaptures, ListenOfCaptures, MadeBesideCaptures, SummaryOfCaptures, WordsWantNoMemory, WordsWithoutCaptures, ZonesBesideMade, ZonesOfCaptures, ZonesOfOtherCaptures};
 
 /// A capture whose name does not begin with `-` is asked for by its name alone.
 pub fn captures_alone()
@@ -25,6 +25,11 @@ pub fn summary_of_captures()
 /// Its fragments are put together by another flag before it.
 pub fn defrag_of_captures()
     ensures { DefragOfCaptures }
+{}
+
+/// A listener beside it is asked for by a third flag before it.
+pub fn listen_of_captures()
+    ensures { ListenOfCaptures }
 {}
 
 /// A capture beside a made workload is not of the form.

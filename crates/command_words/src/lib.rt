@@ -69,6 +69,8 @@ pub struct Asked<'w> {
     pub summary: bool,
     /// Whether the fragments of each capture are put together.
     pub defrag: bool,
+    /// Whether a listener hears the threads' events while they work.
+    pub listen: bool,
 }
 
 /// What there is too much of, or too little.
@@ -215,6 +217,7 @@ fn limit(alloc: Global, formed: Formed<'_>) -> Result<Asked<'_>, WordsError>
         ftp,
         summary,
         defrag,
+        listen,
     } = formed;
     if entries < 1 || entries > MOST {
         return Err(WordsError::Limit(WordsLimit::Entries));
@@ -235,6 +238,7 @@ fn limit(alloc: Global, formed: Formed<'_>) -> Result<Asked<'_>, WordsError>
         ftp,
         summary,
         defrag,
+        listen,
     })
 }
 

@@ -37,6 +37,7 @@ struct Wanted<'a> {
     ftp: &'a [u16],
     summary: bool,
     defrag: bool,
+    listen: bool,
 }
 
 /// What is wanted of a line without options.
@@ -50,6 +51,7 @@ const USUAL: Wanted<'static> = Wanted {
     ftp: &[21],
     summary: false,
     defrag: false,
+    listen: false,
 };
 
 /// Whether these are the files that are wanted.
@@ -72,6 +74,13 @@ fn zones_wanted(zones: &[u16], wanted: &Wanted<'_>) -> bool {
     }
 }
 
+/// Whether the flags are those that are wanted.
+fn flags_wanted(asked: &Asked<'_>, wanted: &Wanted<'_>) -> bool {
+    asked.summary == wanted.summary
+        && asked.defrag == wanted.defrag
+        && asked.listen == wanted.listen
+}
+
 /// Whether it is what is wanted.
 fn is_wanted(asked: &Asked<'_>, wanted: &Wanted<'_>) -> bool {
     let named = match &asked.origin {
@@ -83,8 +92,7 @@ fn is_wanted(asked: &Asked<'_>, wanted: &Wanted<'_>) -> bool {
         && asked.entries == wanted.entries
         && asked.buckets == wanted.buckets
         && asked.ftp.as_slice() == wanted.ftp
-        && asked.summary == wanted.summary
-        && asked.defrag == wanted.defrag
+        && flags_wanted(asked, wanted)
 }
 
 /// Whether the line asks for what is wanted.
@@ -112,6 +120,7 @@ fn missing_words(rt: HostRuntime) -> Result<(), Fail> {
         "ctreplay --zones 1",
         "ctreplay --summary",
         "ctreplay --defrag",
+        "ctreplay --listen",
     ];
     for line in lines {
         assert!(rt;
@@ -138,17 +147,37 @@ fn repeated_and_unknown_options(rt: HostRuntime) -> Result<(), Fail> {
         "ctreplay -rules f c",
         "ctreplay -r f c",
         "ctreplay -c",
+        "ctreplay --make 0 --make 0 --packets 8 --threads 2",
+        "ctreplay --make 0 --packets 8 --packets 8 --threads 2",
+        "ctreplay --make 0 --packets 8 --threads 2 --threads 2",
+    ];
+    for line in lines {
+        assert!(rt;
+            fault(rt.alloc(), line)? == Some(WordsError::Usage),
+            "{line}"
+        );
+    }
+    Ok(())
+}
+
+#[test]
+fn repeated_and_unknown_flags(rt: HostRuntime) -> Result<(), Fail> {
+    let lines = [
         "ctreplay --summary --summary c",
         "ctreplay --summary=true c",
         "ctreplay --summary= c",
+        "ctreplay -s c",
         "ctreplay --defrag --defrag c",
         "ctreplay --defrag=true c",
         "ctreplay --defrag= c",
         "ctreplay --defra c",
-        "ctreplay -s c",
-        "ctreplay --make 0 --make 0 --packets 8 --threads 2",
-        "ctreplay --make 0 --packets 8 --packets 8 --threads 2",
-        "ctreplay --make 0 --packets 8 --threads 2 --threads 2",
+        "ctreplay --listen --listen c",
+        "ctreplay --listen c --listen",
+        "ctreplay --listen=true c",
+        "ctreplay --listen= c",
+        "ctreplay --liste c",
+        "ctreplay --Listen c",
+        "ctreplay --listens c",
     ];
     for line in lines {
         assert!(rt;
@@ -540,6 +569,26 @@ fn fragments(rt: HostRuntime) -> Result<(), Fail> {
 }
 
 #[test]
+fn listeners(rt: HostRuntime) -> Result<(), Fail> {
+    let cases = [
+        ("ctreplay --listen c", ["c"].as_slice(), true),
+        ("ctreplay c --listen", ["c"].as_slice(), true),
+        ("ctreplay -- --listen", ["--listen"].as_slice(), false),
+        ("ctreplay listen", ["listen"].as_slice(), false),
+        ("ctreplay --listen false c", ["false", "c"].as_slice(), true),
+    ];
+    for (line, captures, listen) in cases {
+        let wanted = Wanted {
+            captures,
+            listen,
+            ..USUAL
+        };
+        assert!(rt; asks(rt.alloc(), line, &wanted)?, "{line}");
+    }
+    Ok(())
+}
+
+#[test]
 fn all_options(rt: HostRuntime) -> Result<(), Fail> {
     let wanted = Wanted {
         rules: Some("f"),
@@ -551,9 +600,10 @@ fn all_options(rt: HostRuntime) -> Result<(), Fail> {
         ftp: &[2121],
         summary: true,
         defrag: true,
+        listen: true,
     };
     let line =
-        "ctreplay a --ftp 2121 --script s --buckets 32 b --zones 3,0,9 --summary --rules f --entries 10 --defrag -- -x";
+        "ctreplay a --ftp 2121 --script s --buckets 32 --listen b --zones 3,0,9 --summary --rules f --entries 10 --defrag -- -x";
     assert!(rt; asks(rt.alloc(), line, &wanted)?);
     Ok(())
 }

@@ -50,6 +50,7 @@ pub(crate) struct Formed<'w> {
     pub(crate) ftp: RoomList<u16>,
     pub(crate) summary: bool,
     pub(crate) defrag: bool,
+    pub(crate) listen: bool,
 }
 
 /// The number that the text writes.
@@ -233,5 +234,6 @@ pub(crate) fn form(alloc: Global, found: Found<'_>) -> Result<Formed<'_>, WordsE
         ftp,
         summary: found.summary,
         defrag: found.defrag,
+        listen: found.listen,
     })
 }

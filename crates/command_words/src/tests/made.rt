@@ -1,13 +1,12 @@
 //! Command lines of made workloads.
 
-use super::{are_zeros, fault, split};
+use super::{USUAL, Wanted, are_zeros, fault, flags_wanted, split};
 use crate::{Asked, Origin, WordsError, WordsLimit, Workload, read_words};
 use std::alloc::{AllocError, Global};
 use std::test::Fail;
 
-/// Whether this workload is asked for, with a table of so many entries, and of the two flags, for a summary and for
-/// fragments, with these.
-fn is_made(asked: &Asked<'_>, wanted: (u32, u32, u32), entries: u32, flags: (bool, bool)) -> bool {
+/// Whether this workload is asked for, with the entries and the flags that are wanted.
+fn is_made(asked: &Asked<'_>, workload: (u32, u32, u32), wanted: &Wanted<'_>) -> bool {
     let made = match asked.origin {
         Origin::Made(
             Workload {
@@ -15,25 +14,24 @@ fn is_made(asked: &Asked<'_>, wanted: (u32, u32, u32), entries: u32, flags: (boo
                 packets,
                 threads,
             },
-        ) => (seed, packets, threads) == wanted,
+        ) => (seed, packets, threads) == workload,
         Origin::Named(_) => false,
     };
-    made && are_zeros(asked.zones.as_slice(), wanted.2 as usize)
-        && asked.entries == entries
-        && (asked.summary, asked.defrag) == flags
+    made && are_zeros(asked.zones.as_slice(), workload.2 as usize)
+        && asked.entries == wanted.entries
+        && flags_wanted(asked, wanted)
 }
 
 /// Whether the line asks for this.
 fn makes(
     alloc: Global,
     line: &str,
-    wanted: (u32, u32, u32),
-    entries: u32,
-    flags: (bool, bool),
+    workload: (u32, u32, u32),
+    wanted: &Wanted<'_>,
 ) -> Result<bool, AllocError> {
     let words = split(alloc, line)?;
     match read_words(alloc, words.as_slice()) {
-        Ok(asked) => Ok(is_made(&asked, wanted, entries, flags)),
+        Ok(asked) => Ok(is_made(&asked, workload, wanted)),
         Err(_) => Ok(false),
     }
 }
@@ -57,34 +55,47 @@ fn workloads(rt: HostRuntime) -> Result<(), Fail> {
             (7, 4_160, 63),
         ),
     ];
-    for (line, wanted) in cases {
-        assert!(rt;
-            makes(rt.alloc(), line, wanted, 65_536, (false, false))?,
-            "{line}"
-        );
+    for (line, workload) in cases {
+        assert!(rt; makes(rt.alloc(), line, workload, &USUAL)?, "{line}");
     }
-    let table = [
+    Ok(())
+}
+
+#[test]
+fn workloads_with_options(rt: HostRuntime) -> Result<(), Fail> {
+    let cases = [
         (
             "ctreplay --make 0 --packets 8 --threads 2 --entries 4",
-            4,
-            (false, false),
+            Wanted {
+                entries: 4,
+                ..USUAL
+            },
         ),
         (
             "ctreplay --entries 5 --summary --make 0 --packets 8 --threads 2",
-            5,
-            (true, false),
+            Wanted {
+                entries: 5,
+                summary: true,
+                ..USUAL
+            },
         ),
         (
             "ctreplay --make 0 --packets 8 --threads 2 --defrag",
-            65_536,
-            (false, true),
+            Wanted {
+                defrag: true,
+                ..USUAL
+            },
+        ),
+        (
+            "ctreplay --make 0 --listen --packets 8 --threads 2",
+            Wanted {
+                listen: true,
+                ..USUAL
+            },
         ),
     ];
-    for (line, entries, flags) in table {
-        assert!(rt;
-            makes(rt.alloc(), line, (0, 8, 2), entries, flags)?,
-            "{line}"
-        );
+    for (line, wanted) in cases {
+        assert!(rt; makes(rt.alloc(), line, (0, 8, 2), &wanted)?, "{line}");
     }
     Ok(())
 }
