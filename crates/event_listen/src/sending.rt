@@ -157,6 +157,19 @@ impl Sendings {
         self.items.pop()
     }
 
+    /// Takes out the first end, if there is any; the others move up.
+    pub fn take_first(&mut self) -> Option<Sending>
+        ensures item { MatchOption result
+            ((self.old.items ≡ []) × (self.new.items ≡ []))
+            (λ sending. self.old.items ≡ sending ∷ self.new.items) }
+        ensures room { self.new.room ≡ self.old.room }
+    {
+        if self.items.is_empty() {
+            return None;
+        }
+        Some(self.items.remove(0))
+    }
+
     /// The number of ends.
     pub fn len(&self) -> usize
         ensures exact { result ≡ length self.now.items }
