@@ -1,4 +1,5 @@
 pub mod Internal
+pub mod Heard
 pub mod Line
 pub mod Texts
 pub mod Row

@@ -3,6 +3,7 @@
 
 mod answer;
 pub mod first_word;
+pub mod heard;
 pub mod laws;
 mod line;
 pub mod page;
