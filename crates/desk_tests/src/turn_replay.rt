@@ -51,9 +51,10 @@ pub fn replay_in_turns<R: Threads + Wait + Sync, G: Gate + Sync>(
     let list = captures.as_slice();
     let (book, spot) = TurnBook::new(alloc, *sizes)?;
     let mut desk = book.desk(spot, gate, list.len() as u32);
-    let outcome = replay_on(rt, alloc, &mut desk, list, script, setup, gate)?;
+    let outcome = replay_on(rt, alloc, &mut desk, list, script, setup, gate, false)?;
     drop(captures);
     let spot = desk.leave();
     let closed = book.close(spot);
-    report(alloc, outcome, closed)
+    let (report, _) = report(alloc, outcome, closed)?;
+    Ok(report)
 }

@@ -23,12 +23,12 @@ use Rattle.replay_runs.specs.declared.desks.Joined.{Joined}
 use Rattle.replay_runs.specs.declared.jobs.Job.{Job}
 use Rattle.replay_runs.specs.declared.shared.Shared.{Shared}
 use Rattle.replay_runs.specs.Internal.Answered.{Answered, past_answers}
-use Rattle.replay_runs.specs.Internal.Jobs.{AllRan, AreFurther, HasJoined, HasSplit, IsFurther, IsSet, items_of}
+use Rattle.replay_runs.specs.Internal.Jobs.{AllRan, AreFurther, HasJoined, HasSplit, IsFurther, IsSet}
 use Rattle.replay_runs.specs.Internal.Replayed.{given_frames, Replayed, tracker_with}
 use Rattle.replay_runs.specs.Internal.Stopped.{Stopped}
 use Rattle.replay_runs.specs.Internal.Together.{HasRun}
 use Rattle.replay_runs.specs.Report.{AnswersFit, at_start, past_verdicts, Progress, VerdictsFit}
-use Rattle.replay_runs.specs.Run.{AreThreads, IsThread, run_seen}
+use Rattle.replay_runs.specs.Run.{AreThreads, IsThread, items_of, run_seen}
 use Rattle.replay_runs.proofs.Each.{each_weaker}
 use Rattle.replay_runs.proofs.Marks.{NumbersBelow, own_within}
 use Rattle.replay_runs.proofs.Replays.{notes_still_fit}
@@ -193,7 +193,7 @@ module _ {D G : Type 0} (sight : D → Sight) (still : VerdictsStillFit) (answer
             ran_long sight shared.setup.now captures jobs done have_run,
           )
 
-  pub run_together : none ≡ [] → HasRun shared captures commands old new joined all
+  pub run_together : none ≡ [] → HasRun shared.setup.now shared.moment captures commands old new joined all
   run_together empty = record {
     kept = kept_is;
     known = has_joined.known;
@@ -219,7 +219,7 @@ pub run_so : {D G E : Type 0} (sight : D → Sight) (still : VerdictsStillFit) (
     → IsFresh old.tracker old.sizes old → HasSplit sight captures old split jobs → AllRan sight shared.setup.now captures jobs done
     → Answered commands shared.moment 0 split ran none all → over ≡ done → none ≡ []
     → IfOk result (λ joined. HasJoined sight over ran new joined.lists.items joined.threads.items)
-    → IfOk result (λ joined. HasRun shared captures commands old new joined all)
+    → IfOk result (λ joined. HasRun shared.setup.now shared.moment captures commands old new joined all)
 run_so {D} sight still answers_still shared captures commands old split ran new jobs done over none all (Ok joined) fresh has_split have_run answered same empty
     has_joined =
     run_together sight still answers_still shared captures commands old split ran new jobs done joined none all fresh has_split have_run answered

@@ -1,5 +1,5 @@
 -- What holds of each item of a list, by recursion on the list.
-use Rattle.std.proofs.Common.{◌≡◌, Bool, true, false, cond, List, [], ◌∷◌, ◌++◌, refl}
+use Rattle.std.proofs.Common.{◌≡◌, ℕ, zero, suc, Bool, true, false, cond, List, [], ◌∷◌, ◌++◌, take, drop, refl}
 use Rattle.std.specs.Prelude.{filter}
 use Rattle.std.specs.List.{AllByRecursion}
 
@@ -12,6 +12,18 @@ each_append P (x ∷ xs) ys (h, hs) k = (h, each_append P xs ys hs k)
 pub each_end : {X : Type 0} (P : X → Type 0) (xs ys : List X) → AllByRecursion P (xs ++ ys) → AllByRecursion P ys
 each_end P [] ys h = h
 each_end P (x ∷ xs) ys (h, hs) = each_end P xs ys hs
+
+-- what holds of each item of a list holds of its first ones
+pub each_taken : {X : Type 0} (P : X → Type 0) (k : ℕ) (xs : List X) → AllByRecursion P xs → AllByRecursion P (take k xs)
+each_taken P zero xs h = tt
+each_taken P (suc k) [] h = tt
+each_taken P (suc k) (x ∷ xs) (h, hs) = (h, each_taken P k xs hs)
+
+-- and of the others
+pub each_dropped : {X : Type 0} (P : X → Type 0) (k : ℕ) (xs : List X) → AllByRecursion P xs → AllByRecursion P (drop k xs)
+each_dropped P zero xs h = h
+each_dropped P (suc k) [] h = tt
+each_dropped P (suc k) (x ∷ xs) (h, hs) = each_dropped P k xs hs
 
 -- so does what follows from it
 pub each_weaker : {X : Type 0} (P Q : X → Type 0) → ((x : X) → P x → Q x) → (xs : List X) → AllByRecursion P xs → AllByRecursion Q xs

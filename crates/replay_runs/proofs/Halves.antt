@@ -1,12 +1,13 @@
 -- The threads of several captures, divided and put together.
 use Rattle.std.proofs.Common.{◌≡◌, ℕ, zero, suc, List, [], ◌∷◌, ◌++◌, take, drop, subst, ap, ◌∙◌}
-use Rattle.std.specs.List.{AllZip}
+use Rattle.std.specs.List.{AllByRecursion, AllZip}
 use Rattle.std.proofs.lemmas.List.{take-append-drop}
 use Rattle.history_book.specs.Sight.{Sight}
 use Rattle.packet_path.specs.declared.setup.Setup.{Setup}
 use Rattle.capture_list.specs.declared.Capture.{Capture}
 use Rattle.replay_runs.specs.declared.jobs.Job.{Job}
 use Rattle.replay_runs.specs.Internal.Jobs.{AllRan}
+use Rattle.replay_runs.proofs.Each.{each_dropped, each_taken}
 
 -- what holds of two lists place by place holds of their first items
 pub zip_taken : {A B : Type 0} (R : A → B → Type 0) (n : ℕ) (xs : List A) (ys : List B) → AllZip R xs ys → AllZip R (take n xs) (take n ys)
@@ -51,3 +52,24 @@ zip_front R n xs fs ys gs all is this = rw (is, this) (zip_taken R n xs ys all)
 pub zip_back : {A B : Type 0} (R : A → B → Type 0) (n : ℕ) (xs fs : List A) (ys gs : List B) → AllZip R xs ys
     → fs ≡ drop n xs → gs ≡ drop n ys → AllZip R fs gs
 zip_back R n xs fs ys gs all is this = rw (is, this) (zip_dropped R n xs ys all)
+
+-- what holds of each item of a list holds of its first ones, and of the others
+pub each_front : {X : Type 0} (P : X → Type 0) (n : ℕ) (xs fs : List X) → AllByRecursion P xs → fs ≡ take n xs → AllByRecursion P fs
+each_front P n xs fs all is = rw is (each_taken P n xs all)
+
+pub each_back : {X : Type 0} (P : X → Type 0) (n : ℕ) (xs fs : List X) → AllByRecursion P xs → fs ≡ drop n xs → AllByRecursion P fs
+each_back P n xs fs all is = rw is (each_dropped P n xs all)
+
+-- what holds of two lists place by place, and of two others, holds of each two behind each other
+pub zip_append : {A B : Type 0} (R : A → B → Type 0) (xs us : List A) (ys vs : List B) → AllZip R xs ys → AllZip R us vs → AllZip R (xs ++ us) (ys ++ vs)
+zip_append R [] us [] vs h k = k
+zip_append R [] us (y ∷ ys) vs h k = absurd h
+zip_append R (x ∷ xs) us [] vs h k = absurd h
+zip_append R (x ∷ xs) us (y ∷ ys) vs (h, hs) k = (h, zip_append R xs us ys vs hs k)
+
+-- of a list and of what came of its two parts
+pub halves_zip : {A B : Type 0} (R : A → B → Type 0) (n : ℕ) (xs fs gs : List A) (ys zs : List B) → fs ≡ take n xs → gs ≡ drop n xs
+    → AllZip R fs ys → AllZip R gs zs → AllZip R xs (ys ++ zs)
+halves_zip R n xs fs gs ys zs front back first then =
+    subst (λ os. AllZip R os (ys ++ zs)) (ap (λ os. os ++ gs) front ∙ ap (λ os. take n xs ++ os) back ∙ take-append-drop n xs)
+    (zip_append R fs gs ys zs first then)

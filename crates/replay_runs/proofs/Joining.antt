@@ -11,7 +11,8 @@ use Rattle.history_book.specs.Places.{HoldsNothing}
 use Rattle.history_book.specs.Point.{StartsWith}
 use Rattle.history_book.specs.Sight.{IsKnown, Sight}
 use Rattle.replay_runs.specs.declared.jobs.Job.{Job}
-use Rattle.replay_runs.specs.Internal.Jobs.{AreFurther, HasJoined, IsFurther, items_of}
+use Rattle.replay_runs.specs.Internal.Jobs.{AreFurther, HasJoined, IsFurther}
+use Rattle.replay_runs.specs.Run.{items_of}
 use Rattle.replay_runs.proofs.Each.{each_append, each_end, each_weaker}
 use Rattle.replay_runs.proofs.Marks.{starts_on}
 

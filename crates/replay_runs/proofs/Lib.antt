@@ -2,6 +2,7 @@ pub mod Beginning
 pub mod Bounds
 pub mod Counting
 pub mod Each
+pub mod Ends
 pub mod Finishing
 pub mod Ending
 pub mod FitsNamed
@@ -16,4 +17,6 @@ pub mod Reports
 pub mod Runs
 pub mod Scripts
 pub mod Splitting
+pub mod Along
 pub mod Threads
+pub mod Waiting

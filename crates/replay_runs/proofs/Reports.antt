@@ -1,7 +1,7 @@
 -- A report made of the events of several desks is well formed.
-use Rattle.std.proofs.Common.{◌≡◌, ℕ, ◌+◌, ◌<◌, ◌≤◌, true, List, [], ◌∷◌, ◌++◌, length, Some, slice_get, refl, sym, ap, subst, ◌∙◌, arith}
+use Rattle.std.proofs.Common.{◌≡◌, ℕ, ◌+◌, ◌<◌, ◌≤◌, true, List, [], ◌∷◌, ◌++◌, length, take, Some, slice_get, refl, sym, ap, ap₂, subst, ◌∙◌, arith}
 use Rattle.std.specs.List.{AllByRecursion}
-use Rattle.std.specs.Prelude.{Err, IfOk, Ok, Result}
+use Rattle.std.proofs.lemmas.List.{append_cancel_right, map-append}
 use Rattle.std.proofs.lemmas.List.Elements.{All-from_recursion, recursion_from_All}
 use Rattle.room_list.specs.Roomed.{Roomed}
 use Rattle.conntrack_cmd.specs.Laws.{AnswersStillFit}
@@ -20,7 +20,8 @@ use Rattle.history_book.specs.Numbered.{events_of, IsNumberedFrom, notes_of}
 use Rattle.packet_path.specs.Laws.{VerdictsStillFit}
 use Rattle.replay_runs.specs.declared.replay.Outcome.{Outcome}
 use Rattle.replay_runs.specs.Report.{AnswersFit, AreNamedInEach, at_start, captures_end, IsWellFormed, latest_of, made_by, run_of, ThreadsFit, TrackerSetup, Work}
-use Rattle.replay_runs.specs.Run.{CanReport, HasEnded, IsRun}
+use Rattle.replay_runs.specs.Heard.{AreHeard, captures_made, made_before, made_before_join}
+use Rattle.replay_runs.specs.Run.{CanReport, HasEnded, IsRun, items_of, left_with, made_to_wait}
 use Rattle.replay_runs.proofs.Counting.{all_count, all_numbers, times, times_append}
 use Rattle.replay_runs.proofs.Each.{each_append}
 use Rattle.replay_runs.proofs.FitsNamed.{answers_cover}
@@ -28,7 +29,7 @@ use Rattle.replay_runs.proofs.Interleaved.{each_of_history, events_same, made_sa
 use Rattle.replay_runs.proofs.Joining.{notes_push}
 use Rattle.replay_runs.proofs.Names.{all_named, all_named_notes, each_stands, named_in_notes}
 use Rattle.replay_runs.proofs.Scripts.{answers_stay}
-use Rattle.replay_runs.proofs.Threads.{each_named_from, ends_within, lists_count, lists_covered, lists_fit, ListsFit, made_rises, script_made, threads_fit, threads_within}
+use Rattle.replay_runs.proofs.Threads.{captures_are, each_named_from, ends_within, lists_count, lists_covered, lists_fit, ListsFit, made_rises, script_made, threads_fit, threads_within}
 
 -- events that are all of a history are so in another order
 turned : (log : List Event) (own gathered : List Note) → AreAllEventsOf log (own ++ gathered) → AreAllEventsOf log (gathered ++ own)
@@ -175,6 +176,20 @@ module _ (still : VerdictsStillFit) (answers_still : AnswersStillFit) (tracker :
         ∙ ap notes_of (script_made tracker has.closes.log has.run.end script lists_are answers 0 (length work.captures) (omega arith))
         ∙ named_in_notes (length work.captures) 0 0 (length script) script (spans_of_answers answers) script_covered (omega arith)
 
+    -- what each thread made before all joined, by the report and by the run
+    all_made : captures_made history 0 work.captures ++ take (made_before work.wait answers) (notes_of (made_by (length work.captures) history)) ∷ []
+        ≡ made_to_wait work.wait (left_with has.desk outcome)
+    unfolding names threads answers script
+    all_made =
+        let lists_made : captures_made history 0 work.captures ++ script ∷ [] ≡ items_of outcome.joined.lists.items ++ script ∷ [] =
+        captures_are tracker has.run.end script history
+        (subst (λ (log : List Event). ListsFit tracker log has.run.end script work.captures threads lists) events_are lists_are)
+        answers 0 (λ t from. made t)
+        ∙ ap items_of pushed ∙ map-append (λ (l : Roomed Note). l.items) outcome.joined.lists.items (closed.notes ∷ []) in
+        ap₂ (λ (xss : List (List Note)) (xs : List Note). xss ++ take (made_before work.wait answers) xs ∷ [])
+        (append_cancel_right (captures_made history 0 work.captures) (items_of outcome.joined.lists.items) (script ∷ []) lists_made)
+        (script_notes ∙ has.closes.notes)
+
     all_answered : AnswersFit (run_of work history threads) (notes_of (made_by (length work.captures) history)) at_start work.commands answers
     all_answered =
         subst (λ xs. AnswersFit (run_of work history threads) xs at_start work.commands answers) (sym script_notes)
@@ -211,14 +226,31 @@ module _ (still : VerdictsStillFit) (answers_still : AnswersStillFit) (tracker :
           ∙ ap (λ (xs : List Numbered). length (after (events_of xs) (length xs)).records) (sym is_history);
     }
 
-  -- so the report is, where there is one
-  pub run_reported : {E : Type 0} (result : Result Report E)
-      → IfOk result (λ r. IsMerged lists (spans_of outcome.joined.threads.items outcome.answers.items) r.history.items)
-      → IfOk result (λ r. IsNumberedFrom 0 r.history.items)
-      → IfOk result (λ r. r.threads ≡ outcome.joined.threads) → IfOk result (λ r. r.answers ≡ outcome.answers)
-      → IfOk result (λ r. r.live ≡ closed.live) → IfOk result (IsWellFormed tracker work)
+    -- what was heard is so of a report of the merged events
+    heard_so : (report : Report) → report.history.items ≡ history → report.answers.items ≡ answers
+        → AreHeard (made_before_join work report) outcome.heard
+    unfolding answers
+    heard_so report is_history is_answers =
+        subst (λ (given : List Answer). AreHeard (captures_made report.history.items 0 work.captures
+        ++ take (made_before work.wait given) (notes_of (made_by (length work.captures) report.history.items)) ∷ []) outcome.heard) (sym is_answers)
+        (subst (λ (xs : List Numbered). AreHeard (captures_made xs 0 work.captures
+        ++ take (made_before work.wait answers) (notes_of (made_by (length work.captures) xs)) ∷ []) outcome.heard) (sym is_history)
+        (subst (λ (made : List (List Note)). AreHeard made outcome.heard) (sym all_made) has.run.heard))
+
+  -- so the report is
+  pub run_reported : (report : Report)
+      → IsMerged lists (spans_of outcome.joined.threads.items outcome.answers.items) report.history.items
+      → IsNumberedFrom 0 report.history.items → report.threads ≡ outcome.joined.threads → report.answers ≡ outcome.answers
+      → report.live ≡ closed.live → IsWellFormed tracker work report
   unfolding threads answers
-  run_reported (Ok report) merged in_order is_threads is_answers is_live =
+  run_reported report merged in_order is_threads is_answers is_live =
       reported report.history.items merged in_order report refl
       (ap (λ (x : Roomed (Roomed Verdict)). x.items) is_threads) (ap (λ (x : Roomed Answer). x.items) is_answers) is_live
-  run_reported (Err error) merged in_order is_threads is_answers is_live = tt
+
+  -- and what was heard is so of it
+  pub run_heard : (report : Report)
+      → IsMerged lists (spans_of outcome.joined.threads.items outcome.answers.items) report.history.items
+      → IsNumberedFrom 0 report.history.items → report.answers ≡ outcome.answers → AreHeard (made_before_join work report) outcome.heard
+  unfolding threads answers
+  run_heard report merged in_order is_answers =
+      heard_so report.history.items merged in_order report refl (ap (λ (x : Roomed Answer). x.items) is_answers)

@@ -1,11 +1,12 @@
 -- What handing over shares to further desks has done so far.
 use Rattle.std.proofs.Common.{◌≡◌, ℕ, ◌+◌, ◌<◌, ◌≤◌, List, [], ◌∷◌, ◌++◌, length, take, get_or, refl, sym, ap, subst, ◌∙◌, arith}
 use Rattle.std.specs.List.{AllZip}
-use Rattle.std.specs.Prelude.{All, Ok}
+use Rattle.std.specs.Prelude.{All, Ok, Option}
 use Rattle.std.proofs.lemmas.List.{take_more}
 use Rattle.std.proofs.lemmas.List.Elements.{All-get_or}
 use Rattle.std.proofs.lemmas.Slice.Zip.{all_zipped_more}
 use Rattle.std.proofs.Math.Seq.{take-length}
+use Rattle.event_listen.specs.Line.{SendingSight}
 use Rattle.room_list.specs.Roomed.{Roomed}
 use Rattle.history_book.specs.declared.verdict.Verdict.{Verdict}
 use Rattle.history_book.specs.Sight.{IsKnown, Sight}
@@ -53,13 +54,13 @@ further_set tracker old mid now further kept splits = record {
 
 -- one more has a thread
 pub splitting_next : {D : Type 0} (sight : D → Sight) (captures : List Capture) (count : ℕ) (old mid now : Sight) (further : D)
-    (jobs more : List (Job D)) (capture : Capture) (verdicts : Roomed Verdict) → IsSplitting sight captures count old mid jobs
+    (jobs more : List (Job D)) (capture : Capture) (verdicts : Roomed Verdict) (sending : Option SendingSight) → IsSplitting sight captures count old mid jobs
     → Splits 1 mid now (sight further) → IsKnown now → IsKnown (sight further) → count < length captures → capture ≡ get_or captures count capture → All CanBeReplayed captures → verdicts.items ≡ []
     → length capture.frames.items ≤ verdicts.room
-    → more ≡ jobs ++ record { desk = further; verdicts = verdicts; ended = Ok tt } ∷ []
+    → more ≡ jobs ++ record { desk = further; verdicts = verdicts; sending = sending; ended = Ok tt } ∷ []
     → IsSplitting sight captures (count + 1) old now more
-splitting_next {D} sight captures count old mid now further jobs more capture verdicts so_far splits known further_known below is can none room pushed =
-    let job : Job D = record { desk = further; verdicts = verdicts; ended = Ok tt } in
+splitting_next {D} sight captures count old mid now further jobs more capture verdicts sending so_far splits known further_known below is can none room pushed =
+    let job : Job D = record { desk = further; verdicts = verdicts; sending = sending; ended = Ok tt } in
     let set : IsSet sight capture job = record {
       can = subst CanBeReplayed (sym is) (All-get_or CanBeReplayed captures count capture below can);
       room = room;

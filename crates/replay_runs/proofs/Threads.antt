@@ -1,5 +1,5 @@
 -- Several threads over one history: each has its own events of it.
-use Rattle.std.proofs.Common.{◌≡◌, ℕ, zero, suc, ◌+◌, ◌<◌, ◌≤◌, true, false, cond, ◌==◌, List, [], ◌∷◌, ◌++◌, length, take, drop, refl, sym, ap, subst, ◌∙◌, arith}
+use Rattle.std.proofs.Common.{◌≡◌, ℕ, zero, suc, ◌+◌, ◌<◌, ◌≤◌, true, false, cond, ◌==◌, List, [], ◌∷◌, ◌++◌, length, take, drop, refl, sym, ap, ap₂, subst, ◌∙◌, arith}
 use Rattle.std.specs.Prelude.{◌≢◌, AllPairs, filter, nat_lt}
 use Rattle.std.specs.List.{AllByRecursion}
 use Rattle.std.proofs.lemmas.Bool.{eq-eqb, eqb-true, ltb-true, ne_eqb}
@@ -17,9 +17,10 @@ use Rattle.packet_path.specs.Packet.{Given}
 use Rattle.packet_path.specs.Laws.{VerdictsStillFit}
 use Rattle.history_book.specs.Point.{StartsWith}
 use Rattle.replay_runs.specs.Report.{AreNamedFrom, AreNamedInEach, at_start, captures_end, made_by, past_verdicts, ThreadsFit, TrackerSetup, VerdictsFit}
-use Rattle.replay_runs.specs.Run.{AreThreads}
+use Rattle.replay_runs.specs.Heard.{captures_made}
+use Rattle.replay_runs.specs.Run.{AreThreads, items_of}
 use Rattle.replay_runs.proofs.Counting.{either}
-use Rattle.replay_runs.proofs.Each.{each_append, each_passed, each_weaker}
+use Rattle.replay_runs.proofs.Each.{each_append, each_dropped, each_passed, each_taken, each_weaker}
 use Rattle.replay_runs.proofs.Interleaved.{rising, RisesFrom}
 use Rattle.replay_runs.proofs.Replays.{notes_still_fit}
 use Rattle.replay_runs.proofs.Marks.{mark_past-le, NumbersBelow}
@@ -36,18 +37,6 @@ pub data ListsFit (tracker : TrackerSetup) (log : List Event) (m : ℕ) (script 
       → VerdictsFit tracker log l.items at_start gs vs.items → (past_verdicts at_start l.items vs.items).mark ≤ m → RisesFrom 0 l.items
       → ListsFit tracker log m script gss vss lists
       → ListsFit tracker log m script (gs ∷ gss) (vs ∷ vss) (l ∷ lists)
-
--- what holds of each item of a list holds of its first ones
-each_taken : {X : Type 0} (P : X → Type 0) (k : ℕ) (xs : List X) → AllByRecursion P xs → AllByRecursion P (take k xs)
-each_taken P zero xs h = tt
-each_taken P (suc k) [] h = tt
-each_taken P (suc k) (x ∷ xs) (h, hs) = (h, each_taken P k xs hs)
-
--- and of the others
-each_dropped : {X : Type 0} (P : X → Type 0) (k : ℕ) (xs : List X) → AllByRecursion P xs → AllByRecursion P (drop k xs)
-each_dropped P zero xs h = h
-each_dropped P (suc k) [] h = tt
-each_dropped P (suc k) (x ∷ xs) (h, hs) = each_dropped P k xs hs
 
 -- what always holds
 each_always : {X : Type 0} (P : X → Type 0) → ((x : X) → P x) → (xs : List X) → AllByRecursion P xs
@@ -252,6 +241,25 @@ module _ (tracker : TrackerSetup) (m : ℕ) (script : List Note) (history : List
         threads_fit later answers (thread + 1)
             (λ t from. made t (omega (arith, from)) ∙ made_by_later t thread l.items ss rest (omega (arith, from))),
       )
+
+  -- the lists are what the threads of the captures made of it, and what the script did
+  pub captures_are : {gss : List (List Given)} {vss : List (Roomed Verdict)} {lists : List (Roomed Note)}
+      → ListsFit tracker (events_of history) m script gss vss lists → (answers : List Answer) (thread : ℕ)
+      → ((t : ℕ) → thread ≤ t → made_by t history ≡ made_by t (all_named thread lists (spans_of vss answers)))
+      → captures_made history thread gss ++ script ∷ [] ≡ items_of lists
+  captures_are (last l same rises) answers thread made = ap (λ xs. xs ∷ []) (sym same)
+  captures_are (more gs gss vs vss l lists fit mark rises later) answers thread made =
+      let ss : List EventSpan = spans_of_verdicts vs.items in
+      let rest : List Numbered = all_named (thread + 1) lists (spans_of vss answers) in
+      let own : made_by thread history ≡ named_in thread 0 l.items ss =
+      made thread (omega arith)
+      ∙ made_by_first thread l.items ss rest (others_later thread (thread + 1) lists (spans_of vss answers) (omega arith)) in
+      let covers : CoverFrom 0 (length l.items) ss =
+      verdicts_cover tracker (events_of history) l.items at_start (length l.items) gs vs.items fit (omega arith) in
+      ap₂ (λ (xs : List Note) (xss : List (List Note)). xs ∷ xss)
+      (ap notes_of own ∙ named_in_notes thread 0 0 (length l.items) l.items ss covers (omega arith))
+      (captures_are later answers (thread + 1)
+      (λ t from. made t (omega (arith, from)) ∙ made_by_later t thread l.items ss rest (omega (arith, from))))
 
   -- and the captures end no later than m
   pub ends_within : {gss : List (List Given)} {vss : List (Roomed Verdict)} {lists : List (Roomed Note)}

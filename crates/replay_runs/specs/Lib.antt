@@ -1,3 +1,4 @@
+pub mod Heard
 pub mod Internal
 pub mod Replaying
 pub mod Report

@@ -1,5 +1,5 @@
 -- A run of a tracker of many threads: what it leaves, and when a report can be made of that.
-use Rattle.std.specs.Prelude.{◌≡◌, ℕ, ◌+◌, ◌^◌, ◌<◌, ◌≤◌, List, [], ◌∷◌, length, All, AllPairs}
+use Rattle.std.specs.Prelude.{◌≡◌, ℕ, ◌+◌, ◌^◌, ◌<◌, ◌≤◌, Option, List, [], ◌∷◌, ◌++◌, length, map, take, All, AllPairs}
 use Rattle.room_list.specs.Roomed.{Roomed}
 use Rattle.history_book.specs.declared.answer.Answer.{Answer}
 use Rattle.history_book.specs.declared.event.Event.{Event}
@@ -13,6 +13,8 @@ use Rattle.history_book.specs.Sight.{IsKnown, Sight}
 use Rattle.packet_path.specs.Packet.{Given}
 use Rattle.replay_runs.specs.declared.desks.Joined.{Joined}
 use Rattle.replay_runs.specs.declared.replay.Outcome.{Outcome}
+use Rattle.replay_runs.specs.declared.listened.Listened.{Listened}
+use Rattle.replay_runs.specs.Heard.{AreHeard, made_before}
 use Rattle.replay_runs.specs.Report.{AnswersFit, at_start, latest_of, past_verdicts, ScriptRun, TrackerSetup, VerdictsFit, Work}
 
 -- the run of a script as far as a desk sees it, with `wait` before the command of this index, and the end of the captures
@@ -41,9 +43,20 @@ pub record Remains : Type 0 where
   pub desk : Sight
   pub joined : Joined
   pub answers : Roomed Answer
+  pub heard : Option Listened
 
 abbrev pub left_with : Sight → Outcome → Remains
-left_with desk o = record { desk = desk; joined = o.joined; answers = o.answers }
+left_with desk o = record { desk = desk; joined = o.joined; answers = o.answers; heard = o.heard }
+
+-- these lists without their rooms
+abbrev pub items_of : List (Roomed Note) → List (List Note)
+items_of lists = map (λ (l : Roomed Note). l.items) lists
+
+-- the events that each thread of such a run made before all of them joined, of which a script has so many commands before
+-- `wait`
+abbrev pub made_to_wait : ℕ → Remains → List (List Note)
+made_to_wait wait left =
+    items_of left.joined.lists.items ++ take (made_before wait left.answers.items) left.desk.own ∷ []
 
 -- a report has room for so many captures, packets and commands
 pub record IsFew (work : Work) : Type 0 where
@@ -65,6 +78,7 @@ pub record IsRun (tracker : TrackerSetup) (work : Work) (numbers : List ℕ) (le
   pub threads : AreThreads tracker left.desk.front end work.captures left.joined.threads.items left.joined.lists.items
   pub fit : (e : ℕ) → e ≤ end
       → AnswersFit (run_seen left.desk (latest_of 0 work.captures) work.wait e) left.desk.own at_start work.commands left.answers.items
+  pub heard : AreHeard (made_to_wait work.wait left) left.heard
 
 -- the work was done with a tracker that is set up so, which has ended
 pub record HasEnded (tracker : TrackerSetup) (work : Work) (outcome : Outcome) (closed : Closed) : Type 0 where

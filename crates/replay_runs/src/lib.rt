@@ -6,6 +6,8 @@ mod captures;
 mod desks;
 mod jobs;
 pub mod laws;
+pub mod listened;
 pub mod replay;
 mod script_run;
 mod shared;
+mod telling;

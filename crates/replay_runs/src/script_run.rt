@@ -4,19 +4,29 @@ ghost use Rattle.std.specs.Prelude.{◌≡◌, ◌+◌, ◌≤◌, length, map, 
 ghost use Rattle.replay_runs.specs.Internal.Answered.{Answered, CanPerform};
 ghost use Rattle.replay_runs.specs.Internal.Replayed.{given_frames};
 ghost use Rattle.replay_runs.specs.Internal.Stopped.{Stopped};
+ghost use Rattle.replay_runs.specs.Internal.Telling.{Between, HasTold, line_now, queue_of};
 ghost use Rattle.replay_runs.specs.Report.{latest, latest_of};
 
 use crate::shared::Shared;
+use crate::telling::tell;
 use capture_list::Capture;
 use conntrack_cmd::command::Command;
 use conntrack_cmd::laws::{answers_still_fit, lower_marks_fit};
 use conntrack_cmd::perform::perform;
 use ct_io::{Crossing, Gate};
+use event_listen::sending::Sending;
 use history_book::answer::{Answer, Answers};
 use history_book::desk::Desk;
 use history_book::sight_laws::going_on_adds_up;
 use std::sync::Wait;
 use tuple_core::NoMemory;
+
+/// The thread of a script: the answers to its commands, and its end of the line to a listener where there is one.
+#[derive(Drop)]
+pub struct ScriptThread {
+    pub answers: Answers,
+    pub sending: Option<Sending>,
+}
 
 /// The greatest of a moment and those of the frames of a capture.
 fn latest_in(capture: &Capture, moment: u64) -> u64
@@ -42,22 +52,25 @@ pub fn latest_moment(captures: &[Capture]) -> u64
 
 /// Performs commands of a script in their order, with a desk that holds and owes nothing: what is answered to each at the
 /// script's moment comes behind the answers that are there. Before these the script made `first` events, which are the
-/// last that the desk made. The thread of this number passes the gate before each.
+/// last that the desk made. The thread of this number passes the gate before each, and tells the listener behind it.
 pub fn run_script<R: Wait, G: Gate, D: Desk>(
     rt: &R,
-    shared: &Shared<'_, G>,
+    shared: &Shared<'_, '_, G>,
     desk: &mut D,
-    answers: &mut Answers,
+    thread: &mut ScriptThread,
     commands: &[Command],
     first: u64,
     number: u32,
 ) -> Result<(), NoMemory>
     requires can { CanPerform commands.now shared.now.moment first (D.sight desk.old) }
-    requires room { length answers.old.items + length commands.now ≤ answers.old.room }
+    requires room { length thread.old.answers.items + length commands.now ≤ thread.old.answers.room }
+    requires told { Between (HasTold (D.sight desk.old).own) (line_now shared.now.line) thread.old.sending }
     ensures performed { OnOk result (Answered commands.now shared.now.moment first
-        (D.sight desk.old) (D.sight desk.new) answers.old.items answers.new.items) }
+        (D.sight desk.old) (D.sight desk.new) thread.old.answers.items thread.new.answers.items) }
     ensures stopped { OnErr result (Stopped (D.sight desk.old) (D.sight desk.new)) }
-    ensures room { answers.new.room ≡ answers.old.room }
+    ensures room { thread.new.answers.room ≡ thread.old.answers.room }
+    ensures told { OnOk result (Between (HasTold (D.sight desk.new).own) (line_now shared.now.line) thread.new.sending) }
+    ensures queue { queue_of thread.new.sending ≡ queue_of thread.old.sending }
 {
     answers_still_fit();
     lower_marks_fit();
@@ -69,10 +82,11 @@ pub fn run_script<R: Wait, G: Gate, D: Desk>(
             Ok(answer) => answer,
             Err(error) => return Err(error),
         };
-        answers.push(Answer {
+        thread.answers.push(Answer {
             first: answer.first - base,
             ..answer
         });
+        tell(rt, shared.line, &mut thread.sending, desk);
     }
     Ok(())
 }

@@ -13,6 +13,7 @@ use Rattle.packet_headers.specs.Capture.{AreInside, AreTimely}
 use Rattle.packet_path.specs.declared.setup.Setup.{Setup}
 use Rattle.capture_list.specs.declared.Capture.{Capture}
 use Rattle.replay_runs.specs.declared.jobs.Job.{Job}
+use Rattle.replay_runs.specs.Run.{items_of}
 use Rattle.replay_runs.specs.Internal.Replayed.{given_frames, Replayed}
 use Rattle.replay_runs.specs.Internal.Stopped.{Stopped}
 
@@ -64,10 +65,6 @@ pub record HasSplit {D : Type 0} (sight : D → Sight) (captures : List Capture)
   pub known : IsKnown new
   pub set : AllZip (IsSet sight) captures jobs
   pub further : AreFurther sight old.tracker old.sizes jobs
-
--- these lists without their rooms
-abbrev pub items_of : List (Roomed Note) → List (List Note)
-items_of lists = map (λ (l : Roomed Note). l.items) lists
 
 -- The desk of each thread, none of which wanted memory, has joined a desk: that has seen what they had seen. There is a
 -- list of each one's own events, and its verdicts.

@@ -2,6 +2,7 @@ use Rattle.std.proofs.Common.{◌≡◌, ◌∷◌, [], length, ap, arith, appen
 use Rattle.std.specs.Prelude.{Ok}
 use Rattle.std.specs.Vec.Iter.{into_iter_items}
 use Rattle.replay_runs.specs.Internal.Jobs.{IsFurther}
+use Rattle.replay_runs.proofs.Ends.{gathering_next}
 use Rattle.replay_runs.proofs.Joining.{joining_can, joining_next, next_further}
 use Rattle.replay_runs.proofs.desks.join_in.Goals as goal
 
@@ -30,6 +31,7 @@ jobs-preserved g c =
       finite = tt;
       left = append_assoc at.yielded (job ∷ []) (into_iter_items c.next.new.self) ∙ rw (← steps) at.invariant.left;
       count = omega (arith, at.invariant.count, c.in-Some.ensures.steps.1, ap length steps);
+      gathered = gathering_next c.args.sendings.now.items at.sendings.items c.put_back.new.sendings.items at.yielded job at.invariant.gathered c.in_ok-put_back.ensures;
       joined = joining_next g.D.Desk.sight at.yielded (g.D.Desk.sight c.args.desk.now) (g.D.Desk.sight at.desk) at.lists.items at.threads.items at.invariant.joined job further
           (g.D.Desk.sight c.join-notes.new.self) c.join-notes.result c.join-notes.ensures.joins c.push_reserved.new.self.items c.push.new.self.items
           c.join-notes.ensures.knows ended c.push_reserved.ensures.items c.push.ensures.items;

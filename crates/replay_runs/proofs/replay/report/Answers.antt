@@ -1,4 +1,4 @@
-use Rattle.replay_runs.proofs.Reports.{are_numbers, count_lists, covered, run_reported}
+use Rattle.replay_runs.proofs.Reports.{are_numbers, count_lists, covered, run_heard, run_reported}
 use Rattle.replay_runs.proofs.Runs.{answers_few, each_few, threads_few}
 use Rattle.replay_runs.proofs.replay.report.Goals as goal
 
@@ -17,8 +17,13 @@ merge-requires c =
           c.in-Ok.ensures.items;
     }
 
-pub returns-in-Ok : goal.returns-in-Ok
-returns-in-Ok c = λ tracker work ended.
+pub returns-clause-well_formed : goal.returns-clause-well_formed
+returns-clause-well_formed c = λ tracker work ended.
     run_reported c.verdicts_still_fit.ensures c.answers_still_fit.ensures tracker work c.args.outcome c.args.closed c.push.new.self.items ended
-    c.in-Ok.ensures.items c.merge.result
-    c.merge.ensures.merged c.merge.ensures.numbered c.merge.ensures.threads c.merge.ensures.answers c.merge.ensures.live
+    c.in-Ok.ensures.items c.in_ok-report.report
+    c.in_ok-report.ensures.merged c.in_ok-report.ensures.numbered c.in_ok-report.ensures.threads c.in_ok-report.ensures.answers c.in_ok-report.ensures.live
+
+pub returns-clause-heard : goal.returns-clause-heard
+returns-clause-heard c = λ tracker work ended.
+    run_heard c.verdicts_still_fit.ensures c.answers_still_fit.ensures tracker work c.args.outcome c.args.closed c.push.new.self.items ended
+    c.in-Ok.ensures.items c.in_ok-report.report c.in_ok-report.ensures.merged c.in_ok-report.ensures.numbered c.in_ok-report.ensures.answers
