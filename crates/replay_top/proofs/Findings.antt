@@ -8,6 +8,7 @@ use Rattle.std.proofs.lemmas.List.Elements.{All-head}
 use Rattle.ct_io.specs.Counts.{Rose}
 use Rattle.ct_io.specs.Source.{SameFaults, Source}
 use Rattle.ct_io.specs.Tape.{Tape}
+use Rattle.history_book.specs.declared.event.Note.{Note}
 use Rattle.history_book.specs.declared.report.Report.{Report}
 use Rattle.run_inputs.specs.declared.flaw.Flaw.{Flaw}
 use Rattle.run_inputs.specs.declared.flaw.Flaw.TheVariants as flaw
@@ -172,10 +173,10 @@ module _ (as_told : GivenIsTold) (say : WordsSayOne) (words : List (List ℕ)) (
   inputs_clean (made workload) bytes contents file f inputs first = no_first no_totals first.bytes file f first.first
 
   -- where a report was made, no file has a flaw
-  replayed_clean : (report : Report) (file : ℕ) (f : Flaw) → IsReplay words files report
+  replayed_clean : (report : Report) (heard : Option (List (List Note))) (file : ℕ) (f : Flaw) → IsReplay words files report heard
       → AskFor words (λ asked. FirstFlaw AreTold files (files_of asked) file f) → ⊥
-  replayed_clean report file f of first =
-      let replay : IsReplayOf files first.asked report = at_asked first.asked (λ (asked : Request). IsReplayOf files asked report) first.says of in
+  replayed_clean report heard file f of first =
+      let replay : IsReplayOf files first.asked report heard = at_asked first.asked (λ (asked : Request). IsReplayOf files asked report heard) first.says of in
       inputs_clean first.asked.origin replay.bytes replay.contents file f replay.inputs first.holds
 
   -- where all files are read, none was found to have a flaw
@@ -196,19 +197,19 @@ module _ (as_told : GivenIsTold) (say : WordsSayOne) (words : List (List ℕ)) (
       as_told.one files (files_of told.asked) found.bytes told.holds.bytes k file f g found.given told.holds.given found.first
       told.holds.first
 
-  pub answers_done : (report : Report) (found : Finding) → IsReplay words files report → Finds words files found
+  pub answers_done : (report : Report) (heard : Option (List (List Note))) (found : Finding) → IsReplay words files report heard → Finds words files found
       → StatusFits words files files' out out' 0 found
-  answers_done report misused of finds = absurd (say.refused words of.asked unasked.Usage finds of.says)
-  answers_done report (past limit) of finds = absurd (say.refused words of.asked (unasked.Limit limit) finds of.says)
-  answers_done report (flawed file f) of finds = absurd (replayed_clean report file f of finds)
-  answers_done report clean of finds = inl (inl refl)
+  answers_done report heard misused of finds = absurd (say.refused words of.asked unasked.Usage finds of.says)
+  answers_done report heard (past limit) of finds = absurd (say.refused words of.asked (unasked.Limit limit) finds of.says)
+  answers_done report heard (flawed file f) of finds = absurd (replayed_clean report heard file f of finds)
+  answers_done report heard clean of finds = inl (inl refl)
 
-  pub answers_not_written : (report : Report) (found : Finding) → IsReplay words files report → Rose out.faults out'.faults
+  pub answers_not_written : (report : Report) (heard : Option (List (List Note))) (found : Finding) → IsReplay words files report heard → Rose out.faults out'.faults
       → Finds words files found → StatusFits words files files' out out' 4 found
-  answers_not_written report misused of rose finds = absurd (say.refused words of.asked unasked.Usage finds of.says)
-  answers_not_written report (past limit) of rose finds = absurd (say.refused words of.asked (unasked.Limit limit) finds of.says)
-  answers_not_written report (flawed file f) of rose finds = absurd (replayed_clean report file f of finds)
-  answers_not_written report clean of rose finds = inr (inr (refl, rose))
+  answers_not_written report heard misused of rose finds = absurd (say.refused words of.asked unasked.Usage finds of.says)
+  answers_not_written report heard (past limit) of rose finds = absurd (say.refused words of.asked (unasked.Limit limit) finds of.says)
+  answers_not_written report heard (flawed file f) of rose finds = absurd (replayed_clean report heard file f of finds)
+  answers_not_written report heard clean of rose finds = inr (inr (refl, rose))
 
   pub answers_refused : (why : Refusal) (found : Finding) → HasCause words files files' why → Finds words files found
       → StatusFits words files files' out out' (refusal_status why) found

@@ -1,11 +1,11 @@
 -- What a report of all files that are asked for is.
 use Rattle.std.proofs.Common.{◌≡◌, ℕ, Bool, false, Option, Some, None, List, [], ◌∷◌, ◌++◌, length, map, suc, refl, sym, subst, ap, ◌∙◌}
-use Rattle.std.specs.Prelude.{Err, IfOk, Ok, option_to_list, Result}
+use Rattle.std.specs.Prelude.{Err, IfOk, is_some, Ok, option_to_list, Result}
 use Rattle.std.proofs.lemmas.List.{length-map}
 use Rattle.command_words.specs.Words.{made, named, Origin, Request}
 use Rattle.conntrack_cmd.specs.declared.read.Script.{Script}
 use Rattle.ct_io.specs.Source.{Source}
-use Rattle.history_book.specs.declared.report.Report.{Report}
+use Rattle.history_book.specs.declared.event.Note.{Note}
 use Rattle.history_book.specs.declared.sizes.Sizes.{Sizes}
 use Rattle.nat_setup.specs.declared.rule.Rule.{Rule}
 use Rattle.packet_path.specs.Packet.{Given}
@@ -16,32 +16,60 @@ use Rattle.run_inputs.specs.Content.{Content, no_totals, rules, script, Totals, 
 use Rattle.run_inputs.specs.Inputs.{AreGiven, AreReadFrom}
 use Rattle.run_inputs.specs.Reading.{bytes_in, contents_in, GaveContents, GaveInputs, GaveOrigin, GaveRules, GaveScript, zones_in}
 use Rattle.run_inputs.specs.Made.{AreInputsOf}
+use Rattle.replay_runs.specs.declared.listened.Listened.{Listened}
+use Rattle.replay_runs.specs.Heard.{AreHeard, HeardEach, made_before_join}
+use Rattle.report_text.specs.Heard.{heard_counts, heard_text}
+use Rattle.replay_top.specs.declared.ending.Replayed.{Replayed}
+use Rattle.replay_top.specs.Internal.Ending.{counts_of, heard_of, IsReplayWith}
 use Rattle.replay_top.specs.Internal.Replaying.{ReplaysInputs, given_of_capture, work_in}
 use Rattle.replay_runs.specs.Replaying.{work_of}
-use Rattle.replay_top.specs.Replay.{given_in, IsReplayOf, rules_in, sizes_of, threads_of, work_with}
+use Rattle.replay_top.specs.Replay.{given_in, heard_lines, rules_in, sizes_of, threads_of, work_asked, work_with}
 use Rattle.made_captures.specs.MadeCapture.{made_capture}
 use Rattle.std.proofs.lemmas.List.FromFn.{length-map-range_with_len}
 use Rattle.replay_runs.specs.Report.{IsWellFormed, Work}
 use Rattle.run_inputs.specs.Files.{files_of_kind, InputFile}
 use Rattle.room_list.specs.Roomed.{Roomed}
 
--- a report of inputs that were set up as it is asked for is what is asked for
-pub inputs_replayed : (asked : Request) (inputs : Inputs) (captures : List Capture) (ftp : Roomed ℕ) (sizes : Sizes) {E : Type 0} (result : Result Report E)
+-- what was replayed of inputs that were set up as it is asked for is what is asked for
+pub inputs_replayed : (asked : Request) (inputs : Inputs) (captures : List Capture) (ftp : Roomed ℕ) (sizes : Sizes) {E : Type 0} (result : Result Replayed E)
     → map (given_of_capture false) captures ≡ map (given_of_capture asked.defrag) inputs.captures.items
     → ftp.items ≡ asked.ftp → sizes ≡ sizes_of asked
-    → IfOk result (IsWellFormed (record { setup = record { rules = inputs.rules; ftp = ftp }; sizes = sizes })
-    (work_of captures inputs.script))
+    → IfOk result (λ made. IsWellFormed (record { setup = record { rules = inputs.rules; ftp = ftp }; sizes = sizes })
+    (work_of captures inputs.script) made.report)
+    → IfOk result (λ made. AreHeard (made_before_join (work_of captures inputs.script) made.report) made.listened)
+    → IfOk result (λ made. is_some made.listened ≡ asked.listen)
     → IfOk result (ReplaysInputs asked inputs)
-inputs_replayed asked inputs captures ftp sizes (Ok report) same copied sized well_formed = record {
-  setup = record { rules = inputs.rules; ftp = ftp };
-  rules = refl;
-  ftp = copied;
-  well_formed = subst (λ (given : List (List Given)). IsWellFormed (record { setup = record { rules = inputs.rules; ftp = ftp }; sizes = sizes_of asked })
-      (record { captures = given; commands = inputs.script.commands.items; wait = inputs.script.wait }) report) same
-      (subst (λ (z : Sizes). IsWellFormed (record { setup = record { rules = inputs.rules; ftp = ftp }; sizes = z })
-      (work_of captures inputs.script) report) sized well_formed);
-}
-inputs_replayed asked inputs captures ftp sizes (Err error) same copied sized well_formed = tt
+inputs_replayed asked inputs captures ftp sizes (Ok made) same copied sized well_formed heard listened =
+    let so : work_of captures inputs.script ≡ work_in asked.defrag inputs.captures.items inputs.script =
+    ap (λ (given : List (List Given)). record { captures = given; commands = inputs.script.commands.items; wait = inputs.script.wait }) same in
+    record {
+      setup = record { rules = inputs.rules; ftp = ftp };
+      rules = refl;
+      ftp = copied;
+      well_formed = subst (λ (w : Work). IsWellFormed (record { setup = record { rules = inputs.rules; ftp = ftp }; sizes = sizes_of asked }) w made.report) so
+          (subst (λ (z : Sizes). IsWellFormed (record { setup = record { rules = inputs.rules; ftp = ftp }; sizes = z })
+          (work_of captures inputs.script) made.report) sized well_formed);
+      listened = listened;
+      heard = subst (λ (w : Work). AreHeard (made_before_join w made.report) made.listened) so heard;
+    }
+inputs_replayed asked inputs captures ftp sizes (Err error) same copied sized well_formed heard listened = tt
+
+-- what a listener heard of each thread
+heard_each : (made : List (List Note)) (listened : Option Listened) → AreHeard made listened → HeardEach made (heard_of listened)
+heard_each made None h = tt
+heard_each made (Some l) h = h.heard
+
+-- and whether there was one
+heard_some : (listened : Option Listened) → is_some (heard_of listened) ≡ is_some listened
+heard_some None = refl
+heard_some (Some l) = refl
+
+-- the lines of what was heard are those of the events that were made
+lines_of : (made : List (List Note)) (listened : Option Listened) → AreHeard made listened
+    → heard_text (counts_of listened) ≡ heard_lines made (heard_of listened)
+unfolding heard_text
+lines_of made None h = refl
+lines_of made (Some l) h = ap (λ (ms : List ℕ). heard_text (heard_counts ms (map length l.heard))) h.counted
 
 -- without a file of rules there are none, and without a script there is no command
 no_rules : (captures : List Capture) → rules_in (contents_in captures) ≡ []
@@ -135,20 +163,28 @@ worked files (made workload) defrag inputs gave = record {
   work = captures_alone defrag inputs.script inputs.captures.items gave.commands gave.wait;
 }
 
--- a report of what was read is one of what is asked for
-pub replay_made : (files : Source) (asked : Request) (inputs : Inputs) (report : Report) → GaveInputs files asked inputs
-    → ReplaysInputs asked inputs report → IsReplayOf files asked report
-replay_made files asked inputs report gave of =
+-- what was replayed of what was read is what is asked for
+pub replay_made : (files : Source) (asked : Request) (inputs : Inputs) (made : Replayed) → GaveInputs files asked inputs
+    → ReplaysInputs asked inputs made → IsReplayWith files asked made
+replay_made files asked inputs made gave of =
     let all = worked files asked.origin asked.defrag inputs gave.origin in
+    let same : work_in asked.defrag inputs.captures.items inputs.script ≡ work_asked asked all.bytes all.contents =
+    all.work ∙ ap (λ (zones : List ℕ). work_with (given_in asked.defrag zones all.bytes all.contents) all.contents) gave.in_zones in
+    let heard : AreHeard (made_before_join (work_asked asked all.bytes all.contents) made.report) made.listened =
+    subst (λ (w : Work). AreHeard (made_before_join w made.report) made.listened) same of.heard in
     record {
-      bytes = all.bytes;
-      contents = all.contents;
-      inputs = all.inputs;
-      setup = of.setup;
-      rules = ap (λ (r : Roomed Rule). r.items) of.rules ∙ all.rules;
-      ftp = of.ftp;
-      well_formed = subst (λ (w : Work). IsWellFormed (record { setup = of.setup; sizes = sizes_of asked }) w report)
-          (all.work ∙ ap (λ (zones : List ℕ). work_with (given_in asked.defrag zones all.bytes all.contents) all.contents) gave.in_zones) of.well_formed;
+      replay = record {
+        bytes = all.bytes;
+        contents = all.contents;
+        inputs = all.inputs;
+        setup = of.setup;
+        rules = ap (λ (r : Roomed Rule). r.items) of.rules ∙ all.rules;
+        ftp = of.ftp;
+        well_formed = subst (λ (w : Work). IsWellFormed (record { setup = of.setup; sizes = sizes_of asked }) w made.report) same of.well_formed;
+        listened = heard_some made.listened ∙ of.listened;
+        heard_first = heard_each (made_before_join (work_asked asked all.bytes all.contents) made.report) made.listened heard;
+      };
+      lines = lines_of (made_before_join (work_asked asked all.bytes all.contents) made.report) made.listened heard;
     }
 
 -- there is one for each file that was read

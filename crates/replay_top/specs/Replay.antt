@@ -1,5 +1,5 @@
 -- What a run of the program reports and prints.
-use Rattle.std.specs.Prelude.{◌≡◌, ℕ, ◌+◌, Bool, true, false, List, [], ◌∷◌, length, map, get_or, drop}
+use Rattle.std.specs.Prelude.{◌≡◌, ℕ, ◌+◌, Bool, true, false, Option, None, Some, is_some, List, [], ◌∷◌, ◌++◌, length, map, get_or, drop}
 use Rattle.command_words.specs.Words.{Origin, Request, made, named}
 use Rattle.ct_io.specs.Counts.{Rose}
 use Rattle.ct_io.specs.Source.{Source}
@@ -9,12 +9,15 @@ use Rattle.nat_setup.specs.declared.rule.Rule.{Rule}
 use Rattle.packet_headers.specs.declared.frame.Frame.{Frame}
 use Rattle.packet_path.specs.Packet.{Given, given_of}
 use Rattle.packet_path.specs.declared.setup.Setup.{Setup}
+use Rattle.history_book.specs.declared.event.Note.{Note}
 use Rattle.history_book.specs.declared.report.Report.{Report}
 use Rattle.history_book.specs.declared.sizes.Sizes.{Sizes}
 use Rattle.run_inputs.specs.Content.{Content, frames, rules, script}
 use Rattle.run_inputs.specs.Made.{AreInputsOf}
+use Rattle.replay_runs.specs.Heard.{HeardEach, made_before_join}
 use Rattle.replay_runs.specs.Report.{IsWellFormed, Work}
 use Rattle.run_inputs.specs.Files.{AskFor}
+use Rattle.report_text.specs.Heard.{heard_counts, heard_text}
 use Rattle.report_text.specs.Report.{report_text}
 use Rattle.report_text.specs.Summary.{summary_text}
 use Rattle.report_text.specs.Wrote.{followed_by, WroteFront}
@@ -61,42 +64,58 @@ abbrev pub sizes_of : Request → Sizes
 sizes_of asked =
     record { entries = asked.entries; buckets = asked.buckets; seed = 1; passes = threads_of asked.origin + 1; expectations = 1024 }
 
+-- the work that is asked for, with files that have these bytes and say this
+abbrev pub work_asked : Request → List (List ℕ) → List Content → Work
+work_asked asked bytes contents = work_with (given_in asked.defrag asked.zones bytes contents) contents
+
 -- The report is that of what is asked for: files that are named, which are read, or a workload that is made. It is well
 -- formed for what their bytes say, each capture in its zone, its fragments put together where that is asked for, with a
--- tracker of the sizes, the rules and the ports of the helper that are asked for.
+-- tracker of the sizes, the rules and the ports of the helper that are asked for. Where a listener is asked for, and only
+-- then, something was heard of each thread: the first of the events that it made before all threads joined.
 -- Where the contents of a file are told, its bytes are these; else no more is said of them.
-pub record IsReplayOf (files : Source) (asked : Request) (report : Report) : Type 0 where
+pub record IsReplayOf (files : Source) (asked : Request) (report : Report) (heard : Option (List (List Note))) : Type 0 where
   pub bytes : List (List ℕ)
   pub contents : List Content
   pub inputs : AreInputsOf files asked.origin bytes contents
   pub setup : Setup
   pub rules : setup.rules.items ≡ rules_in contents
   pub ftp : setup.ftp.items ≡ asked.ftp
-  pub well_formed : IsWellFormed (record { setup = setup; sizes = sizes_of asked }) (work_with (given_in asked.defrag asked.zones bytes contents) contents) report
+  pub well_formed : IsWellFormed (record { setup = setup; sizes = sizes_of asked }) (work_asked asked bytes contents) report
+  pub listened : is_some heard ≡ asked.listen
+  pub heard_first : HeardEach (made_before_join (work_asked asked bytes contents) report) heard
 
 -- the report is that of what the words ask for
-abbrev pub IsReplay : List (List ℕ) → Source → Report → Type 0
-IsReplay words files report = AskFor words (λ asked. IsReplayOf files asked report)
+abbrev pub IsReplay : List (List ℕ) → Source → Report → Option (List (List Note)) → Type 0
+IsReplay words files report heard = AskFor words (λ asked. IsReplayOf files asked report heard)
 
 -- what is printed of a report: its text, or its summary where that is asked for
 abbrev pub text_of : Bool → Report → List ℕ
 text_of false report = report_text report
 text_of true report = summary_text report
 
+-- what is printed of what a listener heard of threads that made these events: a line for each of them, behind the report
+abbrev pub heard_lines : (made : List (List Note)) → (heard : Option (List (List Note))) → List ℕ
+heard_lines made None = []
+heard_lines made (Some heard) = heard_text (heard_counts (map length made) (map length heard))
+
+-- all that is printed of a run of this work
+abbrev pub printed : Bool → Work → Report → Option (List (List Note)) → List ℕ
+printed summary work report heard = text_of summary report ++ heard_lines (made_before_join work report) heard
+
 -- the report is that of what is asked for, and what was written is followed by exactly the text that is
-pub record IsPrintedFor (files : Source) (before after : Tape) (report : Report) (asked : Request) : Type 0 where
-  pub replay : IsReplayOf files asked report
-  pub text : after.written ≡ followed_by before.written (text_of asked.summary report)
+pub record IsPrintedFor (files : Source) (before after : Tape) (heard : Option (List (List Note))) (report : Report) (asked : Request) : Type 0 where
+  pub replay : IsReplayOf files asked report heard
+  pub text : after.written ≡ followed_by before.written (printed asked.summary (work_asked asked replay.bytes replay.contents) report heard)
 
 -- the same of what the words ask for
-abbrev pub IsPrinted : List (List ℕ) → Source → Tape → Tape → Report → Type 0
-IsPrinted words files before after report = AskFor words (IsPrintedFor files before after report)
+abbrev pub IsPrinted : List (List ℕ) → Source → Tape → Tape → Option (List (List Note)) → Report → Type 0
+IsPrinted words files before after heard report = AskFor words (IsPrintedFor files before after heard report)
 
 -- the same report, but the count of faults rose, and only some first bytes of the text were written
-pub record IsCutShortFor (files : Source) (before after : Tape) (report : Report) (asked : Request) : Type 0 where
-  pub replay : IsReplayOf files asked report
+pub record IsCutShortFor (files : Source) (before after : Tape) (heard : Option (List (List Note))) (report : Report) (asked : Request) : Type 0 where
+  pub replay : IsReplayOf files asked report heard
   pub failed : Rose before.faults after.faults
-  pub text : WroteFront (text_of asked.summary report) before.written after.written
+  pub text : WroteFront (printed asked.summary (work_asked asked replay.bytes replay.contents) report heard) before.written after.written
 
-abbrev pub IsCutShort : List (List ℕ) → Source → Tape → Tape → Report → Type 0
-IsCutShort words files before after report = AskFor words (IsCutShortFor files before after report)
+abbrev pub IsCutShort : List (List ℕ) → Source → Tape → Tape → Option (List (List Note)) → Report → Type 0
+IsCutShort words files before after heard report = AskFor words (IsCutShortFor files before after heard report)

@@ -1,28 +1,70 @@
 //! How a run ends.
 
-ghost use Rattle.std.specs.Prelude.{◌≡◌};
-ghost use Rattle.replay_top.specs.Internal.Ending.{refusal_for};
+ghost use Rattle.std.specs.Prelude.{◌≡◌, None, Some};
+ghost use Rattle.replay_top.specs.Internal.Ending.{heard_of, refusal_for};
 
 use command_words::WordsError;
+use event_listen::heard::Heard;
 use history_book::report::Report;
+use replay_runs::listened::Listened;
 use run_inputs::Refusal;
+
+/// What a replay gives: its report, and what a listener heard where one was asked for.
+#[derive(Drop)]
+pub struct Replayed {
+    pub report: Report,
+    pub listened: Option<Listened>,
+}
 
 /// How a run ends.
 #[derive(Drop)]
 pub enum Ending {
-    /// The report was written.
-    Done(Report),
-    /// Only some first bytes of the report's text were written.
-    NotWritten(Report),
+    /// All was written.
+    Done(Replayed),
+    /// Only some first bytes of what was to be written were.
+    NotWritten(Replayed),
     /// There is no report, and nothing was written.
     Refused(Refusal),
 }
 
-/// What a run gives to its caller: the status of the program, and the report where there is one.
+/// What a run gives to its caller: the status of the program, the report where there is one, and beside that what a
+/// listener heard of each thread where one was asked for: the captures' in order, and then the script's.
 #[derive(Drop)]
 pub struct Run {
     pub status: u8,
     pub report: Option<Report>,
+    pub heard: Option<Heard>,
+}
+
+/// A run that gives its report with this status.
+pub fn run_with(status: u8, made: Replayed) -> Run
+    ensures status { result.status ≡ status }
+    ensures report { result.report ≡ Some made.report }
+    ensures heard { result.heard ≡ heard_of made.listened }
+{
+    let Replayed { report, listened } = made;
+    let heard = match listened {
+        Some(listened) => Some(listened.heard),
+        None => None,
+    };
+    Run {
+        status,
+        report: Some(report),
+        heard,
+    }
+}
+
+/// A run that gives no report.
+pub fn run_without(status: u8) -> Run
+    ensures status { result.status ≡ status }
+    ensures report { result.report ≡ None }
+    ensures heard { result.heard ≡ None }
+{
+    Run {
+        status,
+        report: None,
+        heard: None,
+    }
 }
 
 /// The refusal of words that ask for nothing.

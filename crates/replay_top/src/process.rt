@@ -6,7 +6,7 @@ ghost use Rattle.std.specs.Process.{exit_status};
 ghost use Rattle.replay_top.specs.ErrorLine.{line_of, Tells};
 ghost use Rattle.replay_top.specs.Process.{AreAllOf};
 
-use crate::ending::Run;
+use crate::ending::{Run, run_without};
 use crate::error_line::tell_refusal;
 use ct_io::Sink;
 use run_inputs::Refusal;
@@ -36,13 +36,11 @@ pub fn collect_words(alloc: Global, given: io::Result<Args>) -> Result<Vec<Strin
 pub fn run_without_words<K: Sink>(err: &mut K) -> Run
     ensures status { result.status ≡ 6 }
     ensures no_report { result.report ≡ None }
+    ensures not_heard { result.heard ≡ None }
     ensures line { Tells (line_of [] Refusal.NoMemory) (K.tape err.old) (K.tape err.new) }
 {
     tell_refusal(Refusal::NoMemory, "", err);
-    Run {
-        status: 6,
-        report: None,
-    }
+    run_without(6)
 }
 
 /// The exit code of a run: its status.
@@ -55,7 +53,7 @@ pub fn exit_code(run: &Run) -> ExitCode
 #[cfg(test)]
 mod tests {
     use super::{collect_words, exit_code, run_without_words};
-    use crate::ending::Run;
+    use crate::ending::run_without;
     use ct_io::MemSink;
     use std::io;
     use std::io::ErrorKind;
@@ -92,10 +90,7 @@ mod tests {
     #[test]
     fn exit_codes(rt: HostRuntime) {
         for status in 0..7 {
-            let run = Run {
-                status,
-                report: None,
-            };
+            let run = run_without(status);
             assert!(rt; exit_code(&run) == ExitCode::from(status));
         }
     }

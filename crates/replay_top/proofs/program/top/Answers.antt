@@ -3,7 +3,7 @@ use Rattle.std.specs.String.{string_bytes}
 use Rattle.command_words.specs.Asked.{asked_as}
 use Rattle.replay_top.specs.Causes.{HasCause}
 use Rattle.replay_top.specs.ErrorLine.{line_of, Tells}
-use Rattle.replay_top.specs.Internal.Ending.{line_about}
+use Rattle.replay_top.specs.Internal.Ending.{heard_of, line_about}
 use Rattle.replay_top.specs.Replay.{IsReplay}
 use Rattle.replay_top.proofs.Findings.{answers_done, answers_not_written, answers_refused, failed_files, has_cause, line_named, others_refused}
 use Rattle.replay_top.proofs.program.top.Goals as goal
@@ -11,20 +11,20 @@ use Rattle.replay_top.proofs.program.top.Goals as goal
 pub returns-in-Done-clause-exact : goal.returns-in-Done-clause-exact
 returns-in-Done-clause-exact g c = λ found finds.
     let words = map (string_bytes {Z = Global}) c.args.words.now in
-    let replay : IsReplay words (g.F.Files.source c.args.files.now) c.in-Done.report =
-    record { asked = asked_as c.in-Ok.asked; says = c.in-Ok.ensures.exact; holds = c.in-Done.ensures.ends.0 } in
+    let replay : IsReplay words (g.F.Files.source c.args.files.now) c.in-Done.made.report (heard_of c.in-Done.made.listened) =
+    record { asked = asked_as c.in-Ok.asked; says = c.in-Ok.ensures.exact; holds = c.in-Done.ensures.ends.0.replay } in
     answers_done c.given_is_told.ensures.all c.words_say_one.ensures.all words
     (g.F.Files.source c.args.files.now) (g.F.Files.source c.run.new.files) (g.K.Sink.tape c.args.out.now) (g.K.Sink.tape c.run.new.out)
-    c.in-Done.report found replay finds
+    c.in-Done.made.report (heard_of c.in-Done.made.listened) found replay finds
 
 pub returns-in-NotWritten-clause-exact : goal.returns-in-NotWritten-clause-exact
 returns-in-NotWritten-clause-exact g c = λ found finds.
     let words = map (string_bytes {Z = Global}) c.args.words.now in
-    let replay : IsReplay words (g.F.Files.source c.args.files.now) c.in-NotWritten.report =
-    record { asked = asked_as c.in-Ok.asked; says = c.in-Ok.ensures.exact; holds = c.in-NotWritten.ensures.ends.0 } in
+    let replay : IsReplay words (g.F.Files.source c.args.files.now) c.in-NotWritten.made.report (heard_of c.in-NotWritten.made.listened) =
+    record { asked = asked_as c.in-Ok.asked; says = c.in-Ok.ensures.exact; holds = c.in-NotWritten.ensures.ends.0.replay } in
     answers_not_written c.given_is_told.ensures.all c.words_say_one.ensures.all words
     (g.F.Files.source c.args.files.now) (g.F.Files.source c.run.new.files) (g.K.Sink.tape c.args.out.now) (g.K.Sink.tape c.run.new.out)
-    c.in-NotWritten.report found replay c.in-NotWritten.ensures.ends.1 finds
+    c.in-NotWritten.made.report (heard_of c.in-NotWritten.made.listened) found replay c.in-NotWritten.ensures.ends.0.failed finds
 
 pub returns-clause-refused : goal.returns-clause-refused
 returns-clause-refused g c = λ done written.

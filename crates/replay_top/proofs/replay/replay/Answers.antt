@@ -10,13 +10,5 @@ report-requires g c = record {
   ended = c.left_runs_end.ensures c.args.setup.now (sight_of c.clerk-desk.result).sizes c.args.sizes.now c.as_slice-list.result.now c.args.captures.items
       c.args.script.now (sight_of c.clerk-desk.result).tracker (sight_of c.replay_on.new.desk) (sight_of c.leave-spot.result) c.in_ok-outcome.outcome c.close-closed.result
       (ap (λ (s : ClerkSight). (sight_of s).sizes) c.clerk-desk.ensures.same ∙ c.in_ok-tracker.ensures.fresh.sizes) c.as_slice-list.ensures
-      c.leave-spot.ensures.left c.in_ok-outcome.ensures c.close-closed.ensures;
+      c.leave-spot.ensures.left c.in_ok-outcome.ensures.run c.close-closed.ensures;
 }
-
-pub returns : goal.returns
-returns g c =
-    c.report.ensures (record { setup = c.args.setup.now; sizes = c.args.sizes.now }) (work_of c.args.captures.items c.args.script.now)
-    (c.left_runs_end.ensures c.args.setup.now (sight_of c.clerk-desk.result).sizes c.args.sizes.now c.as_slice-list.result.now c.args.captures.items
-    c.args.script.now (sight_of c.clerk-desk.result).tracker (sight_of c.replay_on.new.desk) (sight_of c.leave-spot.result) c.in_ok-outcome.outcome c.close-closed.result
-    (ap (λ (s : ClerkSight). (sight_of s).sizes) c.clerk-desk.ensures.same ∙ c.in_ok-tracker.ensures.fresh.sizes) c.as_slice-list.ensures
-    c.leave-spot.ensures.left c.in_ok-outcome.ensures c.close-closed.ensures)

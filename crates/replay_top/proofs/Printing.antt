@@ -1,0 +1,92 @@
+-- What is printed: a report or its summary, and then what was heard.
+use Rattle.std.proofs.Common.{◌≡◌, ℕ, zero, suc, ◌+◌, ◌<◌, ◌≤◌, List, [], ◌∷◌, ◌++◌, length, map, take, Option, Some, None, refl, sym, ap, subst, ◌∙◌, arith, append_assoc, length-append}
+use Rattle.std.specs.Prelude.{Err, get_or, min, Ok, Result}
+use Rattle.std.proofs.lemmas.List.{take-append-le}
+use Rattle.std.proofs.Math.Seq.{take-append-add}
+use Rattle.command_words.specs.Words.{Request}
+use Rattle.ct_io.specs.Counts.{Rose}
+use Rattle.ct_io.specs.Source.{SameFaults, Source}
+use Rattle.ct_io.specs.Tape.{Tape}
+use Rattle.report_text.specs.declared.heard.HeardCount.{HeardCount}
+use Rattle.report_text.specs.declared.write.WriteFault.{WriteFault}
+use Rattle.report_text.specs.Heard.{heard_counts, heard_text}
+use Rattle.report_text.specs.Wrote.{followed_by, Wrote, WroteFront}
+use Rattle.replay_runs.specs.Heard.{made_before_join}
+use Rattle.replay_top.specs.declared.ending.Ending.TheVariants.{Done, NotWritten}
+use Rattle.replay_top.specs.declared.ending.Replayed.{Replayed}
+use Rattle.replay_top.specs.Internal.Ending.{counts_of, Ends, heard_of, IsReplayWith}
+use Rattle.replay_top.specs.Replay.{heard_lines, printed, text_of, work_asked}
+
+-- one text, and then another
+followed_twice : (before : Option (List ℕ)) (first second : List ℕ) → followed_by (followed_by before first) second ≡ followed_by before (first ++ second)
+followed_twice None first second = refl
+followed_twice (Some bytes) first second = ap (λ (xs : List ℕ). Some xs) (append_assoc bytes first second)
+
+-- where the first was written whole, and the second was written or only its front
+pub wrote_both : (first second : List ℕ) (t u v : Tape) (result : Result (Unit {0}) WriteFault) → Wrote first t u (Ok tt) → Wrote second u v result
+    → Wrote (first ++ second) t v result
+wrote_both first second t u v (Ok done) (is, same) (then, still) = (
+  then ∙ ap (λ (w : Option (List ℕ)). followed_by w second) is ∙ followed_twice t.written first second,
+  still ∙ same,
+)
+wrote_both first second t u v (Err fault) (is, same) (rose, front) = (
+  subst (λ (n : ℕ). Rose n v.faults) same rose,
+  (length first + front.0, omega (arith, front.1, length-append first second),
+      front.2 ∙ ap (λ (w : Option (List ℕ)). followed_by w (take front.0 second)) is ∙ followed_twice t.written first (take front.0 second)
+      ∙ ap (followed_by t.written) (sym (take-append-add first second front.0))),
+)
+
+-- where only the front of the first was
+pub wrote_less : (first second : List ℕ) (t u : Tape) (fault : WriteFault) → Wrote first t u (Err fault) → Wrote (first ++ second) t u (Err fault)
+wrote_less first second t u fault (rose, front) = (
+  rose,
+  (front.0, omega (arith, front.1, length-append first second),
+      front.2 ∙ ap (followed_by t.written) (sym (take-append-le front.0 first second (omega (arith, front.1))))),
+)
+
+-- ---- how many were heard
+
+-- one thread more
+pub counts_more : (k : ℕ) (made heard : List ℕ) (m h : ℕ) → k < length made → k < length heard → m ≡ get_or made k m → h ≡ get_or heard k h
+    → heard_counts (take (k + 1) made) (take (k + 1) heard) ≡ heard_counts (take k made) (take k heard) ++ record { heard = h; made = m } ∷ []
+counts_more k [] heard m h below also is so = absurd (omega (arith, below))
+counts_more k (a ∷ made) [] m h below also is so = absurd (omega (arith, also))
+counts_more zero (a ∷ made) (b ∷ heard) m h below also is so =
+    λ i. record { heard = (sym so) i; made = (sym is) i } ∷ []
+counts_more (suc k) (a ∷ made) (b ∷ heard) m h below also is so =
+    ap (λ (xs : List HeardCount). record { heard = b; made = a } ∷ xs) (counts_more k made heard m h (omega (arith, below)) (omega (arith, also)) is so)
+
+-- all threads
+pub counts_all : (k : ℕ) (made heard : List ℕ) → k ≡ min (length made) (length heard) → heard_counts (take k made) (take k heard) ≡ heard_counts made heard
+counts_all zero [] heard is = refl
+counts_all zero (a ∷ made) [] is = refl
+counts_all zero (a ∷ made) (b ∷ heard) is = absurd (omega (arith, is))
+counts_all (suc k) [] heard is = absurd (omega (arith, is))
+counts_all (suc k) (a ∷ made) [] is = absurd (omega (arith, is))
+counts_all (suc k) (a ∷ made) (b ∷ heard) is =
+    ap (λ (xs : List HeardCount). record { heard = b; made = a } ∷ xs) (counts_all k made heard (omega (arith, is)))
+
+-- ---- how a run ends
+
+-- the text of a report, or its summary, and the lines of these counts are what is printed
+module _ (files files' : Source) (asked : Request) (made : Replayed) (out out' : Tape) (counts : List HeardCount) (with : IsReplayWith files asked made)
+    (same : SameFaults files files') (are : counts ≡ counts_of made.listened) where
+  all_printed : text_of asked.summary made.report ++ heard_text counts
+      ≡ printed asked.summary (work_asked asked with.replay.bytes with.replay.contents) made.report (heard_of made.listened)
+  all_printed =
+      ap (λ (cs : List HeardCount). text_of asked.summary made.report ++ heard_text cs) are
+      ∙ ap (λ (lines : List ℕ). text_of asked.summary made.report ++ lines) with.lines
+
+  pub ends_done : Wrote (text_of asked.summary made.report ++ heard_text counts) out out' (Ok tt) → Ends asked files files' out out' (Done made)
+  ends_done (is, still) = (record { replay = with.replay; text = is ∙ ap (followed_by out.written) all_printed }, same, still)
+
+  pub ends_not_written : (fault : WriteFault) → Wrote (text_of asked.summary made.report ++ heard_text counts) out out' (Err fault)
+      → Ends asked files files' out out' (NotWritten made)
+  ends_not_written fault (rose, front) = (
+    record {
+      replay = with.replay;
+      failed = rose;
+      text = subst (λ (text : List ℕ). WroteFront text out.written out'.written) all_printed front;
+    },
+    same,
+  )
