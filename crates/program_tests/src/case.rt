@@ -1,9 +1,10 @@
 //! Runs of the whole program as data, and one call that makes a run and compares.
 
 use crate::content::{Content, bytes_of};
-use crate::reported::{are_spans, is_history};
+use crate::reported::{are_first, are_spans, is_history};
 use crate::wait::wait_in;
 use ct_io::{Gate, MemFiles, MemSink, NoGate};
+use event_listen::heard::Heard;
 use history_book::report::Report;
 use replay_top::top;
 use std::alloc::{AllocError, Global};
@@ -158,6 +159,7 @@ pub fn files_of(
 struct Left {
     status: u8,
     report: Option<Report>,
+    heard: Option<Heard>,
     out: MemSink,
     err: MemSink,
 }
@@ -178,6 +180,7 @@ fn run<R: Threads + Wait + Sync + AllocGlobal, G: Gate + Sync>(
     Ok(Left {
         status: run.status,
         report: run.report,
+        heard: run.heard,
         out,
         err,
     })
@@ -205,6 +208,16 @@ fn digits_of(word: &[u8]) -> u32 {
         }
     }
     number
+}
+
+/// Whether this is one of the words.
+fn is_asked(words: &[&str], asked: &str) -> bool {
+    for word in words {
+        if *word == asked {
+            return true;
+        }
+    }
+    false
 }
 
 /// How many places the table of a run with these words has.
@@ -251,7 +264,11 @@ pub fn holds_through<R: Threads + Wait + Sync + AllocGlobal + Abort, G: Gate + S
         );
         let wait = wait_of(rt.alloc(), case)?;
         assert!(rt; are_spans(report, wait), "spans and points of run {number}");
+        let heard = left.heard.as_ref();
+        assert!(rt; are_first(report, heard), "what run {number} heard");
     }
+    let listens = reported && is_asked(case.words, "--listen");
+    assert_eq!(rt; left.heard.is_some(), listens, "listener of run {number}");
     assert!(rt; fits(left.out.bytes(), &case.out), "out of run {number}");
     assert!(rt; fits(left.err.bytes(), &case.err), "err of run {number}");
     Ok(())

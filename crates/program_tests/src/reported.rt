@@ -1,9 +1,10 @@
 //! What each report has to be, whatever its run is about, read off it slowly: its history by `check_history`, and the spans
 //! and points of its verdicts and answers by a walk over the history for each thread.
 
+use event_listen::heard::Heard;
 use history_book::answer::Answer;
 use history_book::check::{Checked, check_history};
-use history_book::event::Numbered;
+use history_book::event::{Note, Numbered};
 use history_book::report::Report;
 use history_book::verdict::{Class, Ftp, Translated, Verdict};
 use std::alloc::Global;
@@ -252,4 +253,33 @@ pub fn are_spans(report: &Report, wait: Option<usize>) -> bool {
         end,
     };
     are_answers(items, script, report.answers.as_slice())
+}
+
+/// Whether these are the first events of a thread, by their numbers.
+fn begins_thread(items: &[Numbered], thread: usize, notes: &[Note]) -> bool {
+    let mut index = 0;
+    for item in items {
+        if item.thread as usize == thread && index < notes.len() {
+            if notes[index].number != item.number {
+                return false;
+            }
+            index += 1;
+        }
+    }
+    index == notes.len()
+}
+
+/// Whether what was heard of each thread, the script's included, are the first of its events; without a listener nothing
+/// was heard.
+pub fn are_first(report: &Report, heard: Option<&Heard>) -> bool {
+    let Some(heard) = heard else {
+        return true;
+    };
+    for thread in 0..heard.len() {
+        let notes = heard.at(thread).as_slice();
+        if !begins_thread(report.history.as_slice(), thread, notes) {
+            return false;
+        }
+    }
+    heard.len() == report.threads.len() + 1
 }

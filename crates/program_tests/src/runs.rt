@@ -11,6 +11,7 @@ mod devices;
 mod flows;
 mod fragments;
 mod ftp;
+mod listeners;
 mod made;
 mod pools;
 mod rules;

@@ -29,7 +29,7 @@ struct Meeting {
 }
 
 /// Whether a flag is raised before the turns run out.
-fn is_raised_in_time(flag: &AtomicU64) -> bool {
+pub fn is_raised_in_time(flag: &AtomicU64) -> bool {
     for turn in 0..TURNS {
         if flag.load(Ordering::SeqCst) != 0 {
             return true;
