@@ -13,11 +13,13 @@ A drop is of an entry that may go, by a packet that would begin a flow, for whic
 was full before it; there is one for a packet at most, before what the packet claims; and where FULL came without one, no
 entry that could go was live throughout its points.
 Each answer to a command is so between its points, with its rows as the entries were at theirs; and no packet was
-answered at a point behind a command that stands behind `wait`.
+answered at a point behind a command that stands behind `wait`. With --listen, and only then, there is a line for each thread, in
+order, with the number of its events, of the script's those of its commands before `wait`; and of so many all were heard, or
+else at least as many as its queue holds.
 
 What it does not check: errors of ICMP, fragments and broken headers (there may be none in its captures); which of the free
 ports a rule takes; which of the entries that may go is dropped, as places are not printed; that an answer which may be given only in a race was given in one, but for the bounds that the
-documents state (FULL, drops, MERGED, CLASH, CONTENDED); and that NOPORT had no port left.
+documents state (FULL, drops, MERGED, CLASH, CONTENDED); and that NOPORT had no port left; and which events a listener was told of, as no line shows them.
 """
 import re
 from bisect import bisect_right
@@ -28,6 +30,8 @@ from tracker_rules import (
 
 
 REASONS = ("expired", "reopened", "reset", "deleted", "flushed", "dropped")
+# So many events the queue of a thread to a listener has room for.
+QUEUE = 1024
 
 
 class Entry:
@@ -620,10 +624,36 @@ class Script:
             want(rows == texts, f"{self.name} has other rows")
 
 
+# What a listener heard.
+
+
+def split_heard(lines, inputs):
+    """The lines of a report, and behind them those of what a listener heard, where there is one."""
+    end = len(lines) - len(inputs.captures) - 1 if inputs.listen else len(lines)
+    return lines[:end], lines[end:]
+
+
+def read_heard(history, lines):
+    """A line for each thread, the script's last; without a listener there is none."""
+    inputs = history.inputs
+    for thread, line in zip([*range(len(inputs.captures)), "s"], lines):
+        found = re.fullmatch(f"heard {thread} {NUMBER} of {NUMBER}", line)
+        want(found, f"what was heard of thread {thread} is: {line}")
+        heard, told = (int(number) for number in found.groups())
+        made = sum(
+            len(numbers)
+            for (maker, index), numbers in history.made.items()
+            if maker == thread and (thread != "s" or index < inputs.wait)
+        )
+        want(told == made, f"thread {thread} made {made} events before all had ended, and {told} are counted")
+        want(min(made, QUEUE) <= heard <= made, f"{heard} of {made} events of thread {thread} were heard")
+
+
 def check(report, inputs):
     """Checks a report of these inputs. Gives its history."""
     want(report.endswith("\n"), "the last line does not end")
-    lines = report[:-1].split("\n")
+    lines, heard = split_heard(report[:-1].split("\n"), inputs)
+    want(lines, "there are fewer lines than threads")
     found = re.fullmatch(f"events {NUMBER}", lines[0])
     want(found, "the first line does not count the events")
     count, at = int(found.group(1)), 1 + int(found.group(1))
@@ -644,6 +674,7 @@ def check(report, inputs):
         at = behind
     want(lines[at] == f"script {len(inputs.commands)}", "the script's part is another one")
     Script(history, end_of_captures).read(lines[at + 1 :])
+    read_heard(history, heard)
     return history
 
 

@@ -18,7 +18,7 @@ The cases: a query and its answer, a control connection of FTP, a script, and an
 of each thread's own ("apart") and with the same flows on all threads in another order ("same"); one flow of UDP on four
 threads; pools that are too small for eight threads, and one of forty places in which the flows of four drop each other.
 Apart, each thread's events and verdicts are those of the example, but for numbers and points. Buckets are 1, 16 or 16384,
-from run to run. Besides, the cases "zones": the same flows, addresses, rules and FTP sessions in four zones on four threads,
+from run to run, and every second run has --listen. Besides, the cases "zones": the same flows, addresses, rules and FTP sessions in four zones on four threads,
 with places for all: the first words of each thread's verdicts, and the rows of `-L -w` for its zone, are those of its capture
 replayed alone. Also where rules have few ports, so that each zone's clients compete for them.
 """
@@ -397,9 +397,14 @@ def place(case, folder):
     return words
 
 
+def is_heard(number):
+    """Whether the run of this number has a listener."""
+    return number % 2 == 1
+
+
 def run_once(program, words, number):
-    buckets = ["--buckets", str(BUCKETS[number % len(BUCKETS)])]
-    done = subprocess.run([program] + buckets + words, capture_output=True, text=True, timeout=600, check=False)
+    own = ["--buckets", str(BUCKETS[number % len(BUCKETS)])] + ["--listen"] * is_heard(number)
+    done = subprocess.run([program] + own + words, capture_output=True, text=True, timeout=600, check=False)
     if done.returncode:
         return number, None, f"status {done.returncode}: {done.stderr.strip()}"
     return number, done.stdout, None
@@ -412,10 +417,15 @@ def changes_of(report):
     return sum(one != other for one, other in zip(makers, makers[1:]))
 
 
+def without_heard(report):
+    """A report without the lines of what a listener heard."""
+    return re.sub(r"^heard .*\n", "", report, flags=re.M)
+
+
 def judged(case, inputs, report):
     """Why a report is refused, or none."""
     try:
-        case.holds(check(report, inputs), report)
+        case.holds(check(report, inputs), without_heard(report))
     except Refused as fault:
         return str(fault)
     return None
@@ -454,7 +464,7 @@ def run_case(case, given):
         for begun in range(0, given.runs, 50):
             numbers = range(begun, min(begun + 50, given.runs))
             for number, report, why in pool.map(lambda n: run_once(given.program, line, n), numbers):
-                why = why or judged(case, inputs, report)
+                why = why or judged(case, inputs._replace(listen=is_heard(number)), report)
                 if why:
                     print(f"{case.name}: run {number} is refused: {why}", flush=True)
                     if given.keep:
@@ -705,6 +715,60 @@ def drop_damages():
     ]
 
 
+def told_report(count, heard):
+    """The report of so many queries, each of a flow of its own, of which a listener was told of so many."""
+    ends = lambda port: f"src=10.0.0.1 dst=10.0.0.2 sport={port} dport=53 src=10.0.0.2 dst=10.0.0.1 sport=53 dport={port}"
+    events = [f"{n} confirm 0.{n} udp {ends(5000 + n)} until={BEGUN + n + 30_000_000}" for n in range(count)]
+    verdicts = [f"{n} NEW id={n} @{n + 1}" for n in range(count)]
+    lines = [f"events {count}", *events, f"thread 0 packets {count}", *verdicts, "script 0", f"heard 0 {heard} of {count}", "heard s 0 of 0"]
+    return "\n".join(lines) + "\n"
+
+
+def heard_damages(data):
+    """Of what a listener heard: fewer events than a queue holds, and more; a script whose one event is behind `wait`, or before."""
+    flushed, many = example("docs/FORMATS.md", "events 3\n0 confirm 0.0 udp src=10.0.0.1 dst=10.0.0.2 sport=5000 dport=53"), 1500
+    queries = [capture([(BEGUN + n, query(0x0A000001, 0x0A000002, 5000 + n)) for n in range(many)])]
+    first, last = "heard 0 2 of 2\n", "heard s 0 of 0\n"
+    return [
+        (
+            flushed,
+            inputs_of(data("c.pcap"), "", "wait\n-F\n", listen=True),
+            [
+                (first, ""),
+                (last, ""),
+                (first, "", last, ""),
+                (first + last, last + first),
+                (first, first + first),
+                (last, last + last),
+                (last, last + "\n"),
+                (first, "heard 0 1 of 2\n"),
+                (first, "heard 0 3 of 2\n"),
+                (first, "heard 0 3 of 3\n"),
+                (first, "heard 0 1 of 1\n"),
+                (first, "heard 0 02 of 2\n"),
+                (first, "heard 0 2 of 2 \n"),
+                (first, "heard 0 2 from 2\n"),
+                (first, "heard 1 2 of 2\n"),
+                (last, "heard 1 0 of 0\n"),
+                (last, "heard s 1 of 1\n"),
+                (last, "heard s 0 of 1\n"),
+            ],
+        ),
+        (
+            flushed.replace(last, "heard s 1 of 1\n"),
+            inputs_of(data("c.pcap"), "", "-F\n", listen=True),
+            [("heard s 1 of 1\n", last), ("heard s 1 of 1\n", "heard s 0 of 1\n")],
+        ),
+        (flushed.replace(first + last, ""), inputs_of(data("c.pcap"), "", "wait\n-F\n"), [("@2 @3\n", "@2 @3\n" + first + last)]),
+        (
+            told_report(many, 1024),
+            inputs_of(queries, listen=True),
+            [(f"1024 of {many}", f"1023 of {many}"), (f"1024 of {many}", f"{many + 1} of {many}"), (f"1024 of {many}", "1024 of 1024")],
+        ),
+        (told_report(many, many), inputs_of(queries, listen=True), [(f"{many} of {many}", f"0 of {many}")]),
+    ]
+
+
 def zone_damages(data):
     """Of the same flows and FTP sessions in two zones."""
     row = ZONED[ZONED.index("udp      17") : ZONED.index(" zone=2 @4")]
@@ -830,6 +894,7 @@ def damages():
         ),
         *drop_damages(),
         *zone_damages(data),
+        *heard_damages(data),
     ]
 
 

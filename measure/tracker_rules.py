@@ -37,7 +37,7 @@ Packet = namedtuple("Packet", "moment tuple kind payload")
 Part = namedtuple("Part", "state replied assured deadline")
 Rule = namedtuple("Rule", "kind options address low high")
 Command = namedtuple("Command", "word options moment")
-Inputs = namedtuple("Inputs", "captures rules commands wait entries ports")
+Inputs = namedtuple("Inputs", "captures rules commands wait entries ports listen", defaults=[False])
 
 
 class Refused(Exception):
@@ -136,10 +136,10 @@ def read_script(text):
     return commands, len(commands) if wait is None else wait
 
 
-def inputs_of(captures, rules="", script="", entries=65536, ports=(21,), zones=None):
+def inputs_of(captures, rules="", script="", entries=65536, ports=(21,), zones=None, listen=False):
     commands, wait = read_script(script)
     packets = [read_capture(data) for data in captures]
-    return Inputs(in_zones(packets, zones or [0] * len(captures)), read_rules(rules), commands, wait, entries, ports)
+    return Inputs(in_zones(packets, zones or [0] * len(captures)), read_rules(rules), commands, wait, entries, ports, listen)
 
 
 def in_zones(captures, zones):

@@ -17,7 +17,9 @@ import fragments
 import refusal_hints as hints
 
 Frame = namedtuple("Frame", "moment link data length")
-Report = namedtuple("Report", "events threads script")
+Report = namedtuple("Report", "events threads script heard")
+# Of so many events that a thread made before all had ended, a listener was told of the first ones; the line says it.
+Heard = namedtuple("Heard", "thread heard made text")
 Verdict = namedtuple("Verdict", "word why entry point last", defaults=[None])
 Rule = namedtuple("Rule", "line side options address low high text test")
 Packet = namedtuple("Packet", "kind why proto source target first second flags payload flow", defaults=[None] * 9)
@@ -37,6 +39,10 @@ REFUSED = ("FULL", "NOPORT", "CLASH")
 FRAGMENT = "UNTRACKED fragment"
 LONGEST_FRAME = 262_144
 MOST_ZONE = 65_535
+# So many events the queue of a thread to a listener has room for.
+QUEUE = 1_024
+HEARD = re.compile(r"heard (s|0|[1-9]\d*) (0|[1-9]\d*) of (0|[1-9]\d*)")
+DAMAGED = "the report is cut or changed"
 
 
 class Trouble(Exception):
@@ -355,14 +361,14 @@ def zone_of_words(words):
 
 
 def read_report(name):
-    """The events of a report, the verdict lines of each thread, and the lines of the script's part."""
+    """The events of a report, the verdict lines of each thread, the lines of the script's part, and what a listener heard."""
     lines = read_lines(name)
     if not lines or not lines[0].startswith("events "):
         raise Trouble(f"{name}: no report of ctreplay (a report begins with 'events N'; --summary prints none)")
     try:
         return split_report(lines)
     except (IndexError, ValueError, KeyError, Trouble) as error:
-        raise Trouble(f"{name}: the report is cut or changed") from error
+        raise Trouble(f"{name}: {DAMAGED}") from error
 
 
 def split_report(lines):
@@ -378,7 +384,8 @@ def split_report(lines):
         at += 1 + packets
     if not lines[at].startswith("script "):
         raise ValueError("the script's part is missing")
-    return Report(events, threads, lines[at:])
+    end = next((place for place, line in enumerate(lines) if line.startswith("heard") and place > at), len(lines))
+    return Report(events, threads, lines[at:end], lines[end:])
 
 
 class Event:
@@ -520,12 +527,62 @@ def check_rows(report):
             raise ValueError("a row of no entry, or of another zone")
 
 
+# What a listener heard
+
+
+def made_counts(report):
+    """How many events each thread may have made before all had ended: of a capture's thread the number of its events, and of the
+    script's, as no report says where `wait` stands, what each number of its first commands made."""
+    counts, commands = [0] * len(report.threads), [0] * int(report.script[0].split()[1])
+    for event in report.events:
+        if event.thread == "s":
+            commands[event.index] += 1
+        else:
+            counts[event.thread] += 1
+    return [*([count] for count in counts), sorted({sum(commands[:number]) for number in range(len(commands) + 1)})]
+
+
+def heard_of(line):
+    """What a line says was heard of a thread."""
+    found = HEARD.fullmatch(line)
+    if not found:
+        raise Trouble(f"'{line}' is no line of what a listener heard")
+    thread, heard, made = found.groups()
+    return Heard(thread if thread == "s" else int(thread), int(heard), int(made), line)
+
+
+def read_heard(report):
+    """What a listener heard of each thread, by the lines behind the script's part; nothing where there are none.
+
+    They are those of all captures, in order, and of the script; each has the number of the thread's own events, and as many
+    of them were heard as the thread's queue holds, or all.
+    """
+    found = [heard_of(line) for line in report.heard]
+    names = [*range(len(report.threads)), "s"]
+    if found and [it.thread for it in found] != names:
+        said, wanted = (", ".join(str(name) for name in it) for it in ((it.thread for it in found), names))
+        raise Trouble(f"the lines of what a listener heard are of the threads {said}, and the threads are {wanted}")
+    for it, counts in zip(found, made_counts(report)):
+        if it.made not in counts:
+            raise Trouble(f"'{it.text}', but {made_text(it.thread, counts)}")
+        if not min(it.made, QUEUE) <= it.heard <= it.made:
+            raise Trouble(f"'{it.text}', but of {it.made} events at least {min(it.made, QUEUE)} are heard, and at most all")
+    return found
+
+
+def made_text(thread, counts):
+    if thread != "s":
+        return f"thread {thread} made {counted(counts[0], 'event')}"
+    return f"the script's first commands, however many, made {' or '.join(map(str, counts))} events"
+
+
 class Work:
     """A report with its captures, of which each has to have a frame for each verdict, and the zone of each capture.
 
     A report says a capture's zone by its entries alone; `zones`, the value of --zones, says it where there is none. It says
     by its datagrams alone that it was made with --defrag; `defrag` says it where there is none. Then the captures are those
-    with their fragments put together, and `whole` has how.
+    with their fragments put together, and `whole` has how. `heard` is what a listener was told of each thread, where the report
+    was made with --listen.
     """
 
     def __init__(self, report_name, names, zones=None, defrag=False):
@@ -541,7 +598,8 @@ class Work:
             check_rows(self.report)
             said = zones_said(self.report, self.verdicts)
         except (IndexError, ValueError, KeyError, Trouble) as error:
-            raise Trouble(f"{report_name}: the report is cut or changed") from error
+            raise Trouble(f"{report_name}: {DAMAGED}") from error
+        self.heard = self.read_heard(report_name)
         self.zones = self.zones_of(report_name, said, zones)
         self.whole = [reassembled(frames, texts) for frames, texts in zip(self.captures, self.report.threads)]
         self.defrag = self.find_defrag(report_name, defrag)
@@ -549,6 +607,12 @@ class Work:
             self.captures = [whole.frames if whole else frames for frames, whole in zip(self.captures, self.whole)]
         self.check_fragments(report_name)
         self.check_packets(report_name)
+
+    def read_heard(self, report_name):
+        try:
+            return read_heard(self.report)
+        except Trouble as error:
+            raise Trouble(f"{report_name}: {DAMAGED}: {error}") from error
 
     def zones_of(self, report_name, said, text):
         """The zone of each capture: what the report says, and where that is nothing what --zones says."""
@@ -567,7 +631,7 @@ class Work:
         """Whether the report was made with --defrag: by what it says of the frames that complete datagrams, or else as asked."""
         said = [self.report.threads[thread][index] != FRAGMENT for thread, whole in enumerate(self.whole) if whole for index in whole.completed]
         if any(said) and not all(said):
-            raise Trouble(f"{report_name}: the report is cut or changed")
+            raise Trouble(f"{report_name}: {DAMAGED}")
         if said and asked and not said[0]:
             raise Trouble(f"{report_name} was made without --defrag: its captures have datagrams to be put together, and it has none")
         return asked or any(said)
@@ -576,7 +640,7 @@ class Work:
         """Each frame that is a fragment has that verdict, and no other has it."""
         for packets, texts in zip(self.packets, self.report.threads):
             if any((packet.kind == "fragment") != (text == FRAGMENT) for packet, text in zip(packets, texts)):
-                raise Trouble(f"{report_name}: the report is cut or changed, or of other captures: of a fragment it says something else, or of another packet that it is one")
+                raise Trouble(f"{report_name}: {DAMAGED}, or of other captures: of a fragment it says something else, or of another packet that it is one")
 
     def why_of(self, thread, index, first=0):
         """Why a packet is untracked, invalid or an error; of a fragment, where these were put together, what became of it."""
