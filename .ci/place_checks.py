@@ -29,6 +29,8 @@ VARIANTS = {
     "The hash": (r"\bbucket_of\b|\bmix\b", r"\bbucket_of\b"),
     "A column of a row": (r"\[UNREPLIED\]", r"\[UNREPLIED\]"),
     "An option, or another form of the words": (r'"zones[ "]|\bzones ?[:=]|\.zones\b|--zones\b', r'"zones"|--zones\b'),
+    "How many notes the queue of a thread holds": (r"\bQUEUE\b|capacity ≡ 1024|\bmin 1024\b", r"\bQUEUE\b"),
+    "A crossing of the gate": (r"\bCrossing\b", r"\bCrossing\b"),
     "A kind of file": (r"\b(FileKind|kind)(\.|::)Script\b|\bFileKind\.TheVariants\.\{", r"script bytes"),
 }
 
