@@ -384,7 +384,7 @@ def split_report(lines):
         at += 1 + packets
     if not lines[at].startswith("script "):
         raise ValueError("the script's part is missing")
-    end = next((place for place, line in enumerate(lines) if line.startswith("heard") and place > at), len(lines))
+    end = next((place for place in range(at, len(lines)) if lines[place].startswith("heard")), len(lines))
     return Report(events, threads, lines[at:end], lines[end:])
 
 
