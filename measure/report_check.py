@@ -627,6 +627,11 @@ class Script:
 # What a listener heard.
 
 
+def without_heard(report):
+    """A report without these lines."""
+    return re.sub(r"^heard .*\n", "", report, flags=re.M)
+
+
 def split_heard(lines, inputs):
     """The lines of a report, and behind them those of what a listener heard, where there is one."""
     end = len(lines) - len(inputs.captures) - 1 if inputs.listen else len(lines)

@@ -34,7 +34,7 @@ import time
 from collections import namedtuple
 from concurrent.futures import ThreadPoolExecutor
 
-from report_check import check
+from report_check import check, without_heard
 from tracker_rules import Refused, inputs_of, want, zone_text
 
 HERE = os.path.dirname(os.path.abspath(__file__))
@@ -415,11 +415,6 @@ def changes_of(report):
     lines = report.splitlines()
     makers = [line.split(" ", 3)[2].split(".")[0] for line in lines[1 : 1 + int(lines[0].split()[1])]]
     return sum(one != other for one, other in zip(makers, makers[1:]))
-
-
-def without_heard(report):
-    """A report without the lines of what a listener heard."""
-    return re.sub(r"^heard .*\n", "", report, flags=re.M)
 
 
 def judged(case, inputs, report):
