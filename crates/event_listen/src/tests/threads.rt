@@ -99,17 +99,19 @@ fn run<R: Threads + Wait + Sync>(
 {
     let (one, other) = desks;
     let (first, second) = senders;
-    thread::join(
+    // Where no thread can be made the first call comes last.
+    let (hearing, senders) = thread::join(
         rt,
-        move ||
-            requires { IsSync R.row × IsSendingOf line.now first × IsSendingOf line.now second × BeginsWith one.now.own first.sent × BeginsWith other.now.own second.sent }
-            ensures { IsSendingOf line.entry.now result.0 × IsSendingOf line.entry.now result.1 × (result.0.queue ≡ first.queue) × (result.1.queue ≡ second.queue) }
-        { send_both(rt, line, (first, second), (one, other)) },
         move ||
             requires { IsHearingOf line.now hearing }
             ensures { IfOk result (IsHearingOf line.entry.now) }
         { listened(rt, line, hearing) },
-    )
+        move ||
+            requires { IsSync R.row × IsSendingOf line.now first × IsSendingOf line.now second × BeginsWith one.now.own first.sent × BeginsWith other.now.own second.sent }
+            ensures { IsSendingOf line.entry.now result.0 × IsSendingOf line.entry.now result.1 × (result.0.queue ≡ first.queue) × (result.1.queue ≡ second.queue) }
+        { send_both(rt, line, (first, second), (one, other)) },
+    );
+    (senders, hearing)
 }
 
 #[test]
