@@ -71,7 +71,7 @@ work_asked asked bytes contents = work_with (given_in asked.defrag asked.zones b
 -- The report is that of what is asked for: files that are named, which are read, or a workload that is made. It is well
 -- formed for what their bytes say, each capture in its zone, its fragments put together where that is asked for, with a
 -- tracker of the sizes, the rules and the ports of the helper that are asked for. Where a listener is asked for, and only
--- then, something was heard of each thread: the first of the events that it made before all threads joined.
+-- then, there is a list of what was heard of each thread: the first of the events that it made before all threads joined.
 -- Where the contents of a file are told, its bytes are these; else no more is said of them.
 pub record IsReplayOf (files : Source) (asked : Request) (report : Report) (heard : Option (List (List Note))) : Type 0 where
   pub bytes : List (List ℕ)
