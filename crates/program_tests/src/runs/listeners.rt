@@ -1,6 +1,6 @@
 //! A listener beside the threads.
 
-use super::threads::is_raised_in_time;
+use super::threads::{ELSEWHERE, comes_in_time, is_raised_in_time};
 use super::{CAPTURE, NAME, REPLAYED, SCRIPT, SECOND};
 use crate::case::{Case, Faults, NONE, Number, Text, all_hold, holds_through};
 use crate::content::Content;
@@ -125,6 +125,157 @@ fn a_listener_hears_beside_the_threads(rt: HostRuntime) -> Result<(), Fail> {
     assert_eq!(rt; missed, 0, "the thread waited in vain");
     let heard = gate.heard.load(Ordering::SeqCst);
     assert_eq!(rt; heard, 2, "notes that were heard");
+    Ok(())
+}
+
+/// A gate at which the thread of a capture, each of whose packets makes one event, waits before each packet until the
+/// listener has heard of all those before it.
+#[derive(Drop)]
+struct Strict {
+    packets: AtomicU64,
+    heard: AtomicU64,
+    missed: AtomicU64,
+}
+
+impl Gate for Strict {
+    fn at(&self, worker: u32, crossing: Crossing) {
+        match (crossing, worker) {
+            (Crossing::BeforePacket, 0) => {
+                let before = self.packets.fetch_add(1, Ordering::SeqCst);
+                if !comes_in_time(&self.heard, before) {
+                    self.missed.fetch_add(1, Ordering::SeqCst);
+                }
+            }
+            (Crossing::Heard, 2) => {
+                self.heard.fetch_add(1, Ordering::SeqCst);
+            }
+            (_, _) => {}
+        }
+    }
+}
+
+/// A thread tells of its events behind each packet.
+#[test]
+fn each_packet_is_told_of(rt: HostRuntime) -> Result<(), Fail> {
+    static CASE: Case<'static> = Case {
+        words: &["ctreplay", "--summary", "--listen", NAME],
+        files: &[(NAME, Content::Ports(0x0a00_0001, 9))],
+        out: Text::Is("summary threads=1 packets=9 events=9 live=9\nNEW 9\nheard 0 9 of 9\nheard s 0 of 0\n"),
+        ..REPLAYED
+    };
+    let gate = Strict {
+        packets: AtomicU64::new(0),
+        heard: AtomicU64::new(0),
+        missed: AtomicU64::new(0),
+    };
+    holds_through(&rt, &CASE, &gate, 0)?;
+    let missed = gate.missed.load(Ordering::SeqCst);
+    assert_eq!(rt; missed, 0, "the thread waited in vain");
+    Ok(())
+}
+
+/// A gate at which the script waits for a capture's first packet before its first command, and before its second one until
+/// two events were heard; and the capture waits for these before its second packet.
+#[derive(Drop)]
+struct InTurn {
+    packets: AtomicU64,
+    commands: AtomicU64,
+    heard: AtomicU64,
+    missed: AtomicU64,
+}
+
+impl InTurn {
+    /// A thread waits until a count has come to so many.
+    fn wait_for(&self, count: &AtomicU64, least: u64) {
+        if !comes_in_time(count, least) {
+            self.missed.fetch_add(1, Ordering::SeqCst);
+        }
+    }
+}
+
+impl Gate for InTurn {
+    fn at(&self, worker: u32, crossing: Crossing) {
+        match (crossing, worker) {
+            (Crossing::BeforePacket, 0) => {
+                if self.packets.fetch_add(1, Ordering::SeqCst) == 1 {
+                    self.wait_for(&self.heard, 2);
+                }
+            }
+            (Crossing::BeforeCommand, 1) => {
+                if self.commands.fetch_add(1, Ordering::SeqCst) == 0 {
+                    self.wait_for(&self.packets, 2);
+                } else {
+                    self.wait_for(&self.heard, 2);
+                }
+            }
+            (Crossing::Heard, 2) => {
+                self.heard.fetch_add(1, Ordering::SeqCst);
+            }
+            (_, _) => {}
+        }
+    }
+}
+
+/// The script's thread tells of its events behind each command: of the flush before the next one, while the capture waits.
+#[test]
+fn each_command_is_told_of(rt: HostRuntime) -> Result<(), Fail> {
+    static CASE: Case<'static> = Case {
+        words: &["ctreplay", "--listen", "--script", SCRIPT, NAME],
+        files: &[
+            (SCRIPT, Content::Text("-F\n-C\n")),
+            (NAME, Content::Bytes(&CAPTURE)),
+        ],
+        out: Text::Around("events 3\n", "heard 0 2 of 2\nheard s 1 of 1\n"),
+        ..REPLAYED
+    };
+    let gate = InTurn {
+        packets: AtomicU64::new(0),
+        commands: AtomicU64::new(0),
+        heard: AtomicU64::new(0),
+        missed: AtomicU64::new(0),
+    };
+    holds_through(&rt, &CASE, &gate, 0)?;
+    let missed = gate.missed.load(Ordering::SeqCst);
+    assert_eq!(rt; missed, 0, "a thread waited in vain");
+    Ok(())
+}
+
+/// A gate that counts the notes that are heard, by whether the listener has the number behind two captures' and the script's.
+#[derive(Drop)]
+struct Numbered {
+    heard: AtomicU64,
+    others: AtomicU64,
+}
+
+impl Gate for Numbered {
+    fn at(&self, worker: u32, crossing: Crossing) {
+        if matches!(crossing, Crossing::Heard) {
+            let count = if worker == 3 { &self.heard } else { &self.others };
+            count.fetch_add(1, Ordering::SeqCst);
+        }
+    }
+}
+
+/// The listener passes the gate once for each note, under the number behind the script's.
+#[test]
+fn a_listener_has_the_number_behind_the_scripts(rt: HostRuntime) -> Result<(), Fail> {
+    static CASE: Case<'static> = Case {
+        words: &["ctreplay", "--summary", "--listen", NAME, SECOND],
+        files: &[(NAME, Content::Bytes(&CAPTURE)), (SECOND, ELSEWHERE)],
+        out: Text::Is(
+            "summary threads=2 packets=4 events=4 live=2\nNEW 2\nESTABLISHED_REPLY 2\nheard 0 2 of 2\nheard 1 2 of 2\nheard s 0 of 0\n",
+        ),
+        ..REPLAYED
+    };
+    let gate = Numbered {
+        heard: AtomicU64::new(0),
+        others: AtomicU64::new(0),
+    };
+    holds_through(&rt, &CASE, &gate, 0)?;
+    let heard = gate.heard.load(Ordering::SeqCst);
+    assert!(rt; heard <= 4, "a note heard twice");
+    let others = gate.others.load(Ordering::SeqCst);
+    assert_eq!(rt; others, 0, "a listener of another number");
     Ok(())
 }
 

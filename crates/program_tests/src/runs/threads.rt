@@ -28,10 +28,10 @@ struct Meeting {
     missed: AtomicU64,
 }
 
-/// Whether a flag is raised before the turns run out.
-pub fn is_raised_in_time(flag: &AtomicU64) -> bool {
+/// Whether a count comes to so many before the turns run out.
+pub fn comes_in_time(count: &AtomicU64, least: u64) -> bool {
     for turn in 0..TURNS {
-        if flag.load(Ordering::SeqCst) != 0 {
+        if count.load(Ordering::SeqCst) >= least {
             return true;
         }
         if turn % BREAK == 0 {
@@ -39,6 +39,11 @@ pub fn is_raised_in_time(flag: &AtomicU64) -> bool {
         }
     }
     false
+}
+
+/// Whether a flag is raised before the turns run out.
+pub fn is_raised_in_time(flag: &AtomicU64) -> bool {
+    comes_in_time(flag, 1)
 }
 
 impl Meeting {
