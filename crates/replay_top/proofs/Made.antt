@@ -34,30 +34,30 @@ use Rattle.room_list.specs.Roomed.{Roomed}
 pub inputs_replayed : (asked : Request) (inputs : Inputs) (captures : List Capture) (ftp : Roomed ℕ) (sizes : Sizes) {E : Type 0} (result : Result Replayed E)
     → map (given_of_capture false) captures ≡ map (given_of_capture asked.defrag) inputs.captures.items
     → ftp.items ≡ asked.ftp → sizes ≡ sizes_of asked
-    → IfOk result (λ made. IsWellFormed (record { setup = record { rules = inputs.rules; ftp = ftp }; sizes = sizes })
-    (work_of captures inputs.script) made.report)
-    → IfOk result (λ made. AreHeard (made_before_join (work_of captures inputs.script) made.report) made.listened)
-    → IfOk result (λ made. is_some made.listened ≡ asked.listen)
+    → IfOk result (λ done. IsWellFormed (record { setup = record { rules = inputs.rules; ftp = ftp }; sizes = sizes })
+    (work_of captures inputs.script) done.report)
+    → IfOk result (λ done. AreHeard (made_before_join (work_of captures inputs.script) done.report) done.listened)
+    → IfOk result (λ done. is_some done.listened ≡ asked.listen)
     → IfOk result (ReplaysInputs asked inputs)
-inputs_replayed asked inputs captures ftp sizes (Ok made) same copied sized well_formed heard listened =
+inputs_replayed asked inputs captures ftp sizes (Ok done) same copied sized well_formed heard listened =
     let so : work_of captures inputs.script ≡ work_in asked.defrag inputs.captures.items inputs.script =
     ap (λ (given : List (List Given)). record { captures = given; commands = inputs.script.commands.items; wait = inputs.script.wait }) same in
     record {
       setup = record { rules = inputs.rules; ftp = ftp };
       rules = refl;
       ftp = copied;
-      well_formed = subst (λ (w : Work). IsWellFormed (record { setup = record { rules = inputs.rules; ftp = ftp }; sizes = sizes_of asked }) w made.report) so
+      well_formed = subst (λ (w : Work). IsWellFormed (record { setup = record { rules = inputs.rules; ftp = ftp }; sizes = sizes_of asked }) w done.report) so
           (subst (λ (z : Sizes). IsWellFormed (record { setup = record { rules = inputs.rules; ftp = ftp }; sizes = z })
-          (work_of captures inputs.script) made.report) sized well_formed);
+          (work_of captures inputs.script) done.report) sized well_formed);
       listened = listened;
-      heard = subst (λ (w : Work). AreHeard (made_before_join w made.report) made.listened) so heard;
+      heard = subst (λ (w : Work). AreHeard (made_before_join w done.report) done.listened) so heard;
     }
 inputs_replayed asked inputs captures ftp sizes (Err error) same copied sized well_formed heard listened = tt
 
 -- what a listener heard of each thread
-heard_each : (made : List (List Note)) (listened : Option Listened) → AreHeard made listened → HeardEach made (heard_of listened)
-heard_each made None h = tt
-heard_each made (Some l) h = h.heard
+heard_each : (done : List (List Note)) (listened : Option Listened) → AreHeard done listened → HeardEach done (heard_of listened)
+heard_each done None h = tt
+heard_each done (Some l) h = h.heard
 
 -- and whether there was one
 heard_some : (listened : Option Listened) → is_some (heard_of listened) ≡ is_some listened
@@ -65,11 +65,11 @@ heard_some None = refl
 heard_some (Some l) = refl
 
 -- the lines of what was heard are those of the events that were made
-lines_of : (made : List (List Note)) (listened : Option Listened) → AreHeard made listened
-    → heard_text (counts_of listened) ≡ heard_lines made (heard_of listened)
+lines_of : (done : List (List Note)) (listened : Option Listened) → AreHeard done listened
+    → heard_text (counts_of listened) ≡ heard_lines done (heard_of listened)
 unfolding heard_text
-lines_of made None h = refl
-lines_of made (Some l) h = ap (λ (ms : List ℕ). heard_text (heard_counts ms (map length l.heard))) h.counted
+lines_of done None h = refl
+lines_of done (Some l) h = ap (λ (ms : List ℕ). heard_text (heard_counts ms (map length l.heard))) h.counted
 
 -- without a file of rules there are none, and without a script there is no command
 no_rules : (captures : List Capture) → rules_in (contents_in captures) ≡ []
@@ -164,14 +164,14 @@ worked files (made workload) defrag inputs gave = record {
 }
 
 -- what was replayed of what was read is what is asked for
-pub replay_made : (files : Source) (asked : Request) (inputs : Inputs) (made : Replayed) → GaveInputs files asked inputs
-    → ReplaysInputs asked inputs made → IsReplayWith files asked made
-replay_made files asked inputs made gave of =
+pub replay_made : (files : Source) (asked : Request) (inputs : Inputs) (done : Replayed) → GaveInputs files asked inputs
+    → ReplaysInputs asked inputs done → IsReplayWith files asked done
+replay_made files asked inputs done gave of =
     let all = worked files asked.origin asked.defrag inputs gave.origin in
     let same : work_in asked.defrag inputs.captures.items inputs.script ≡ work_asked asked all.bytes all.contents =
     all.work ∙ ap (λ (zones : List ℕ). work_with (given_in asked.defrag zones all.bytes all.contents) all.contents) gave.in_zones in
-    let heard : AreHeard (made_before_join (work_asked asked all.bytes all.contents) made.report) made.listened =
-    subst (λ (w : Work). AreHeard (made_before_join w made.report) made.listened) same of.heard in
+    let heard : AreHeard (made_before_join (work_asked asked all.bytes all.contents) done.report) done.listened =
+    subst (λ (w : Work). AreHeard (made_before_join w done.report) done.listened) same of.heard in
     record {
       replay = record {
         bytes = all.bytes;
@@ -180,11 +180,11 @@ replay_made files asked inputs made gave of =
         setup = of.setup;
         rules = ap (λ (r : Roomed Rule). r.items) of.rules ∙ all.rules;
         ftp = of.ftp;
-        well_formed = subst (λ (w : Work). IsWellFormed (record { setup = of.setup; sizes = sizes_of asked }) w made.report) same of.well_formed;
-        listened = heard_some made.listened ∙ of.listened;
-        heard_first = heard_each (made_before_join (work_asked asked all.bytes all.contents) made.report) made.listened heard;
+        well_formed = subst (λ (w : Work). IsWellFormed (record { setup = of.setup; sizes = sizes_of asked }) w done.report) same of.well_formed;
+        listened = heard_some done.listened ∙ of.listened;
+        heard_first = heard_each (made_before_join (work_asked asked all.bytes all.contents) done.report) done.listened heard;
       };
-      lines = lines_of (made_before_join (work_asked asked all.bytes all.contents) made.report) made.listened heard;
+      lines = lines_of (made_before_join (work_asked asked all.bytes all.contents) done.report) done.listened heard;
     }
 
 -- there is one for each file that was read

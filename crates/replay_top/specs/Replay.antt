@@ -94,9 +94,9 @@ text_of false report = report_text report
 text_of true report = summary_text report
 
 -- what is printed of what a listener heard of threads that made these events: a line for each of them, behind the report
-abbrev pub heard_lines : (made : List (List Note)) → (heard : Option (List (List Note))) → List ℕ
-heard_lines made None = []
-heard_lines made (Some heard) = heard_text (heard_counts (map length made) (map length heard))
+abbrev pub heard_lines : List (List Note) → Option (List (List Note)) → List ℕ
+heard_lines events None = []
+heard_lines events (Some heard) = heard_text (heard_counts (map length events) (map length heard))
 
 -- all that is printed of a run of this work
 abbrev pub printed : Bool → Work → Report → Option (List (List Note)) → List ℕ
