@@ -163,7 +163,6 @@ fn print<K: Sink>(
 }
 
 /// Replays what is asked for, and writes the report's text to `out`, or its summary, and what was heard.
-#[tactic(auto, using(crate::proofs::Printing::ends_done, crate::proofs::Printing::ends_not_written))]
 fn run<R: Threads + Wait + Sync, F: Files, K: Sink, G: Gate + Sync>(
     rt: &R,
     alloc: Global,
