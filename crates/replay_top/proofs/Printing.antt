@@ -1,7 +1,7 @@
 -- What is printed: a report or its summary, and then what was heard.
-use Rattle.std.proofs.Common.{◌≡◌, ℕ, zero, suc, ◌+◌, ◌<◌, ◌≤◌, List, [], ◌∷◌, ◌++◌, length, map, take, Option, Some, None, refl, sym, ap, subst, ◌∙◌, arith, append_assoc, length-append}
+use Rattle.std.proofs.Common.{◌≡◌, ℕ, zero, suc, ◌+◌, ◌<◌, ◌≤◌, List, [], ◌∷◌, ◌++◌, length, map, take, Option, Some, None, refl, sym, ap, subst, ◌∙◌, ap₂, arith, append_assoc, length-append, length-take}
 use Rattle.std.specs.Prelude.{Err, get_or, min, Ok, Result}
-use Rattle.std.proofs.lemmas.List.{take-append-le}
+use Rattle.std.proofs.lemmas.List.{take-append-le, take_more}
 use Rattle.std.proofs.Math.Seq.{take-append-add}
 use Rattle.command_words.specs.Words.{Request}
 use Rattle.ct_io.specs.Counts.{Rose}
@@ -47,14 +47,22 @@ wrote_less first second t u fault (rose, front) = (
 -- ---- how many were heard
 
 -- one thread more
+more_taken : (k : ℕ) (xs : List ℕ) (x : ℕ) → k < length xs → x ≡ get_or xs k x → take (k + 1) xs ≡ take k xs ++ x ∷ []
+more_taken k xs x below is = take_more xs k x below ∙ ap (λ (y : ℕ). take k xs ++ y ∷ []) (sym is)
+
+counts_behind : (made heard : List ℕ) (m h : ℕ) → length made ≡ length heard
+    → heard_counts (made ++ m ∷ []) (heard ++ h ∷ []) ≡ heard_counts made heard ++ record { heard = h; made = m } ∷ []
+counts_behind [] [] m h long = refl
+counts_behind [] (b ∷ heard) m h long = absurd (omega (arith, long))
+counts_behind (a ∷ made) [] m h long = absurd (omega (arith, long))
+counts_behind (a ∷ made) (b ∷ heard) m h long =
+    ap (λ (xs : List HeardCount). record { heard = b; made = a } ∷ xs) (counts_behind made heard m h (omega (arith, long)))
+
 pub counts_more : (k : ℕ) (made heard : List ℕ) (m h : ℕ) → k < length made → k < length heard → m ≡ get_or made k m → h ≡ get_or heard k h
     → heard_counts (take (k + 1) made) (take (k + 1) heard) ≡ heard_counts (take k made) (take k heard) ++ record { heard = h; made = m } ∷ []
-counts_more k [] heard m h below also is so = absurd (omega (arith, below))
-counts_more k (a ∷ made) [] m h below also is so = absurd (omega (arith, also))
-counts_more zero (a ∷ made) (b ∷ heard) m h below also is so =
-    λ i. record { heard = (sym so) i; made = (sym is) i } ∷ []
-counts_more (suc k) (a ∷ made) (b ∷ heard) m h below also is so =
-    ap (λ (xs : List HeardCount). record { heard = b; made = a } ∷ xs) (counts_more k made heard m h (omega (arith, below)) (omega (arith, also)) is so)
+counts_more k made heard m h below also is so =
+    ap₂ heard_counts (more_taken k made m below is) (more_taken k heard h also so)
+    ∙ counts_behind (take k made) (take k heard) m h (omega (arith, below, also, length-take k made, length-take k heard))
 
 -- all threads
 pub counts_all : (k : ℕ) (made heard : List ℕ) → k ≡ min (length made) (length heard) → heard_counts (take k made) (take k heard) ≡ heard_counts made heard

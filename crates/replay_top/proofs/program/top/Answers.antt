@@ -13,18 +13,20 @@ returns-in-Done-clause-exact g c = λ found finds.
     let words = map (string_bytes {Z = Global}) c.args.words.now in
     let replay : IsReplay words (g.F.Files.source c.args.files.now) c.in-Done.made.report (heard_of c.in-Done.made.listened) =
     record { asked = asked_as c.in-Ok.asked; says = c.in-Ok.ensures.exact; holds = c.in-Done.ensures.ends.0.replay } in
-    answers_done c.given_is_told.ensures.all c.words_say_one.ensures.all words
+    rw c.run_with.ensures.status
+    (answers_done c.given_is_told.ensures.all c.words_say_one.ensures.all words
     (g.F.Files.source c.args.files.now) (g.F.Files.source c.run.new.files) (g.K.Sink.tape c.args.out.now) (g.K.Sink.tape c.run.new.out)
-    c.in-Done.made.report (heard_of c.in-Done.made.listened) found replay finds
+    c.in-Done.made.report (heard_of c.in-Done.made.listened) found replay finds)
 
 pub returns-in-NotWritten-clause-exact : goal.returns-in-NotWritten-clause-exact
 returns-in-NotWritten-clause-exact g c = λ found finds.
     let words = map (string_bytes {Z = Global}) c.args.words.now in
     let replay : IsReplay words (g.F.Files.source c.args.files.now) c.in-NotWritten.made.report (heard_of c.in-NotWritten.made.listened) =
     record { asked = asked_as c.in-Ok.asked; says = c.in-Ok.ensures.exact; holds = c.in-NotWritten.ensures.ends.0.replay } in
-    answers_not_written c.given_is_told.ensures.all c.words_say_one.ensures.all words
+    rw c.run_with-in-NotWritten.ensures.status
+    (answers_not_written c.given_is_told.ensures.all c.words_say_one.ensures.all words
     (g.F.Files.source c.args.files.now) (g.F.Files.source c.run.new.files) (g.K.Sink.tape c.args.out.now) (g.K.Sink.tape c.run.new.out)
-    c.in-NotWritten.made.report (heard_of c.in-NotWritten.made.listened) found replay c.in-NotWritten.ensures.ends.0.failed finds
+    c.in-NotWritten.made.report (heard_of c.in-NotWritten.made.listened) found replay c.in-NotWritten.ensures.ends.0.failed finds)
 
 pub returns-clause-refused : goal.returns-clause-refused
 returns-clause-refused g c = λ done written.
