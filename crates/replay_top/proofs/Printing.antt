@@ -1,20 +1,21 @@
 -- What is printed: a report or its summary, and then what was heard.
 use Rattle.std.proofs.Common.{◌≡◌, ℕ, zero, suc, ◌+◌, ◌<◌, ◌≤◌, List, [], ◌∷◌, ◌++◌, length, map, take, Option, Some, None, refl, sym, ap, subst, ◌∙◌, ap₂, arith, append_assoc, length-append, length-take}
-use Rattle.std.specs.Prelude.{Err, get_or, min, Ok, Result}
-use Rattle.std.proofs.lemmas.List.{take-append-le, take_more}
+use Rattle.std.specs.Prelude.{Err, get_or, min, Ok, option_map, Result, slice_get}
+use Rattle.std.proofs.lemmas.List.{length-map, take-append-le, take_more}
+use Rattle.std.proofs.lemmas.Option.{get_or_from_slice_get, slice_get-map, slice_get_within}
 use Rattle.std.proofs.Math.Seq.{take-append-add}
 use Rattle.command_words.specs.Words.{Request}
 use Rattle.ct_io.specs.Counts.{Rose}
 use Rattle.ct_io.specs.Source.{SameFaults, Source}
 use Rattle.ct_io.specs.Tape.{Tape}
+use Rattle.history_book.specs.declared.event.Note.{Note}
 use Rattle.report_text.specs.declared.heard.HeardCount.{HeardCount}
 use Rattle.report_text.specs.declared.write.WriteFault.{WriteFault}
 use Rattle.report_text.specs.Heard.{heard_counts, heard_text}
 use Rattle.report_text.specs.Wrote.{followed_by, Wrote, WroteFront}
 use Rattle.replay_runs.specs.Heard.{made_before_join}
-use Rattle.replay_top.specs.declared.ending.Ending.TheVariants.{Done, NotWritten}
 use Rattle.replay_top.specs.declared.ending.Replayed.{Replayed}
-use Rattle.replay_top.specs.Internal.Ending.{counts_of, Ends, heard_of, IsReplayWith}
+use Rattle.replay_top.specs.Internal.Ending.{counts_of, ended, Ends, heard_of, IsReplayWith}
 use Rattle.replay_top.specs.Replay.{heard_lines, printed, text_of, work_asked}
 
 -- one text, and then another
@@ -47,9 +48,6 @@ wrote_less first second t u fault (rose, front) = (
 -- ---- how many were heard
 
 -- one thread more
-more_taken : (k : ℕ) (xs : List ℕ) (x : ℕ) → k < length xs → x ≡ get_or xs k x → take (k + 1) xs ≡ take k xs ++ x ∷ []
-more_taken k xs x below is = take_more xs k x below ∙ ap (λ (y : ℕ). take k xs ++ y ∷ []) (sym is)
-
 counts_behind : (made heard : List ℕ) (m h : ℕ) → length made ≡ length heard
     → heard_counts (made ++ m ∷ []) (heard ++ h ∷ []) ≡ heard_counts made heard ++ record { heard = h; made = m } ∷ []
 counts_behind [] [] m h long = refl
@@ -58,11 +56,16 @@ counts_behind (a ∷ made) [] m h long = absurd (omega (arith, long))
 counts_behind (a ∷ made) (b ∷ heard) m h long =
     ap (λ (xs : List HeardCount). record { heard = b; made = a } ∷ xs) (counts_behind made heard m h (omega (arith, long)))
 
-pub counts_more : (k : ℕ) (made heard : List ℕ) (m h : ℕ) → k < length made → k < length heard → m ≡ get_or made k m → h ≡ get_or heard k h
-    → heard_counts (take (k + 1) made) (take (k + 1) heard) ≡ heard_counts (take k made) (take k heard) ++ record { heard = h; made = m } ∷ []
-counts_more k made heard m h below also is so =
-    ap₂ heard_counts (more_taken k made m below is) (more_taken k heard h also so)
-    ∙ counts_behind (take k made) (take k heard) m h (omega (arith, below, also, length-take k made, length-take k heard))
+pub counts_more : (k : ℕ) (made : List ℕ) (heard : List (List Note)) (notes : List Note) (h : ℕ) → k < length made → slice_get heard k ≡ Some notes
+    → h ≡ length notes → heard_counts (take (k + 1) made) (take (k + 1) (map length heard))
+    ≡ heard_counts (take k made) (take k (map length heard)) ++ record { heard = h; made = get_or made k 0 } ∷ []
+counts_more k made heard notes h below is long =
+    let lengths : List ℕ = map length heard in
+    let within : k < length lengths = subst (λ (n : ℕ). k < n) (sym (length-map heard length)) (slice_get_within heard k notes is) in
+    let here : get_or lengths k 0 ≡ h =
+    get_or_from_slice_get lengths k (length notes) 0 (slice_get-map length heard k ∙ ap (option_map length) is) ∙ sym long in
+    ap₂ heard_counts (take_more made k 0 below) (take_more lengths k 0 within ∙ ap (λ (y : ℕ). take k lengths ++ y ∷ []) here)
+    ∙ counts_behind (take k made) (take k lengths) (get_or made k 0) h (omega (arith, below, within, length-take k made, length-take k lengths))
 
 -- all threads
 pub counts_all : (k : ℕ) (made heard : List ℕ) → k ≡ min (length made) (length heard) → heard_counts (take k made) (take k heard) ≡ heard_counts made heard
@@ -85,12 +88,10 @@ module _ (files files' : Source) (asked : Request) (made : Replayed) (out out' :
       ap (λ (cs : List HeardCount). text_of asked.summary made.report ++ heard_text cs) are
       ∙ ap (λ (lines : List ℕ). text_of asked.summary made.report ++ lines) with.lines
 
-  pub ends_done : Wrote (text_of asked.summary made.report ++ heard_text counts) out out' (Ok tt) → Ends asked files files' out out' (Done made)
-  ends_done (is, still) = (record { replay = with.replay; text = is ∙ ap (followed_by out.written) all_printed }, same, still)
-
-  pub ends_not_written : (fault : WriteFault) → Wrote (text_of asked.summary made.report ++ heard_text counts) out out' (Err fault)
-      → Ends asked files files' out out' (NotWritten made)
-  ends_not_written fault (rose, front) = (
+  pub ends_so : (written : Result (Unit {0}) WriteFault) → Wrote (text_of asked.summary made.report ++ heard_text counts) out out' written
+      → Ends asked files files' out out' (ended written made)
+  ends_so (Ok done) (is, still) = (record { replay = with.replay; text = is ∙ ap (followed_by out.written) all_printed }, same, still)
+  ends_so (Err fault) (rose, front) = (
     record {
       replay = with.replay;
       failed = rose;

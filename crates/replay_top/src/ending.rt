@@ -1,12 +1,13 @@
 //! How a run ends.
 
 ghost use Rattle.std.specs.Prelude.{◌≡◌, None, Some};
-ghost use Rattle.replay_top.specs.Internal.Ending.{heard_of, refusal_for};
+ghost use Rattle.replay_top.specs.Internal.Ending.{ended, heard_of, refusal_for};
 
 use command_words::WordsError;
 use event_listen::heard::Heard;
 use history_book::report::Report;
 use replay_runs::listened::Listened;
+use report_text::write::WriteFault;
 use run_inputs::Refusal;
 
 /// What a replay gives: its report, and what a listener heard where one was asked for.
@@ -25,6 +26,16 @@ pub enum Ending {
     NotWritten(Replayed),
     /// There is no report, and nothing was written.
     Refused(Refusal),
+}
+
+/// How a run ends whose text was written so.
+pub fn ended(written: Result<(), WriteFault>, made: Replayed) -> Ending
+    ensures { result ≡ ended written made }
+{
+    match written {
+        Ok(()) => Ending::Done(made),
+        Err(_) => Ending::NotWritten(made),
+    }
 }
 
 /// What a run gives to its caller: the status of the program, the report where there is one, and beside that what a

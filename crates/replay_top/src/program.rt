@@ -17,7 +17,7 @@ ghost use Rattle.report_text.specs.Heard.{heard_text};
 ghost use Rattle.report_text.specs.Wrote.{Wrote};
 ghost use Rattle.run_inputs.specs.Files.{files_named, files_of};
 
-use crate::ending::{Ending, Replayed, Run, refusal_for, run_with, run_without};
+use crate::ending::{Ending, Replayed, Run, ended, refusal_for, run_with, run_without};
 use crate::error_line::{name_among, tell_not_written, tell_refusal};
 use crate::reassembly::as_replayed;
 use crate::replay::replay;
@@ -189,16 +189,14 @@ fn run<R: Threads + Wait + Sync, F: Files, K: Sink, G: Gate + Sync>(
         Ok(buffer) => buffer,
         Err(_) => return Ending::Refused(Refusal::NoMemory),
     };
-    match print(
+    let written = print(
         asked.summary,
         &made.report,
         counts.as_slice(),
         buffer.as_mut_slice(),
         out,
-    ) {
-        Ok(()) => Ending::Done(made),
-        Err(_) => Ending::NotWritten(made),
-    }
+    );
+    ended(written, made)
 }
 
 /// A run that is refused, which tells so in its line.

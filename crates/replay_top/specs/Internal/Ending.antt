@@ -18,6 +18,7 @@ use Rattle.replay_runs.specs.Heard.{made_before_join}
 use Rattle.replay_top.specs.declared.ending.Replayed.{Replayed}
 use Rattle.replay_top.specs.Replay.{heard_lines, IsCutShortFor, IsPrintedFor, IsReplayOf, work_asked}
 use Rattle.report_text.specs.declared.heard.HeardCount.{HeardCount}
+use Rattle.report_text.specs.declared.write.WriteFault.{WriteFault}
 use Rattle.report_text.specs.Heard.{heard_counts, heard_text}
 use Rattle.run_inputs.specs.Files.{file_at, files_of, InputFile}
 
@@ -65,6 +66,11 @@ abbrev pub Replays : Request → Source → Source → Result Replayed Refusal �
 Replays asked files files' (Ok made) = IsReplayWith files asked made × SameFaults files files'
 Replays asked files files' (Err why) =
     HasCauseFrom (part_of no_totals 0 (files_of asked)) files files' why × SameFaultsBut why files files'
+
+-- how a run ends whose text was written, or only its front
+abbrev pub ended : Result (Unit {0}) WriteFault → Replayed → Ending
+ended (Ok done) made = Done made
+ended (Err fault) made = NotWritten made
 
 -- how a run that is asked for ends: what it did with the files, and what it wrote
 abbrev pub Ends : Request → Source → Source → Tape → Tape → Ending → Type 0
