@@ -6,3 +6,4 @@ pub mod SameBytes
 pub mod SamePackets
 pub mod SamePayload
 pub mod LaidOut
+pub mod TcpPlace

@@ -13,6 +13,7 @@ pub mod IcmpHeader
 pub mod IcmpError
 pub mod IcmpPacket
 pub mod Classify
+pub mod TcpNumbers
 pub mod ClassifySound
 pub mod ClassifyLaws
 pub mod LayoutLaws

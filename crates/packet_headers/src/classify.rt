@@ -17,6 +17,7 @@ use crate::byte_order::big_u16_at;
 use crate::frame::{Frame, Link};
 use crate::packet::{Packet, Untracked};
 use icmp::icmp_packet;
+pub(crate) use ipv4::header_length;
 pub use ipv4::{Addresses, Ipv4Payload};
 use ipv4::{has_ipv4_header, ipv4_payload, is_fragment, tracked_protocol};
 use tcp::tcp_packet;
@@ -24,7 +25,7 @@ use tuple_core::Proto;
 use udp::udp_packet;
 
 /// The bytes of an Ethernet header: two addresses and a type.
-const ETHERNET_HEADER: usize = 14;
+pub(crate) const ETHERNET_HEADER: usize = 14;
 
 /// The type of an Ethernet frame with an IPv4 packet (RFC 894).
 const ETHERTYPE_IPV4: u16 = 0x0800;

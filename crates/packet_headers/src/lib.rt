@@ -9,6 +9,7 @@ pub mod classify_laws;
 pub mod frame;
 pub mod layout_laws;
 pub mod packet;
+pub mod tcp_numbers;
 
 pub use byte_order::Endian;
 pub use room_list::Bytes;
