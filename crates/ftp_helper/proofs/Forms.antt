@@ -1,5 +1,5 @@
 -- The four forms: what is read is named, what is named is read, and no payload has two forms of its direction.
-use Rattle.std.proofs.Common.{◌≡◌, ◌∙◌, ℕ, Bool, true, false, not, List, [], ◌∷◌, ◌++◌, take, drop, Some, None, arith, refl, sym, ap, subst, codes, append_assoc, if◌then◌else◌}
+use Rattle.std.proofs.Common.{◌≡◌, ◌∙◌, ℕ, ◌+◌, ◌-◌, Bool, true, false, not, List, [], ◌∷◌, ◌++◌, length, length-append, take, drop, Some, None, arith, refl, sym, ap, subst, codes, append_assoc, if◌then◌else◌}
 use Rattle.std.specs.Char.{is_ascii_digit}
 use Rattle.std.specs.List.{list_all}
 use Rattle.std.specs.Str.{all_ascii_digits, byte}
@@ -8,9 +8,12 @@ use Rattle.std.proofs.lemmas.Bool.{and_parts}
 use Rattle.std.proofs.lemmas.Bool.Decides.{nat_tests}
 use Rattle.std.proofs.lemmas.List.{take-append-drop}
 use Rattle.std.proofs.lemmas.List.Sums.{AllPass-from_list_all, list_all-from_AllPass}
+use Rattle.ftp_helper.specs.declared.payload.EndSpan.{EndSpan}
 use Rattle.ftp_helper.specs.declared.payload.NamedEnd.{NamedEnd}
+use Rattle.ftp_helper.specs.declared.payload.FoundEnd.{FoundEnd}
 use Rattle.ftp_helper.specs.Payload.{AreNumbers, is_before_numbers, is_before_parenthesis, is_line_end, IsEprtCommand, IsExtendedPassiveReply, IsHost, IsHostPort, IsNumber, IsPassiveReply, IsPort, IsPortCommand}
-use Rattle.ftp_helper.specs.Internal.Reading.{at_line_end, ends_before_numbers, eprt_command_at, extended_passive_reply_at, is_no_digit, passive_reply_at, port_command_at}
+use Rattle.ftp_helper.specs.Internal.Reading.{at_line_end, ends_before_numbers, eprt_command_at, extended_passive_reply_at, is_no_digit, naming_of, passive_reply_at, port_command_at, span_between}
+use Rattle.ftp_helper.specs.Span.{eprt_span, extended_span, passive_span, port_span, text_span}
 use Rattle.ftp_helper.proofs.Pieces.{after_finds, after_gives, Begins, command_finds, command_gives, decimal_finds, decimal_gives, place_found, place_gives, went_on}
 use Rattle.ftp_helper.proofs.Numbers.{end_is, host_finds, host_gives, host_port_finds, host_port_gives}
 
@@ -37,16 +40,37 @@ line_end_finds x stop rest test = rw test refl
 no_digit_at_line_end : (b : ℕ) → is_line_end b ≡ true → is_no_digit b ≡ true
 no_digit_at_line_end b test = grind (arith, nat_tests)
 
+-- the bytes that name an end
+
+span_is : (payload text rest before named : List ℕ) → length payload ≡ length before + length text → length text ≡ length named + length rest
+    → span_between payload text rest ≡ text_span before named
+span_is payload text rest before named behind then_rest =
+    let start : length payload - length text ≡ length before = omega arith in
+    let stop : length payload - length rest ≡ length before + length named = omega arith in
+    λ i. record { start = start i; end = stop i }
+
+naming_is : (end other : NamedEnd) (span twin : EndSpan) → end ≡ other → span ≡ twin → naming_of end span ≡ naming_of other twin
+naming_is end other span twin same alike = λ i. naming_of (same i) (alike i)
+
+length2 : (a b : List ℕ) → length (a ++ b) ≡ length a + length b
+length2 a b = length-append a b
+
+length3 : (a b c : List ℕ) → length (a ++ (b ++ c)) ≡ length (a ++ b) + length c
+length3 a b c = simp length-append (omega arith)
+
+length4 : (a b c d : List ℕ) → length (a ++ (b ++ (c ++ d))) ≡ length (a ++ b ++ c) + length d
+length4 a b c d = simp length-append (omega arith)
+
 -- PORT
 
-pub port_gives : (payload : List ℕ) (end : NamedEnd) → port_command_at payload ≡ Some end → IsPortCommand payload end
+pub port_gives : (payload : List ℕ) (naming : FoundEnd) → port_command_at payload ≡ Some naming → IsPortCommand payload naming.end
 unfolding port_command_at
-port_gives payload end found =
+port_gives payload naming found =
     let (text, text_is, more) = went_on _ _ _ found in
     let (x, x_is, last) = went_on _ _ _ more in
     let command = command_gives (codes "PORT ") payload text text_is in
     let named = host_port_gives text x x_is in
-    let line = line_end_gives x.0 x.1 end last in
+    let line = line_end_gives (naming_of x.0 (span_between payload text x.1)) x.1 naming last in
     record {
       command = command.command;
       text = named.named;
@@ -54,11 +78,11 @@ port_gives payload end found =
       rest = line.rest;
       whole = command.whole ∙ (ap (λ (z : List ℕ). command.command ++ z) (named.whole ∙ ap (λ (z : List ℕ). named.named ++ z) line.whole) ∙ simp append_assoc);
       is_command = command.is_command;
-      is_text = subst (IsHostPort named.named) line.same named.is_named;
+      is_text = subst (λ (n : FoundEnd). IsHostPort named.named n.end) line.same named.is_named;
       at_line_end = line.is_stop;
     }
 
-pub port_finds : (payload : List ℕ) (end : NamedEnd) → IsPortCommand payload end → port_command_at payload ≡ Some end
+pub port_finds : (payload : List ℕ) (end : NamedEnd) (is : IsPortCommand payload end) → port_command_at payload ≡ Some (naming_of end (port_span payload end is))
 unfolding port_command_at
 port_finds payload end is =
     let apart : payload ≡ is.command ++ (is.text ++ is.stop ∷ is.rest) = is.whole ∙ simp append_assoc in
@@ -66,8 +90,11 @@ port_finds payload end is =
       apart,
       command_finds (codes "PORT ") is.command (is.text ++ is.stop ∷ is.rest) is.is_command,
       host_port_finds is.text (is.stop ∷ is.rest) end is.is_text (no_digit_at_line_end is.stop is.at_line_end),
+      is.at_line_end,
     )
-    (line_end_finds end is.stop is.rest is.at_line_end)
+    (ap Some (naming_is end end _ _ refl
+    (span_is (is.command ++ (is.text ++ is.stop ∷ is.rest)) (is.text ++ is.stop ∷ is.rest) (is.stop ∷ is.rest) is.command is.text
+    (length2 is.command (is.text ++ is.stop ∷ is.rest)) (length2 is.text (is.stop ∷ is.rest)))))
 
 pub regrouped : (a b c d e f : List ℕ) → a ++ b ++ c ++ d ++ e ++ f ≡ a ++ (b ++ (c ++ (d ++ (e ++ f))))
 regrouped a b c d e f = simp append_assoc
@@ -79,9 +106,9 @@ joined a b c d e f whole1 whole2 whole3 whole4 whole5 is1 is2 is3 is4 is5 =
 
 -- EPRT
 
-pub eprt_gives : (payload : List ℕ) (end : NamedEnd) → eprt_command_at payload ≡ Some end → IsEprtCommand payload end
+pub eprt_gives : (payload : List ℕ) (naming : FoundEnd) → eprt_command_at payload ≡ Some naming → IsEprtCommand payload naming.end
 unfolding eprt_command_at
-eprt_gives payload end found =
+eprt_gives payload naming found =
     let (text, text_is, more1) = went_on _ _ _ found in
     let (host, host_is, more2) = went_on _ _ _ more1 in
     let (opened, opened_is, more3) = went_on _ _ _ more2 in
@@ -92,7 +119,7 @@ eprt_gives payload end found =
     let bar = after_gives (codes "|") host.1 opened opened_is in
     let number = decimal_gives 5 65535 opened port port_is in
     let bar2 = after_gives (codes "|") port.1 closed closed_is in
-    let line = line_end_gives (record { address = Some host.0; port = port.0 }) closed end last in
+    let line = line_end_gives (naming_of (record { address = Some host.0; port = port.0 }) (span_between payload text port.1)) closed naming last in
     record {
       command = command.command;
       host = address.host;
@@ -105,12 +132,12 @@ eprt_gives payload end found =
           (bar2 ∙ ap (λ (z : List ℕ). codes "|" ++ z) line.whole);
       is_command = command.is_command;
       is_host = address.is_host;
-      is_port = subst (λ (e : NamedEnd). IsPort number.digits e.port) line.same number.is_number;
-      at_host = sym (ap (λ (e : NamedEnd). e.address) line.same);
+      is_port = subst (λ (n : FoundEnd). IsPort number.digits n.end.port) line.same number.is_number;
+      at_host = sym (ap (λ (n : FoundEnd). n.end.address) line.same);
       at_line_end = line.is_stop;
     }
 
-pub eprt_finds : (payload : List ℕ) (end : NamedEnd) → IsEprtCommand payload end → eprt_command_at payload ≡ Some end
+pub eprt_finds : (payload : List ℕ) (end : NamedEnd) (is : IsEprtCommand payload end) → eprt_command_at payload ≡ Some (naming_of end (eprt_span payload end is))
 unfolding eprt_command_at
 eprt_finds payload end is =
     let line : List ℕ = is.stop ∷ is.rest in
@@ -123,8 +150,12 @@ eprt_finds payload end is =
       after_finds (codes "|") (is.port ++ (codes "|" ++ line)),
       decimal_finds 5 65535 is.port (codes "|" ++ line) end.port is.is_port refl,
       after_finds (codes "|") line,
+      is.at_line_end,
     )
-    (rw is.at_line_end (ap Some (end_is end (Some is.address) end.port is.at_host refl)))
+    (ap Some (naming_is _ end _ _ (end_is end (Some is.address) end.port is.at_host refl)
+    (span_is (is.command ++ (is.host ++ (codes "|" ++ (is.port ++ (codes "|" ++ line))))) (is.host ++ (codes "|" ++ (is.port ++ (codes "|" ++ line)))) (codes "|" ++ line)
+    is.command (is.host ++ codes "|" ++ is.port)
+    (length2 is.command (is.host ++ (codes "|" ++ (is.port ++ (codes "|" ++ line))))) (length4 is.host (codes "|") is.port (codes "|" ++ line)))))
 
 -- 227
 
@@ -146,17 +177,18 @@ passive_ended payload text named (b ∷ bs) end at stop reply all whole is = rec
     unset true h = absurd (cc)
     unset false h = refl
 
-pub passive_gives : (payload : List ℕ) (end : NamedEnd) → passive_reply_at payload ≡ Some end → IsPassiveReply payload end
+pub passive_gives : (payload : List ℕ) (naming : FoundEnd) → passive_reply_at payload ≡ Some naming → IsPassiveReply payload naming.end
 unfolding passive_reply_at
-passive_gives payload end found =
+passive_gives payload naming found =
     let (text, text_is, more1) = went_on _ _ _ found in
     let (at, at_is, more2) = went_on _ _ _ more1 in
     let (x, x_is, last) = went_on _ _ _ more2 in
     let reply = after_gives (codes "227 ") payload text text_is in
     let place = place_gives is_before_numbers text at at_is in
     let named = host_port_gives (drop at text) x x_is in
-    let same : x.0 ≡ end = cc in
-    passive_ended payload text named.named x.1 end at named.stop reply place.all named.whole (subst (IsHostPort named.named) same named.is_named)
+    let whole : naming_of x.0 (span_between payload (drop at text) x.1) ≡ naming = cc in
+    let same : x.0 ≡ naming.end = ap (λ (n : FoundEnd). n.end) whole in
+    passive_ended payload text named.named x.1 naming.end at named.stop reply place.all named.whole (subst (IsHostPort named.named) same named.is_named)
 
 digit_at : (b : ℕ) (bs : List ℕ) → all_ascii_digits (b ∷ bs) ≡ true → is_ascii_digit b ≡ true
 digit_at b bs all = (and_parts (is_ascii_digit b) (all_ascii_digits bs) all).0
@@ -187,7 +219,7 @@ at_numbers : (text : List ℕ) → Begins is_ascii_digit text → Begins ends_be
 at_numbers [] begins = absurd begins
 at_numbers (b ∷ bs) begins = rw begins refl
 
-pub passive_finds : (payload : List ℕ) (end : NamedEnd) → IsPassiveReply payload end → passive_reply_at payload ≡ Some end
+pub passive_finds : (payload : List ℕ) (end : NamedEnd) (is : IsPassiveReply payload end) → passive_reply_at payload ≡ Some (naming_of end (passive_span payload end is))
 unfolding passive_reply_at
 passive_finds payload end is =
     let behind : List ℕ = is.text ++ is.stop ∷ is.rest in
@@ -199,13 +231,16 @@ passive_finds payload end is =
           (at_numbers behind (named_begins is.text (is.stop ∷ is.rest) end is.is_text)),
       drop-append_seam is.before behind,
       host_port_finds is.text (is.stop ∷ is.rest) end is.is_text (ap not is.no_digit),
-    ) refl
+    )
+    (ap Some (naming_is end end _ _ refl
+    (span_is (codes "227 " ++ (is.before ++ behind)) behind (is.stop ∷ is.rest) (codes "227 " ++ is.before) is.text
+    (length3 (codes "227 ") is.before behind) (length2 is.text (is.stop ∷ is.rest)))))
 
 -- 229
 
-pub extended_gives : (payload : List ℕ) (end : NamedEnd) → extended_passive_reply_at payload ≡ Some end → IsExtendedPassiveReply payload end
+pub extended_gives : (payload : List ℕ) (naming : FoundEnd) → extended_passive_reply_at payload ≡ Some naming → IsExtendedPassiveReply payload naming.end
 unfolding extended_passive_reply_at
-extended_gives payload end found =
+extended_gives payload naming found =
     let (text, text_is, more1) = went_on _ _ _ found in
     let (at, at_is, more2) = went_on _ _ _ more1 in
     let (opened, opened_is, more3) = went_on _ _ _ more2 in
@@ -216,7 +251,7 @@ extended_gives payload end found =
     let opening = after_gives (codes "(|||") (drop at text) opened opened_is in
     let number = decimal_gives 5 65535 opened port port_is in
     let closing = after_gives (codes "|)") port.1 closed closed_is in
-    let same : record { address = None; port = port.0 } ≡ end = cc in
+    let same : naming_of (record { address = None; port = port.0 }) (span_between payload opened port.1) ≡ naming = cc in
     record {
       before = take at text;
       port = number.digits;
@@ -224,11 +259,12 @@ extended_gives payload end found =
       whole = joined (codes "229 ") (take at text) (codes "(|||") number.digits (codes "|)") closed
           payload text (drop at text) opened port.1 reply (sym (take-append-drop at text)) opening number.whole closing;
       is_before = AllPass-from_list_all is_before_parenthesis (take at text) place.all;
-      is_port = subst (λ (e : NamedEnd). IsPort number.digits e.port) same number.is_number;
-      at_server = sym (ap (λ (e : NamedEnd). e.address) same);
+      is_port = subst (λ (n : FoundEnd). IsPort number.digits n.end.port) same number.is_number;
+      at_server = sym (ap (λ (n : FoundEnd). n.end.address) same);
     }
 
-pub extended_finds : (payload : List ℕ) (end : NamedEnd) → IsExtendedPassiveReply payload end → extended_passive_reply_at payload ≡ Some end
+pub extended_finds : (payload : List ℕ) (end : NamedEnd) (is : IsExtendedPassiveReply payload end)
+    → extended_passive_reply_at payload ≡ Some (naming_of end (extended_span payload end is))
 unfolding extended_passive_reply_at
 extended_finds payload end is =
     let closing : List ℕ = codes "|)" ++ is.rest in
@@ -244,4 +280,6 @@ extended_finds payload end is =
       decimal_finds 5 65535 is.port closing end.port is.is_port refl,
       after_finds (codes "|)") is.rest,
     )
-    (ap Some (end_is end None end.port is.at_server refl))
+    (ap Some (naming_is _ end _ _ (end_is end None end.port is.at_server refl)
+    (span_is (codes "229 " ++ (is.before ++ behind)) (is.port ++ closing) closing (codes "229 " ++ is.before ++ codes "(|||") is.port
+    (length4 (codes "229 ") is.before (codes "(|||") (is.port ++ closing)) (length2 is.port closing))))

@@ -1,9 +1,14 @@
 //! What holds of every payload: the law is the contract of a function that does nothing.
 
-ghost use Rattle.ftp_helper.specs.Laws.{NamedEndsAreUnique};
+ghost use Rattle.ftp_helper.specs.Laws.{NamedEndsAreUnique, NamingBytesAreUnique};
 
 /// A payload names one end at most.
 #[tactic(auto, using(crate::proofs::Naming::one_end))]
 pub fn named_ends_are_unique()
     ensures { NamedEndsAreUnique }
+{}
+
+/// It names that by the same bytes.
+pub fn naming_bytes_are_unique()
+    ensures { NamingBytesAreUnique }
 {}

@@ -203,3 +203,40 @@ fn wants(rt: HostRuntime) {
         assert_eq!(rt; wanted(direction, address), want, "{address:?}");
     }
 }
+
+/// Where the bytes that name an end stand in a payload; twice 0 where it names nothing.
+fn spanned(direction: Direction, payload: &[u8]) -> (usize, usize) {
+    match end_span(direction, payload) {
+        None => (0, 0),
+        Some(span) => (span.start, span.end),
+    }
+}
+
+#[test]
+fn spans(rt: HostRuntime) {
+    let cases = [
+        (Original, "PORT 10,0,0,1,156,65\r\n", (5, 20)),
+        (Original, "port 010,000,00,001,156,065\rx", (5, 27)),
+        (Original, "PORT 10,0,0,1,0,0\r\n", (0, 0)),
+        (Original, "EPRT |1|10.0.0.1|40001|\r\n", (8, 22)),
+        (Original, "EPRT |1|0.0.0.0|1|\n", (8, 17)),
+        (Original, "EPRT |1|10.0.0.1|40001\r\n", (0, 0)),
+        (
+            Reply,
+            "227 Entering Passive Mode (10,0,0,1,156,65).\r\n",
+            (27, 42),
+        ),
+        (Reply, "227 10,0,0,1,156,65\n", (4, 19)),
+        (Reply, "227 10,0,0,1,156,0\r\n", (4, 18)),
+        (
+            Reply,
+            "229 Entering Extended Passive Mode (|||40001|)\r\n",
+            (39, 44),
+        ),
+        (Reply, "229 (|||0|)", (0, 0)),
+        (Reply, "", (0, 0)),
+    ];
+    for (direction, payload, want) in cases {
+        assert_eq!(rt; spanned(direction, payload.as_bytes()), want, "{payload}");
+    }
+}

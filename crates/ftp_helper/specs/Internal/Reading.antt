@@ -1,11 +1,13 @@
 -- How a payload is read from its front: what each step reads, and what stands behind it.
-use Rattle.std.specs.Prelude.{◌≡◌, ℕ, ◌+◌, ◌*◌, ◌^◌, ◌&&◌, Bool, false, not, nat_lt, nat_le, if◌then◌else◌, List, [], ◌∷◌, length, take, drop, position, Option, Some, None, option_and_then, codes, bytes_eq}
+use Rattle.std.specs.Prelude.{◌≡◌, ℕ, ◌+◌, ◌-◌, ◌*◌, ◌^◌, ◌&&◌, Bool, false, not, nat_lt, nat_le, if◌then◌else◌, List, [], ◌∷◌, length, take, drop, position, Option, Some, None, option_and_then, codes, bytes_eq}
 use Rattle.std.specs.Char.{is_ascii_digit}
 use Rattle.std.specs.Str.{all_ascii_digits, byte, str_eq_ignore_ascii_case}
 use Rattle.std.specs.Str.Parse.{digits_value}
 use Rattle.tuple_core.specs.declared.Direction.{Direction}
 use Rattle.tuple_core.specs.declared.Direction.TheVariants.{Original, Reply}
+use Rattle.ftp_helper.specs.declared.payload.EndSpan.{EndSpan}
 use Rattle.ftp_helper.specs.declared.payload.NamedEnd.{NamedEnd}
+use Rattle.ftp_helper.specs.declared.payload.FoundEnd.{FoundEnd}
 use Rattle.ftp_helper.specs.Payload.{is_before_numbers, is_before_parenthesis, is_line_end}
 
 -- go on with what was read, if anything was
@@ -84,22 +86,30 @@ is_at_line_end (b ∷ bs) = is_line_end b
 abbrev pub at_line_end : {A : Type 0} → A → List ℕ → Option A
 at_line_end x text = if is_at_line_end text then Some x else None
 
+-- the bytes of a payload between two places, of which each is told by what is left of the payload there
+abbrev pub span_between : (payload text rest : List ℕ) → EndSpan
+span_between payload text rest = record { start = length payload - length text; end = length payload - length rest }
+
+-- an end, and the bytes that name it
+abbrev pub naming_of : NamedEnd → EndSpan → FoundEnd
+naming_of end span = record { end = end; span = span }
+
 -- the end that a PORT names
-unfoldable pub port_command_at : List ℕ → Option NamedEnd
+unfoldable pub port_command_at : List ℕ → Option FoundEnd
 port_command_at payload = do
   text ← after_command (codes "PORT ") payload
   x ← host_port_at text
-  at_line_end x.0 x.1
+  at_line_end (naming_of x.0 (span_between payload text x.1)) x.1
 
 -- the end that an EPRT names
-unfoldable pub eprt_command_at : List ℕ → Option NamedEnd
+unfoldable pub eprt_command_at : List ℕ → Option FoundEnd
 eprt_command_at payload = do
   text ← after_command (codes "EPRT |1|") payload
   host ← host_at (byte ".") text
   behind_host ← after (codes "|") host.1
   port ← decimal_at 5 65535 behind_host
   behind_port ← after (codes "|") port.1
-  at_line_end (record { address = Some host.0; port = port.0 }) behind_port
+  at_line_end (naming_of (record { address = Some host.0; port = port.0 }) (span_between payload text port.1)) behind_port
 
 -- here the text of a 227 ends
 abbrev pub ends_before_numbers : ℕ → Bool
@@ -110,22 +120,22 @@ abbrev pub ends_before_parenthesis : ℕ → Bool
 ends_before_parenthesis b = not (is_before_parenthesis b)
 
 -- the end that a reply 227 names; the byte behind its last number is no digit
-unfoldable pub passive_reply_at : List ℕ → Option NamedEnd
+unfoldable pub passive_reply_at : List ℕ → Option FoundEnd
 passive_reply_at payload = do
   text ← after (codes "227 ") payload
   at ← position ends_before_numbers text
   x ← host_port_at (drop at text)
-  Some x.0
+  Some (naming_of x.0 (span_between payload (drop at text) x.1))
 
 -- the end that a reply 229 names
-unfoldable pub extended_passive_reply_at : List ℕ → Option NamedEnd
+unfoldable pub extended_passive_reply_at : List ℕ → Option FoundEnd
 extended_passive_reply_at payload = do
   text ← after (codes "229 ") payload
   at ← position ends_before_parenthesis text
   opened ← after (codes "(|||") (drop at text)
   port ← decimal_at 5 65535 opened
   closed ← after (codes "|)") port.1
-  Some (record { address = None; port = port.0 })
+  Some (naming_of (record { address = None; port = port.0 }) (span_between payload opened port.1))
 
 -- the first of two that was read
 abbrev pub first_read : {A : Type 0} → Option A → Option A → Option A
@@ -133,6 +143,6 @@ first_read None second = second
 first_read (Some x) second = Some x
 
 -- what a payload in this direction names, be it port 0
-unfoldable pub naming_at : Direction → List ℕ → Option NamedEnd
+unfoldable pub naming_at : Direction → List ℕ → Option FoundEnd
 naming_at Original payload = first_read (port_command_at payload) (eprt_command_at payload)
 naming_at Reply payload = first_read (passive_reply_at payload) (extended_passive_reply_at payload)
