@@ -1,0 +1,11 @@
+-- Numbers modulo 2^32 and their offsets from a base.
+use Rattle.std.proofs.Common.{◌≡◌, ℕ, ◌+◌, ◌-◌, ◌*◌, ◌^◌, ◌%◌, ◌<◌, ◌≤◌, refl, arith}
+use Rattle.ftp_rewrite.specs.Edit.{offset_of}
+
+-- a number is its base and its offset
+pub number_of_offset : (base n : ℕ) → base < 2 ^ 32 → n < 2 ^ 32 → (base + offset_of base n) % 2 ^ 32 ≡ n
+number_of_offset base n small fits = omega arith
+
+-- an offset is that of its number
+pub offset_of_number : (base x : ℕ) → base < 2 ^ 32 → x < 2 ^ 32 → offset_of base ((base + x) % 2 ^ 32) ≡ x
+offset_of_number base x small fits = omega arith
