@@ -1,3 +1,7 @@
 pub mod Walks
 pub mod Modulo
 pub mod Moves
+pub mod Inside
+pub mod NewEnds
+pub mod Sessions
+pub mod Writing

@@ -9,3 +9,7 @@ number_of_offset base n small fits = omega arith
 -- an offset is that of its number
 pub offset_of_number : (base x : ℕ) → base < 2 ^ 32 → x < 2 ^ 32 → offset_of base ((base + x) % 2 ^ 32) ≡ x
 offset_of_number base x small fits = omega arith
+
+-- a place far on is one of the same number
+pub seq_of_place : (seq place : ℕ) → (seq + place % 2 ^ 32) % 2 ^ 32 ≡ (seq + place) % 2 ^ 32
+seq_of_place seq place = omega arith

@@ -1,3 +1,12 @@
 pub mod Edit
 pub mod Adjust
 pub mod Laws
+pub mod Sent
+pub mod NewEnd
+pub mod Line
+pub mod Session
+pub mod Rewrites
+pub mod Page
+pub mod Text
+pub mod Wrote
+pub mod Internal

@@ -3,8 +3,20 @@
 #![tactic(auto)]
 
 mod adjust;
+mod asked;
+mod follow;
 pub mod laws;
+mod line;
+mod new_end;
+mod page;
+mod rewrite;
+mod sent;
+mod session;
 #[cfg(test)]
 mod tests;
+mod write;
 
 pub use adjust::{Added, Adjust, Edit};
+pub use follow::rewrites;
+pub use rewrite::{NewText, Rewrite, Rewrites};
+pub use write::{LEAST_BUFFER, WriteFault, write_rewrites};

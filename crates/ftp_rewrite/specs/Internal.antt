@@ -1,0 +1,3 @@
+-- What private functions keep for the clauses of the public ones. A reader of those need not open it.
+pub mod Seen
+pub mod Pieces
