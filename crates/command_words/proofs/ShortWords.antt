@@ -8,7 +8,7 @@ use Rattle.file_text.specs.Text.{port_of}
 use Rattle.command_words.specs.Words.{app, asked_of, found_from, found_in, FoundWords, number_of, Origin, Request, table_app, with_values, within_limits, workload_app, workload_of, zones_for, zones_in}
 use Rattle.command_words.specs.declared.WordsError.{WordsError}
 use Rattle.command_words.specs.declared.WordsError.TheVariants.{Usage}
-use Rattle.command_words.specs.WordsLaws.{CapturesAlone, CapturesOfAnyName, CapturesWithRules, DefragOfCaptures, ListenOfCaptures, MadeBesideCaptures, SummaryOfCaptures, WordsWithoutCaptures, ZonesBesideMade, ZonesOfCaptures, ZonesOfOtherCaptures, begins_with_dash}
+use Rattle.command_words.specs.WordsLaws.{CapturesAlone, CapturesOfAnyName, CapturesWithRules, DefragOfCaptures, ListenOfCaptures, MadeBesideCaptures, RewriteOfCaptures, SummaryOfCaptures, WordsWithoutCaptures, ZonesBesideMade, ZonesOfCaptures, ZonesOfOtherCaptures, begins_with_dash}
 
 pub any_name : CapturesOfAnyName
 unfolding asked_of found_in app workload_app table_app clap_on_literals ones
@@ -40,6 +40,10 @@ defrag program capture = refl
 pub listen : ListenOfCaptures
 unfolding asked_of found_in app workload_app table_app clap_on_literals ones
 listen program capture = refl
+
+pub rewrite : RewriteOfCaptures
+unfolding asked_of found_in app workload_app table_app clap_on_literals ones
+rewrite program capture = refl
 
 pub beside : MadeBesideCaptures
 unfolding asked_of found_in app workload_app table_app clap_on_literals ones

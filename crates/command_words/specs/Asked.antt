@@ -42,6 +42,7 @@ asked_as asked = record {
   summary = asked.summary;
   defrag = asked.defrag;
   listen = asked.listen;
+  rewrite = asked.rewrite;
 }
 
 -- the answer is the one that is wanted, or want of memory

@@ -22,6 +22,7 @@ given_as found = record {
   summary = found.summary;
   defrag = found.defrag;
   listen = found.listen;
+  rewrite = found.rewrite;
 }
 
 abbrev pub wide_as : Wide → Workload
@@ -46,6 +47,7 @@ formed_as formed = record {
   summary = formed.summary;
   defrag = formed.defrag;
   listen = formed.listen;
+  rewrite = formed.rewrite;
 }
 
 -- it is the value that no limit is passed with, or the limit

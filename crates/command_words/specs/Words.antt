@@ -57,15 +57,17 @@ workload_app = with_rule
     (option_rule (codes "packets")))
     (option_rule (codes "threads"))
 
--- the command: all of these, three flags, which take no value, and the captures
+-- the command: all of these, four flags, which take no value, and the captures
 unfoldable pub app : App
 app = with_rule
+    (with_rule
     (with_rule
     (with_rule
     (with_rule workload_app
     (flag_rule (codes "summary")))
     (flag_rule (codes "defrag")))
     (flag_rule (codes "listen")))
+    (flag_rule (codes "rewrite")))
     captures_rule
 
 -- ---- what clap finds in the words
@@ -89,6 +91,7 @@ pub record FoundWords : Type 0 where
   pub summary : Bool
   pub defrag : Bool
   pub listen : Bool
+  pub rewrite : Bool
 
 -- clap gives a flag that stands the value `true`, and another one the value `false`
 abbrev pub is_set : Option (List ℕ) → Bool
@@ -112,6 +115,7 @@ found_by rows = record {
   summary = is_set (first_of (codes "summary") rows);
   defrag = is_set (first_of (codes "defrag") rows);
   listen = is_set (first_of (codes "listen") rows);
+  rewrite = is_set (first_of (codes "rewrite") rows);
 }
 
 -- nothing is given where clap finds a fault
@@ -193,6 +197,7 @@ pub record Request : Type 0 where
   pub summary : Bool
   pub defrag : Bool
   pub listen : Bool
+  pub rewrite : Bool
 
 -- how many captures there are
 abbrev pub capture_count : Origin → ℕ
@@ -252,6 +257,7 @@ with_values given =
       summary = given.summary;
       defrag = given.defrag;
       listen = given.listen;
+      rewrite = given.rewrite;
     })
 
 -- ---- the limits

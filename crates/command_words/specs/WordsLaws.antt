@@ -19,6 +19,7 @@ usual names = record {
   summary = false;
   defrag = false;
   listen = false;
+  rewrite = false;
 }
 
 -- a capture, and no other file
@@ -53,6 +54,11 @@ DefragOfCaptures = (program capture : List ℕ)
 abbrev pub ListenOfCaptures : Type 0
 ListenOfCaptures = (program capture : List ℕ)
     → asked_of (program ∷ codes "--listen" ∷ codes "--" ∷ capture ∷ []) ≡ Ok (record (usual (captured capture)) { listen = true })
+
+-- with a fourth one its rewritten packets are
+abbrev pub RewriteOfCaptures : Type 0
+RewriteOfCaptures = (program capture : List ℕ)
+    → asked_of (program ∷ codes "--rewrite" ∷ codes "--" ∷ capture ∷ []) ≡ Ok (record (usual (captured capture)) { rewrite = true })
 
 -- a made workload stands beside no capture, whatever its seed is
 abbrev pub MadeBesideCaptures : Type 0

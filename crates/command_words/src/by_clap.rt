@@ -30,6 +30,7 @@ pub(crate) struct Found<'w> {
     pub(crate) summary: bool,
     pub(crate) defrag: bool,
     pub(crate) listen: bool,
+    pub(crate) rewrite: bool,
 }
 
 /// An option that takes one value.
@@ -120,6 +121,7 @@ fn command<'w>(alloc: Global) -> Result<Command<'w>, AllocError>
     let command = with_flag(alloc, command, "summary")?;
     let command = with_flag(alloc, command, "defrag")?;
     let command = with_flag(alloc, command, "listen")?;
+    let command = with_flag(alloc, command, "rewrite")?;
     with_captures(alloc, command)
 }
 
@@ -188,5 +190,6 @@ pub(crate) fn find<'w>(alloc: Global, words: &'w [String]) -> Result<Found<'w>, 
         summary: is_set(&matches, "summary"),
         defrag: is_set(&matches, "defrag"),
         listen: is_set(&matches, "listen"),
+        rewrite: is_set(&matches, "rewrite"),
     })
 }

@@ -1,6 +1,6 @@
 //! What words ask for: each law is the contract of a function that does nothing.
 
-ghost use Rattle.command_words.specs.WordsLaws.{CapturesAlone, CapturesOfAnyName, CapturesWithRules, DefragOfCaptures, ListenOfCaptures, MadeBesideCaptures, SummaryOfCaptures, WordsWantNoMemory, WordsWithoutCaptures, ZonesBesideMade, ZonesOfCaptures, ZonesOfOtherCaptures};
+ghost use Rattle.command_words.specs.WordsLaws.{CapturesAlone, CapturesOfAnyName, CapturesWithRules, DefragOfCaptures, ListenOfCaptures, MadeBesideCaptures, RewriteOfCaptures, SummaryOfCaptures, WordsWantNoMemory, WordsWithoutCaptures, ZonesBesideMade, ZonesOfCaptures, ZonesOfOtherCaptures};
 
 /// A capture whose name does not begin with `-` is asked for by its name alone.
 pub fn captures_alone()
@@ -30,6 +30,11 @@ pub fn defrag_of_captures()
 /// A listener beside it is asked for by a third flag before it.
 pub fn listen_of_captures()
     ensures { ListenOfCaptures }
+{}
+
+/// Its rewritten packets are asked for by a fourth flag before it.
+pub fn rewrite_of_captures()
+    ensures { RewriteOfCaptures }
 {}
 
 /// A capture beside a made workload is not of the form.

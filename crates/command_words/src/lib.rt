@@ -71,6 +71,8 @@ pub struct Asked<'w> {
     pub defrag: bool,
     /// Whether a listener hears the threads' events while they work.
     pub listen: bool,
+    /// Whether the rewritten packets of translated FTP sessions are printed.
+    pub rewrite: bool,
 }
 
 /// What there is too much of, or too little.
@@ -218,6 +220,7 @@ fn limit(alloc: Global, formed: Formed<'_>) -> Result<Asked<'_>, WordsError>
         summary,
         defrag,
         listen,
+        rewrite,
     } = formed;
     if entries < 1 || entries > MOST {
         return Err(WordsError::Limit(WordsLimit::Entries));
@@ -239,6 +242,7 @@ fn limit(alloc: Global, formed: Formed<'_>) -> Result<Asked<'_>, WordsError>
         summary,
         defrag,
         listen,
+        rewrite,
     })
 }
 

@@ -38,6 +38,7 @@ struct Wanted<'a> {
     summary: bool,
     defrag: bool,
     listen: bool,
+    rewrite: bool,
 }
 
 /// What is wanted of a line without options.
@@ -52,6 +53,7 @@ const USUAL: Wanted<'static> = Wanted {
     summary: false,
     defrag: false,
     listen: false,
+    rewrite: false,
 };
 
 /// Whether these are the files that are wanted.
@@ -79,6 +81,7 @@ fn flags_wanted(asked: &Asked<'_>, wanted: &Wanted<'_>) -> bool {
     asked.summary == wanted.summary
         && asked.defrag == wanted.defrag
         && asked.listen == wanted.listen
+        && asked.rewrite == wanted.rewrite
 }
 
 /// Whether it is what is wanted.
@@ -121,6 +124,7 @@ fn missing_words(rt: HostRuntime) -> Result<(), Fail> {
         "ctreplay --summary",
         "ctreplay --defrag",
         "ctreplay --listen",
+        "ctreplay --rewrite",
     ];
     for line in lines {
         assert!(rt;
@@ -178,6 +182,13 @@ fn repeated_and_unknown_flags(rt: HostRuntime) -> Result<(), Fail> {
         "ctreplay --liste c",
         "ctreplay --Listen c",
         "ctreplay --listens c",
+        "ctreplay --rewrite --rewrite c",
+        "ctreplay --rewrite c --rewrite",
+        "ctreplay --rewrite=true c",
+        "ctreplay --rewrite= c",
+        "ctreplay --rewrit c",
+        "ctreplay --Rewrite c",
+        "ctreplay --rewrites c",
     ];
     for line in lines {
         assert!(rt;
@@ -589,6 +600,30 @@ fn listeners(rt: HostRuntime) -> Result<(), Fail> {
 }
 
 #[test]
+fn rewritten_packets(rt: HostRuntime) -> Result<(), Fail> {
+    let cases = [
+        ("ctreplay --rewrite c", ["c"].as_slice(), true),
+        ("ctreplay c --rewrite", ["c"].as_slice(), true),
+        ("ctreplay -- --rewrite", ["--rewrite"].as_slice(), false),
+        ("ctreplay rewrite", ["rewrite"].as_slice(), false),
+        (
+            "ctreplay --rewrite false c",
+            ["false", "c"].as_slice(),
+            true,
+        ),
+    ];
+    for (line, captures, rewrite) in cases {
+        let wanted = Wanted {
+            captures,
+            rewrite,
+            ..USUAL
+        };
+        assert!(rt; asks(rt.alloc(), line, &wanted)?, "{line}");
+    }
+    Ok(())
+}
+
+#[test]
 fn all_options(rt: HostRuntime) -> Result<(), Fail> {
     let wanted = Wanted {
         rules: Some("f"),
@@ -601,9 +636,10 @@ fn all_options(rt: HostRuntime) -> Result<(), Fail> {
         summary: true,
         defrag: true,
         listen: true,
+        rewrite: true,
     };
     let line =
-        "ctreplay a --ftp 2121 --script s --buckets 32 --listen b --zones 3,0,9 --summary --rules f --entries 10 --defrag -- -x";
+        "ctreplay --rewrite a --ftp 2121 --script s --buckets 32 --listen b --zones 3,0,9 --summary --rules f --entries 10 --defrag -- -x";
     assert!(rt; asks(rt.alloc(), line, &wanted)?);
     Ok(())
 }

@@ -51,6 +51,7 @@ pub(crate) struct Formed<'w> {
     pub(crate) summary: bool,
     pub(crate) defrag: bool,
     pub(crate) listen: bool,
+    pub(crate) rewrite: bool,
 }
 
 /// The number that the text writes.
@@ -235,5 +236,6 @@ pub(crate) fn form(alloc: Global, found: Found<'_>) -> Result<Formed<'_>, WordsE
         summary: found.summary,
         defrag: found.defrag,
         listen: found.listen,
+        rewrite: found.rewrite,
     })
 }

@@ -93,6 +93,13 @@ fn workloads_with_options(rt: HostRuntime) -> Result<(), Fail> {
                 ..USUAL
             },
         ),
+        (
+            "ctreplay --rewrite --make 0 --packets 8 --threads 2",
+            Wanted {
+                rewrite: true,
+                ..USUAL
+            },
+        ),
     ];
     for (line, wanted) in cases {
         assert!(rt; makes(rt.alloc(), line, (0, 8, 2), &wanted)?, "{line}");
