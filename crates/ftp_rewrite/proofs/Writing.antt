@@ -180,6 +180,10 @@ pub wrote_page : (before after : Held) (most : ℕ) (text held : List ℕ) (a b 
 wrote_page before after most text held a b result empty adds is wrote =
     subst (λ (t : List ℕ). Wrote t a b result) (is ∙ (adds.joined ∙ ap (λ (t : List ℕ). t ++ text) empty)) wrote
 
+-- no byte yet of a piece on a page
+pub hex_none : (before piece : List ℕ) → before ≡ before ++ hex_text (take 0 piece)
+hex_none before piece = sym (append-nil before)
+
 -- a byte more of a piece on a page
 pub hex_more : (piece : List ℕ) (i d : ℕ) → i < length piece → hex_text (take (i + 1) piece) ≡ hex_text (take i piece) ++ hex_byte (get_or piece i d)
 hex_more piece i d within = rw (take_more piece i d within, flat_map-append hex_byte (take i piece) (get_or piece i d ∷ []), append-nil) refl

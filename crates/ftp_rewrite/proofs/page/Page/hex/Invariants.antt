@@ -1,6 +1,6 @@
 use Rattle.std.proofs.Common.{◌≡◌, ◌+◌, ◌*◌, ◌≤◌, ◌++◌, length, take}
 use Rattle.ftp_rewrite.specs.Text.{hex_text}
-use Rattle.ftp_rewrite.proofs.line.Page.hex.Given as goal
+use Rattle.ftp_rewrite.proofs.page.Page.hex.Given as goal
 
 abbrev pub invariant-bytes : goal.invariant-bytes
 invariant-bytes l = record {
