@@ -1,5 +1,5 @@
 -- Numbers modulo 2^32 and their offsets from a base.
-use Rattle.std.proofs.Common.{◌≡◌, ℕ, ◌+◌, ◌-◌, ◌*◌, ◌^◌, ◌%◌, ◌<◌, ◌≤◌, refl, arith}
+use Rattle.std.proofs.Common.{◌≡◌, ℕ, ◌+◌, ◌^◌, ◌%◌, ◌<◌, arith}
 use Rattle.ftp_rewrite.specs.Edit.{offset_of}
 
 -- a number is its base and its offset

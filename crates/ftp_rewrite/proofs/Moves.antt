@@ -1,13 +1,13 @@
 -- What holds of moving places forward and back.
-use Rattle.std.proofs.Common.{◌≡◌, ◌∙◌, ℕ, ◌+◌, ◌-◌, ◌*◌, ◌^◌, ◌%◌, ◌<◌, ◌≤◌, ◌⊎◌, inl, inr, Bool, true, false, cond, ◌&&◌, ◌||◌, List, [], ◌∷◌, ◌++◌, length, map, take, drop, refl, sym, ap, subst, arith, length-append, length-drop}
+use Rattle.std.proofs.Common.{◌≡◌, ◌∙◌, ℕ, ◌+◌, ◌-◌, ◌*◌, ◌^◌, ◌%◌, ◌<◌, ◌≤◌, ◌⊎◌, inl, inr, Bool, true, false, ◌||◌, List, [], ◌∷◌, ◌++◌, length, map, take, drop, refl, sym, subst, arith, length-append, length-drop}
 use Rattle.std.proofs.lemmas.Bool.{and_parts}
 use Rattle.std.proofs.lemmas.Bool.Decides.{nat_tests}
 use Rattle.std.proofs.lemmas.List.{length-take-le}
 use Rattle.std.specs.Prelude.{nat_lt, nat_le}
 use Rattle.std.specs.List.{list_all}
 use Rattle.ftp_rewrite.specs.declared.adjust.Edit.{Edit}
-use Rattle.ftp_rewrite.specs.Edit.{adjusted, AreInOrderFrom, back, back_from, end_from, end_of, far, forward, forward_from, offset_of}
-use Rattle.ftp_rewrite.specs.Laws.{AreEdits, BackUndoesForward, edit_by, ForwardIsTheLength, is_outside, Replacement, rewritten_from}
+use Rattle.ftp_rewrite.specs.Edit.{AreInOrderFrom, back, back_from, end_from, end_of, far, forward, forward_from, offset_of}
+use Rattle.ftp_rewrite.specs.Laws.{BackUndoesForward, edit_by, ForwardIsTheLength, is_outside, Replacement, rewritten_from}
 use Rattle.ftp_rewrite.proofs.Modulo.{number_of_offset, offset_of_number}
 
 tested : (m n : ℕ) → ((nat_le m n ≡ true) × (m ≤ n)) ⊎ ((nat_le m n ≡ false) × (n < m))

@@ -1,5 +1,5 @@
 -- A new text has bytes.
-use Rattle.std.proofs.Common.{◌≡◌, ℕ, ◌+◌, ◌<◌, ◌≤◌, Bool, true, false, List, [], ◌∷◌, ◌++◌, length, length-append, arith, codes, cond}
+use Rattle.std.proofs.Common.{ℕ, ◌<◌, Bool, true, false, List, ◌++◌, length, length-append, arith, codes, cond}
 use Rattle.std.specs.Prelude.{decimal, ◌/◌, ◌%◌}
 use Rattle.expect_table.specs.declared.expectation.Want.{Want}
 use Rattle.ftp_rewrite.specs.NewEnd.{address_and_port, address_text, is_eprt, new_end, six_numbers}

@@ -1,27 +1,25 @@
 -- The sessions and the lines, one event after another.
 use Rattle.std.proofs.Common.{◌≡◌, ◌∙◌, ℕ, suc, zero, ◌+◌, ◌<◌, ◌≤◌, Bool, true, false, cond, List, [], ◌∷◌, ◌++◌, length, get_or, take, drop, map, Option, Some, None, refl, sym, ap, subst, arith, append_assoc, append-nil, drop-cons}
-use Rattle.std.specs.Prelude.{◌==◌, if◌then◌else◌, option_to_list}
+use Rattle.std.specs.Prelude.{◌==◌, option_to_list}
 use Rattle.std.specs.List.{fold}
 use Rattle.std.specs.Option.{option_map}
-use Rattle.std.specs.BTreeMap.{BTreeMap, get, is_at}
-use Rattle.std.specs.Ordering.{is_eq, nat_cmp}
+use Rattle.std.specs.BTreeMap.{BTreeMap, is_at}
+use Rattle.std.specs.Ordering.{nat_cmp}
 use Rattle.std.proofs.lemmas.Bool.Decides.{nat_tests}
-use Rattle.std.proofs.lemmas.List.{take_all, take_more}
+use Rattle.std.proofs.lemmas.List.{take_more}
 use Rattle.std.proofs.lemmas.List.Sums.{fold-append}
-use Rattle.history_book.specs.declared.event.Event.{Event}
-use Rattle.history_book.specs.declared.event.Event.TheVariants.{Confirm, Touch, Destroy, Expect, Claim, Unexpect}
+use Rattle.history_book.specs.declared.event.Event.TheVariants.{Confirm, Touch, Destroy}
 use Rattle.history_book.specs.declared.event.Numbered.{Numbered}
 use Rattle.history_book.specs.declared.event.Why.{Why}
 use Rattle.history_book.specs.declared.record.Record.{Record}
-use Rattle.capture_list.specs.declared.Capture.{Capture}
 use Rattle.tuple_core.specs.declared.Direction.{Direction}
 use Rattle.tuple_core.specs.declared.Segment.{Segment}
 use Rattle.proto_rules.specs.declared.Part.{Part}
 use Rattle.ftp_rewrite.specs.declared.session.Session.{Session}
 use Rattle.ftp_rewrite.specs.declared.rewrite.Rewrite.{Rewrite}
-use Rattle.ftp_rewrite.specs.Internal.Seen.{at_id, Gives, Puts}
+use Rattle.ftp_rewrite.specs.Internal.Seen.{at_id, Puts}
 use Rattle.ftp_rewrite.specs.Line.{Line, seen}
-use Rattle.ftp_rewrite.specs.Rewrites.{after_event, after_item, begun_by, line_by, line_by_event, line_touched, lines_behind, rewritten, session_of, session_past, touched}
+use Rattle.ftp_rewrite.specs.Rewrites.{after_event, after_item, line_by, line_by_event, line_touched, lines_behind, rewritten, session_of, touched}
 use Rattle.ftp_rewrite.specs.Sent.{Run, Sent, sent_by}
 use Rattle.ftp_rewrite.specs.Session.{begun}
 

@@ -1,5 +1,5 @@
 -- The edits of one direction of a connection, as contracts see them.
-use Rattle.std.specs.Prelude.{ℕ, ◌<◌, ◌≤◌, ◌^◌, List, length}
+use Rattle.std.specs.Prelude.{ℕ, List}
 use Rattle.ftp_rewrite.specs.declared.adjust.Edit.{Edit}
 
 -- the sequence number from which offsets are counted, and the edits

@@ -1,6 +1,6 @@
 -- Edits of a stream of bytes, and what they do to its places. An edit replaces some bytes of the stream, from an offset on,
 -- by others; how many is all that places need. Edits are listed in order of their offsets.
-use Rattle.std.specs.Prelude.{◌≡◌, ℕ, ◌+◌, ◌-◌, ◌*◌, ◌^◌, ◌%◌, ◌<◌, ◌≤◌, Bool, ◌&&◌, ◌||◌, ◌==◌, nat_lt, nat_le, if◌then◌else◌, List, [], ◌∷◌, ◌++◌, length}
+use Rattle.std.specs.Prelude.{ℕ, ◌+◌, ◌-◌, ◌^◌, ◌%◌, ◌<◌, ◌≤◌, Bool, ◌&&◌, ◌||◌, ◌==◌, nat_lt, nat_le, if◌then◌else◌, List, [], ◌∷◌, ◌++◌, length}
 use Rattle.std.specs.List.{list_any}
 use Rattle.ftp_rewrite.specs.declared.adjust.Added.{Added}
 use Rattle.ftp_rewrite.specs.declared.adjust.Added.TheVariants as added

@@ -1,6 +1,6 @@
 -- The lines of a whole run: how each packet of a connection with edits leaves, in the order of the history. A connection with
 -- the helper is looked after from its Confirm to its Destroy; its packets are those that an entry let pass by a Touch.
-use Rattle.std.specs.Prelude.{◌≡◌, ℕ, ◌==◌, Bool, if◌then◌else◌, List, [], ◌∷◌, ◌++◌, Option, Some, None, option_to_list}
+use Rattle.std.specs.Prelude.{ℕ, ◌==◌, if◌then◌else◌, List, [], ◌∷◌, ◌++◌, Option, Some, None, option_to_list}
 use Rattle.std.specs.List.{fold}
 use Rattle.tuple_core.specs.declared.Direction.{Direction}
 use Rattle.history_book.specs.declared.event.Event.{Event}

@@ -1,4 +1,4 @@
-use Rattle.std.proofs.Common.{◌≡◌, ◌-◌, ◌≤◌, length, take}
+use Rattle.std.proofs.Common.{◌-◌, ◌≤◌, length, take}
 use Rattle.ftp_rewrite.specs.Text.{hex_text}
 use Rattle.ftp_rewrite.specs.Wrote.{WroteAll}
 use Rattle.ftp_rewrite.proofs.write.write_hex.Given as goal
