@@ -1,15 +1,20 @@
--- A frame that is taken from its capture lies in its bytes.
-use Rattle.std.proofs.Common.{◌≡◌, ℕ, suc, zero, ◌+◌, ◌≤◌, Bool, true, List, [], ◌∷◌, ◌++◌, length, Some, subst, arith}
+-- A frame that is taken from its capture lies in its bytes, and the segment of an event is that of the captures as they are
+-- told of.
+use Rattle.std.proofs.Common.{◌≡◌, ℕ, suc, zero, ◌+◌, ◌≤◌, Bool, true, List, [], ◌∷◌, ◌++◌, length, map, Option, Some, None, refl, sym, ap, ◌∙◌, subst, arith}
 use Rattle.std.specs.Prelude.{All, slice_get, nat_le}
 use Rattle.std.specs.List.{list_all}
+use Rattle.std.specs.Option.{option_map}
 use Rattle.std.proofs.lemmas.Bool.{and_parts}
 use Rattle.std.proofs.lemmas.Bool.Decides.{nat_tests}
 use Rattle.std.proofs.lemmas.List.Elements.{All-push}
-use Rattle.std.proofs.lemmas.Option.{get_or_from_slice_get, slice_get_within}
+use Rattle.std.proofs.lemmas.Option.{get_or_from_slice_get, slice_get-map, slice_get_within}
 use Rattle.capture_list.specs.declared.Capture.{Capture}
+use Rattle.history_book.specs.declared.event.Numbered.{Numbered}
 use Rattle.packet_headers.specs.declared.frame.Frame.{Frame}
 use Rattle.packet_headers.specs.Capture.{is_inside}
-use Rattle.ftp_rewrite.specs.Internal.Seen.{LiesInIts}
+use Rattle.ftp_rewrite.specs.declared.sent.SegmentView.{SegmentView}
+use Rattle.ftp_rewrite.specs.Internal.Seen.{Gives, LiesInIts, recorded, sent_among, sent_of}
+use Rattle.ftp_rewrite.specs.Sent.{◌>>=◌, Recorded, Sent, sent_by, sent_in}
 
 one_of : (p : Frame → Bool) (fs : List Frame) (j : ℕ) (f : Frame) → list_all p fs ≡ true → slice_get fs j ≡ Some f → p f ≡ true
 one_of p [] j f all at = absurd (cc)
@@ -31,3 +36,22 @@ frame_inside captures i c j f all at_c at_f =
 -- one capture more
 pub inside_more : (captures : List Capture) (c : Capture) → All LiesInIts captures → LiesInIts c → All LiesInIts (captures ++ c ∷ [])
 inside_more captures c all own = All-push LiesInIts captures c all own
+
+-- a segment by its place in a capture, if that is there
+segment_at : ℕ → Option Recorded → Option Sent
+segment_at index o = o >>= (λ c. slice_get c.frames index >>= (λ f. sent_in c.bytes f))
+
+segment_among : ℕ → Option Capture → Option Sent
+segment_among index o = o >>= (λ c. slice_get c.frames.items index >>= (λ f. sent_in c.bytes.items f))
+
+seen_alike : (index : ℕ) (o : Option Capture) → segment_at index (option_map recorded o) ≡ segment_among index o
+seen_alike index None = refl
+seen_alike index (Some c) = refl
+
+sent_same : (captures : List Capture) (item : Numbered) → sent_by (map recorded captures) item ≡ sent_among captures item
+unfolding sent_by sent_among
+sent_same captures item = ap (segment_at item.index) (slice_get-map recorded captures item.thread) ∙ seen_alike item.index (slice_get captures item.thread)
+
+pub gives_same : (captures : List Capture) (item : Numbered) (o : Option SegmentView) → Gives sent_of o (sent_among captures item)
+    → Gives sent_of o (sent_by (map recorded captures) item)
+gives_same captures item o gives = subst (λ (said : Option Sent). Gives sent_of o said) (sym (sent_same captures item)) gives

@@ -6,10 +6,11 @@ use Rattle.tuple_core.specs.declared.Direction.{Direction}
 use Rattle.history_book.specs.declared.event.Event.{Event}
 use Rattle.history_book.specs.declared.event.Event.TheVariants.{Confirm, Touch, Destroy, Expect, Claim, Unexpect}
 use Rattle.history_book.specs.declared.event.Numbered.{Numbered}
+use Rattle.history_book.specs.declared.report.Report.{Report}
 use Rattle.ftp_rewrite.specs.declared.session.Session.{Session}
 use Rattle.ftp_rewrite.specs.Line.{Line, LineText}
 use Rattle.ftp_rewrite.specs.NewEnd.{asked_by}
-use Rattle.ftp_rewrite.specs.Sent.{◌>>=◌, ftp_by, Run, Sent, sent_by}
+use Rattle.ftp_rewrite.specs.Sent.{◌>>=◌, ftp_by, Recorded, Run, Sent, sent_by}
 use Rattle.ftp_rewrite.specs.Session.{begun, dealt, Dealt, has_edits, leaving, met}
 
 -- a packet of a connection once it is dealt with: the session, the segment, and the payload with which it leaves
@@ -92,3 +93,7 @@ lines_behind run before (item ∷ items) =
 -- all lines
 unfoldable pub rewritten : Run → List Line
 rewritten run = lines_behind run [] run.history
+
+-- the run of a report on these captures
+abbrev pub run_of : Report → List Recorded → Run
+run_of report captures = record { captures = captures; verdicts = report.threads.items; history = report.history.items }

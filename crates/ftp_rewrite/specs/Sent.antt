@@ -2,7 +2,6 @@
 use Rattle.std.specs.Prelude.{ℕ, ◌+◌, ◌==◌, ◌&&◌, if◌then◌else◌, List, [], take, drop, slice_get, Option, Some, None, option_and_then}
 use Rattle.std.specs.Option.{option_map}
 use Rattle.room_list.specs.Roomed.{Roomed}
-use Rattle.capture_list.specs.declared.Capture.{Capture}
 use Rattle.history_book.specs.declared.event.Numbered.{Numbered}
 use Rattle.history_book.specs.declared.verdict.Class.{Class}
 use Rattle.history_book.specs.declared.verdict.Class.TheVariants as class
@@ -21,9 +20,14 @@ infixl 10 ◌>>=◌
 abbrev pub ◌>>=◌ : {A B : Type 0} → Option A → (A → Option B) → Option B
 o >>= f = option_and_then f o
 
+-- a capture: its bytes, and the frames among them
+pub record Recorded : Type 0 where
+  pub bytes : List ℕ
+  pub frames : List Frame
+
 -- a run of the tracker: the captures, the verdicts of each of their threads, and the history
 pub record Run : Type 0 where
-  pub captures : List Capture
+  pub captures : List Recorded
   pub verdicts : List (Roomed Verdict)
   pub history : List Numbered
 
@@ -49,11 +53,11 @@ sent_in bytes frame =
     option_map (λ (n : TcpNumbers). record { numbers = n; payload = data_in bytes (packet_of bytes frame) }) (tcp_numbers bytes frame)
 
 -- the segment that made an event
-unfoldable pub sent_by : List Capture → Numbered → Option Sent
+unfoldable pub sent_by : List Recorded → Numbered → Option Sent
 sent_by captures item = do
   capture ← slice_get captures item.thread
-  frame ← slice_get capture.frames.items item.index
-  sent_in capture.bytes.items frame
+  frame ← slice_get capture.frames item.index
+  sent_in capture.bytes frame
 
 -- What came of the data of a packet that an entry let pass by the event of this number. A packet that reset the entry
 -- has the number of no Touch.

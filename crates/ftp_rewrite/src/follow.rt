@@ -6,9 +6,9 @@ ghost use Rattle.std.specs.Option.{option_map};
 ghost use Rattle.std.specs.Ordering.{nat_cmp};
 ghost use Rattle.history_book.specs.declared.event.Event.TheVariants.{Confirm};
 ghost use Rattle.ftp_rewrite.specs.Sent.{Run};
-ghost use Rattle.ftp_rewrite.specs.Internal.Seen.{LiesInIts, Puts, at_id, run_of};
+ghost use Rattle.ftp_rewrite.specs.Internal.Seen.{LiesInIts, Puts, at_id, recorded};
 ghost use Rattle.ftp_rewrite.specs.Line.{seen};
-ghost use Rattle.ftp_rewrite.specs.Rewrites.{after_event, after_item, line_by, line_of_passed, line_touched, passed, rewritten, session_past, touched};
+ghost use Rattle.ftp_rewrite.specs.Rewrites.{after_event, after_item, line_by, line_of_passed, line_touched, passed, rewritten, run_of, session_past, touched};
 
 use crate::asked::asked_by;
 use crate::rewrite::{Rewrite, Rewrites};
@@ -52,7 +52,7 @@ fn begin(
     subject: &Record,
 ) -> Result<(), NoMemory>
     requires { All LiesInIts captures.now.items }
-    ensures { OnOk result ((run : Run) (q : ℕ) → run.captures ≡ captures.now.items → at_id sessions.new q
+    ensures { OnOk result ((run : Run) (q : ℕ) → run.captures ≡ map recorded captures.now.items → at_id sessions.new q
         ≡ after_event run q (at_id sessions.old q) item.now (Confirm subject.now)) }
 {
     if !subject.helper {
@@ -77,9 +77,9 @@ fn pass(
 ) -> Result<Option<Rewrite>, NoMemory>
     requires { All LiesInIts captures.now.items }
     ensures session { OnOk result (session.new
-        ≡ session_past session.old (passed (run_of report.now captures.now.items) item.now id direction session.old)) }
+        ≡ session_past session.old (passed (run_of report.now (map recorded captures.now.items)) item.now id direction session.old)) }
     ensures line { IfOk result (λ line. option_map seen line
-        ≡ line_of_passed item.now id direction (passed (run_of report.now captures.now.items) item.now id direction session.old)) }
+        ≡ line_of_passed item.now id direction (passed (run_of report.now (map recorded captures.now.items)) item.now id direction session.old)) }
 {
     let Some(sent) = sent_by(captures, item) else {
         return Ok(None);
@@ -109,9 +109,9 @@ fn touch(
 ) -> Result<Option<Rewrite>, NoMemory>
     requires { All LiesInIts captures.now.items }
     ensures sessions { OnOk result (Puts sessions.old sessions.new id
-        (touched (run_of report.now captures.now.items) item.now id direction (at_id sessions.old id))) }
+        (touched (run_of report.now (map recorded captures.now.items)) item.now id direction (at_id sessions.old id))) }
     ensures line { IfOk result (λ line. option_map seen line
-        ≡ line_touched (run_of report.now captures.now.items) item.now id direction (at_id sessions.old id)) }
+        ≡ line_touched (run_of report.now (map recorded captures.now.items)) item.now id direction (at_id sessions.old id)) }
 {
     let Some(mut session) = take_out(sessions, id) else {
         return Ok(None);
@@ -132,9 +132,9 @@ fn follow(
 ) -> Result<Option<Rewrite>, NoMemory>
     requires { All LiesInIts captures.now.items }
     ensures sessions { OnOk result ((q : ℕ) → at_id sessions.new q
-        ≡ after_item (run_of report.now captures.now.items) q (at_id sessions.old q) item.now) }
+        ≡ after_item (run_of report.now (map recorded captures.now.items)) q (at_id sessions.old q) item.now) }
     ensures line { IfOk result (λ line. option_map seen line
-        ≡ line_by (run_of report.now captures.now.items) (at_id sessions.old) item.now) }
+        ≡ line_by (run_of report.now (map recorded captures.now.items)) (at_id sessions.old) item.now) }
 {
     match item.event {
         Event::Confirm { subject } => {
@@ -175,7 +175,7 @@ fn follow_all(
 ) -> Result<Rewrites, NoMemory>
     requires inside { All LiesInIts captures.now.items }
     requires items { items.now ≡ report.now.history.items }
-    ensures { IfOk result (λ lines. map seen lines.items ≡ rewritten (run_of report.now captures.now.items)) }
+    ensures { IfOk result (λ lines. map seen lines.items ≡ rewritten (run_of report.now (map recorded captures.now.items))) }
 {
     let mut sessions: Sessions = BTreeMap::new(alloc);
     let mut lines = Rewrites::empty(alloc);
@@ -191,7 +191,7 @@ fn follow_all(
 /// at once.
 pub fn rewrites(alloc: Global, report: &Report, captures: &Captures) -> Result<Rewrites, NoMemory>
     requires { All LiesInIts captures.now.items }
-    ensures { IfOk result (λ lines. map seen lines.items ≡ rewritten (run_of report.now captures.now.items)) }
+    ensures { IfOk result (λ lines. map seen lines.items ≡ rewritten (run_of report.now (map recorded captures.now.items))) }
 {
     follow_all(alloc, report, captures, report.history.as_slice())
 }

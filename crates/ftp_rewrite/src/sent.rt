@@ -1,9 +1,9 @@
 //! The segment that made an event, and what came of its data.
 
-ghost use Rattle.std.specs.Prelude.{◌≡◌, ◌+◌, ◌≤◌, All, length, slice_get};
+ghost use Rattle.std.specs.Prelude.{◌≡◌, ◌+◌, ◌≤◌, All, length, map, slice_get};
 ghost use Rattle.packet_headers.specs.ClassifySound.{HasPayloadIn};
 ghost use Rattle.packet_headers.specs.Span.{IsSpanIn};
-ghost use Rattle.ftp_rewrite.specs.Internal.Seen.{Gives, LiesInIts, sent_of};
+ghost use Rattle.ftp_rewrite.specs.Internal.Seen.{Gives, LiesInIts, recorded, sent_among, sent_of};
 ghost use Rattle.ftp_rewrite.specs.Sent.{bytes_in, data_in, ftp_by, passed_by, sent_by, sent_in};
 
 use capture_list::Captures;
@@ -71,14 +71,23 @@ pub fn item_at<T>(list: &RoomList<T>, index: usize) -> Option<&T>
 }
 
 /// The segment that made an event, if it was made by one.
-#[tactic(auto, using(crate::proofs::Inside::frame_inside), unfolding(crate::specs::Sent::sent_by))]
-pub fn sent_by<'p>(captures: &'p Captures, item: &Numbered) -> Option<SegmentView<'p>>
+#[tactic(auto, using(crate::proofs::Inside::frame_inside), unfolding(crate::specs::Internal::Seen::sent_among))]
+fn sent_among<'p>(captures: &'p Captures, item: &Numbered) -> Option<SegmentView<'p>>
     requires { All LiesInIts captures.now.items }
-    ensures { Gives sent_of result (sent_by captures.now.items item.now) }
+    ensures { Gives sent_of result (sent_among captures.now.items item.now) }
 {
     let capture = item_at(captures, item.thread as usize)?;
     let frame = item_at(&capture.frames, item.index as usize)?;
     sent_in(capture.bytes.as_slice(), frame)
+}
+
+/// The same, of the captures as they are told of.
+#[tactic(auto, using(crate::proofs::Inside::gives_same))]
+pub fn sent_by<'p>(captures: &'p Captures, item: &Numbered) -> Option<SegmentView<'p>>
+    requires { All LiesInIts captures.now.items }
+    ensures { Gives sent_of result (sent_by (map recorded captures.now.items) item.now) }
+{
+    sent_among(captures, item)
 }
 
 /// What came of the data of a packet of this class, if an entry let it pass by the event of this number.

@@ -33,6 +33,8 @@ pub enum Packet<'p> {
     Udp(Ends),
     /// A segment of TCP with these control bits and this data.
     Tcp(Ends, u8, &'p [u8]),
+    /// A segment of TCP with these sequence and acknowledgment numbers, control bits, and this data.
+    Segment(Ends, u32, u32, u8, &'p [u8]),
     /// A message of ICMP from one host to another, of this type and with this identifier.
     Echo(u32, u32, u8, u8),
     /// The word of the inner packet's destination to this host that the port is unreachable, with the packet of
@@ -107,11 +109,15 @@ fn push_ports(bytes: &mut Vec<u8>, proto: u8, length: u16, ends: &Ends) -> Resul
 fn push_segment(
     bytes: &mut Vec<u8>,
     ends: &Ends,
+    seq: u32,
+    ack: u32,
     flags: u8,
     data: &[u8],
 ) -> Result<(), AllocError> {
     push_ports(bytes, 6, 40 + (data.len() % 1000) as u16, ends)?;
-    bytes.extend_from_slice(&[0, 0, 0, 0, 0, 0, 0, 0, 0x50, flags, 0, 0, 0, 0, 0, 0])?;
+    bytes.extend_from_slice(&seq.to_be_bytes())?;
+    bytes.extend_from_slice(&ack.to_be_bytes())?;
+    bytes.extend_from_slice(&[0x50, flags, 0, 0, 0, 0, 0, 0])?;
     bytes.extend_from_slice(data)
 }
 
@@ -132,7 +138,10 @@ pub fn push_packet(bytes: &mut Vec<u8>, packet: &Packet<'_>) -> Result<(), Alloc
             push_ports(bytes, 17, 32, ends)?;
             bytes.extend_from_slice(&[0, 12, 0, 0, 0, 0, 0, 0])
         }
-        Packet::Tcp(ends, flags, data) => push_segment(bytes, ends, *flags, data),
+        Packet::Tcp(ends, flags, data) => push_segment(bytes, ends, 0, 0, *flags, data),
+        Packet::Segment(ends, seq, ack, flags, data) => {
+            push_segment(bytes, ends, *seq, *ack, *flags, data)
+        }
         Packet::Echo(src, dst, kind, id) => {
             push_ip(bytes, 1, 28, *src, *dst)?;
             bytes.extend_from_slice(&[*kind, 0, 0, 0, 0, *id, 0, 0])

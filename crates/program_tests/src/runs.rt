@@ -14,6 +14,7 @@ mod ftp;
 mod listeners;
 mod made;
 mod pools;
+mod rewrites;
 mod rules;
 mod scripts;
 mod storms;

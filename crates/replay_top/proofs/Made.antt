@@ -1,11 +1,13 @@
 -- What a report of all files that are asked for is.
-use Rattle.std.proofs.Common.{◌≡◌, ℕ, Bool, false, Option, Some, None, List, [], ◌∷◌, ◌++◌, length, map, suc, refl, sym, subst, ap, ◌∙◌}
-use Rattle.std.specs.Prelude.{Err, IfOk, is_some, Ok, option_to_list, Result}
+use Rattle.std.proofs.Common.{◌≡◌, ℕ, Bool, true, false, Option, Some, None, List, [], ◌∷◌, ◌++◌, length, map, suc, refl, sym, subst, ap, ◌∙◌}
+use Rattle.std.specs.Prelude.{All, Err, ForSome, IfOk, is_some, Ok, option_to_list, Result}
 use Rattle.std.proofs.lemmas.List.{length-map}
+use Rattle.std.proofs.lemmas.Simd.{map-map}
 use Rattle.command_words.specs.Words.{made, named, Origin, Request}
 use Rattle.conntrack_cmd.specs.declared.read.Script.{Script}
 use Rattle.ct_io.specs.Source.{Source}
 use Rattle.history_book.specs.declared.event.Note.{Note}
+use Rattle.history_book.specs.declared.report.Report.{Report}
 use Rattle.history_book.specs.declared.sizes.Sizes.{Sizes}
 use Rattle.nat_setup.specs.declared.rule.Rule.{Rule}
 use Rattle.packet_path.specs.Packet.{Given}
@@ -21,27 +23,49 @@ use Rattle.replay_runs.specs.Heard.{AreHeard, HeardEach, made_before_join}
 use Rattle.report_text.specs.Heard.{heard_counts, heard_text}
 use Rattle.replay_top.specs.declared.ending.Replayed.{Replayed}
 use Rattle.replay_top.specs.Internal.Ending.{counts_of, heard_of, IsReplayWith}
-use Rattle.replay_top.specs.Internal.Replaying.{ReplaysInputs, given_of_capture, work_in}
+use Rattle.ftp_rewrite.specs.Internal.Seen.{LiesInIts, recorded}
+use Rattle.ftp_rewrite.specs.Sent.{Recorded}
+use Rattle.replay_top.specs.Internal.Replaying.{given_of_capture, kept_if, kept_lines, Prepared, prepared, recorded_of, ReplaysInputs, rewritten_text, work_in}
 use Rattle.replay_runs.specs.Replaying.{work_of}
-use Rattle.replay_top.specs.Replay.{given_in, heard_lines, rules_in, sizes_of, threads_of, work_asked, work_with}
+use Rattle.replay_top.specs.Replay.{captures_in, given_frames, given_in, heard_lines, rewrite_lines, rules_in, sizes_of, threads_of, work_asked, work_with}
 use Rattle.made_captures.specs.MadeCapture.{made_capture}
 use Rattle.std.proofs.lemmas.List.FromFn.{length-map-range_with_len}
 use Rattle.replay_runs.specs.Report.{IsWellFormed, Work}
 use Rattle.run_inputs.specs.Files.{files_of_kind, InputFile}
 use Rattle.room_list.specs.Roomed.{Roomed}
 
+-- what is read off captures as they are replayed is the same where they are
+alike : {X : Type 0} (f : Prepared → X) (defrag : Bool) (all captures : List Capture) → map (prepared false) all ≡ map (prepared defrag) captures
+    → map (λ c. f (prepared false c)) all ≡ map (λ c. f (prepared defrag c)) captures
+alike f defrag all captures same = sym (map-map f (prepared false) all) ∙ ap (map f) same ∙ map-map f (prepared defrag) captures
+
+-- the captures that were kept are those of which is told
+pub kept_told : (rewrite : Bool) (captures : Roomed Capture) (kept : Option (Roomed Capture)) (report : Report) → kept ≡ kept_if rewrite captures
+    → kept_lines kept report ≡ rewrite_lines rewrite (map recorded captures.items) report
+kept_told false captures kept report is = ap (λ (k : Option (Roomed Capture)). kept_lines k report) is
+kept_told true captures kept report is = ap (λ (k : Option (Roomed Capture)). kept_lines k report) is
+
+pub kept_inside : (rewrite : Bool) (captures : Roomed Capture) (kept : Option (Roomed Capture)) → kept ≡ kept_if rewrite captures
+    → All LiesInIts captures.items → ForSome kept (λ own. All LiesInIts own.items)
+kept_inside false captures kept is all own one = absurd (cc one is)
+kept_inside true captures kept is all own one =
+    let same : captures ≡ own = cc in
+    subst (λ (c : Roomed Capture). All LiesInIts c.items) same all
+
 -- what was replayed of inputs that were set up as it is asked for is what is asked for
 pub inputs_replayed : (asked : Request) (inputs : Inputs) (captures : List Capture) (ftp : Roomed ℕ) (sizes : Sizes) {E : Type 0} (result : Result Replayed E)
-    → map (given_of_capture false) captures ≡ map (given_of_capture asked.defrag) inputs.captures.items
+    → map (prepared false) captures ≡ map (prepared asked.defrag) inputs.captures.items
     → ftp.items ≡ asked.ftp → sizes ≡ sizes_of asked
     → IfOk result (λ done. IsWellFormed (record { setup = record { rules = inputs.rules; ftp = ftp }; sizes = sizes })
     (work_of captures inputs.script) done.report)
     → IfOk result (λ done. AreHeard (made_before_join (work_of captures inputs.script) done.report) done.listened)
     → IfOk result (λ done. is_some done.listened ≡ asked.listen)
+    → IfOk result (λ done. rewritten_text done.rewrites ≡ rewrite_lines asked.rewrite (map recorded captures) done.report)
     → IfOk result (ReplaysInputs asked inputs)
-inputs_replayed asked inputs captures ftp sizes (Ok done) same copied sized well_formed heard listened =
+inputs_replayed asked inputs captures ftp sizes (Ok done) same copied sized well_formed heard listened rewrites =
     let so : work_of captures inputs.script ≡ work_in asked.defrag inputs.captures.items inputs.script =
-    ap (λ (given : List (List Given)). record { captures = given; commands = inputs.script.commands.items; wait = inputs.script.wait }) same in
+    ap (λ (given : List (List Given)). record { captures = given; commands = inputs.script.commands.items; wait = inputs.script.wait })
+    (alike (λ p. given_frames p.zone p.capture) asked.defrag captures inputs.captures.items same) in
     record {
       setup = record { rules = inputs.rules; ftp = ftp };
       rules = refl;
@@ -51,8 +75,10 @@ inputs_replayed asked inputs captures ftp sizes (Ok done) same copied sized well
           (work_of captures inputs.script) done.report) sized well_formed);
       listened = listened;
       heard = subst (λ (w : Work). AreHeard (made_before_join w done.report) done.listened) so heard;
+      rewrites = rewrites ∙ ap (λ (told : List Recorded). rewrite_lines asked.rewrite told done.report)
+          (alike (λ p. p.capture) asked.defrag captures inputs.captures.items same);
     }
-inputs_replayed asked inputs captures ftp sizes (Err error) same copied sized well_formed heard listened = tt
+inputs_replayed asked inputs captures ftp sizes (Err error) same copied sized well_formed heard listened rewrites = tt
 
 -- what a listener heard of each thread
 heard_each : (done : List (List Note)) (listened : Option Listened) → AreHeard done listened → HeardEach done (heard_of listened)
@@ -87,6 +113,11 @@ given_captures : (defrag : Bool) (captures : List Capture)
 given_captures defrag [] = refl
 given_captures defrag (c ∷ captures) = ap (λ (given : List (List Given)). given_of_capture defrag c ∷ given) (given_captures defrag captures)
 
+told_captures : (defrag : Bool) (captures : List Capture)
+    → captures_in defrag (bytes_in captures) (contents_in captures) ≡ map (recorded_of defrag) captures
+told_captures defrag [] = refl
+told_captures defrag (c ∷ captures) = ap (λ (told : List Recorded). recorded_of defrag c ∷ told) (told_captures defrag captures)
+
 -- a script without a command, and captures alone
 captures_alone : (defrag : Bool) (said : Script) (captures : List Capture) → said.commands.items ≡ [] → said.wait ≡ 0
     → work_in defrag captures said ≡ work_with (given_in defrag (zones_in captures) (bytes_in captures) (contents_in captures)) (contents_in captures)
@@ -95,19 +126,20 @@ captures_alone defrag said captures commands wait =
     ∙ ap (λ (given : List (List Given)). record { captures = given; commands = []; wait = 0 }) (given_captures defrag captures)))
 
 -- what files say, of which the rules and the work are these
-record ReadFiles (files : Source) (inputs : List InputFile) (defrag : Bool) (zones : List ℕ) (ruled : List Rule) (done : Work) : Type 0 where
+record ReadFiles (files : Source) (inputs : List InputFile) (defrag : Bool) (zones : List ℕ) (ruled : List Rule) (done : Work) (told : List Recorded) : Type 0 where
   bytes : List (List ℕ)
   contents : List Content
   given : AreGiven files inputs bytes
   read : AreReadFrom no_totals inputs bytes contents
   rules : ruled ≡ rules_in contents
   work : done ≡ work_with (given_in defrag zones bytes contents) contents
+  captures : captures_in defrag bytes contents ≡ told
 
 read_files : (files : Source) (r s : Option (List ℕ)) (names : List (List ℕ)) (defrag : Bool) (ruled : List Rule) (said : Script) (captures : List Capture)
     → GaveRules files r ruled → GaveScript files s said
     → GaveContents files no_totals (files_of_kind kind.Capture names) (bytes_in captures) (contents_in captures)
     → ReadFiles files (files_of_kind kind.Rules (option_to_list r) ++ files_of_kind kind.Script (option_to_list s) ++ files_of_kind kind.Capture names)
-    defrag (zones_in captures) ruled (work_in defrag captures said)
+    defrag (zones_in captures) ruled (work_in defrag captures said) (map (recorded_of defrag) captures)
 read_files files None None names defrag ruled said captures gr gs gc = record {
   bytes = bytes_in captures;
   contents = contents_in captures;
@@ -115,6 +147,7 @@ read_files files None None names defrag ruled said captures gr gs gc = record {
   read = gc.read;
   rules = gr ∙ sym (no_rules captures);
   work = captures_alone defrag said captures gs.0 gs.1;
+  captures = told_captures defrag captures;
 }
 read_files files None (Some s) names defrag ruled said captures gr gs gc = record {
   bytes = gs.bytes ∷ bytes_in captures;
@@ -123,6 +156,7 @@ read_files files None (Some s) names defrag ruled said captures gr gs gc = recor
   read = (gs.read, gc.read);
   rules = gr ∙ sym (no_rules captures);
   work = sym (ap (λ (given : List (List Given)). record { captures = given; commands = said.commands.items; wait = said.wait }) (given_captures defrag captures));
+  captures = told_captures defrag captures;
 }
 read_files files (Some r) None names defrag ruled said captures gr gs gc = record {
   bytes = gr.bytes ∷ bytes_in captures;
@@ -131,6 +165,7 @@ read_files files (Some r) None names defrag ruled said captures gr gs gc = recor
   read = (gr.read, gc.read);
   rules = refl;
   work = captures_alone defrag said captures gs.0 gs.1;
+  captures = told_captures defrag captures;
 }
 read_files files (Some r) (Some s) names defrag ruled said captures gr gs gc = record {
   bytes = gr.bytes ∷ gs.bytes ∷ bytes_in captures;
@@ -139,28 +174,32 @@ read_files files (Some r) (Some s) names defrag ruled said captures gr gs gc = r
   read = (gr.read, (gs.read, gc.read));
   rules = refl;
   work = sym (ap (λ (given : List (List Given)). record { captures = given; commands = said.commands.items; wait = said.wait }) (given_captures defrag captures));
+  captures = told_captures defrag captures;
 }
 
 -- the same of all that is asked for
-record Worked (files : Source) (origin : Origin) (defrag : Bool) (zones : List ℕ) (ruled : List Rule) (done : Work) : Type 0 where
+record Worked (files : Source) (origin : Origin) (defrag : Bool) (zones : List ℕ) (ruled : List Rule) (done : Work) (told : List Recorded) : Type 0 where
   bytes : List (List ℕ)
   contents : List Content
   inputs : AreInputsOf files origin bytes contents
   rules : ruled ≡ rules_in contents
   work : done ≡ work_with (given_in defrag zones bytes contents) contents
+  captures : captures_in defrag bytes contents ≡ told
 
 worked : (files : Source) (origin : Origin) (defrag : Bool) (inputs : Inputs) → GaveOrigin files origin inputs
     → Worked files origin defrag (zones_in inputs.captures.items) inputs.rules.items (work_in defrag inputs.captures.items inputs.script)
+    (map (recorded_of defrag) inputs.captures.items)
 worked files (named names) defrag inputs gave =
     let all = read_files files names.rules names.script names.captures defrag inputs.rules.items inputs.script inputs.captures.items gave.rules
     gave.script gave.captures in
-    record { bytes = all.bytes; contents = all.contents; inputs = (all.given, all.read); rules = all.rules; work = all.work }
+    record { bytes = all.bytes; contents = all.contents; inputs = (all.given, all.read); rules = all.rules; work = all.work; captures = all.captures }
 worked files (made workload) defrag inputs gave = record {
   bytes = bytes_in inputs.captures.items;
   contents = contents_in inputs.captures.items;
   inputs = gave.captures;
   rules = gave.rules ∙ sym (no_rules inputs.captures.items);
   work = captures_alone defrag inputs.script inputs.captures.items gave.commands gave.wait;
+  captures = told_captures defrag inputs.captures.items;
 }
 
 -- what was replayed of what was read is what is asked for
@@ -185,6 +224,7 @@ replay_made files asked inputs done gave of =
         heard_first = heard_each (made_before_join (work_asked asked all.bytes all.contents) done.report) done.listened heard;
       };
       lines = lines_of (made_before_join (work_asked asked all.bytes all.contents) done.report) done.listened heard;
+      rewrites = of.rewrites ∙ sym (ap (λ (told : List Recorded). rewrite_lines asked.rewrite told done.report) all.captures);
     }
 
 -- there is one for each file that was read

@@ -1,5 +1,5 @@
--- What is printed: a report or its summary, and then what was heard.
-use Rattle.std.proofs.Common.{◌≡◌, ℕ, zero, suc, ◌+◌, ◌<◌, ◌≤◌, List, [], ◌∷◌, ◌++◌, length, map, take, Option, Some, None, refl, sym, ap, subst, ◌∙◌, ap₂, arith, append_assoc, length-append, length-take}
+-- What is printed: a report or its summary, then what was heard, and how packets leave.
+use Rattle.std.proofs.Common.{◌≡◌, ℕ, zero, suc, ◌+◌, ◌<◌, ◌≤◌, List, [], ◌∷◌, ◌++◌, length, map, take, Option, Some, None, refl, sym, ap, subst, ◌∙◌, ap₂, arith, append_assoc, append-nil, length-append, length-take}
 use Rattle.std.specs.Prelude.{Err, get_or, min, Ok, option_map, Result, slice_get}
 use Rattle.std.proofs.lemmas.List.{length-map, take-append-le, take_more}
 use Rattle.std.proofs.lemmas.Option.{get_or_from_slice_get, slice_get-map, slice_get_within}
@@ -9,14 +9,16 @@ use Rattle.ct_io.specs.Counts.{Rose}
 use Rattle.ct_io.specs.Source.{SameFaults, Source}
 use Rattle.ct_io.specs.Tape.{Tape}
 use Rattle.history_book.specs.declared.event.Note.{Note}
+use Rattle.ftp_rewrite.specs.declared.write.WriteFault as lines_fault
+use Rattle.ftp_rewrite.specs.Wrote as lines
 use Rattle.report_text.specs.declared.heard.HeardCount.{HeardCount}
 use Rattle.report_text.specs.declared.write.WriteFault.{WriteFault}
 use Rattle.report_text.specs.Heard.{heard_counts, heard_text}
 use Rattle.report_text.specs.Wrote.{followed_by, Wrote, WroteFront}
-use Rattle.replay_runs.specs.Heard.{made_before_join}
 use Rattle.replay_top.specs.declared.ending.Replayed.{Replayed}
 use Rattle.replay_top.specs.Internal.Ending.{counts_of, ended, Ends, heard_of, IsReplayWith}
-use Rattle.replay_top.specs.Replay.{heard_lines, printed, text_of, work_asked}
+use Rattle.replay_top.specs.Internal.Replaying.{rewritten_text}
+use Rattle.replay_top.specs.Replay.{printed, text_of}
 
 -- one text, and then another
 followed_twice : (before : Option (List ℕ)) (first second : List ℕ) → followed_by (followed_by before first) second ≡ followed_by before (first ++ second)
@@ -44,6 +46,26 @@ wrote_less first second t u fault (rose, front) = (
   (front.0, omega (arith, front.1, length-append first second),
       front.2 ∙ ap (followed_by t.written) (sym (take-append-le front.0 first second (omega (arith, front.1))))),
 )
+
+-- where there is nothing to write
+nothing_follows : (before : Option (List ℕ)) → before ≡ followed_by before []
+nothing_follows None = refl
+nothing_follows (Some bytes) = ap (λ (xs : List ℕ). Some xs) (sym (append-nil bytes))
+
+pub wrote_nothing : (t : Tape) → Wrote [] t t (Ok tt)
+wrote_nothing t = (nothing_follows t.written, refl)
+
+-- what was written of how packets leave, in the words of the report's text
+same_followed : (before : Option (List ℕ)) (text : List ℕ) → lines.followed_by before text ≡ followed_by before text
+same_followed None text = refl
+same_followed (Some bytes) text = refl
+
+pub wrote_rewrites : (text : List ℕ) (t u : Tape) → lines.Wrote text t u (Ok tt) → Wrote text t u (Ok tt)
+wrote_rewrites text t u wrote = (wrote.written ∙ same_followed t.written text, wrote.no_fault)
+
+pub wrote_some_rewrites : (text : List ℕ) (t u : Tape) (fault : lines_fault.WriteFault) (own : WriteFault) → lines.Wrote text t u (Err fault)
+    → Wrote text t u (Err own)
+wrote_some_rewrites text t u fault own wrote = (wrote.rose, (wrote.count, wrote.few, wrote.written ∙ same_followed t.written (take wrote.count text)))
 
 -- ---- how many were heard
 
@@ -79,17 +101,17 @@ counts_all (suc k) (a ∷ made) (b ∷ heard) is =
 
 -- ---- how a run ends
 
--- the text of a report, or its summary, and the lines of these counts are what is printed
+-- the text of a report, or its summary, and the lines behind it are what is printed
 module _ (files files' : Source) (asked : Request) (made : Replayed) (out out' : Tape) (counts : List HeardCount) (with : IsReplayWith files asked made)
     (same : SameFaults files files') (are : counts ≡ counts_of made.listened) where
-  all_printed : text_of asked.summary made.report ++ heard_text counts
-      ≡ printed asked.summary (work_asked asked with.replay.bytes with.replay.contents) made.report (heard_of made.listened)
-  all_printed =
-      ap (λ (cs : List HeardCount). text_of asked.summary made.report ++ heard_text cs) are
-      ∙ ap (λ (lines : List ℕ). text_of asked.summary made.report ++ lines) with.lines
+  abbrev text_made : List ℕ
+  text_made = text_of asked.summary made.report ++ heard_text counts ++ rewritten_text made.rewrites
 
-  pub ends_so : (written : Result (Unit {0}) WriteFault) → Wrote (text_of asked.summary made.report ++ heard_text counts) out out' written
-      → Ends asked files files' out out' (ended written made)
+  all_printed : text_made ≡ printed asked with.replay.bytes with.replay.contents made.report (heard_of made.listened)
+  all_printed =
+      ap₂ (λ (heard rewrites : List ℕ). text_of asked.summary made.report ++ heard ++ rewrites) (ap heard_text are ∙ with.lines) with.rewrites
+
+  pub ends_so : (written : Result (Unit {0}) WriteFault) → Wrote text_made out out' written → Ends asked files files' out out' (ended written made)
   ends_so (Ok done) (is, still) = (record { replay = with.replay; text = is ∙ ap (followed_by out.written) all_printed }, same, still)
   ends_so (Err fault) (rose, front) = (
     record {

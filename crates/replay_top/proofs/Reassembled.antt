@@ -6,8 +6,7 @@ use Rattle.std.proofs.lemmas.List.Elements.{All-head, All-nil, All-push, All-tai
 use Rattle.capture_list.specs.Frames.{frames_in}
 use Rattle.capture_list.specs.declared.Capture.{Capture}
 use Rattle.packet_headers.specs.Capture.{AreInside, AreTimely}
-use Rattle.packet_path.specs.Packet.{Given}
-use Rattle.replay_top.specs.Internal.Replaying.{given_of_capture}
+use Rattle.replay_top.specs.Internal.Replaying.{Prepared, prepared}
 use Rattle.run_inputs.specs.Ready.{CanReplay}
 
 abbrev IsInside : Capture → Type 0
@@ -18,14 +17,14 @@ IsTimely c = AreTimely c.frames.items
 
 -- a capture whose fragments are put together
 pub record IsReassembled (c new : Capture) : Type 0 where
-  pub given : given_of_capture false new ≡ given_of_capture true c
+  pub prepares : prepared false new ≡ prepared true c
   pub inside : IsInside new
   pub timely : IsTimely c → IsTimely new
   pub many : length new.frames.items ≡ length c.frames.items
 
 -- of all captures the first are put together, and these are left
 pub record AreMidway (all done left : List Capture) : Type 0 where
-  pub given : map (given_of_capture false) done ++ map (given_of_capture true) left ≡ map (given_of_capture true) all
+  pub prepares : map (prepared false) done ++ map (prepared true) left ≡ map (prepared true) all
   pub many : length done + length left ≡ length all
   pub frames : frames_in done + frames_in left ≡ frames_in all
   pub inside : All IsInside done
@@ -35,7 +34,7 @@ pub record AreMidway (all done left : List Capture) : Type 0 where
 
 pub none_done : (all done : List Capture) → done ≡ [] → CanReplay all → AreMidway all done all
 none_done all done none can = rw none (record {
-  given = refl;
+  prepares = refl;
   many = omega arith;
   frames = omega arith;
   inside = All-nil IsInside;
@@ -52,9 +51,9 @@ one_done : (all done left : List Capture) (c new : Capture) → AreMidway all do
 one_done all done left c new so_far is =
     let longer : length (done ++ new ∷ []) ≡ length done + 1 = length-append done (new ∷ []) in
     record {
-      given = ap (λ (given : List (List Given)). given ++ map (given_of_capture true) left)
-          (map-append (given_of_capture false) done (new ∷ []) ∙ ap (λ (g : List Given). map (given_of_capture false) done ++ g ∷ []) is.given)
-          ∙ append_assoc (map (given_of_capture false) done) (given_of_capture true c ∷ []) (map (given_of_capture true) left) ∙ so_far.given;
+      prepares = ap (λ (all : List Prepared). all ++ map (prepared true) left)
+          (map-append (prepared false) done (new ∷ []) ∙ ap (λ (one : Prepared). map (prepared false) done ++ one ∷ []) is.prepares)
+          ∙ append_assoc (map (prepared false) done) (prepared true c ∷ []) (map (prepared true) left) ∙ so_far.prepares;
       many = omega (arith, longer, so_far.many);
       frames = omega (arith, frames_more done new, is.many, so_far.frames);
       inside = All-push IsInside done new so_far.inside is.inside;
@@ -80,8 +79,8 @@ next_inside all done (d ∷ left) c so_far first =
 
 -- none is left
 pub all_done : (all done left : List Capture) → AreMidway all done left → length left ≡ 0
-    → (map (given_of_capture false) done ≡ map (given_of_capture true) all) × (length done ≡ length all) × (frames_in done ≡ frames_in all)
-all_done all done [] so_far none = (sym (append-nil (map (given_of_capture false) done)) ∙ so_far.given, omega (arith, so_far.many), omega (arith, so_far.frames))
+    → (map (prepared false) done ≡ map (prepared true) all) × (length done ≡ length all) × (frames_in done ≡ frames_in all)
+all_done all done [] so_far none = (sym (append-nil (map (prepared false) done)) ∙ so_far.prepares, omega (arith, so_far.many), omega (arith, so_far.frames))
 all_done all done (c ∷ left) so_far none = absurd (omega (arith, none))
 
 pub can_replay : (all done left : List Capture) → CanReplay all → AreMidway all done left → length left ≡ 0 → CanReplay done

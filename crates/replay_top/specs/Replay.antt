@@ -4,6 +4,9 @@ use Rattle.command_words.specs.Words.{Origin, Request, made, named}
 use Rattle.ct_io.specs.Counts.{Rose}
 use Rattle.ct_io.specs.Source.{Source}
 use Rattle.ct_io.specs.Tape.{Tape}
+use Rattle.ftp_rewrite.specs.Rewrites.{rewritten, run_of}
+use Rattle.ftp_rewrite.specs.Sent.{Recorded}
+use Rattle.ftp_rewrite.specs.Text.{rewrites_text}
 use Rattle.ip_reassembly.specs.Defragged.{defragged}
 use Rattle.nat_setup.specs.declared.rule.Rule.{Rule}
 use Rattle.packet_headers.specs.declared.frame.Frame.{Frame}
@@ -29,11 +32,14 @@ rules_in (rules said ∷ contents) = said
 rules_in (script commands wait ∷ contents) = rules_in contents
 rules_in (frames said ∷ contents) = rules_in contents
 
--- what was given of these frames of a capture with these bytes, in a zone; where that is asked for, its fragments are
--- put together first
-abbrev pub given_frames : Bool → ℕ → List ℕ → List Frame → List Given
-given_frames false zone bytes said = map (given_of zone bytes) said
-given_frames true zone bytes said = map (given_of zone (defragged bytes said).bytes) (defragged bytes said).frames
+-- the bytes and the frames of a capture as it is replayed; where that is asked for, its fragments are put together first
+abbrev pub as_replayed : Bool → List ℕ → List Frame → Recorded
+as_replayed false bytes said = record { bytes = bytes; frames = said }
+as_replayed true bytes said = record { bytes = (defragged bytes said).bytes; frames = (defragged bytes said).frames }
+
+-- what was given of a capture in a zone
+abbrev pub given_frames : ℕ → Recorded → List Given
+given_frames zone capture = map (given_of zone capture.bytes) capture.frames
 
 -- the same of the captures among files with these bytes, which say this; the captures are in these zones, in their
 -- order, and in zone 0 past the list
@@ -43,7 +49,15 @@ given_in defrag zones (bytes ∷ more) [] = []
 given_in defrag zones (bytes ∷ more) (rules said ∷ contents) = given_in defrag zones more contents
 given_in defrag zones (bytes ∷ more) (script commands wait ∷ contents) = given_in defrag zones more contents
 given_in defrag zones (bytes ∷ more) (frames said ∷ contents) =
-    given_frames defrag (get_or zones 0 0) bytes said ∷ given_in defrag (drop 1 zones) more contents
+    given_frames (get_or zones 0 0) (as_replayed defrag bytes said) ∷ given_in defrag (drop 1 zones) more contents
+
+-- the same captures, as they are replayed
+abbrev pub captures_in : Bool → List (List ℕ) → List Content → List Recorded
+captures_in defrag [] contents = []
+captures_in defrag (bytes ∷ more) [] = []
+captures_in defrag (bytes ∷ more) (rules said ∷ contents) = captures_in defrag more contents
+captures_in defrag (bytes ∷ more) (script commands wait ∷ contents) = captures_in defrag more contents
+captures_in defrag (bytes ∷ more) (frames said ∷ contents) = as_replayed defrag bytes said ∷ captures_in defrag more contents
 
 -- the work with these captures, by the script of files that say this; without a script there is no command
 abbrev pub work_with : List (List Given) → List Content → Work
@@ -98,14 +112,21 @@ abbrev pub heard_lines : List (List Note) → Option (List (List Note)) → List
 heard_lines events None = []
 heard_lines events (Some heard) = heard_text (heard_counts (map length events) (map length heard))
 
--- all that is printed of a run of this work
-abbrev pub printed : Bool → Work → Report → Option (List (List Note)) → List ℕ
-printed summary work report heard = text_of summary report ++ heard_lines (made_before_join work report) heard
+-- what is printed of how the packets of a report on these captures leave, where that is asked for
+abbrev pub rewrite_lines : Bool → List Recorded → Report → List ℕ
+rewrite_lines false captures report = []
+rewrite_lines true captures report = rewrites_text (rewritten (run_of report captures))
+
+-- all that is printed of a run of what is asked for, with files that have these bytes and say this
+abbrev pub printed : Request → List (List ℕ) → List Content → Report → Option (List (List Note)) → List ℕ
+printed asked bytes contents report heard =
+    text_of asked.summary report ++ heard_lines (made_before_join (work_asked asked bytes contents) report) heard
+    ++ rewrite_lines asked.rewrite (captures_in asked.defrag bytes contents) report
 
 -- the report is that of what is asked for, and what was written is followed by exactly the text that is
 pub record IsPrintedFor (files : Source) (before after : Tape) (heard : Option (List (List Note))) (report : Report) (asked : Request) : Type 0 where
   pub replay : IsReplayOf files asked report heard
-  pub text : after.written ≡ followed_by before.written (printed asked.summary (work_asked asked replay.bytes replay.contents) report heard)
+  pub text : after.written ≡ followed_by before.written (printed asked replay.bytes replay.contents report heard)
 
 -- the same of what the words ask for
 abbrev pub IsPrinted : List (List ℕ) → Source → Tape → Tape → Option (List (List Note)) → Report → Type 0
@@ -115,7 +136,7 @@ IsPrinted words files before after heard report = AskFor words (IsPrintedFor fil
 pub record IsCutShortFor (files : Source) (before after : Tape) (heard : Option (List (List Note))) (report : Report) (asked : Request) : Type 0 where
   pub replay : IsReplayOf files asked report heard
   pub failed : Rose before.faults after.faults
-  pub text : WroteFront (printed asked.summary (work_asked asked replay.bytes replay.contents) report heard) before.written after.written
+  pub text : WroteFront (printed asked replay.bytes replay.contents report heard) before.written after.written
 
 abbrev pub IsCutShort : List (List ℕ) → Source → Tape → Tape → Option (List (List Note)) → Report → Type 0
 IsCutShort words files before after heard report = AskFor words (IsCutShortFor files before after heard report)

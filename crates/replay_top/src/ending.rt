@@ -5,16 +5,18 @@ ghost use Rattle.replay_top.specs.Internal.Ending.{ended, heard_of, refusal_for}
 
 use command_words::WordsError;
 use event_listen::heard::Heard;
+use ftp_rewrite::Rewrites;
 use history_book::report::Report;
 use replay_runs::listened::Listened;
 use report_text::write::WriteFault;
 use run_inputs::Refusal;
 
-/// What a replay gives: its report, and what a listener heard where one was asked for.
+/// What a replay gives: its report, what a listener heard where one was asked for, and how packets leave where that was.
 #[derive(Drop)]
 pub struct Replayed {
     pub report: Report,
     pub listened: Option<Listened>,
+    pub rewrites: Option<Rewrites>,
 }
 
 /// How a run ends.
@@ -53,7 +55,9 @@ pub fn run_with(status: u8, made: Replayed) -> Run
     ensures report { result.report ≡ Some made.report }
     ensures heard { result.heard ≡ heard_of made.listened }
 {
-    let Replayed { report, listened } = made;
+    let Replayed {
+        report, listened, ..
+    } = made;
     let heard = match listened {
         Some(listened) => Some(listened.heard),
         None => None,

@@ -7,6 +7,7 @@ mod process;
 mod program;
 mod reassembly;
 mod replay;
+mod rewriting;
 mod sizes;
 
 pub use ending::Run;

@@ -11,7 +11,7 @@ ghost use Rattle.replay_top.specs.ErrorLine.{Tells, write_failed};
 ghost use Rattle.run_inputs.specs.Inputs.{Finding, Finds};
 ghost use Rattle.replay_top.specs.Internal.Ending.{counts_of, Ends, line_about, Replays};
 ghost use Rattle.run_inputs.specs.Ready.{IsReady};
-ghost use Rattle.replay_top.specs.Internal.Replaying.{ReplaysInputs};
+ghost use Rattle.replay_top.specs.Internal.Replaying.{ReplaysInputs, rewritten_text};
 ghost use Rattle.replay_top.specs.Replay.{IsCutShort, IsPrinted, text_of, threads_of};
 ghost use Rattle.report_text.specs.Heard.{heard_text};
 ghost use Rattle.report_text.specs.Wrote.{Wrote};
@@ -21,9 +21,11 @@ use crate::ending::{Ending, Replayed, Run, ended, refusal_for, run_with, run_wit
 use crate::error_line::{name_among, tell_not_written, tell_refusal};
 use crate::reassembly::as_replayed;
 use crate::replay::replay;
+use crate::rewriting::print_rewrites;
 use crate::sizes::sizes_of;
 use command_words::{Asked, read_words};
 use ct_io::{Files, Gate, Sink};
+use ftp_rewrite::Rewrites;
 use history_book::report::Report;
 use packet_path::setup::{Ports, Setup};
 use replay_runs::listened::Listened;
@@ -100,6 +102,7 @@ fn replay_inputs<R: Threads + Wait + Sync, G: Gate + Sync>(
         &setup,
         gate,
         asked.listen,
+        asked.rewrite,
     )
 }
 
@@ -145,24 +148,41 @@ fn print_report<K: Sink>(
     }
 }
 
-/// Writes a report's text, or its summary, and then how much was heard of each of these threads.
+/// Writes how much was heard of each of these threads, and then how packets leave.
+#[tactic(auto, using(crate::proofs::Printing::wrote_both, crate::proofs::Printing::wrote_less))]
+fn print_lines<K: Sink>(
+    counts: &[HeardCount],
+    rewrites: &Option<Rewrites>,
+    buffer: &mut [u8],
+    out: &mut K,
+) -> Result<(), WriteFault>
+    requires { LONGEST_LINE ≤ length buffer.old }
+    ensures wrote { Wrote (heard_text counts.now ++ rewritten_text rewrites.now) (K.tape out.old) (K.tape out.new) result }
+    ensures faults_stay { (K.tape out.old).faults ≤ (K.tape out.new).faults }
+{
+    write_heard(counts, buffer, out)?;
+    print_rewrites(rewrites, buffer, out)
+}
+
+/// Writes a report's text, or its summary, and then the lines behind it.
 #[tactic(auto, using(crate::proofs::Printing::wrote_both, crate::proofs::Printing::wrote_less))]
 fn print<K: Sink>(
     summary: bool,
-    report: &Report,
+    made: &Replayed,
     counts: &[HeardCount],
     buffer: &mut [u8],
     out: &mut K,
 ) -> Result<(), WriteFault>
     requires { LONGEST_LINE ≤ length buffer.old }
-    ensures wrote { Wrote (text_of summary report.now ++ heard_text counts.now) (K.tape out.old) (K.tape out.new) result }
+    ensures wrote { Wrote (text_of summary made.now.report ++ heard_text counts.now ++ rewritten_text made.now.rewrites)
+        (K.tape out.old) (K.tape out.new) result }
     ensures faults_stay { (K.tape out.old).faults ≤ (K.tape out.new).faults }
 {
-    print_report(summary, report, buffer, out)?;
-    write_heard(counts, buffer, out)
+    print_report(summary, &made.report, buffer, out)?;
+    print_lines(counts, &made.rewrites, buffer, out)
 }
 
-/// Replays what is asked for, and writes the report's text to `out`, or its summary, and what was heard.
+/// Replays what is asked for, and writes the report's text to `out`, or its summary, and the lines behind it.
 fn run<R: Threads + Wait + Sync, F: Files, K: Sink, G: Gate + Sync>(
     rt: &R,
     alloc: Global,
@@ -191,7 +211,7 @@ fn run<R: Threads + Wait + Sync, F: Files, K: Sink, G: Gate + Sync>(
     };
     let written = print(
         asked.summary,
-        &made.report,
+        &made,
         counts.as_slice(),
         buffer.as_mut_slice(),
         out,
@@ -215,15 +235,17 @@ fn refused<K: Sink>(why: Refusal, name: &str, err: &mut K) -> Run
 /// summary, or one line to `err`.
 ///
 /// `words` are `ctreplay [--rules F] [--script F] [--zones LIST] [--defrag] [--entries N] [--buckets N] [--ftp LIST]
-/// [--summary] [--listen] CAPTURE..`, or `ctreplay --make SEED --packets N --threads T [--defrag] [--entries N]
-/// [--buckets N] [--ftp LIST] [--summary] [--listen]`, with which no file is read. Each capture is in the zone that the list gives it, or in zone
-/// 0 without one; flows of different zones never meet. With `--defrag` the fragments of each capture are put together
-/// first. The captures are replayed beside each other, each in a thread of its own,
-/// and beside them the commands of the script that stand before `wait` are performed in its thread; those behind it
-/// follow when all captures were replayed. New flows are translated by the rules, and connections to the ports of the
+/// [--summary] [--listen] [--rewrite] CAPTURE..`, or `ctreplay --make SEED --packets N --threads T [--defrag] [--entries N]
+/// [--buckets N] [--ftp LIST] [--summary] [--listen] [--rewrite]`, with which no file is read. Each capture is in the zone
+/// that the list gives it, or in zone 0 without one; flows of different zones never meet. With `--defrag` the fragments of
+/// each capture are put together first. The captures are replayed beside each other, each in a thread of its own, and
+/// beside them the commands of the script that stand before `wait` are performed in its thread; those behind it follow
+/// when all captures were replayed. New flows are translated by the rules, and connections to the ports of the
 /// list, or else to 21, have the helper of FTP. The tracker has room for so many entries, or else 65,536, and so many
 /// buckets, or else 16,384. With `--listen` a listener hears of each thread's events beside them, until all have ended,
-/// and behind the report or summary there is a line for each thread that says of how many of its events it was told.
+/// and behind the report or summary there is a line for each thread that says of how many of its events it was told. With
+/// `--rewrite` the last lines say how the packets of translated FTP sessions leave: their sequence and acknowledgment numbers,
+/// and the payloads that name another end.
 ///
 /// The statuses are 0 (all was written), 1 (the words are not of that form), 2 (a file is no file of rules, no script, or
 /// no capture), 3 (one could not be opened or read), 4 (the output could not be written), 5 (a number or a size is past
@@ -244,7 +266,7 @@ pub fn top<R: Threads + Wait + Sync, F: Files, K: Sink, G: Gate + Sync>(
     gate: &G,
 ) -> Run
     // What is printed is the text of one legal history with its verdicts and answers, or its summary, and then how much a
-    // listener heard of each thread, where one is asked for.
+    // listener heard of each thread, and how packets leave, where that is asked for.
     ensures headline { result.status ≡ 0 → IsSomeAnd result.report
         (IsPrinted (map string_bytes words.now) (F.source files.old)
         (K.tape out.old) (K.tape out.new) result.heard) }

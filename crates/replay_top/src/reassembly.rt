@@ -2,7 +2,7 @@
 
 ghost use Rattle.std.specs.Prelude.{◌≡◌, IfOk, length, map, true, false};
 ghost use Rattle.packet_headers.specs.Capture.{AreInside, AreTimely};
-ghost use Rattle.replay_top.specs.Internal.Replaying.{given_of_capture};
+ghost use Rattle.replay_top.specs.Internal.Replaying.{prepared};
 ghost use Rattle.run_inputs.specs.Ready.{CanReplay};
 
 use capture_list::{Capture, Captures};
@@ -13,7 +13,7 @@ use tuple_core::NoMemory;
 /// A capture with its fragments put together, in the same zone.
 fn reassembled(alloc: Global, capture: Capture) -> Result<Capture, NoMemory>
     requires { AreInside capture.bytes.items capture.frames.items }
-    ensures given { IfOk result (λ c. given_of_capture false c ≡ given_of_capture true capture) }
+    ensures prepares { IfOk result (λ c. prepared false c ≡ prepared true capture) }
     ensures inside { IfOk result (λ c. AreInside c.bytes.items c.frames.items) }
     ensures timely { IfOk result (λ c. AreTimely capture.frames.items → AreTimely c.frames.items) }
     ensures many { IfOk result (λ c. length c.frames.items ≡ length capture.frames.items) }
@@ -34,7 +34,7 @@ fn reassembled(alloc: Global, capture: Capture) -> Result<Capture, NoMemory>
 /// Captures with their fragments put together, one after the other.
 fn all_reassembled(alloc: Global, captures: Captures) -> Result<Captures, NoMemory>
     requires { CanReplay captures.items }
-    ensures given { IfOk result (λ all. map (given_of_capture false) all.items ≡ map (given_of_capture true) captures.items) }
+    ensures prepares { IfOk result (λ all. map (prepared false) all.items ≡ map (prepared true) captures.items) }
     ensures many { IfOk result (λ all. length all.items ≡ length captures.items) }
     ensures ready { IfOk result (λ all. CanReplay all.items) }
 {
@@ -54,7 +54,7 @@ pub(crate) fn as_replayed(
     captures: Captures,
 ) -> Result<Captures, NoMemory>
     requires { CanReplay captures.items }
-    ensures given { IfOk result (λ all. map (given_of_capture false) all.items ≡ map (given_of_capture defrag) captures.items) }
+    ensures prepares { IfOk result (λ all. map (prepared false) all.items ≡ map (prepared defrag) captures.items) }
     ensures many { IfOk result (λ all. length all.items ≡ length captures.items) }
     ensures ready { IfOk result (λ all. CanReplay all.items) }
 {

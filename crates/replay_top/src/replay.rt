@@ -1,17 +1,21 @@
 //! A run on the tracker of the shared table.
 
-ghost use Rattle.std.specs.Prelude.{◌≡◌, ◌+◌, ◌≤◌, ◌^◌, All, is_some, length, IfOk};
+ghost use Rattle.std.specs.Prelude.{◌≡◌, ◌+◌, ◌≤◌, ◌^◌, All, is_some, length, map, IfOk};
 ghost use Rattle.std.specs.List.{AllByRecursion};
 ghost use Rattle.capture_list.specs.Frames.{frames_in};
 ghost use Rattle.conntrack_cmd.specs.Moment.{moment_of};
+ghost use Rattle.ftp_rewrite.specs.Internal.Seen.{recorded};
 ghost use Rattle.history_book.specs.Sizes.{AreWithinLimits};
 ghost use Rattle.nat_setup.specs.Rule.{IsLawfulRule};
 ghost use Rattle.packet_headers.specs.Capture.{AreInside, AreTimely};
 ghost use Rattle.replay_runs.specs.Heard.{AreHeard, made_before_join};
 ghost use Rattle.replay_runs.specs.Replaying.{work_of};
 ghost use Rattle.replay_runs.specs.Report.{IsWellFormed};
+ghost use Rattle.replay_top.specs.Internal.Replaying.{rewritten_text};
+ghost use Rattle.replay_top.specs.Replay.{rewrite_lines};
 
 use crate::ending::Replayed;
+use crate::rewriting::{kept_if, rewrites_of};
 use capture_list::Captures;
 use conntrack_cmd::read::Script;
 use ct_io::Gate;
@@ -26,8 +30,8 @@ use std::thread::Threads;
 use tuple_core::NoMemory;
 
 /// Replays the captures and the script with a tracker of these sizes that is set up so, and reports what became of each frame,
-/// and what was answered to each command; and what a listener heard of each thread, where one is asked for. Where a thread
-/// wants memory, each thread has ended and there is no report.
+/// and what was answered to each command; and what a listener heard of each thread, and how packets leave, where that is asked
+/// for. Where a thread wants memory, each thread has ended and there is no report.
 pub fn replay<R: Threads + Wait + Sync, G: Gate + Sync>(
     rt: &R,
     alloc: Global,
@@ -37,6 +41,7 @@ pub fn replay<R: Threads + Wait + Sync, G: Gate + Sync>(
     setup: &Setup,
     gate: &G,
     listen: bool,
+    rewrite: bool,
 ) -> Result<Replayed, NoMemory>
     requires limits { AreWithinLimits sizes.now }
     requires passes { sizes.now.passes ≡ length captures.items + 1 }
@@ -52,15 +57,22 @@ pub fn replay<R: Threads + Wait + Sync, G: Gate + Sync>(
     ensures heard { IfOk result (λ made. AreHeard
         (made_before_join (work_of captures.items script.now) made.report) made.listened) }
     ensures listened { IfOk result (λ made. is_some made.listened ≡ listen) }
+    ensures rewrites { IfOk result (λ made. rewritten_text made.rewrites
+        ≡ rewrite_lines rewrite (map recorded captures.items) made.report) }
 {
     left_runs_end();
     let list = captures.as_slice();
     let (tracker, spot) = Tracker::new(alloc, *sizes)?;
     let mut desk = tracker.clerk(spot, gate, list.len() as u32);
     let outcome = replay_on(rt, alloc, &mut desk, list, script, setup, gate, listen)?;
-    drop(captures);
+    let kept = kept_if(rewrite, captures);
     let spot = desk.leave();
     let closed = tracker.close(spot);
     let (report, listened) = report(alloc, outcome, closed)?;
-    Ok(Replayed { report, listened })
+    let rewrites = rewrites_of(alloc, &report, &kept)?;
+    Ok(Replayed {
+        report,
+        listened,
+        rewrites,
+    })
 }

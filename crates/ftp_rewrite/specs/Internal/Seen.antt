@@ -1,13 +1,13 @@
 -- What the code has, seen as what the definitions speak of.
-use Rattle.std.specs.Prelude.{◌≡◌, ℕ, cond, List, Option, Some, None}
+use Rattle.std.specs.Prelude.{◌≡◌, ℕ, cond, List, Option, Some, None, slice_get}
 use Rattle.std.specs.BTreeMap.{BTreeMap, get, is_at}
 use Rattle.std.specs.Ordering.{nat_cmp}
-use Rattle.history_book.specs.declared.report.Report.{Report}
+use Rattle.history_book.specs.declared.event.Numbered.{Numbered}
 use Rattle.capture_list.specs.declared.Capture.{Capture}
 use Rattle.packet_headers.specs.Capture.{AreInside}
 use Rattle.ftp_rewrite.specs.declared.sent.SegmentView.{SegmentView}
 use Rattle.ftp_rewrite.specs.declared.session.Session.{Session}
-use Rattle.ftp_rewrite.specs.Sent.{Run, Sent}
+use Rattle.ftp_rewrite.specs.Sent.{◌>>=◌, Recorded, Sent, sent_in}
 
 -- the definition's value, where the code has one that is seen so
 abbrev pub Gives : {A B : Type 0} → (A → B) → Option A → Option B → Type 0
@@ -18,9 +18,16 @@ Gives view (Some x) said = said ≡ Some (view x)
 abbrev pub sent_of : SegmentView → Sent
 sent_of view = record { numbers = view.numbers; payload = view.payload.now }
 
--- the run of a report
-abbrev pub run_of : Report → List Capture → Run
-run_of report captures = record { captures = captures; verdicts = report.threads.items; history = report.history.items }
+-- the capture that the code has, whatever room it has
+abbrev pub recorded : Capture → Recorded
+recorded c = record { bytes = c.bytes.items; frames = c.frames.items }
+
+-- the segment that made an event, of captures that the code has
+unfoldable pub sent_among : List Capture → Numbered → Option Sent
+sent_among captures item = do
+  capture ← slice_get captures item.thread
+  frame ← slice_get capture.frames.items item.index
+  sent_in capture.bytes.items frame
 
 -- each frame lies in the bytes of its capture
 abbrev pub LiesInIts : Capture → Type 0

@@ -16,7 +16,8 @@ use Rattle.run_inputs.specs.Content.{no_totals}
 use Rattle.replay_runs.specs.declared.listened.Listened.{Listened}
 use Rattle.replay_runs.specs.Heard.{made_before_join}
 use Rattle.replay_top.specs.declared.ending.Replayed.{Replayed}
-use Rattle.replay_top.specs.Replay.{heard_lines, IsCutShortFor, IsPrintedFor, IsReplayOf, work_asked}
+use Rattle.replay_top.specs.Internal.Replaying.{rewritten_text}
+use Rattle.replay_top.specs.Replay.{captures_in, heard_lines, IsCutShortFor, IsPrintedFor, IsReplayOf, rewrite_lines, work_asked}
 use Rattle.report_text.specs.declared.heard.HeardCount.{HeardCount}
 use Rattle.report_text.specs.declared.write.WriteFault.{WriteFault}
 use Rattle.report_text.specs.Heard.{heard_counts, heard_text}
@@ -55,11 +56,14 @@ abbrev pub counts_of : Option Listened → List HeardCount
 counts_of None = []
 counts_of (Some l) = heard_counts l.made.items (map length l.heard)
 
--- a replay of what is asked for, with a line for each thread of which a listener heard
+-- a replay of what is asked for, with a line for each thread of which a listener heard, and for each packet that leaves
+-- in another form
 pub record IsReplayWith (files : Source) (asked : Request) (made : Replayed) : Type 0 where
   pub replay : IsReplayOf files asked made.report (heard_of made.listened)
   pub lines : heard_text (counts_of made.listened)
       ≡ heard_lines (made_before_join (work_asked asked replay.bytes replay.contents) made.report) (heard_of made.listened)
+  pub rewrites : rewritten_text made.rewrites
+      ≡ rewrite_lines asked.rewrite (captures_in asked.defrag replay.bytes replay.contents) made.report
 
 -- what reading and replaying the files that are asked for gives; counts rise only with a failure
 abbrev pub Replays : Request → Source → Source → Result Replayed Refusal → Type 0

@@ -1,20 +1,21 @@
-use Rattle.std.proofs.Common.{rules}
-use Rattle.ftp_rewrite.specs.Internal.Seen.{run_of}
+use Rattle.std.proofs.Common.{map, rules}
+use Rattle.ftp_rewrite.specs.Internal.Seen.{recorded}
+use Rattle.ftp_rewrite.specs.Rewrites.{run_of}
 use Rattle.ftp_rewrite.proofs.Sessions.{all_lines, none_yet, one_more}
 use Rattle.ftp_rewrite.proofs.follow.follow_all.Goals as goal
 
 pub items-init : goal.items-init
 items-init c =
-    none_yet (run_of c.args.report.now c.args.captures.now.items) c.args.items.now c.new-sessions.result c.empty-lines.result.items (search rules)
+    none_yet (run_of c.args.report.now (map recorded c.args.captures.now.items)) c.args.items.now c.new-sessions.result c.empty-lines.result.items (search rules)
     (λ q. rw c.new-sessions.ensures.empty)
 
 pub items-preserved : goal.items-preserved
 items-preserved c =
-    one_more (run_of c.args.report.now c.args.captures.now.items) c.args.items.now c.items.item-index _ c.items.sessions c.follow.new.sessions
+    one_more (run_of c.args.report.now (map recorded c.args.captures.now.items)) c.args.items.now c.items.item-index _ c.items.sessions c.follow.new.sessions
     c.items.lines.items c.put.new.lines.items c.in_ok-line.line
     c.items-test.true c.items.invariant c.in_ok-line.ensures.sessions c.in_ok-line.ensures.line c.in_ok-put.ensures
 
 pub returns : goal.returns
 returns c =
-    all_lines (run_of c.args.report.now c.args.captures.now.items) c.args.items.now c.items.item-index c.items.sessions c.items.lines.items
+    all_lines (run_of c.args.report.now (map recorded c.args.captures.now.items)) c.args.items.now c.items.item-index c.items.sessions c.items.lines.items
     c.items-test.false c.items.invariant c.requires.items

@@ -6,7 +6,7 @@ pub captures-preserved : goal.captures-preserved
 captures-preserved c = record {
   midway = next_done c.args.captures.items c.captures-2.all.items c.captures-2.left.items c.remove-capture.new.self.items c.push.new.self.items
       c.remove-capture.result c.in_ok-reassembled.field-0 c.captures-2.invariant.midway c.remove-capture.ensures.item c.remove-capture.ensures.items (record {
-        given = c.in_ok-reassembled.ensures.given;
+        prepares = c.in_ok-reassembled.ensures.prepares;
         inside = c.in_ok-reassembled.ensures.inside;
         timely = c.in_ok-reassembled.ensures.timely;
         many = c.in_ok-reassembled.ensures.many;
