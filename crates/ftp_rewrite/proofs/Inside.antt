@@ -38,10 +38,10 @@ pub inside_more : (captures : List Capture) (c : Capture) → All LiesInIts capt
 inside_more captures c all own = All-push LiesInIts captures c all own
 
 -- a segment by its place in a capture, if that is there
-segment_at : ℕ → Option Recorded → Option Sent
+abbrev segment_at : ℕ → Option Recorded → Option Sent
 segment_at index o = o >>= (λ c. slice_get c.frames index >>= (λ f. sent_in c.bytes f))
 
-segment_among : ℕ → Option Capture → Option Sent
+abbrev segment_among : ℕ → Option Capture → Option Sent
 segment_among index o = o >>= (λ c. slice_get c.frames.items index >>= (λ f. sent_in c.bytes.items f))
 
 seen_alike : (index : ℕ) (o : Option Capture) → segment_at index (option_map recorded o) ≡ segment_among index o
