@@ -13,8 +13,8 @@ use Rattle.history_book.specs.declared.event.Numbered.{Numbered}
 use Rattle.packet_headers.specs.declared.frame.Frame.{Frame}
 use Rattle.packet_headers.specs.Capture.{is_inside}
 use Rattle.ftp_rewrite.specs.declared.sent.SegmentView.{SegmentView}
-use Rattle.ftp_rewrite.specs.Internal.Seen.{Gives, LiesInIts, recorded, sent_among, sent_of}
-use Rattle.ftp_rewrite.specs.Sent.{◌>>=◌, Recorded, Sent, sent_by, sent_in}
+use Rattle.ftp_rewrite.specs.Internal.Seen.{Gives, sent_among, sent_of}
+use Rattle.ftp_rewrite.specs.Sent.{◌>>=◌, LiesInIts, Recorded, recorded, Sent, sent_by, sent_in}
 
 one_of : (p : Frame → Bool) (fs : List Frame) (j : ℕ) (f : Frame) → list_all p fs ≡ true → slice_get fs j ≡ Some f → p f ≡ true
 one_of p [] j f all at = absurd (cc)

@@ -7,7 +7,7 @@ use Rattle.std.specs.Prelude.{nat_lt, nat_le}
 use Rattle.std.specs.List.{list_all}
 use Rattle.ftp_rewrite.specs.declared.adjust.Edit.{Edit}
 use Rattle.ftp_rewrite.specs.Edit.{AreInOrderFrom, back, back_from, end_from, end_of, far, forward, forward_from, offset_of}
-use Rattle.ftp_rewrite.specs.Laws.{BackUndoesForward, edit_by, ForwardIsTheLength, is_outside, Replacement, rewritten_from}
+use Rattle.ftp_rewrite.specs.Laws.{BackIsThePlace, BackUndoesForward, edit_by, ForwardIsTheLength, is_outside, Replacement, rewritten_from}
 use Rattle.ftp_rewrite.proofs.Modulo.{number_of_offset, offset_of_number}
 
 tested : (m n : ℕ) → ((nat_le m n ≡ true) × (m ≤ n)) ⊎ ((nat_le m n ≡ false) × (n < m))
@@ -99,6 +99,9 @@ there_and_back start made (e ∷ es) x order dealt outside =
           not_below (forward_from (end_of e) made2 es x) made2 least,
         )
         (later past)
+
+pub back_is_the_place : BackIsThePlace
+back_is_the_place edits x order outside = there_and_back 0 0 edits x order (omega arith) outside
 
 pub back_undoes_forward : BackUndoesForward
 unfolding forward back

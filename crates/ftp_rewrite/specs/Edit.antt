@@ -38,7 +38,7 @@ back_from start made (e ∷ es) y =
     (if nat_lt y (made + (e.offset - start) + e.new_length) then e.offset else
     back_from (end_of e) (made + (e.offset - start) + e.new_length) es y))
 
--- a connection's numbers are counted modulo 2^32 (RFC 9293, section 3.4); offsets from here on are behind the base
+-- a connection's numbers are counted modulo 2^32 (RFC 9293, section 3.4); offsets from here on are those of numbers in front of the base
 abbrev pub far : ℕ
 far = 2 ^ 31
 

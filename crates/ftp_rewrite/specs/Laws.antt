@@ -2,7 +2,7 @@
 use Rattle.std.specs.Prelude.{◌≡◌, ℕ, ◌+◌, ◌-◌, ◌^◌, ◌<◌, ◌≤◌, Bool, true, ◌||◌, nat_lt, nat_le, List, [], ◌∷◌, ◌++◌, length, map, take, drop}
 use Rattle.std.specs.List.{list_all}
 use Rattle.ftp_rewrite.specs.declared.adjust.Edit.{Edit}
-use Rattle.ftp_rewrite.specs.Edit.{AreInOrderFrom, back, end_from, end_of, forward, forward_from, most_edits, offset_of}
+use Rattle.ftp_rewrite.specs.Edit.{answer_to, AreInOrderFrom, back, back_from, edit_at, edits_after, end_from, end_of, forward, forward_from, most_edits, offset_of}
 
 -- a place is not strictly inside the bytes that an edit replaces
 abbrev pub is_outside : List Edit → ℕ → Bool
@@ -20,6 +20,17 @@ abbrev pub BackUndoesForward : Type 0
 BackUndoesForward = (base number : ℕ) (edits : List Edit) → base < 2 ^ 32 → number < 2 ^ 32 → AreEdits edits
     → is_outside edits (offset_of base number) ≡ true → offset_of base number < 2 ^ 31 - 2 ^ 22
     → back base edits (forward base edits number) ≡ number
+
+-- A place that is moved forward and then back is where it was, whatever its distance from the base: the place that is y
+-- bytes long once it is rewritten is the one to which y moves back.
+abbrev pub BackIsThePlace : Type 0
+BackIsThePlace = (edits : List Edit) (x : ℕ) → AreInOrderFrom 0 edits → is_outside edits x ≡ true
+    → back_from 0 0 edits (forward_from 0 0 edits x) ≡ x
+
+-- Edits that were answered stay edits as there is room for them; at first there is none.
+abbrev pub EditsStayInOrder : Type 0
+EditsStayInOrder = (edits : List Edit) (base at old new : ℕ) → AreEdits edits → 0 < old → 0 < new → new < 2 ^ 16
+    → AreEdits (edits_after (answer_to edits (edit_at base at old new)) edits (edit_at base at old new))
 
 -- an edit with its new text
 pub record Replacement : Type 0 where

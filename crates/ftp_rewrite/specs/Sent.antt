@@ -2,6 +2,7 @@
 use Rattle.std.specs.Prelude.{ℕ, ◌+◌, ◌==◌, ◌&&◌, if◌then◌else◌, List, [], take, drop, slice_get, Option, Some, None, option_and_then}
 use Rattle.std.specs.Option.{option_map}
 use Rattle.room_list.specs.Roomed.{Roomed}
+use Rattle.capture_list.specs.declared.Capture.{Capture}
 use Rattle.history_book.specs.declared.event.Numbered.{Numbered}
 use Rattle.history_book.specs.declared.verdict.Class.{Class}
 use Rattle.history_book.specs.declared.verdict.Class.TheVariants as class
@@ -12,6 +13,7 @@ use Rattle.packet_headers.specs.declared.frame.Span.{Span}
 use Rattle.packet_headers.specs.declared.packet.Packet.{Packet}
 use Rattle.packet_headers.specs.declared.packet.Packet.TheVariants as packet
 use Rattle.packet_headers.specs.declared.tcp_numbers.TcpNumbers.{TcpNumbers}
+use Rattle.packet_headers.specs.Capture.{AreInside}
 use Rattle.packet_headers.specs.Classify.{packet_of}
 use Rattle.packet_headers.specs.TcpNumbers.{tcp_numbers}
 
@@ -24,6 +26,14 @@ o >>= f = option_and_then f o
 pub record Recorded : Type 0 where
   pub bytes : List ℕ
   pub frames : List Frame
+
+-- the capture that the code has, whatever room it has
+abbrev pub recorded : Capture → Recorded
+recorded c = record { bytes = c.bytes.items; frames = c.frames.items }
+
+-- each of its frames lies in its bytes
+abbrev pub LiesInIts : Capture → Type 0
+LiesInIts c = AreInside c.bytes.items c.frames.items
 
 -- a run of the tracker: the captures, the verdicts of each of their threads, and the history
 pub record Run : Type 0 where

@@ -9,7 +9,7 @@ use std::marker::Model;
 /// For how many edits there is room.
 const MOST_EDITS: usize = 64;
 
-/// Offsets from here on are behind the base: numbers are counted modulo 2^32.
+/// Offsets from here on are those of numbers in front of the base: numbers are counted modulo 2^32.
 const FAR: u32 = 0x8000_0000;
 
 /// Bytes of a stream, `old_length` of them from `offset` on, are replaced by `new_length` others.
@@ -188,7 +188,6 @@ impl Adjust {
     }
 
     /// Replaces `old` bytes from the sequence number `at` on by `new` bytes, from now on, if the answer is Added.
-
     pub fn add(&mut self, at: u32, old: u16, new: u16) -> Added
         requires old { 0 < old }
         requires new { 0 < new }
@@ -215,8 +214,8 @@ impl Adjust {
         Added::Added
     }
 
-    /// The sequence number with which a segment leaves. A number strictly inside an edit is taken as the edit's; one whose
-    /// offset is 2^31 or more stays.
+    /// The sequence number with which a segment leaves. A number strictly inside an edit is taken as that of its first
+    /// byte; one whose offset is 2^31 or more stays.
     #[tactic(auto, unfolding(crate::specs::Edit::forward))]
     pub fn forward(&self, seq: u32) -> u32
         ensures { result ≡ forward self.now.base self.now.edits seq }

@@ -5,8 +5,8 @@ ghost use Rattle.std.specs.BTreeMap.{get};
 ghost use Rattle.std.specs.Option.{option_map};
 ghost use Rattle.std.specs.Ordering.{nat_cmp};
 ghost use Rattle.history_book.specs.declared.event.Event.TheVariants.{Confirm};
-ghost use Rattle.ftp_rewrite.specs.Sent.{Run};
-ghost use Rattle.ftp_rewrite.specs.Internal.Seen.{LiesInIts, Puts, at_id, recorded};
+ghost use Rattle.ftp_rewrite.specs.Sent.{LiesInIts, Run, recorded};
+ghost use Rattle.ftp_rewrite.specs.Internal.Seen.{Puts, at_id};
 ghost use Rattle.ftp_rewrite.specs.Line.{seen};
 ghost use Rattle.ftp_rewrite.specs.Rewrites.{after_event, after_item, line_by, line_of_passed, line_touched, passed, rewritten, run_of, session_past, touched};
 
@@ -186,9 +186,9 @@ fn follow_all(
     Ok(lines)
 }
 
-/// How each packet of a connection with edits leaves, of a report on these captures, in the order of the events by which
-/// the entries let the packets pass. Memory is in proportion to the lines and to the connections with the helper that live
-/// at once.
+/// How each packet of a connection leaves, from its first edit on, of a report on these captures, in the order of the events
+/// by which the entries let the packets pass. By its code, memory is in proportion to the lines with their payloads, and to
+/// the connections with the helper that live at once.
 pub fn rewrites(alloc: Global, report: &Report, captures: &Captures) -> Result<Rewrites, NoMemory>
     requires { All LiesInIts captures.now.items }
     ensures { IfOk result (λ lines. map seen lines.items ≡ rewritten (run_of report.now (map recorded captures.now.items))) }

@@ -3,8 +3,8 @@
 ghost use Rattle.std.specs.Prelude.{◌≡◌, ◌+◌, ◌≤◌, All, length, map, slice_get};
 ghost use Rattle.packet_headers.specs.ClassifySound.{HasPayloadIn};
 ghost use Rattle.packet_headers.specs.Span.{IsSpanIn};
-ghost use Rattle.ftp_rewrite.specs.Internal.Seen.{Gives, LiesInIts, recorded, sent_among, sent_of};
-ghost use Rattle.ftp_rewrite.specs.Sent.{bytes_in, data_in, ftp_by, passed_by, sent_by, sent_in};
+ghost use Rattle.ftp_rewrite.specs.Internal.Seen.{Gives, sent_among, sent_of};
+ghost use Rattle.ftp_rewrite.specs.Sent.{LiesInIts, bytes_in, data_in, ftp_by, passed_by, recorded, sent_by, sent_in};
 
 use capture_list::Captures;
 use history_book::event::Numbered;

@@ -1,13 +1,12 @@
 -- What a report of all files that are asked for is.
-use Rattle.std.proofs.Common.{◌≡◌, ℕ, Bool, true, false, Option, Some, None, List, [], ◌∷◌, ◌++◌, length, map, suc, refl, sym, subst, ap, ◌∙◌}
-use Rattle.std.specs.Prelude.{All, Err, ForSome, IfOk, is_some, Ok, option_to_list, Result}
+use Rattle.std.proofs.Common.{◌≡◌, ℕ, Bool, false, Option, Some, None, List, [], ◌∷◌, ◌++◌, length, map, suc, refl, sym, subst, ap, ◌∙◌}
+use Rattle.std.specs.Prelude.{Err, IfOk, is_some, Ok, option_to_list, Result}
 use Rattle.std.proofs.lemmas.List.{length-map}
 use Rattle.std.proofs.lemmas.Simd.{map-map}
 use Rattle.command_words.specs.Words.{made, named, Origin, Request}
 use Rattle.conntrack_cmd.specs.declared.read.Script.{Script}
 use Rattle.ct_io.specs.Source.{Source}
 use Rattle.history_book.specs.declared.event.Note.{Note}
-use Rattle.history_book.specs.declared.report.Report.{Report}
 use Rattle.history_book.specs.declared.sizes.Sizes.{Sizes}
 use Rattle.nat_setup.specs.declared.rule.Rule.{Rule}
 use Rattle.packet_path.specs.Packet.{Given}
@@ -23,9 +22,8 @@ use Rattle.replay_runs.specs.Heard.{AreHeard, HeardEach, made_before_join}
 use Rattle.report_text.specs.Heard.{heard_counts, heard_text}
 use Rattle.replay_top.specs.declared.ending.Replayed.{Replayed}
 use Rattle.replay_top.specs.Internal.Ending.{counts_of, heard_of, IsReplayWith}
-use Rattle.ftp_rewrite.specs.Internal.Seen.{LiesInIts, recorded}
-use Rattle.ftp_rewrite.specs.Sent.{Recorded}
-use Rattle.replay_top.specs.Internal.Replaying.{given_of_capture, kept_if, kept_lines, Prepared, prepared, recorded_of, ReplaysInputs, rewritten_text, work_in}
+use Rattle.ftp_rewrite.specs.Sent.{Recorded, recorded}
+use Rattle.replay_top.specs.Internal.Replaying.{given_of_capture, Prepared, prepared, recorded_of, ReplaysInputs, rewritten_text, work_in}
 use Rattle.replay_runs.specs.Replaying.{work_of}
 use Rattle.replay_top.specs.Replay.{captures_in, given_frames, given_in, heard_lines, rewrite_lines, rules_in, sizes_of, threads_of, work_asked, work_with}
 use Rattle.made_captures.specs.MadeCapture.{made_capture}
@@ -38,19 +36,6 @@ use Rattle.room_list.specs.Roomed.{Roomed}
 alike : {X : Type 0} (f : Prepared → X) (defrag : Bool) (all captures : List Capture) → map (prepared false) all ≡ map (prepared defrag) captures
     → map (λ c. f (prepared false c)) all ≡ map (λ c. f (prepared defrag c)) captures
 alike f defrag all captures same = sym (map-map f (prepared false) all) ∙ ap (map f) same ∙ map-map f (prepared defrag) captures
-
--- the captures that were kept are those of which is told
-pub kept_told : (rewrite : Bool) (captures : Roomed Capture) (kept : Option (Roomed Capture)) (report : Report) → kept ≡ kept_if rewrite captures
-    → kept_lines kept report ≡ rewrite_lines rewrite (map recorded captures.items) report
-kept_told false captures kept report is = ap (λ (k : Option (Roomed Capture)). kept_lines k report) is
-kept_told true captures kept report is = ap (λ (k : Option (Roomed Capture)). kept_lines k report) is
-
-pub kept_inside : (rewrite : Bool) (captures : Roomed Capture) (kept : Option (Roomed Capture)) → kept ≡ kept_if rewrite captures
-    → All LiesInIts captures.items → ForSome kept (λ own. All LiesInIts own.items)
-kept_inside false captures kept is all own one = absurd (cc one is)
-kept_inside true captures kept is all own one =
-    let same : captures ≡ own = cc in
-    subst (λ (c : Roomed Capture). All LiesInIts c.items) same all
 
 -- what was replayed of inputs that were set up as it is asked for is what is asked for
 pub inputs_replayed : (asked : Request) (inputs : Inputs) (captures : List Capture) (ftp : Roomed ℕ) (sizes : Sizes) {E : Type 0} (result : Result Replayed E)

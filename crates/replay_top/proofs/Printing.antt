@@ -90,14 +90,14 @@ counts_more k made heard notes h below is long =
     ∙ counts_behind (take k made) (take k lengths) (get_or made k 0) h (omega (arith, below, within, length-take k made, length-take k lengths))
 
 -- all threads
-pub counts_all : (k : ℕ) (made heard : List ℕ) → k ≡ min (length made) (length heard) → heard_counts (take k made) (take k heard) ≡ heard_counts made heard
-counts_all zero [] heard is = refl
-counts_all zero (a ∷ made) [] is = refl
-counts_all zero (a ∷ made) (b ∷ heard) is = absurd (omega (arith, is))
-counts_all (suc k) [] heard is = absurd (omega (arith, is))
-counts_all (suc k) (a ∷ made) [] is = absurd (omega (arith, is))
-counts_all (suc k) (a ∷ made) (b ∷ heard) is =
-    ap (λ (xs : List HeardCount). record { heard = b; made = a } ∷ xs) (counts_all k made heard (omega (arith, is)))
+pub counts_all : (k : ℕ) (made heard : List ℕ) → min (length made) (length heard) ≤ k → heard_counts (take k made) (take k heard) ≡ heard_counts made heard
+counts_all zero [] heard past = refl
+counts_all zero (a ∷ made) [] past = refl
+counts_all zero (a ∷ made) (b ∷ heard) past = absurd (omega (arith, past))
+counts_all (suc k) [] heard past = refl
+counts_all (suc k) (a ∷ made) [] past = refl
+counts_all (suc k) (a ∷ made) (b ∷ heard) past =
+    ap (λ (xs : List HeardCount). record { heard = b; made = a } ∷ xs) (counts_all k made heard (omega (arith, past)))
 
 -- ---- how a run ends
 

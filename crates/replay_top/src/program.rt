@@ -25,7 +25,6 @@ use crate::rewriting::print_rewrites;
 use crate::sizes::sizes_of;
 use command_words::{Asked, read_words};
 use ct_io::{Files, Gate, Sink};
-use ftp_rewrite::Rewrites;
 use history_book::report::Report;
 use packet_path::setup::{Ports, Setup};
 use replay_runs::listened::Listened;
@@ -148,23 +147,24 @@ fn print_report<K: Sink>(
     }
 }
 
-/// Writes how much was heard of each of these threads, and then how packets leave.
+/// Writes a report's text, or its summary, and then how much was heard of each of these threads.
 #[tactic(auto, using(crate::proofs::Printing::wrote_both, crate::proofs::Printing::wrote_less))]
-fn print_lines<K: Sink>(
+fn print_heard<K: Sink>(
+    summary: bool,
+    report: &Report,
     counts: &[HeardCount],
-    rewrites: &Option<Rewrites>,
     buffer: &mut [u8],
     out: &mut K,
 ) -> Result<(), WriteFault>
     requires { LONGEST_LINE ≤ length buffer.old }
-    ensures wrote { Wrote (heard_text counts.now ++ rewritten_text rewrites.now) (K.tape out.old) (K.tape out.new) result }
+    ensures wrote { Wrote (text_of summary report.now ++ heard_text counts.now) (K.tape out.old) (K.tape out.new) result }
     ensures faults_stay { (K.tape out.old).faults ≤ (K.tape out.new).faults }
 {
-    write_heard(counts, buffer, out)?;
-    print_rewrites(rewrites, buffer, out)
+    print_report(summary, report, buffer, out)?;
+    write_heard(counts, buffer, out)
 }
 
-/// Writes a report's text, or its summary, and then the lines behind it.
+/// The same of a replay, and then how packets leave.
 #[tactic(auto, using(crate::proofs::Printing::wrote_both, crate::proofs::Printing::wrote_less))]
 fn print<K: Sink>(
     summary: bool,
@@ -178,8 +178,8 @@ fn print<K: Sink>(
         (K.tape out.old) (K.tape out.new) result }
     ensures faults_stay { (K.tape out.old).faults ≤ (K.tape out.new).faults }
 {
-    print_report(summary, &made.report, buffer, out)?;
-    print_lines(counts, &made.rewrites, buffer, out)
+    print_heard(summary, &made.report, counts, buffer, out)?;
+    print_rewrites(&made.rewrites, buffer, out)
 }
 
 /// Replays what is asked for, and writes the report's text to `out`, or its summary, and the lines behind it.
@@ -244,8 +244,8 @@ fn refused<K: Sink>(why: Refusal, name: &str, err: &mut K) -> Run
 /// list, or else to 21, have the helper of FTP. The tracker has room for so many entries, or else 65,536, and so many
 /// buckets, or else 16,384. With `--listen` a listener hears of each thread's events beside them, until all have ended,
 /// and behind the report or summary there is a line for each thread that says of how many of its events it was told. With
-/// `--rewrite` the last lines say how the packets of translated FTP sessions leave: their sequence and acknowledgment numbers,
-/// and the payloads that name another end.
+/// `--rewrite` the last lines say how the packets of translated FTP sessions leave, from each session's first new text on:
+/// their sequence and acknowledgment numbers, and the payloads that name another end.
 ///
 /// The statuses are 0 (all was written), 1 (the words are not of that form), 2 (a file is no file of rules, no script, or
 /// no capture), 3 (one could not be opened or read), 4 (the output could not be written), 5 (a number or a size is past

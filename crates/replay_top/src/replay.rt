@@ -4,7 +4,7 @@ ghost use Rattle.std.specs.Prelude.{◌≡◌, ◌+◌, ◌≤◌, ◌^◌, All,
 ghost use Rattle.std.specs.List.{AllByRecursion};
 ghost use Rattle.capture_list.specs.Frames.{frames_in};
 ghost use Rattle.conntrack_cmd.specs.Moment.{moment_of};
-ghost use Rattle.ftp_rewrite.specs.Internal.Seen.{recorded};
+ghost use Rattle.ftp_rewrite.specs.Sent.{recorded};
 ghost use Rattle.history_book.specs.Sizes.{AreWithinLimits};
 ghost use Rattle.nat_setup.specs.Rule.{IsLawfulRule};
 ghost use Rattle.packet_headers.specs.Capture.{AreInside, AreTimely};

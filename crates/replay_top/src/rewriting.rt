@@ -1,7 +1,8 @@
 //! How the packets of a run leave, where that is asked for.
 
-ghost use Rattle.std.specs.Prelude.{◌≡◌, ◌≤◌, All, ForSome, IfOk, length};
-ghost use Rattle.ftp_rewrite.specs.Internal.Seen.{LiesInIts};
+ghost use Rattle.std.specs.Option.{ForSome};
+ghost use Rattle.std.specs.Prelude.{◌≡◌, ◌≤◌, All, IfOk, length};
+ghost use Rattle.ftp_rewrite.specs.Sent.{LiesInIts};
 ghost use Rattle.replay_top.specs.Internal.Replaying.{kept_if, kept_lines, rewritten_text};
 ghost use Rattle.report_text.specs.Wrote.{Wrote};
 

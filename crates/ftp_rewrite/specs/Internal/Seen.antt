@@ -4,10 +4,9 @@ use Rattle.std.specs.BTreeMap.{BTreeMap, get, is_at}
 use Rattle.std.specs.Ordering.{nat_cmp}
 use Rattle.history_book.specs.declared.event.Numbered.{Numbered}
 use Rattle.capture_list.specs.declared.Capture.{Capture}
-use Rattle.packet_headers.specs.Capture.{AreInside}
 use Rattle.ftp_rewrite.specs.declared.sent.SegmentView.{SegmentView}
 use Rattle.ftp_rewrite.specs.declared.session.Session.{Session}
-use Rattle.ftp_rewrite.specs.Sent.{◌>>=◌, Recorded, Sent, sent_in}
+use Rattle.ftp_rewrite.specs.Sent.{◌>>=◌, Sent, sent_in}
 
 -- the definition's value, where the code has one that is seen so
 abbrev pub Gives : {A B : Type 0} → (A → B) → Option A → Option B → Type 0
@@ -18,20 +17,12 @@ Gives view (Some x) said = said ≡ Some (view x)
 abbrev pub sent_of : SegmentView → Sent
 sent_of view = record { numbers = view.numbers; payload = view.payload.now }
 
--- the capture that the code has, whatever room it has
-abbrev pub recorded : Capture → Recorded
-recorded c = record { bytes = c.bytes.items; frames = c.frames.items }
-
 -- the segment that made an event, of captures that the code has
 unfoldable pub sent_among : List Capture → Numbered → Option Sent
 sent_among captures item = do
   capture ← slice_get captures item.thread
   frame ← slice_get capture.frames.items item.index
   sent_in capture.bytes.items frame
-
--- each frame lies in the bytes of its capture
-abbrev pub LiesInIts : Capture → Type 0
-LiesInIts c = AreInside c.bytes.items c.frames.items
 
 -- the session of an entry
 abbrev pub at_id : BTreeMap ℕ Session → ℕ → Option Session

@@ -1,7 +1,7 @@
 //! Runs typed by hand: packets of one or two captures, and what the tracker said of them.
 
 ghost use Rattle.std.specs.Prelude.{All, IfOk, OnOk};
-ghost use Rattle.ftp_rewrite.specs.Internal.Seen.{LiesInIts};
+ghost use Rattle.ftp_rewrite.specs.Sent.{LiesInIts};
 
 use crate::{rewrites, write_rewrites};
 use capture_list::{Capture, Captures};

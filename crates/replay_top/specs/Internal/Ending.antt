@@ -56,8 +56,8 @@ abbrev pub counts_of : Option Listened → List HeardCount
 counts_of None = []
 counts_of (Some l) = heard_counts l.made.items (map length l.heard)
 
--- a replay of what is asked for, with a line for each thread of which a listener heard, and for each packet that leaves
--- in another form
+-- a replay of what is asked for, with a line for each thread of which a listener heard, and for each packet of a connection
+-- from its first edit on
 pub record IsReplayWith (files : Source) (asked : Request) (made : Replayed) : Type 0 where
   pub replay : IsReplayOf files asked made.report (heard_of made.listened)
   pub lines : heard_text (counts_of made.listened)

@@ -3,10 +3,9 @@ use Rattle.std.specs.Prelude.{◌≡◌, ℕ, Bool, false, true, is_some, List, 
 use Rattle.capture_list.specs.declared.Capture.{Capture}
 use Rattle.command_words.specs.Words.{Request}
 use Rattle.conntrack_cmd.specs.declared.read.Script.{Script}
-use Rattle.ftp_rewrite.specs.Internal.Seen.{recorded}
 use Rattle.ftp_rewrite.specs.Line.{seen}
 use Rattle.ftp_rewrite.specs.Rewrites.{rewritten, run_of}
-use Rattle.ftp_rewrite.specs.Sent.{Recorded}
+use Rattle.ftp_rewrite.specs.Sent.{Recorded, recorded}
 use Rattle.ftp_rewrite.specs.Text.{rewrites_text}
 use Rattle.ftp_rewrite.specs.declared.rewrite.Rewrite.{Rewrite}
 use Rattle.history_book.specs.declared.report.Report.{Report}

@@ -1,6 +1,6 @@
 use Rattle.std.proofs.Common.{map, refl}
-use Rattle.ftp_rewrite.specs.Internal.Seen.{recorded}
 use Rattle.ftp_rewrite.specs.Rewrites.{run_of}
+use Rattle.ftp_rewrite.specs.Sent.{recorded}
 use Rattle.ftp_rewrite.proofs.Sessions.{follow_confirm}
 use Rattle.ftp_rewrite.proofs.follow.follow.Goals as goal
 

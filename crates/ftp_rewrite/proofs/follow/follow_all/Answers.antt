@@ -1,6 +1,6 @@
 use Rattle.std.proofs.Common.{map, rules}
-use Rattle.ftp_rewrite.specs.Internal.Seen.{recorded}
 use Rattle.ftp_rewrite.specs.Rewrites.{run_of}
+use Rattle.ftp_rewrite.specs.Sent.{recorded}
 use Rattle.ftp_rewrite.proofs.Sessions.{all_lines, none_yet, one_more}
 use Rattle.ftp_rewrite.proofs.follow.follow_all.Goals as goal
 

@@ -1,6 +1,6 @@
 use Rattle.std.specs.Prelude.{map}
-use Rattle.ftp_rewrite.specs.Internal.Seen.{recorded}
 use Rattle.ftp_rewrite.specs.Rewrites.{run_of}
+use Rattle.ftp_rewrite.specs.Sent.{recorded}
 use Rattle.ftp_rewrite.proofs.Sessions.{SoFar}
 use Rattle.ftp_rewrite.proofs.follow.follow_all.Given as goal
 
