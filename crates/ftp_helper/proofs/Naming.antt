@@ -1,7 +1,7 @@
 -- What a payload names in a direction: no payload has both forms of it.
 use Rattle.std.proofs.Common.{◌≡◌, ◌∙◌, ℕ, ◌+◌, ◌*◌, ◌<◌, ◌≤◌, Bool, true, false, cond, List, [], ◌∷◌, ◌++◌, length, length-append, append_assoc, Option, Some, None, inl, inr, arith, refl, sym, ap, subst, codes}
 use Rattle.std.proofs.lemmas.Bool.Decides.{nat_tests}
-use Rattle.std.specs.Prelude.{nat_lt, option_and_then}
+use Rattle.std.specs.Prelude.{IfNone, IfSome, nat_lt, option_and_then}
 use Rattle.std.specs.Option.{option_map}
 use Rattle.std.specs.Char.{to_ascii_lowercase}
 use Rattle.tuple_core.specs.declared.Direction.{Direction}
@@ -9,6 +9,7 @@ use Rattle.tuple_core.specs.declared.Direction.TheVariants.{Original, Reply}
 use Rattle.ftp_helper.specs.declared.payload.EndSpan.{EndSpan}
 use Rattle.ftp_helper.specs.declared.payload.NamedEnd.{NamedEnd}
 use Rattle.ftp_helper.specs.declared.payload.FoundEnd.{FoundEnd}
+use Rattle.ftp_helper.specs.Laws.{ReadingIsNaming}
 use Rattle.ftp_helper.specs.Named.{named_of, naming_in, span_of, with_port}
 use Rattle.ftp_helper.specs.Span.{IsShortSpan, naming_span, SpansEnd, text_span}
 use Rattle.ftp_helper.specs.Payload.{AreNumbers, IsEprtCommand, IsHost, IsHostPort, IsExtendedPassiveReply, IsInAnyCase, IsNaming, IsPassiveReply, IsPortCommand, NamesEnd}
@@ -110,6 +111,17 @@ same_naming direction payload end other is also =
     let first = naming_in_finds direction payload end is in
     let second = naming_in_finds direction payload other also in
     cc
+
+-- by what was read, or that nothing was
+read_so : (direction : Direction) (payload : List ℕ) (naming : Option FoundEnd) → naming_in direction payload ≡ naming
+    → IfSome (option_map (λ (n : FoundEnd). n.end) naming) (NamesEnd direction payload)
+    × IfNone (option_map (λ (n : FoundEnd). n.end) naming) ((end : NamedEnd) → NamesEnd direction payload end → ⊥)
+    × IfSome (option_map (λ (n : FoundEnd). n.span) naming) (SpansEnd direction payload)
+read_so direction payload None is = (tt, nothing_named direction payload is, tt)
+read_so direction payload (Some naming) is = (names direction payload naming is, tt, spans direction payload naming is)
+
+pub reading_is_naming : ReadingIsNaming
+reading_is_naming direction payload = read_so direction payload (naming_in direction payload) refl
 
 pub one_end : (direction : Direction) (payload : List ℕ) (end other : NamedEnd) → NamesEnd direction payload end → NamesEnd direction payload other → end ≡ other
 one_end direction payload end other is also = ap (λ (n : FoundEnd). n.end) (same_naming direction payload end other is also)

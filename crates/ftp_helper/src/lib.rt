@@ -9,6 +9,6 @@ mod tests;
 mod text;
 mod want;
 
-pub use laws::{named_ends_are_unique, naming_bytes_are_unique};
+pub use laws::{named_ends_are_unique, naming_bytes_are_unique, reading_is_naming};
 pub use payload::{EndSpan, NamedEnd, end_span, named_end};
 pub use want::want_of;

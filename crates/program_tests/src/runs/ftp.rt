@@ -97,7 +97,7 @@ fn the_last_end_that_was_named_is_expected(rt: HostRuntime) -> Result<(), Fail> 
         (7, 0, Packet::Tcp(LATER, SYN, b"")),
         (8, 0, Packet::Tcp(DATA, SYN, b"")),
     ];
-    static CASE: Case<'static> = Case {
+    const CASE: Case<'static> = Case {
         files: &[
             (RULES, Content::Text("")),
             (NAME, Content::Capture(PLAIN, &SENT)),
@@ -105,7 +105,14 @@ fn the_last_end_that_was_named_is_expected(rt: HostRuntime) -> Result<(), Fail> 
         out: Text::Is(THREE_COMMANDS),
         ..RULED
     };
-    holds(&rt, &CASE, 0)
+    // no packet leaves in another form: nothing is translated
+    static LEAVING: Case<'static> = Case {
+        words: &["ctreplay", "--rewrite", "--rules", RULES, NAME],
+        out: Text::Around("events 11\n", "\n7 NEW id=10 @11\nscript 0\nrewrite 0\n"),
+        ..CASE
+    };
+    holds(&rt, &CASE, 0)?;
+    holds(&rt, &LEAVING, 1)
 }
 
 const LISTED_AND_ENDED: &str = "\

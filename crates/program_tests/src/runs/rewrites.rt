@@ -74,6 +74,70 @@ rewrite 3
 0.5 id=0 original seq=1023>1024 ack=5001>5001
 ";
 
+/// The client names its end by EPRT.
+const BY_EPRT: [Sent<'static>; 6] = [
+    SYN_SENT,
+    SYN_ANSWERED,
+    OPEN,
+    (
+        4,
+        0,
+        Packet::Segment(CONTROL, 1001, 5001, ACK | PSH, b"EPRT |1|10.0.0.1|40001|\r\n"),
+    ),
+    (5, 0, Packet::Segment(BACK, 5001, 1027, ACK, b"")),
+    (6, 0, Packet::Segment(CONTROL, 1026, 5001, ACK, b"")),
+];
+
+const EPRT_LINES: &str = "\
+rewrite 3
+0.3 id=0 original seq=1001>1001 ack=5001>5001 text=45505254207c317c3139322e302e322e317c34303030317c0d0a
+0.4 id=0 reply seq=5001>5001 ack=1027>1026
+0.5 id=0 original seq=1026>1027 ack=5001>5001
+";
+
+/// A client from 198.51.100.7:40000 of a server that it knows as 203.0.113.5, which is 10.0.0.2.
+const OUTSIDE: Ends = Ends {
+    src: 0xc633_6407,
+    sport: 40_000,
+    dst: 0xcb00_7105,
+    dport: 21,
+};
+
+const FROM_INSIDE: Ends = Ends {
+    src: 0x0a00_0002,
+    sport: 21,
+    dst: 0xc633_6407,
+    dport: 40_000,
+};
+
+const DNAT: &str = "dnat -d 203.0.113.5/32 to 10.0.0.2\n";
+
+/// The server names its end by a reply 227, which gets longer by three bytes.
+const BY_227: [Sent<'static>; 6] = [
+    (1, 0, Packet::Segment(OUTSIDE, 1000, 0, SYN, b"")),
+    (2, 0, Packet::Segment(FROM_INSIDE, 5000, 1001, SYN | ACK, b"")),
+    (3, 0, Packet::Segment(OUTSIDE, 1001, 5001, ACK, b"")),
+    (4, 0, Packet::Segment(OUTSIDE, 1001, 5001, ACK | PSH, b"PASV\r\n")),
+    (
+        5,
+        0,
+        Packet::Segment(
+            FROM_INSIDE,
+            5001,
+            1007,
+            ACK | PSH,
+            b"227 Entering Passive Mode (10,0,0,2,195,80)\r\n",
+        ),
+    ),
+    (6, 0, Packet::Segment(OUTSIDE, 1007, 5049, ACK, b"")),
+];
+
+const LINES_OF_227: &str = "\
+rewrite 2
+0.4 id=0 reply seq=5001>5001 ack=1007>1007 text=32323720456e746572696e672050617373697665204d6f646520283230332c302c3131332c352c3139352c3830290d0a
+0.5 id=0 original seq=1007>1007 ack=5049>5046
+";
+
 const FILES: [(&str, Content<'static>); 2] = [
     (RULES, Content::Text(SNAT)),
     (NAME, Content::Capture(PLAIN, &SESSION)),
@@ -120,7 +184,7 @@ const IN_FRAGMENTS: [Sent<'static>; 5] = [
     (4, 1, Packet::Raw(&LAST)),
 ];
 
-static REWRITES: [Case<'static>; 8] = [
+static REWRITES: [Case<'static>; 10] = [
     SESSION_RUN,
     // without the flag there is no line
     Case {
@@ -137,6 +201,22 @@ static REWRITES: [Case<'static>; 8] = [
     Case {
         words: &["ctreplay", "--listen", "--rewrite", "--summary", "--rules", RULES, NAME],
         out: Text::Is(SUMMED_AND_HEARD),
+        ..SESSION_RUN
+    },
+    Case {
+        files: &[
+            (RULES, Content::Text(SNAT)),
+            (NAME, Content::Capture(PLAIN, &BY_EPRT)),
+        ],
+        out: Text::Around("events 7\n", EPRT_LINES),
+        ..SESSION_RUN
+    },
+    Case {
+        files: &[
+            (RULES, Content::Text(DNAT)),
+            (NAME, Content::Capture(PLAIN, &BY_227)),
+        ],
+        out: Text::Around("events 7\n", LINES_OF_227),
         ..SESSION_RUN
     },
     // nothing is translated
