@@ -5,7 +5,8 @@ The history is legal: each event is numbered by its place, an entry is confirmed
 tuples, and only a live entry is touched or destroyed. The events of a thread stand in the order of its packets. The
 points of a thread's verdicts do not fall, are never older than its own events, and at each of them the named entry is
 live. A packet makes an event, or is merged into an entry that was confirmed since its thread's last point, or is FULL, with
-no event but a drop between its points. An entry is dropped by a packet that then begins one, or is merged or FULL. Prints how
+no event but a drop between its points. An entry is dropped by a packet that then begins one, or is merged or FULL. A report that
+was made with --rewrite says behind these that no packet leaves in another way. Prints how
 often two events that stand side by side are of two threads; ends with status 1 at the first fault.
 """
 import sys
@@ -100,7 +101,7 @@ def main():
         read_thread(lines[at + 1 : at + 1 + packets], thread, makers, lives, dropped)
         at += 1 + packets
         thread += 1
-    if lines[at:] != ["script 0"]:
+    if lines[at:] not in (["script 0"], ["script 0", "rewrite 0"]):
         fault("the script's part is another one")
     print(sum(1 for one, next_one in zip(makers, makers[1:]) if one[0] != next_one[0]))
 

@@ -15,9 +15,10 @@ from collections import namedtuple
 
 import fragments
 import refusal_hints as hints
+import replay_rewrites
 
 Frame = namedtuple("Frame", "moment link data length")
-Report = namedtuple("Report", "events threads script heard")
+Report = namedtuple("Report", "events threads script heard rewrites")
 # Of so many events that a thread made before all had ended, a listener was told of the first ones; the line says it.
 Heard = namedtuple("Heard", "thread heard made text")
 Verdict = namedtuple("Verdict", "word why entry point last", defaults=[None])
@@ -361,7 +362,8 @@ def zone_of_words(words):
 
 
 def read_report(name):
-    """The events of a report, the verdict lines of each thread, the lines of the script's part, and what a listener heard."""
+    """The events of a report, the verdict lines of each thread, the lines of the script's part, what a listener heard, and how
+    packets leave."""
     lines = read_lines(name)
     if not lines or not lines[0].startswith("events "):
         raise Trouble(f"{name}: no report of ctreplay (a report begins with 'events N'; --summary prints none)")
@@ -384,8 +386,9 @@ def split_report(lines):
         at += 1 + packets
     if not lines[at].startswith("script "):
         raise ValueError("the script's part is missing")
-    end = next((place for place in range(at, len(lines)) if lines[place].startswith("heard")), len(lines))
-    return Report(events, threads, lines[at:end], lines[end:])
+    leaves = next((place for place in range(at, len(lines)) if lines[place].startswith("rewrite")), len(lines))
+    end = next((place for place in range(at, leaves) if lines[place].startswith("heard")), leaves)
+    return Report(events, threads, lines[at:end], lines[end:leaves], lines[leaves:])
 
 
 class Event:
@@ -582,7 +585,7 @@ class Work:
     A report says a capture's zone by its entries alone; `zones`, the value of --zones, says it where there is none. It says
     by its datagrams alone that it was made with --defrag; `defrag` says it where there is none. Then the captures are those
     with their fragments put together, and `whole` has how. `heard` is what a listener was told of each thread, where the report
-    was made with --listen.
+    was made with --listen; `rewrites` is how packets leave, where it was made with --rewrite, and else None.
     """
 
     def __init__(self, report_name, names, zones=None, defrag=False):
@@ -607,12 +610,23 @@ class Work:
             self.captures = [whole.frames if whole else frames for frames, whole in zip(self.captures, self.whole)]
         self.check_fragments(report_name)
         self.check_packets(report_name)
+        self.rewrites = self.read_rewrites(report_name)
 
     def read_heard(self, report_name):
         try:
             return read_heard(self.report)
         except Trouble as error:
             raise Trouble(f"{report_name}: {DAMAGED}: {error}") from error
+
+    def read_rewrites(self, report_name):
+        try:
+            return replay_rewrites.read_rewrites(self.report, self.segment_of)
+        except replay_rewrites.Wrong as error:
+            raise Trouble(f"{report_name}: {DAMAGED}: {error}") from error
+
+    def segment_of(self, thread, index):
+        """The sequence and the acknowledgment number of a packet of TCP, and its payload."""
+        return replay_rewrites.numbers_in(network_packet(self.captures[thread][index])), self.packets[thread][index].payload
 
     def zones_of(self, report_name, said, text):
         """The zone of each capture: what the report says, and where that is nothing what --zones says."""
