@@ -38,7 +38,7 @@ from collections import namedtuple
 import damaged_captures
 import damaged_storms
 import damaged_texts
-from report_check import check, without_heard
+from report_check import check, report_alone
 from tracker_rules import Inputs, Refused, inputs_of, want
 from thread_rows import changes_of
 
@@ -263,11 +263,13 @@ def leaves(status, out, err):
 def output_cases():
     """Each output that fails, with a report of few bytes, a summary, and a report of many; and a failing error output."""
     capture = {"c.pcap": read_bytes("crates", "ctreplay", "data", "c.pcap")}
+    leaving = {name: read_bytes("crates", "ctreplay", "data", name) for name in ("port.pcap", "port.rules")}
     made = ("--make", "1", "--packets", "20000", "--threads", "3", "--entries", "16384")
     rows = [
         ("few bytes", ("c.pcap",), capture),
         ("a summary", ("--summary", "c.pcap"), capture),
         ("a listener", ("--listen", "c.pcap"), capture),
+        ("how packets leave", ("--rewrite", "--rules", "port.rules", "port.pcap"), leaving),
         ("many bytes", made, {}),
     ]
     said = b"ctreplay: write failed\n"
@@ -291,25 +293,25 @@ def output_cases():
 
 
 def storm_case(storm, number):
-    """A run of a storm; every second one has a listener."""
+    """A run of a storm; every second one has a listener, and two of four say how packets leave."""
     words, files = [], {f"{thread}.pcap": data for thread, data in enumerate(storm.captures)}
     for option, text in (("rules", storm.rules), ("script", storm.script)):
         if text:
             words += [f"--{option}", option]
             files[option] = text.encode()
-    is_heard = number % 2 == 1
-    words += ["--entries", str(storm.entries), "--buckets", str(storm.buckets)] + ["--listen"] * is_heard
-    inputs = inputs_of(storm.captures, storm.rules, storm.script, storm.entries, listen=is_heard)
-    judge = is_read(lambda report: storm.holds(check(report, inputs), without_heard(report)))
+    is_heard, is_rewritten = number % 2 == 1, number % 4 >= 2
+    words += ["--entries", str(storm.entries), "--buckets", str(storm.buckets)] + ["--listen"] * is_heard + ["--rewrite"] * is_rewritten
+    inputs = inputs_of(storm.captures, storm.rules, storm.script, storm.entries, listen=is_heard, rewrite=is_rewritten)
+    judge = is_read(lambda report: storm.holds(check(report, inputs), report_alone(report)))
     names = [f"{thread}.pcap" for thread in range(len(storm.captures))]
     return Case(f"{storm.name} {number}", words + names, files, judge, patience=12)
 
 
 def run_storm(storm, given):
     """Runs a storm as often as is asked for. Gives how many runs were refused."""
-    both, begin, changes, words, bad = [storm_case(storm, number) for number in range(2)], time.time(), [], {}, 0
+    cases, begin, changes, words, bad = [storm_case(storm, number) for number in range(4)], time.time(), [], {}, 0
     for number in range(given.runs):
-        one = both[number % 2]
+        one = cases[number % 4]
         done = run_case(given.program, one, given.seconds)
         if not is_good(one._replace(name=f"{storm.name} {number}"), done, given):
             bad += 1

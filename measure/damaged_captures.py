@@ -162,7 +162,7 @@ def class_of_segment(body, length, ends, moment):
     if not 20 <= header <= length or flags & 7 not in VALID_FLAGS[flags & 48]:
         return INVALID
     first, second = struct.unpack(">HH", body[:4])
-    return Packet(moment, Tuple("tcp", *ends, first, second), kind_of(flags), body[header:])
+    return Packet(moment, Tuple("tcp", *ends, first, second), kind_of(flags), body[header:], struct.unpack(">II", body[4:12]))
 
 
 def class_of_message(body, length, ends, moment):

@@ -39,15 +39,15 @@ def prints(text):
     return judge
 
 
-def replay(name, captures, rules=b"", script=b"", listen=False):
+def replay(name, captures, rules=b"", script=b"", listen=False, rewrite=False):
     """A run of captures whose report is checked."""
-    words, files = ["--listen"] * listen, {f"{thread}.pcap": data for thread, data in enumerate(captures)}
+    words, files = ["--listen"] * listen + ["--rewrite"] * rewrite, {f"{thread}.pcap": data for thread, data in enumerate(captures)}
     words += [f"{thread}.pcap" for thread in range(len(captures))]
     for option, text in (("rules", rules), ("script", script)):
         if text:
             files[option] = text
             words = [f"--{option}", option] + words
-    inputs = inputs_of(captures, rules.decode(), script.decode(), listen=listen)
+    inputs = inputs_of(captures, rules.decode(), script.decode(), listen=listen, rewrite=rewrite)
     return Case(name, words, files, is_read(lambda report: check(report, inputs)))
 
 
@@ -66,6 +66,7 @@ def all_inputs():
         replay("an office behind one address", [office], data("office.rules")),
         replay("one flow in four captures", [sweep] * 4, b"", b"-L\n-D\n-C\n"),
         replay("a listener beside two captures and a script", [one, ftp], b"", b"-L\nwait\n-F\n", True),
+        replay("an FTP session that is translated", [data("port.pcap")], data("port.rules"), rewrite=True),
         Case("a made workload", "--make 0 --packets 8 --threads 2 --summary".split(), {}, prints(MADE)),
         Case("a cut capture", ["c.pcap"], cut, is_refused(2, "c.pcap: record 1 cut at offset 72")),
         Case("no such file", ["absent"], {}, is_refused(3, "absent: open failed")),

@@ -15,7 +15,8 @@ entry that could go was live throughout its points.
 Each answer to a command is so between its points, with its rows as the entries were at theirs; and no packet was
 answered at a point behind a command that stands behind `wait`. With --listen, and only then, there is a line for each thread, in
 order, with the number of its events, of the script's those of its commands before `wait`; and of so many all were heard, or
-else at least as many as its queue holds.
+else at least as many as its queue holds. With --rewrite, and only then, the last lines are those that rewrite_rules.py reckons of
+the history, the verdicts and the packets.
 
 What it does not check: errors of ICMP, fragments and broken headers (there may be none in its captures); which of the free
 ports a rule takes; which of the entries that may go is dropped, as places are not printed; that an answer which may be given only in a race was given in one, but for the bounds that the
@@ -23,6 +24,7 @@ documents state (FULL, drops, MERGED, CLASH, CONTENDED); and that NOPORT had no 
 """
 import re
 from bisect import bisect_right
+from rewrite_rules import judge_rewrites
 from tracker_rules import (
     address_of, address_text, is_meant, is_reply_of, may_go, named_end, NUMBERS, Refused, rule_for, SECOND, start_of,
     step_of, Tuple, tuple_text, want, zone_text,
@@ -217,18 +219,18 @@ class History:
         direction = entry.direction(packet.tuple)
         end = named_end(packet, direction)
         want(entry.helper and end is not None, f"event {number} expects what no payload names")
-        want(end[0] == packet.tuple.source, f"event {number} expects a connection to another address")
-        source = entry.reply.source if direction == "original" else entry.original.source
+        want(end[0] == packet.tuple.source, f"event {number} expects by an address that is not the packet's own")
+        back = entry.reply if direction == "original" else entry.original
         deadline = packet.moment + 300 * SECOND
         zone = entry.original.zone
-        new = Expectation(number, entry.number, zone, source, end[0], end[1], deadline)
+        new = Expectation(number, entry.number, zone, back.source, back.destination, end[1], deadline)
         others = self.expected_at(number)
         replaced = [one for one in others if one.master == entry.number]
         want(not self.rivals(new, packet.moment, number), f"event {number} expects what another entry expects")
         for one in replaced:
             one.end = number
         self.expected[number] = new
-        text = f"master={entry.number} src={address_text(source)} dst={address_text(end[0])} dport={end[1]}"
+        text = f"master={entry.number} src={address_text(back.source)} dst={address_text(back.destination)} dport={end[1]}"
         return f"{text} until={deadline}" + "".join(f" replaces={one.number}" for one in replaced) + zone_text(zone)
 
     def rivals(self, new, moment, point):
@@ -490,8 +492,8 @@ class Thread:
             want(len(expected) == 1024, f"{self.name} says that too much is expected")
         else:
             history.live(entry.number, point)
-            source = entry.reply.source if direction == "original" else entry.original.source
-            new = Expectation(0, entry.number, entry.original.zone, source, end[0], end[1], 0)
+            back = entry.reply if direction == "original" else entry.original
+            new = Expectation(0, entry.number, entry.original.zone, back.source, back.destination, end[1], 0)
             rivals = history.rivals(new, self.packet.moment, point)
             want(rivals and rivals[0].number == int(rival), f"{self.name} names a rival that is none")
 
@@ -627,9 +629,16 @@ class Script:
 # What a listener heard.
 
 
-def without_heard(report):
-    """A report without these lines."""
-    return re.sub(r"^heard .*\n", "", report, flags=re.M)
+def report_alone(report):
+    """A report without these lines, and without those of how packets leave."""
+    return re.sub(r"^(?:heard .*\n|rewrite \d+\n(?:.*\n)*)", "", report, flags=re.M)
+
+
+def split_rewrites(lines, inputs):
+    """The lines of a report, and behind them those of how packets leave, where they are asked for."""
+    begins = (place for place, line in enumerate(lines) if inputs.rewrite and line.startswith("rewrite "))
+    end = next(begins, len(lines))
+    return lines[:end], lines[end:]
 
 
 def split_heard(lines, inputs):
@@ -657,7 +666,8 @@ def read_heard(history, lines):
 def check(report, inputs):
     """Checks a report of these inputs. Gives its history."""
     want(report.endswith("\n"), "the last line does not end")
-    lines, heard = split_heard(report[:-1].split("\n"), inputs)
+    lines, leaving = split_rewrites(report[:-1].split("\n"), inputs)
+    lines, heard = split_heard(lines, inputs)
     want(lines, "there are fewer lines than threads")
     found = re.fullmatch(f"events {NUMBER}", lines[0])
     want(found, "the first line does not count the events")
@@ -668,18 +678,20 @@ def check(report, inputs):
     events = [line.split(" ") for line in lines[1:at]]
     history.reasons = [words[4] if words[1] == "destroy" else None for words in events]
     history.subjects = [subject_of(number, words) for number, words in enumerate(events)]
-    end_of_captures = 0
+    end_of_captures, verdicts = 0, []
     for thread, packets in enumerate(inputs.captures):
         want(lines[at : at + 1] == [f"thread {thread} packets {len(packets)}"], f"thread {thread} is not there")
         behind = at + 1 + len(packets)
         want(behind < len(lines), f"thread {thread} has too few verdicts")
         reader = Thread(history, thread)
         reader.read(lines[at + 1 : behind])
+        verdicts.append(lines[at + 1 : behind])
         end_of_captures = max(end_of_captures, reader.mark)
         at = behind
     want(lines[at] == f"script {len(inputs.commands)}", "the script's part is another one")
     Script(history, end_of_captures).read(lines[at + 1 :])
     read_heard(history, heard)
+    judge_rewrites(history, verdicts, leaving)
     return history
 
 

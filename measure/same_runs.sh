@@ -1,7 +1,8 @@
 #!/usr/bin/env bash
-# Runs the built program so often on each of six inputs whose report is the same in every run, and compares each output
+# Runs the built program so often on each of seven inputs whose report is the same in every run, and compares each output
 # byte for byte: a query and its answer, a control connection of FTP, an office behind one address, a script behind
-# `wait` that lists, deletes and flushes, one that does so by zones, and one with a listener. Ends with status 1 at the first difference.
+# `wait` that lists, deletes and flushes, one that does so by zones, one with a listener, and an FTP session whose packets leave in
+# another way. Ends with status 1 at the first difference.
 #
 # usage: same_runs.sh [RUNS]
 set -u
@@ -66,12 +67,13 @@ udp      17 119 src=10.0.0.1 dst=10.0.0.2 sport=5000 dport=53 src=10.0.0.2 dst=1
 4 get 0 @5
 5 list 0 @5 @5
 REPORT
-example '4 expect 0.3 master=0' >"$room/ftp"
+example '6 expect 0.4 master=0' >"$room/ftp"
 example '16 expect 0.15 master=12' >"$room/office"
 example '0 list 1 @2 @2' >"$room/zone"
 example '-L -w 7' >"$room/zone.script"
 example '2 destroy s.0 id=0 flushed' >"$room/heard"
 printf 'wait\n-F\n' >"$room/flush.script"
+example '4 expect 0.3 master=0 src=10.0.0.2 dst=192.0.2.1' >"$room/rewrite"
 
 repeat 'a query and its answer' crates/ctreplay/stdout "$data/c.pcap"
 repeat 'a control connection of FTP' "$room/ftp" "$data/ftp.pcap"
@@ -79,3 +81,4 @@ repeat 'an office behind one address' "$room/office" --rules "$data/office.rules
 repeat 'a script behind wait' "$room/sweep" --script "$room/sweep.script" "$room/sweep.pcap"
 repeat 'a zone' "$room/zone" --zones 7 --script "$room/zone.script" "$data/c.pcap"
 repeat 'a listener' "$room/heard" --listen --script "$room/flush.script" "$data/c.pcap"
+repeat 'how packets leave' "$room/rewrite" --rewrite --rules "$data/port.rules" "$data/port.pcap"

@@ -18,7 +18,7 @@ The cases: a query and its answer, a control connection of FTP, a script, and an
 of each thread's own ("apart") and with the same flows on all threads in another order ("same"); one flow of UDP on four
 threads; pools that are too small for eight threads, and one of forty places in which the flows of four drop each other.
 Apart, each thread's events and verdicts are those of the example, but for numbers and points. Buckets are 1, 16 or 16384,
-from run to run, and every second run has --listen. Besides, the cases "zones": the same flows, addresses, rules and FTP sessions in four zones on four threads,
+from run to run, every second run has --listen, and two of four have --rewrite. Besides, the cases "zones": the same flows, addresses, rules and FTP sessions in four zones on four threads,
 with places for all: the first words of each thread's verdicts, and the rows of `-L -w` for its zone, are those of its capture
 replayed alone. Also where rules have few ports, so that each zone's clients compete for them.
 """
@@ -34,7 +34,7 @@ import time
 from collections import namedtuple
 from concurrent.futures import ThreadPoolExecutor
 
-from report_check import check, without_heard
+from report_check import check, report_alone
 from tracker_rules import Refused, inputs_of, want, zone_text
 
 HERE = os.path.dirname(os.path.abspath(__file__))
@@ -402,8 +402,13 @@ def is_heard(number):
     return number % 2 == 1
 
 
+def is_rewritten(number):
+    """Whether the run of this number says how packets leave."""
+    return number % 4 >= 2
+
+
 def run_once(program, words, number):
-    own = ["--buckets", str(BUCKETS[number % len(BUCKETS)])] + ["--listen"] * is_heard(number)
+    own = ["--buckets", str(BUCKETS[number % len(BUCKETS)])] + ["--listen"] * is_heard(number) + ["--rewrite"] * is_rewritten(number)
     done = subprocess.run([program] + own + words, capture_output=True, text=True, timeout=600, check=False)
     if done.returncode:
         return number, None, f"status {done.returncode}: {done.stderr.strip()}"
@@ -420,7 +425,7 @@ def changes_of(report):
 def judged(case, inputs, report):
     """Why a report is refused, or none."""
     try:
-        case.holds(check(report, inputs), without_heard(report))
+        case.holds(check(report, inputs), report_alone(report))
     except Refused as fault:
         return str(fault)
     return None
@@ -459,7 +464,7 @@ def run_case(case, given):
         for begun in range(0, given.runs, 50):
             numbers = range(begun, min(begun + 50, given.runs))
             for number, report, why in pool.map(lambda n: run_once(given.program, line, n), numbers):
-                why = why or judged(case, inputs._replace(listen=is_heard(number)), report)
+                why = why or judged(case, inputs._replace(listen=is_heard(number), rewrite=is_rewritten(number)), report)
                 if why:
                     print(f"{case.name}: run {number} is refused: {why}", flush=True)
                     if given.keep:
@@ -764,6 +769,52 @@ def heard_damages(data):
     ]
 
 
+def rewrite_damages(data):
+    """Of how packets leave: the session of docs/FORMATS.md, and one of which no packet leaves in another way."""
+    report = example("docs/FORMATS.md", "events 7\n0 confirm 0.0 tcp src=10.0.0.1 dst=10.0.0.2 sport=40000 dport=21")
+    inputs = inputs_of(data("port.pcap"), data("port.rules")[0].decode(), rewrite=True)
+    first, second, third = (line + "\n" for line in report.splitlines()[-3:])
+    ftp = example("docs/FORMATS.md", "events 11")
+    return [
+        (
+            report,
+            inputs,
+            [
+                ("rewrite 3\n" + first + second + third, ""),
+                ("rewrite 3\n" + first + second + third, "rewrite 0\n"),
+                ("rewrite 3\n", "rewrite 2\n"),
+                ("rewrite 3\n", ""),
+                ("rewrite 3\n", "rewrite 03\n"),
+                (first, ""),
+                (second, "", "rewrite 3", "rewrite 2"),
+                (second + third, third + second),
+                (third, third + third),
+                (third, third + "\n"),
+                (third, third + "rewrite 0\n"),
+                ("ack=1024>1023", "ack=1024>1024"),
+                ("ack=1024>1023", "ack=1023>1023"),
+                ("seq=1023>1024", "seq=1023>1023"),
+                ("seq=1023>1024", "seq=1023>1025"),
+                ("seq=1001>1001", "seq=1001>1002"),
+                (" text=50", " text=70"),
+                ("0d0a\n", "0d0A\n"),
+                ("0d0a\n", "0d0a0a\n"),
+                (second[:-1], second[:-1] + " text=kept"),
+                (first[first.index(" text="):], " text=kept\n"),
+                (first[first.index(" text="):], "\n"),
+                ("\n0.4 id=0 reply", "\n0.4 id=0 original"),
+                ("\n0.4 id=0 reply", "\n0.4 id=1 reply"),
+                ("\n0.4 id=0 reply", "\n1.4 id=0 reply"),
+                ("\n0.5 id=0", "\n0.05 id=0"),
+                ("rewrite 3\n", "rewrite 4\n0.2 id=0 original seq=1001>1001 ack=5001>5001\n"),
+                ("dst=192.0.2.1 dport=40001", "dst=10.0.0.1 dport=40001"),
+            ],
+        ),
+        (report[: report.index("rewrite 3")], inputs._replace(rewrite=False), [("script 0\n", "script 0\nrewrite 0\n"), ("script 0\n", "script 0\nrewrite 3\n" + first + second + third)]),
+        (ftp + "rewrite 0\n", inputs_of(data("ftp.pcap"), rewrite=True), [("rewrite 0\n", ""), ("rewrite 0\n", "rewrite 1\n" + first)]),
+    ]
+
+
 def zone_damages(data):
     """Of the same flows and FTP sessions in two zones."""
     row = ZONED[ZONED.index("udp      17") : ZONED.index(" zone=2 @4")]
@@ -890,6 +941,7 @@ def damages():
         *drop_damages(),
         *zone_damages(data),
         *heard_damages(data),
+        *rewrite_damages(data),
     ]
 
 

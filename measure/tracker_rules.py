@@ -33,11 +33,12 @@ PARTNERS = {8: 0, 0: 8, 13: 14, 14: 13, 15: 16, 16: 15, 17: 18, 18: 17}
 ASKS = (8, 13, 15, 17)
 
 Tuple = namedtuple("Tuple", "proto source destination first second zone", defaults=[0])
-Packet = namedtuple("Packet", "moment tuple kind payload")
+# Of a segment of TCP `numbers` are its sequence and its acknowledgment number.
+Packet = namedtuple("Packet", "moment tuple kind payload numbers", defaults=[None])
 Part = namedtuple("Part", "state replied assured deadline")
 Rule = namedtuple("Rule", "kind options address low high")
 Command = namedtuple("Command", "word options moment")
-Inputs = namedtuple("Inputs", "captures rules commands wait entries ports listen", defaults=[False])
+Inputs = namedtuple("Inputs", "captures rules commands wait entries ports listen rewrite", defaults=[False, False])
 
 
 class Refused(Exception):
@@ -72,7 +73,7 @@ def packet_of(frame, moment):
         return Packet(moment, Tuple("udp", source, destination, first, second), None, b"")
     if frame[9] == 6:
         payload = body[4 * (body[12] >> 4) :]
-        return Packet(moment, Tuple("tcp", source, destination, first, second), kind_of(body[13]), payload)
+        return Packet(moment, Tuple("tcp", source, destination, first, second), kind_of(body[13]), payload, struct.unpack(">II", body[4:12]))
     if frame[9] != 1 or body[0] not in PARTNERS:
         raise ValueError("a packet that this checker does not know")
     number = struct.unpack(">H", body[4:6])[0]
@@ -136,10 +137,10 @@ def read_script(text):
     return commands, len(commands) if wait is None else wait
 
 
-def inputs_of(captures, rules="", script="", entries=65536, ports=(21,), zones=None, listen=False):
+def inputs_of(captures, rules="", script="", entries=65536, ports=(21,), zones=None, listen=False, rewrite=False):
     commands, wait = read_script(script)
     packets = [read_capture(data) for data in captures]
-    return Inputs(in_zones(packets, zones or [0] * len(captures)), read_rules(rules), commands, wait, entries, ports, listen)
+    return Inputs(in_zones(packets, zones or [0] * len(captures)), read_rules(rules), commands, wait, entries, ports, listen, rewrite)
 
 
 def in_zones(captures, zones):
@@ -277,20 +278,30 @@ def may_go(part, moment):
     return part.deadline <= moment or not part.assured or part.state in ENDING
 
 
-def named_end(packet, direction):
-    """The address (none where the form has none) and the port that the payload names, or none."""
-    six = rb"(\d{1,3}),(\d{1,3}),(\d{1,3}),(\d{1,3}),(\d{1,3}),(\d{1,3})"
-    if direction == "original":
-        found = re.match(rb"(?i:PORT) " + six + rb"[\r\n]", packet.payload)
-    else:
-        found = re.match(rb"227 [^\d\r\n]*" + six + rb"\D", packet.payload)
+SIX = rb"(\d{1,3}),(\d{1,3}),(\d{1,3}),(\d{1,3}),(\d{1,3}),(\d{1,3})"
+DOTS = rb"(\d{1,3})\.(\d{1,3})\.(\d{1,3})\.(\d{1,3})"
+# What names an end, as a group, in each direction.
+FORMS = {
+    "original": (rb"(?i:PORT) (" + SIX + rb")[\r\n]", rb"(?i:EPRT) \|1\|(" + DOTS + rb"\|(\d{1,5}))\|[\r\n]"),
+    "reply": (rb"227 [^\d\r\n]*(" + SIX + rb")\D", rb"229 [^(\r\n]*\(\|\|\|((\d{1,5}))\|\)"),
+}
+
+
+def named_span(payload, direction):
+    """The address (none where the form has none) and the port that a payload names, and from where to where it does; or none."""
+    found = next((found for form in FORMS[direction] if (found := re.match(form, payload, re.DOTALL))), None)
     if not found:
         return None
-    numbers = [int(number) for number in found.groups()]
-    port = numbers[4] * 256 + numbers[5]
-    if max(numbers) > 255 or port == 0:
+    numbers = [int(number) for number in found.groups()[1:]]
+    pair = len(numbers) == 6
+    port = numbers[4] * 256 + numbers[5] if pair else numbers[-1]
+    if max(numbers if pair else numbers[:-1], default=0) > 255 or not 0 < port < 65536:
         return None
-    return (numbers[0] << 24) + (numbers[1] << 16) + (numbers[2] << 8) + numbers[3], port
+    address = int.from_bytes(bytes(numbers[:4]), "big") if len(numbers) > 1 else None
+    return address, port, *found.span(1)
 
 
-# The history.
+def named_end(packet, direction):
+    """The address and the port that the payload names, or none; a form without an address means the sender's own."""
+    found = named_span(packet.payload, direction)
+    return found and (packet.tuple.source if found[0] is None else found[0], found[1])
