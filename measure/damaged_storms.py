@@ -117,6 +117,23 @@ def controls(threads, names):
     return captures
 
 
+def edited(threads, names):
+    """One control connection behind an address, on all threads: each sends commands and answers at places of its own, so that edits
+    come in the order of places or overlap, as the threads run."""
+    ports, outer = (40000, 21), 0xC0000201
+    captures = []
+    for thread in range(threads):
+        sent = [(CLIENT, SERVER, ports, SYN, 999, 0, b"")] if thread == 0 else []
+        for turn in range(names):
+            place = 1000 + 40 * (threads * turn + thread)
+            text = f"PORT 10,0,0,1,200,{turn % 200}\r\n".encode()
+            sent.append((CLIENT, SERVER, ports, ACK | PUSH, place, 5000 + turn, text))
+            sent.append((SERVER, outer, ports[::-1], ACK, 5000 + turn, place + len(text), b""))
+        frames = [packet(6, (source, target), struct.pack(">HHIIBBHHH", *own, seq, ack, 0x50, flags, 0, 0, 0) + data) for source, target, own, flags, seq, ack, data in sent]
+        captures.append(capture([(BEGIN + SECOND * index // 10, one) for index, one in enumerate(frames)]))
+    return captures
+
+
 def many_controls(threads, connections):
     """Each thread has so many control connections, of which each names an end of its own."""
     captures = []
@@ -160,6 +177,7 @@ def is_new_or_full(packets):
 def all_storms():
     busy = "-F\n-L\n-C\n" * 8 + "wait\n-C\n-L\n"
     range_rule = "snat -p udp to 192.0.2.1:5000-5003\n"
+    address_rule = "snat -s 10.0.0.0/8 to 192.0.2.1\n"
     deletes = "-D -p udp\n-L\n-L expect\nexpire 1300000000\n" * 6
     most, pool = MOST_THREADS, pool_captures(MOST_THREADS, 40, 4000)
     row = [
@@ -184,5 +202,7 @@ def all_storms():
         ("controls", controls(4, 200), "", "", 256, 16384, any_history, ("ESTABLISHED ftp clash",)),
         ("controls-full", many_controls(4, 300), "", "", 2048, 16384, any_history, ("ESTABLISHED ftp full",)),
         ("controls-deleted", controls(4, 200), "", deletes.replace("udp", "tcp"), 256, 16384, any_history, ()),
+        ("edits", edited(4, 60), address_rule, "", 256, 16384, any_history, ("ESTABLISHED ftp expect",)),
+        ("edits-deleted", edited(4, 60), address_rule, deletes.replace("udp", "tcp"), 256, 16384, any_history, ()),
     ]
     return [Storm(*one) for one in row]
