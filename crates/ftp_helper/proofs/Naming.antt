@@ -10,9 +10,9 @@ use Rattle.ftp_helper.specs.declared.payload.EndSpan.{EndSpan}
 use Rattle.ftp_helper.specs.declared.payload.NamedEnd.{NamedEnd}
 use Rattle.ftp_helper.specs.declared.payload.FoundEnd.{FoundEnd}
 use Rattle.ftp_helper.specs.Laws.{ReadingIsNaming}
-use Rattle.ftp_helper.specs.Named.{named_of, naming_in, span_of, with_port}
+use Rattle.ftp_helper.specs.Named.{naming_in, with_port}
 use Rattle.ftp_helper.specs.Span.{IsShortSpan, naming_span, SpansEnd, text_span}
-use Rattle.ftp_helper.specs.Payload.{AreNumbers, IsEprtCommand, IsHost, IsHostPort, IsExtendedPassiveReply, IsInAnyCase, IsNaming, IsPassiveReply, IsPortCommand, NamesEnd}
+use Rattle.ftp_helper.specs.Payload.{AreNumbers, IsEprtCommand, IsHost, IsHostPort, IsExtendedPassiveReply, IsInAnyCase, IsNaming, NamesEnd}
 use Rattle.ftp_helper.specs.Internal.Reading.{after, after_command, eprt_command_at, extended_passive_reply_at, first_read, naming_at, naming_of, passive_reply_at, port_command_at}
 use Rattle.ftp_helper.proofs.Forms.{eprt_finds, eprt_gives, extended_finds, extended_gives, passive_finds, passive_gives, port_finds, port_gives, regrouped}
 

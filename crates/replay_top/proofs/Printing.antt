@@ -34,17 +34,23 @@ wrote_both first second t u v (Ok done) (is, same) (then, still) = (
 )
 wrote_both first second t u v (Err fault) (is, same) (rose, front) = (
   subst (λ (n : ℕ). Rose n v.faults) same rose,
-  (length first + front.0, omega (arith, front.1, length-append first second),
-      front.2 ∙ ap (λ (w : Option (List ℕ)). followed_by w (take front.0 second)) is ∙ followed_twice t.written first (take front.0 second)
-      ∙ ap (followed_by t.written) (sym (take-append-add first second front.0))),
+  (
+    length first + front.0,
+    omega (arith, front.1, length-append first second),
+    front.2 ∙ ap (λ (w : Option (List ℕ)). followed_by w (take front.0 second)) is ∙ followed_twice t.written first (take front.0 second)
+        ∙ ap (followed_by t.written) (sym (take-append-add first second front.0)),
+  ),
 )
 
 -- where only the front of the first was
 pub wrote_less : (first second : List ℕ) (t u : Tape) (fault : WriteFault) → Wrote first t u (Err fault) → Wrote (first ++ second) t u (Err fault)
 wrote_less first second t u fault (rose, front) = (
   rose,
-  (front.0, omega (arith, front.1, length-append first second),
-      front.2 ∙ ap (followed_by t.written) (sym (take-append-le front.0 first second (omega (arith, front.1))))),
+  (
+    front.0,
+    omega (arith, front.1, length-append first second),
+    front.2 ∙ ap (followed_by t.written) (sym (take-append-le front.0 first second (omega (arith, front.1)))),
+  ),
 )
 
 -- where there is nothing to write

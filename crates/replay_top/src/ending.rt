@@ -56,7 +56,9 @@ pub fn run_with(status: u8, made: Replayed) -> Run
     ensures heard { result.heard ≡ heard_of made.listened }
 {
     let Replayed {
-        report, listened, ..
+        report,
+        listened,
+        ..
     } = made;
     let heard = match listened {
         Some(listened) => Some(listened.heard),

@@ -160,7 +160,9 @@ fn each_packet_is_told_of(rt: HostRuntime) -> Result<(), Fail> {
     static CASE: Case<'static> = Case {
         words: &["ctreplay", "--summary", "--listen", NAME],
         files: &[(NAME, Content::Ports(0x0a00_0001, 9))],
-        out: Text::Is("summary threads=1 packets=9 events=9 live=9\nNEW 9\nheard 0 9 of 9\nheard s 0 of 0\n"),
+        out: Text::Is(
+            "summary threads=1 packets=9 events=9 live=9\nNEW 9\nheard 0 9 of 9\nheard s 0 of 0\n",
+        ),
         ..REPLAYED
     };
     let gate = Strict {
@@ -250,7 +252,11 @@ struct Numbered {
 impl Gate for Numbered {
     fn at(&self, worker: u32, crossing: Crossing) {
         if matches!(crossing, Crossing::Heard) {
-            let count = if worker == 3 { &self.heard } else { &self.others };
+            let count = if worker == 3 {
+                &self.heard
+            } else {
+                &self.others
+            };
             count.fetch_add(1, Ordering::SeqCst);
         }
     }
@@ -313,7 +319,9 @@ static FULL: [(u64, Case<'static>); 3] = [
         Case {
             words: &["ctreplay", "--summary", "--listen", NAME],
             files: &[(NAME, Content::Ports(0x0a00_0001, 1024))],
-            out: Text::Is("summary threads=1 packets=1024 events=1024 live=1024\nNEW 1024\nheard 0 1024 of 1024\nheard s 0 of 0\n"),
+            out: Text::Is(
+                "summary threads=1 packets=1024 events=1024 live=1024\nNEW 1024\nheard 0 1024 of 1024\nheard s 0 of 0\n",
+            ),
             ..REPLAYED
         },
     ),
@@ -364,7 +372,15 @@ fn a_thread_waits_for_no_listener(rt: HostRuntime) -> Result<(), Fail> {
 #[test]
 fn many_threads_are_told_apart(rt: HostRuntime) -> Result<(), Fail> {
     static CASE: Case<'static> = Case {
-        words: &["ctreplay", "--summary", "--listen", NAME, SECOND, NAME, SECOND],
+        words: &[
+            "ctreplay",
+            "--summary",
+            "--listen",
+            NAME,
+            SECOND,
+            NAME,
+            SECOND,
+        ],
         files: &[
             (NAME, Content::Ports(0x0a00_0001, 300)),
             (SECOND, Content::Ports(0x0a01_0001, 400)),

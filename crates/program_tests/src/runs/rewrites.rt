@@ -82,7 +82,13 @@ const BY_EPRT: [Sent<'static>; 6] = [
     (
         4,
         0,
-        Packet::Segment(CONTROL, 1001, 5001, ACK | PSH, b"EPRT |1|10.0.0.1|40001|\r\n"),
+        Packet::Segment(
+            CONTROL,
+            1001,
+            5001,
+            ACK | PSH,
+            b"EPRT |1|10.0.0.1|40001|\r\n",
+        ),
     ),
     (5, 0, Packet::Segment(BACK, 5001, 1027, ACK, b"")),
     (6, 0, Packet::Segment(CONTROL, 1026, 5001, ACK, b"")),
@@ -115,9 +121,17 @@ const DNAT: &str = "dnat -d 203.0.113.5/32 to 10.0.0.2\n";
 /// The server names its end by a reply 227, which gets longer by three bytes.
 const BY_227: [Sent<'static>; 6] = [
     (1, 0, Packet::Segment(OUTSIDE, 1000, 0, SYN, b"")),
-    (2, 0, Packet::Segment(FROM_INSIDE, 5000, 1001, SYN | ACK, b"")),
+    (
+        2,
+        0,
+        Packet::Segment(FROM_INSIDE, 5000, 1001, SYN | ACK, b""),
+    ),
     (3, 0, Packet::Segment(OUTSIDE, 1001, 5001, ACK, b"")),
-    (4, 0, Packet::Segment(OUTSIDE, 1001, 5001, ACK | PSH, b"PASV\r\n")),
+    (
+        4,
+        0,
+        Packet::Segment(OUTSIDE, 1001, 5001, ACK | PSH, b"PASV\r\n"),
+    ),
     (
         5,
         0,
@@ -160,20 +174,24 @@ const PLAIN_BACK: Ends = Ends {
 
 const PLAIN_SESSION: [Sent<'static>; 4] = [
     SYN_SENT,
-    (2, 0, Packet::Segment(PLAIN_BACK, 5000, 1001, SYN | ACK, b"")),
+    (
+        2,
+        0,
+        Packet::Segment(PLAIN_BACK, 5000, 1001, SYN | ACK, b""),
+    ),
     OPEN,
     PORT,
 ];
 
 /// The command in two fragments of IP: the first has the header of TCP and 4 bytes of data, the last 20.
 const FRONT: [u8; 44] = [
-    0x45, 0, 0, 44, 0, 7, 0x20, 0, 0x40, 6, 0, 0, 10, 0, 0, 1, 10, 0, 0, 2, 0x9c, 0x40, 0, 21, 0, 0,
-    3, 0xe9, 0, 0, 0x13, 0x89, 0x50, 0x18, 0, 0, 0, 0, 0, 0, b'P', b'O', b'R', b'T',
+    0x45, 0, 0, 44, 0, 7, 0x20, 0, 0x40, 6, 0, 0, 10, 0, 0, 1, 10, 0, 0, 2, 0x9c, 0x40, 0, 21, 0,
+    0, 3, 0xe9, 0, 0, 0x13, 0x89, 0x50, 0x18, 0, 0, 0, 0, 0, 0, b'P', b'O', b'R', b'T',
 ];
 
 const LAST: [u8; 38] = [
-    0x45, 0, 0, 38, 0, 7, 0, 3, 0x40, 6, 0, 0, 10, 0, 0, 1, 10, 0, 0, 2, b' ', b'1', b'0', b',', b'0',
-    b',', b'0', b',', b'1', b',', b'1', b'5', b'6', b',', b'6', b'5', b'\r', b'\n',
+    0x45, 0, 0, 38, 0, 7, 0, 3, 0x40, 6, 0, 0, 10, 0, 0, 1, 10, 0, 0, 2, b' ', b'1', b'0', b',',
+    b'0', b',', b'0', b',', b'1', b',', b'1', b'5', b'6', b',', b'6', b'5', b'\r', b'\n',
 ];
 
 const IN_FRAGMENTS: [Sent<'static>; 5] = [
@@ -199,7 +217,15 @@ static REWRITES: [Case<'static>; 10] = [
         ..SESSION_RUN
     },
     Case {
-        words: &["ctreplay", "--listen", "--rewrite", "--summary", "--rules", RULES, NAME],
+        words: &[
+            "ctreplay",
+            "--listen",
+            "--rewrite",
+            "--summary",
+            "--rules",
+            RULES,
+            NAME,
+        ],
         out: Text::Is(SUMMED_AND_HEARD),
         ..SESSION_RUN
     },
@@ -223,7 +249,10 @@ static REWRITES: [Case<'static>; 10] = [
     Case {
         words: &["ctreplay", "--rewrite", NAME],
         files: &[(NAME, Content::Capture(PLAIN, &PLAIN_SESSION))],
-        out: Text::Around("events 5\n", "\n3 ESTABLISHED id=0 @4 ftp expect=4\nscript 0\nrewrite 0\n"),
+        out: Text::Around(
+            "events 5\n",
+            "\n3 ESTABLISHED id=0 @4 ftp expect=4\nscript 0\nrewrite 0\n",
+        ),
         ..SESSION_RUN
     },
     // the command comes in fragments: its packet is the one that completes it
@@ -245,12 +274,25 @@ static REWRITES: [Case<'static>; 10] = [
             (RULES, Content::Text(SNAT)),
             (NAME, Content::Capture(PLAIN, &IN_FRAGMENTS)),
         ],
-        out: Text::Around("events 3\n", "\n4 UNTRACKED fragment\nscript 0\nrewrite 0\n"),
+        out: Text::Around(
+            "events 3\n",
+            "\n4 UNTRACKED fragment\nscript 0\nrewrite 0\n",
+        ),
         ..SESSION_RUN
     },
     // no packet of a workload is of FTP
     Case {
-        words: &["ctreplay", "--make", "2", "--packets", "8", "--threads", "1", "--rewrite", "--summary"],
+        words: &[
+            "ctreplay",
+            "--make",
+            "2",
+            "--packets",
+            "8",
+            "--threads",
+            "1",
+            "--rewrite",
+            "--summary",
+        ],
         files: &[],
         out: Text::Around("summary threads=1 packets=8 ", "\nrewrite 0\n"),
         ..SESSION_RUN

@@ -1,5 +1,4 @@
-use Rattle.std.proofs.Common.{◌≡◌, ◌+◌, ◌<◌, ◌≤◌, ℕ, List, ◌++◌, ◌∷◌, [], ◌∙◌, ap, arith, get_or, length, length-append, map, rules, subst, sym, take}
-use Rattle.std.specs.Prelude.{min}
+use Rattle.std.proofs.Common.{◌≡◌, ◌+◌, ◌<◌, ◌≤◌, ℕ, List, ◌++◌, ◌∷◌, [], ◌∙◌, ap, arith, get_or, length, length-append, map, subst, sym, take}
 use Rattle.std.proofs.Math.Nat.{min-le_left}
 use Rattle.report_text.specs.declared.heard.HeardCount.{HeardCount}
 use Rattle.std.proofs.lemmas.List.{length-map}
@@ -13,8 +12,13 @@ push-requires c = omega (arith, c.threads.invariant.long, c.threads.invariant.ro
 
 pub threads-preserved : goal.threads-preserved
 threads-preserved c =
-    let below : c.threads.thread < length c.in-Some.told.made.items = omega (arith, c.threads-test.true, c.min-threads.ensures, ap length c.as_slice-made.ensures,
-    min-le_left (length c.as_slice-made.result.now) c.len.result) in
+    let below : c.threads.thread < length c.in-Some.told.made.items = omega (
+      arith,
+      c.threads-test.true,
+      c.min-threads.ensures,
+      ap length c.as_slice-made.ensures,
+      min-le_left (length c.as_slice-made.result.now) c.len.result,
+    ) in
     let more : heard_counts (take (c.threads.thread + 1) c.in-Some.told.made.items) (take (c.threads.thread + 1) (map length c.in-Some.told.heard))
     ≡ heard_counts (take c.threads.thread c.in-Some.told.made.items) (take c.threads.thread (map length c.in-Some.told.heard))
     ++ record { heard = c.len-in-threads.result; made = get_or c.as_slice-made.result.now c.threads.thread 0 } ∷ [] =

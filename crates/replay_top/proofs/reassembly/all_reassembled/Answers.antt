@@ -1,4 +1,4 @@
-use Rattle.std.proofs.Common.{◌+◌, ◌<◌, arith, length}
+use Rattle.std.proofs.Common.{arith}
 use Rattle.replay_top.proofs.Reassembled.{next_done}
 use Rattle.replay_top.proofs.reassembly.all_reassembled.Goals as goal
 

@@ -1,4 +1,4 @@
-use Rattle.std.proofs.Common.{◌+◌, ◌≤◌, length}
+use Rattle.std.proofs.Common.{◌≤◌, length}
 use Rattle.replay_top.proofs.Reassembled.{AreMidway}
 use Rattle.replay_top.proofs.reassembly.all_reassembled.Given as goal
 
