@@ -342,8 +342,11 @@ module _ {D : Type 0} (sight : D → Sight) (captures : List Capture) (jobs done
       → AreTold made line gathered
   all_told None laid told last made are = tt
   all_told (Some line) laid told last made are =
-      record { capacity = capacity ears laid; each = subst (λ (ms : List (List Note)). AllZip (λ o e. HasTold o line e) ms gathered) (sym are)
-          (ends_told sight line jobs done all left gathered old new own told ended last queue (order (Some line) laid) (these (Some line) laid)) }
+      record {
+        capacity = capacity ears laid;
+        each = subst (λ (ms : List (List Note)). AllZip (λ o e. HasTold o line e) ms gathered) (sym are)
+            (ends_told sight line jobs done all left gathered old new own told ended last queue (order (Some line) laid) (these (Some line) laid));
+      }
     where
       capacity : (e : Option (List EarSight)) → AreLaidFor (length jobs + 1) (Some line) e all → line.capacity ≡ 1024
       capacity None laid' = absurd laid'

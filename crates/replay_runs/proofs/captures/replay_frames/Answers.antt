@@ -30,13 +30,13 @@ frames-preserved g c =
       told = c.tell.ensures.told;
       queue = c.tell.ensures.queue ∙ c.frames.invariant.queue;
       replayed = replayed_next c.going_on_adds_up.ensures.all c.verdicts_still_fit.ensures c.lower_marks_fit.ensures c.args.shared.now.setup.now
-    (map (given_of c.args.zone c.args.bytes.now) c.args.frames.now) (record { packet = Invalid; moment = 0; payload = [] }) c.frames.frame-index
-    (g.D.Desk.sight c.args.job.now.desk) (g.D.Desk.sight c.frames.job.desk) (g.D.Desk.sight c.handle.new.desk)
-    c.frames.job.verdicts c.push.new.self c.in-Ok.verdict c.frames.invariant.replayed
-    (handled_at c.args.shared.now.setup.now (g.D.Desk.sight c.frames.job.desk) (g.D.Desk.sight c.handle.new.desk) c.frames.frame-index c.args.zone c.args.bytes.now c.args.frames.now _
-    (record { packet = Invalid; moment = 0; payload = [] }) c.in-Ok.verdict (omega (arith, below)) c.in-Ok.ensures.handled)
-    c.in-Ok.ensures.knows (omega (arith, below, length-map c.args.frames.now (given_of c.args.zone c.args.bytes.now)))
-    (subst (λ (k : ℕ). c.push.new.self.items ≡ c.frames.job.verdicts.items ++ counted_from k c.in-Ok.verdict ∷ []) c.made-base.ensures.exact
-    c.push.ensures.items)
-    c.push.ensures.room;
+          (map (given_of c.args.zone c.args.bytes.now) c.args.frames.now) (record { packet = Invalid; moment = 0; payload = [] }) c.frames.frame-index
+          (g.D.Desk.sight c.args.job.now.desk) (g.D.Desk.sight c.frames.job.desk) (g.D.Desk.sight c.handle.new.desk)
+          c.frames.job.verdicts c.push.new.self c.in-Ok.verdict c.frames.invariant.replayed
+          (handled_at c.args.shared.now.setup.now (g.D.Desk.sight c.frames.job.desk) (g.D.Desk.sight c.handle.new.desk) c.frames.frame-index c.args.zone c.args.bytes.now c.args.frames.now _
+          (record { packet = Invalid; moment = 0; payload = [] }) c.in-Ok.verdict (omega (arith, below)) c.in-Ok.ensures.handled)
+          c.in-Ok.ensures.knows (omega (arith, below, length-map c.args.frames.now (given_of c.args.zone c.args.bytes.now)))
+          (subst (λ (k : ℕ). c.push.new.self.items ≡ c.frames.job.verdicts.items ++ counted_from k c.in-Ok.verdict ∷ []) c.made-base.ensures.exact
+          c.push.ensures.items)
+          c.push.ensures.room;
     }

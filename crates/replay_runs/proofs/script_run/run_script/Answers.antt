@@ -22,10 +22,10 @@ commands-preserved g c = record {
   told = c.tell.ensures.told;
   queue = c.tell.ensures.queue ∙ c.commands.invariant.queue;
   answered = answered_next c.going_on_adds_up.ensures.all c.answers_still_fit.ensures c.lower_marks_fit.ensures c.args.commands.now _
-    c.args.shared.now.moment c.args.first c.commands.command-index (c.made.result - c.args.first)
-    (g.D.Desk.sight c.args.desk.now) (g.D.Desk.sight c.commands.desk) (g.D.Desk.sight c.perform.new.desk)
-    c.args.thread.now.answers c.commands.thread.answers c.push.new.self c.in-Ok.answer c.commands.invariant.answered
-    c.in-Ok.ensures.performed c.in-Ok.ensures.knows (omega (arith, c.made.ensures.exact, c.requires.can.made))
-    (omega (arith, c.commands-test.true)) c.requires.can.small c.push.ensures.items
-    c.push.ensures.room;
+      c.args.shared.now.moment c.args.first c.commands.command-index (c.made.result - c.args.first)
+      (g.D.Desk.sight c.args.desk.now) (g.D.Desk.sight c.commands.desk) (g.D.Desk.sight c.perform.new.desk)
+      c.args.thread.now.answers c.commands.thread.answers c.push.new.self c.in-Ok.answer c.commands.invariant.answered
+      c.in-Ok.ensures.performed c.in-Ok.ensures.knows (omega (arith, c.made.ensures.exact, c.requires.can.made))
+      (omega (arith, c.commands-test.true)) c.requires.can.small c.push.ensures.items
+      c.push.ensures.room;
 }
