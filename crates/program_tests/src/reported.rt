@@ -281,5 +281,6 @@ pub fn are_first(report: &Report, heard: Option<&Heard>) -> bool {
             return false;
         }
     }
-    heard.len() == report.threads.len() + 1
+    let threads = report.threads.len();
+    heard.len() > threads && heard.len() - threads == 1
 }
