@@ -1,4 +1,5 @@
-"""What the documents name: each name of docs/DEFINITIONS.md and docs/HEADLINE.md stands in its file, and each of a crate's page somewhere."""
+"""What the documents name: each name of docs/DEFINITIONS.md, docs/INSIDE.md and docs/HEADLINE.md stands in its file, and each of a crate's
+page somewhere."""
 import functools
 import glob
 import os
@@ -60,9 +61,10 @@ def misplaced(text):
 
 
 def check_names():
+    for page, least in [("DEFINITIONS", 400), ("INSIDE", 300)]:
+        names, wrong = misplaced(read(os.path.join(TOP, "docs"), f"{page}.md"))
+        count(f"{page}: each name stands in its file", names > least and not wrong, "; ".join(wrong[:9]))
     text = read(os.path.join(TOP, "docs"), "DEFINITIONS.md")
-    names, wrong = misplaced(text)
-    count("DEFINITIONS: each name stands in its file", names > 500 and not wrong, "; ".join(wrong[:9]))
     _, found = misplaced(text.replace("`inverse`", "`inverted`").replace("`TcpTable.antt`", "`TcpTables.antt`"))
     count("DEFINITIONS: a name or a file that is gone is told", len(found) >= 2 and any("inverted" in it for it in found), str(found))
 
