@@ -1,4 +1,5 @@
 pub mod Counts
+pub mod Digits
 pub mod Gathers
 pub mod SameTexts
 pub mod SummaryLaws

@@ -1,3 +1,4 @@
 -- What the proofs of this crate speak of, and no public clause.
+pub mod Digits
 pub mod Gathered
 pub mod Counting

@@ -6,6 +6,7 @@ pub mod first_word;
 pub mod heard;
 pub mod laws;
 mod line;
+pub mod number;
 pub mod page;
 mod piece;
 mod row;

@@ -1,10 +1,11 @@
 //! A page: a buffer of a caller's, with the bytes that are held back in it. No call takes memory.
 
-ghost use Rattle.std.specs.Prelude.{◌≡◌, ◌≤◌, [], length};
+ghost use Rattle.std.specs.Fmt.{decimal};
+ghost use Rattle.std.specs.Prelude.{◌≡◌, ◌≤◌, ◌++◌, [], codes, length};
 ghost use Rattle.report_text.specs.Page.{Adds, HasRoom};
 ghost use Rattle.report_text.specs.Piece.{word_if};
 
-use itoa::{Buffer, Integer};
+use crate::number::{Number, put_octet};
 use std::marker::Model;
 
 /// No line has more bytes, its line feed included.
@@ -90,11 +91,19 @@ impl<'b> Page<'b> {
 
     /// Writes a number in plain decimal.
     #[inline]
-    pub fn number<I: Integer>(&mut self, number: I)
+    pub fn number<I: Number>(&mut self, number: I)
         requires { HasRoom I.MAX_STR_LEN self.old }
         ensures { Adds I.MAX_STR_LEN (I.text number) self.old self.new }
     {
-        let mut digits = Buffer::new();
-        self.text(digits.format(number).as_bytes());
+        self.len = number.put(self.buffer, self.len);
+    }
+
+    /// Writes a byte in plain decimal, and a dot.
+    #[inline(always)]
+    pub fn dotted(&mut self, byte: u8)
+        requires { HasRoom 4 self.old }
+        ensures { Adds 4 (decimal byte ++ codes ".") self.old self.new }
+    {
+        self.len = put_octet(byte, self.buffer, self.len);
     }
 }

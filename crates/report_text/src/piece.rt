@@ -19,12 +19,9 @@ impl<'b> Page<'b> {
         requires { HasRoom 15 self.old }
         ensures { Adds 15 (address_text address) self.old self.new }
     {
-        self.number((address / 0x100_0000) as u8);
-        self.text(b".");
-        self.number((address / 0x1_0000 % 256) as u8);
-        self.text(b".");
-        self.number((address / 0x100 % 256) as u8);
-        self.text(b".");
+        self.dotted((address / 0x100_0000) as u8);
+        self.dotted((address / 0x1_0000 % 256) as u8);
+        self.dotted((address / 0x100 % 256) as u8);
         self.number((address % 256) as u8);
     }
 

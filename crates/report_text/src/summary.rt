@@ -11,12 +11,12 @@ ghost use Rattle.report_text.specs.Wrote.{Wrote};
 ghost use Rattle.report_text.specs.declared.first_word.FirstWord.{FirstWord};
 
 use crate::first_word::{ALL, FirstWord, WORDS};
+use crate::number::Number;
 use crate::page::{LONGEST_LINE, Page};
 use crate::write::{WriteFault, make_room, write_all};
 use ct_io::Sink;
 use history_book::report::{Report, Verdicts};
 use history_book::verdict::Verdict;
-use itoa::Integer;
 
 /// How often each first word occurs, in their order. No number of verdicts is too large for it.
 type Counts = [u128; WORDS];
@@ -91,7 +91,7 @@ impl<'b> Page<'b> {
     }
 
     /// Writes a name, and a number in plain decimal.
-    fn named<I: Integer>(&mut self, name: &[u8], number: I)
+    fn named<I: Number>(&mut self, name: &[u8], number: I)
         requires { HasRoom (length name.now + I.MAX_STR_LEN) self.old }
         ensures { Adds (length name.now + I.MAX_STR_LEN) (name.now ++ I.text number) self.old self.new }
     {
