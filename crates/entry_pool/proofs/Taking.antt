@@ -18,14 +18,15 @@ use Rattle.track_rule.specs.PhaseSteps.{phase_free, phase_owned, phase_stored}
 use Rattle.track_rule.specs.Phases.{of_place}
 use Rattle.track_rule.specs.Readings.{added, changes, is_stored, stored}
 use Rattle.track_rule.specs.Sights.{PassSight, sizes_of}
-use Rattle.track_rule.specs.Slots.{given_back}
+use Rattle.track_rule.specs.Slots.{given_back, list_in, with_free}
 use Rattle.track_rule.specs.Steps.{AreAll, CanGive, IsAlone, Looks, NewHooks, Opens, at_point, first_ref, found_history, gave_free, keep, kept_places, opened, uses}
 use Rattle.track_rule.specs.References.{held_times}
 use Rattle.track_rule.specs.Sums.{bit, times, total}
 use Rattle.history_book.specs.History.{is_legal}
 use Rattle.history_book.specs.Point.{StartsWith}
 use Rattle.history_book.specs.declared.event.Event.{Event}
-use Rattle.track_rule.specs.declared.slot.Slot.TheVariants.{Vacant}
+use Rattle.track_rule.specs.declared.slot.Slot.{Slot}
+use Rattle.track_rule.specs.declared.slot.Slot.TheVariants.{Free}
 use Rattle.track_rule.specs.declared.view.HeldBuckets.{HeldBuckets}
 use Rattle.track_rule.specs.declared.view.Hook.{Hook}
 use Rattle.track_rule.specs.declared.view.Shares.{Shares}
@@ -36,9 +37,9 @@ use Rattle.track_rule.specs.declared.view.Seen.{Seen}
 use Rattle.track_rule.specs.declared.view.View.{View}
 use Rattle.track_rule.specs.declared.view.Walk.{Walk}
 use Rattle.entry_pool.specs.Take.{HasOpened, HasTaken, IsFull, IsGivenBack, Recycles, recycle_words, says_empty, take_words}
-use Rattle.entry_pool.specs.Turn.{HasList}
+use Rattle.entry_pool.specs.Turn.{HasFreeTurn, IsListOf, Waits, with_list}
 use Rattle.entry_pool.proofs.Hooks.{up_new}
-use Rattle.entry_pool.proofs.Lists.{among_push, none_of, other_bit, other_taken, same_bit, same_taken, some_of, times_push, total_none, total_some, unlisted_in, unlisted_none, unlisted_out, unlisted_push, unlisted_same}
+use Rattle.entry_pool.proofs.Lists.{among_push, bit_low, none_of, other_bit, other_taken, same_bit, same_taken, some_of, times_push, total_none, total_some, unlisted_in, unlisted_none, unlisted_out, unlisted_push, unlisted_same}
 use Rattle.entry_pool.proofs.Waiting.{added_one, added_two, any_at, any_less, any_more, drop_first, stands_before, stands_one, stands_two}
 
 -- a pass by its parts
@@ -81,6 +82,48 @@ and_both a b ea eb = ap (λ (x : Bool). x && b) ea ∙ eb
 -- the pass that gave the list back
 abbrev gave : Roomed ℕ → PassSight → PassSight
 gave list t = record t { view = gave_free list.items t.view; slots = given_back t.slots }
+
+-- the pass has the turn of this list, and something lies in its slot now
+pub record HasList (v w : PassSight) (list : Roomed ℕ) : Type 0 where
+  pub left : Slot
+  pub same : w ≡ record {
+    table = v.table;
+    view = with_list list.items w.view.readings v.view;
+    slots = (0, left) ∷ v.slots;
+  }
+  pub right : IsListOf v list
+  pub waits : Waits v.view.readings w.view.readings
+
+-- another list was put in its place
+pub changed : (v u w : PassSight) (now : Roomed ℕ) → HasFreeTurn v u → w ≡ record u { slots = with_free (Some now) u.slots } → HasList v w (list_in u.slots)
+changed v u w now h kept =
+    let readings : w.view.readings ≡ u.view.readings = ap (λ (y : PassSight). y.view.readings) kept in
+    record {
+      left = Free now;
+      same = λ k. record {
+        table = (ap (λ (y : PassSight). y.table) kept ∙ ap (λ (y : PassSight). y.table) h.same) k;
+        view = (ap (λ (y : PassSight). y.view) kept ∙ ap (λ (y : PassSight). y.view) h.same
+            ∙ ap (λ rs. with_list (list_in u.slots).items rs v.view) (sym readings)) k;
+        slots = (ap (λ (y : PassSight). y.slots) kept ∙ ap (λ (y : PassSight). (0, Free now) ∷ given_back y.slots) h.same) k;
+      };
+      right = h.right;
+      waits = subst (Waits v.view.readings) (sym readings) h.waits;
+    }
+
+-- it gives that list back
+pub gives : (t w : PassSight) (now : Roomed ℕ) → list_in t.slots ≡ now
+    → w ≡ record t { view = gave_free (list_in t.slots).items t.view; slots = given_back t.slots } → w ≡ gave now t
+gives t w now there e = e ∙ ap (λ (xs : Roomed ℕ). record t { view = gave_free xs.items t.view; slots = given_back t.slots }) there
+
+-- what is owed has room on the list
+pub has_room : (v u : PassSight) (place : ℕ) → HasFreeTurn v u → is_among place v.view.places.owed ≡ true
+    → length (list_in u.slots).items < (list_in u.slots).room
+has_room v u place h owed =
+    omega (arith, h.right.fits, h.right.room, total_some (λ x. x == place) v.view.places.owed owed, at_most_all place v.view.places.owed)
+  where
+    at_most_all : (p : ℕ) (xs : List ℕ) → times p xs ≤ length xs
+    at_most_all p [] = omega arith
+    at_most_all p (x ∷ xs) = omega (arith, bit_low (x == p), at_most_all p xs)
 
 module _ (v u : PassSight) (list : Roomed ℕ) (h : HasList v u list) where
   -- what is owed is not on the list
@@ -164,7 +207,7 @@ module _ (v u : PassSight) (list : Roomed ℕ) (h : HasList v u list) where
           let x : w ≡ step (record {
             table = v.table;
             view = record v.view { free = Some list.items; readings = u.view.readings };
-            slots = (0, Vacant) ∷ v.slots;
+            slots = (0, h.left) ∷ v.slots;
           }) = e ∙ ap (gave left) et ∙ ap step h.same in
           record {
             has = record {
@@ -226,7 +269,7 @@ module _ (v u : PassSight) (list : Roomed ℕ) (h : HasList v u list) where
           walk = at_point (length front) v.view.walk;
           readings = u.view.readings ++ look_reading ∷ [];
         };
-        slots = (0, Vacant) ∷ v.slots;
+        slots = (0, h.left) ∷ v.slots;
       }) → added v.view w.view ≡ (h.waits.more ++ look_reading ∷ []) ++ stored 1 0 ∷ []
       readings_are front x =
           added_two v.view.readings u.view.readings w.view.readings look_reading (stored 1 0) h.waits (ap (λ (y : PassSight). y.view.readings) x)
@@ -240,7 +283,7 @@ module _ (v u : PassSight) (list : Roomed ℕ) (h : HasList v u list) where
           let x : w ≡ step (record {
             table = v.table;
             view = record v.view { free = Some list.items; readings = u.view.readings };
-            slots = (0, Vacant) ∷ v.slots;
+            slots = (0, h.left) ∷ v.slots;
           }) = e ∙ ap (gave left) et ∙ ap step h.same in
           let ef : w.view.seen.front ≡ front = ap (λ (y : PassSight). y.view.seen.front) x in
           let same_seen : u.view.seen ≡ v.view.seen = ap (λ (y : PassSight). y.view.seen) h.same in
@@ -360,7 +403,7 @@ module _ (v u : PassSight) (list : Roomed ℕ) (h : HasList v u list) where
         let x : w ≡ gave more (record {
           table = v.table;
           view = record v.view { free = Some list.items; readings = u.view.readings };
-          slots = (0, Vacant) ∷ v.slots;
+          slots = (0, h.left) ∷ v.slots;
         }) = e ∙ ap (gave more) h.same in
         record {
           same = made_of w _ x v.view.seen refl

@@ -10,7 +10,7 @@ use Rattle.track_rule.specs.References.{held_times}
 use Rattle.track_rule.specs.Sights.{PassSight, sizes_of}
 use Rattle.track_rule.specs.Slots.{list_in}
 use Rattle.track_rule.specs.Sums.{times, total}
-use Rattle.track_rule.specs.declared.slot.Slot.TheVariants.{Free, Vacant}
+use Rattle.track_rule.specs.declared.slot.Slot.TheVariants.{Free}
 use Rattle.track_rule.specs.declared.view.Reading.{Reading}
 use Rattle.track_rule.specs.declared.view.View.{View}
 
@@ -40,7 +40,7 @@ pub record IsListOf (v : PassSight) (list : Roomed ℕ) : Type 0 where
 abbrev pub with_list : List ℕ → List Reading → View → View
 with_list places readings v = record v { free = Some places; readings = readings }
 
--- it has the list out of its slot, but not yet in hand
+-- and the list out of the reach of other passes, in its slot
 pub record HasFreeTurn (v w : PassSight) : Type 0 where
   pub same : w ≡ record {
     table = v.table;
@@ -48,14 +48,4 @@ pub record HasFreeTurn (v w : PassSight) : Type 0 where
     slots = (0, Free (list_in w.slots)) ∷ v.slots;
   }
   pub right : IsListOf v (list_in w.slots)
-  pub waits : Waits v.view.readings w.view.readings
-
--- it has the list in hand
-pub record HasList (v w : PassSight) (list : Roomed ℕ) : Type 0 where
-  pub same : w ≡ record {
-    table = v.table;
-    view = with_list list.items w.view.readings v.view;
-    slots = (0, Vacant) ∷ v.slots;
-  }
-  pub right : IsListOf v list
   pub waits : Waits v.view.readings w.view.readings

@@ -38,6 +38,7 @@ pub fn try_hold(pass: &mut Pass, place: u32) -> TryHold
 }
 
 /// Gives up a reference to a place. Where that was the last one of all passes, the place is owed.
+#[inline(always)]
 pub fn release(pass: &mut Pass, place: u32) -> ReleaseOutcome
     requires held { is_held place pass.old.view.places.held ≡ true }
     requires carried { is_among place pass.old.view.places.carried ≡ false }

@@ -6,7 +6,7 @@ ghost use Rattle.track_rule.specs.ChangesOnly.{ChangesWords};
 ghost use Rattle.track_rule.specs.Free.{is_among};
 ghost use Rattle.track_rule.specs.Sights.{sizes_of};
 
-use crate::turn::{give_list, take_list};
+use crate::turn::take_turn;
 use history_book::outcome::TakeOutcome;
 use std::sync::Wait;
 use track_rule::history_word::events_in;
@@ -14,28 +14,30 @@ use track_rule::pass::Pass;
 use track_rule::place_phase::{FREE, OWNED};
 
 /// Makes the first reference to a free place.
+#[inline(always)]
 fn open_place<R: Wait>(rt: &R, pass: &mut Pass) -> TakeOutcome
     requires calm { pass.old.view.free ≡ None }
     requires few { length pass.old.view.places.held + length pass.old.view.places.owed ≤ 3 }
     ensures says { OpenSays result pass.old pass.new }
     ensures below { IsBelow (sizes_of pass.old).entries result }
 {
-    let mut list = take_list(rt, pass);
-    match list.pop() {
+    take_turn(rt, pass);
+    match pass.free_pop() {
         Some(place) => {
             pass.ref_open(place);
-            give_list(pass, list);
+            pass.free_give();
             TakeOutcome::Taken { place }
         }
         None => {
             let at = events_in(pass.history_load());
-            give_list(pass, list);
+            pass.free_give();
             TakeOutcome::Full { at }
         }
     }
 }
 
 /// Takes a free place for a new entry, holds it, and makes its phase `OWNED`.
+#[inline(always)]
 pub fn take<R: Wait>(rt: &R, pass: &mut Pass) -> TakeOutcome
     requires calm { pass.old.view.free ≡ None }
     requires few { length pass.old.view.places.held + length pass.old.view.places.owed ≤ 3 }
@@ -53,18 +55,20 @@ pub fn take<R: Wait>(rt: &R, pass: &mut Pass) -> TakeOutcome
 }
 
 /// Puts a place back on the free list whose phase the pass has made `FREE`.
+#[cold]
 fn give_place<R: Wait>(rt: &R, pass: &mut Pass, place: u32)
     requires calm { pass.old.view.free ≡ None }
     requires owed { is_among place pass.old.view.places.owed ≡ true }
     requires clear { is_among place pass.old.view.places.clear ≡ true }
     ensures { IsGivenBack place pass.old pass.new }
 {
-    let mut list = take_list(rt, pass);
-    list.push(place);
-    give_list(pass, list);
+    take_turn(rt, pass);
+    pass.free_push(place);
+    pass.free_give();
 }
 
 /// Makes a place free again that the pass owes.
+#[cold]
 pub fn recycle<R: Wait>(rt: &R, pass: &mut Pass, place: u32)
     requires calm { pass.old.view.free ≡ None }
     requires owed { is_among place pass.old.view.places.owed ≡ true }

@@ -3,7 +3,6 @@ use Rattle.std.proofs.Common.{◌≡◌, ◌≢◌, ℕ, ◌+◌, ◌-◌, ◌*�
 use Rattle.std.specs.Prelude.{slice_index, slice_set, ◌&&◌, ◌==◌, ◌||◌, if◌then◌else◌, find, min}
 use Rattle.std.specs.List.{All}
 use Rattle.std.proofs.lemmas.Bool.{cases_eq}
-use Rattle.std.proofs.lemmas.List.{get_or-set_same, length-set}
 use mathlib.Core.Option.{some}
 use lib.ListN.{get_elem?}
 use Rattle.atomic_table.specs.Table.{State}
@@ -46,12 +45,11 @@ use Rattle.track_rule.specs.KeptWords.{AreKeptWords, HasPair, HasTuples, link_of
 use Rattle.tuple_core.specs.declared.Direction.{Direction}
 use Rattle.tuple_core.specs.declared.Direction.TheVariants.{Original, Reply}
 use Rattle.track_rule.proofs.Confirms.{lawful, none_there, state_on}
-use Rattle.track_rule.proofs.Events.{get_append, get_last, kept_on, passes_made}
+use Rattle.track_rule.proofs.Events.{get_append, get_last, kept_on}
 use Rattle.track_rule.proofs.Frames.{SameChains, hooks_stay, links_stay, middle_same}
 use Rattle.track_rule.proofs.HookLists.{hook_test, hook_there, some_hook}
 use Rattle.track_rule.proofs.Named.{born_ledger, chains_both, hooks_else, named_chains, named_here, records_else, shut_else, told_linked, told_mine, told_ordered, told_shuts, told_walks, two_links}
 use Rattle.track_rule.proofs.HistoryWord.{word_other, word_phase, word_refs, word_same, word_turn}
-use Rattle.track_rule.proofs.LastRead.{stored_on}
 use Rattle.track_rule.proofs.Lists.{other_bit, same_bit, total_some, unlisted_less, unlisted_out, bit_both}
 use Rattle.track_rule.proofs.UpHooks.{one_fewer, up_dropped}
 use Rattle.track_rule.proofs.Sums.{each_put, total_append, total_but, total_map, total_same, total_set, total_term, total_two, total_le}

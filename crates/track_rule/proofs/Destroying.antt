@@ -1,5 +1,5 @@
 -- Adding to the history word for a Destroy keeps the rule.
-use Rattle.std.proofs.Common.{◌≡◌, ℕ, ◌+◌, ◌%◌, ◌^◌, ◌<◌, Option, Some, None, List, length, refl, sym, ap, subst, ◌∙◌, ◌++◌, arith, set}
+use Rattle.std.proofs.Common.{◌≡◌, ℕ, ◌+◌, ◌%◌, ◌^◌, ◌<◌, Option, Some, None, List, refl, sym, ap, subst, ◌++◌, arith, set}
 use Rattle.std.specs.Prelude.{slice_index, slice_set, ◌-◌}
 use mathlib.Core.Option.{none}
 use Rattle.atomic_table.specs.Table.{Allows, Me, Step, keeps as unchanged, step}
@@ -11,7 +11,7 @@ use Rattle.track_rule.specs.declared.slot.Slot.{Slot}
 use Rattle.track_rule.specs.declared.view.Middle.{Middle}
 use Rattle.track_rule.specs.declared.view.Middle.TheVariants.{Calm, Born, Dying}
 use Rattle.track_rule.specs.declared.view.View.{View}
-use Rattle.track_rule.specs.History.{events_in, IsNumber, IsWord, packed, records_after}
+use Rattle.track_rule.specs.History.{events_in, IsNumber, IsWord, packed}
 use Rattle.track_rule.specs.KillSteps.{CanDestroy, DestroyStep, Destroying, HasDestroyed, MakesDestroy, MayDestroy, OfDying, destroyed, with_destroy, without_its}
 use Rattle.track_rule.specs.Rule.{RuleHolds, IsKept}
 use Rattle.track_rule.specs.Slots.{expected_number, free_number, hand_number}

@@ -2,7 +2,6 @@
 use Rattle.std.proofs.Common.{◌≡◌, ◌≢◌, ℕ, zero, suc, ◌+◌, ◌*◌, ◌%◌, ◌^◌, ◌<◌, ◌≤◌, Bool, true, false, Option, Some, None, List, [], ◌∷◌, length, map, refl, sym, ap, subst, ◌∙◌, ⊎_elim, arith, set, eq-eqb, ne_eqb, length-append}
 use Rattle.std.specs.Prelude.{slice_index, slice_set, ◌==◌, ◌&&◌, find, if◌then◌else◌, is_some, min}
 use Rattle.std.proofs.lemmas.Bool.{and_parts, cases_Bool, cases_eq, cases_lt, eqb-true, false≢true}
-use Rattle.std.proofs.lemmas.List.{get_or-set_same, length-set}
 use mathlib.Core.Option.{some, some-injective}
 use lib.ListN.{get_elem?}
 use Rattle.atomic_table.specs.Table.{State}
@@ -44,11 +43,10 @@ use Rattle.track_rule.specs.Sums.{Each, bit, times, total}
 use Rattle.track_rule.proofs.Adding.{event_added}
 use Rattle.track_rule.proofs.ChainLists.{chain_each}
 use Rattle.track_rule.proofs.Confirms.{bucket_low, state_on}
-use Rattle.track_rule.proofs.Events.{get_append, kept_on, passes_made}
+use Rattle.track_rule.proofs.Events.{get_append, kept_on}
 use Rattle.track_rule.proofs.Frames.{SameChains, hooks_stay, links_stay, middle_same}
 use Rattle.track_rule.proofs.HistoryWord.{word_other, word_phase, word_refs, word_same}
 use Rattle.track_rule.proofs.KeptWords.{words_left, StaysOnly}
-use Rattle.track_rule.proofs.LastRead.{stored_on}
 use Rattle.track_rule.proofs.Leaving.{length_others, none_expected, others, total_others}
 use Rattle.track_rule.proofs.Leaving as leaving
 use Rattle.track_rule.proofs.Lists.{counted_there, find_there, other_bit, same_bit, bit_both}

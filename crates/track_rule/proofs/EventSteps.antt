@@ -1,7 +1,6 @@
 -- An event that leaves the ids, the places and the tuples of live records.
 use Rattle.std.proofs.Common.{◌≡◌, ℕ, ◌+◌, ◌^◌, ◌<◌, ◌≤◌, true, Some, None, List, [], ◌∷◌, ◌++◌, length, refl, sym, ap, subst, ◌∙◌, arith, set}
 use Rattle.std.specs.Prelude.{if◌then◌else◌, slice_set}
-use Rattle.std.proofs.lemmas.List.{get_or-set_same, length-set}
 use Rattle.std.proofs.lemmas.Option.{none-some}
 use mathlib.Core.Option.{some}
 use lib.ListN.{get_elem?}
@@ -31,11 +30,11 @@ use Rattle.track_rule.specs.Walks.{IsWalk}
 use Rattle.track_rule.proofs.Adding.{event_added}
 use Rattle.track_rule.proofs.Balance.{free_left}
 use Rattle.track_rule.proofs.Carried.{carries_set}
-use Rattle.track_rule.proofs.Events.{get_append, kept_on, note_of, passes_made}
+use Rattle.track_rule.proofs.Events.{get_append, kept_on, note_of}
 use Rattle.track_rule.proofs.Frames.{SameChains, chains_stay, hooks_stay, links_stay, walk_stays, middle_same}
 use Rattle.track_rule.proofs.HistoryWord.{word_other, word_phase, word_refs, word_same}
 use Rattle.track_rule.proofs.KeptWords.{words_left}
-use Rattle.track_rule.proofs.LastRead.{ReadsAt, stored_on}
+use Rattle.track_rule.proofs.LastRead.{ReadsAt}
 use Rattle.track_rule.proofs.Sums.{each_put, total_same}
 
 -- what the live records weigh stays

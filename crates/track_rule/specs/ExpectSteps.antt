@@ -14,7 +14,7 @@ use Rattle.history_book.specs.declared.event.Event.{Event}
 use Rattle.history_book.specs.declared.event.Event.TheVariants.{Confirm, Touch, Destroy, Expect, Claim, Unexpect}
 use Rattle.track_rule.specs.declared.slot.Slot.{Slot}
 use Rattle.track_rule.specs.declared.view.View.{View}
-use Rattle.track_rule.specs.History.{IsNumber, IsWord, packed, state_after}
+use Rattle.track_rule.specs.History.{IsWord, packed, state_after}
 use Rattle.track_rule.specs.Readings.{noted, stored}
 use Rattle.track_rule.specs.Steps.{AreAll}
 use Rattle.track_rule.specs.TouchSteps.{known_phase, known_record}

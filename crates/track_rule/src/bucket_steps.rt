@@ -64,6 +64,7 @@ impl Play<Slot, View> for LoadTuple {
 
 impl<'b> Pass<'b> {
     /// Loads the generation of a bucket. A walk along its chain begins and ends with this.
+    #[inline(always)]
     pub fn gen_load(&mut self, bucket: u32) -> u64
         requires bucket { bucket < (sizes_of self.old).buckets }
         ensures loads { LoadsGen bucket self.old.view result self.new.view }
@@ -74,6 +75,7 @@ impl<'b> Pass<'b> {
     }
 
     /// Shuts a bucket where its generation is this even one. Else gives the other one.
+    #[inline(always)]
     pub fn gen_shut(&mut self, bucket: u32, even: u64) -> Result<(), u64>
         requires bucket { bucket < (sizes_of self.old).buckets }
         requires even { even % 2 ≡ 0 }
@@ -91,6 +93,7 @@ impl<'b> Pass<'b> {
 
     /// Opens a bucket that the pass has shut, where its chain has the links of live entries alone and the pass is in the middle
     /// of no commit.
+    #[inline(always)]
     pub fn gen_open(&mut self, bucket: u32)
         requires bucket { bucket < (sizes_of self.old).buckets }
         requires mine { 0 < shuts_of bucket self.old.view }
@@ -106,6 +109,7 @@ impl<'b> Pass<'b> {
     }
 
     /// Loads the head of a bucket, or the link after a link.
+    #[inline(always)]
     pub fn link_load(&mut self, word: u32) -> u64
         requires { is_link_word (sizes_of self.old) word ≡ true }
         ensures loads { LoadsLink word self.old.view result self.new.view }
@@ -115,6 +119,7 @@ impl<'b> Pass<'b> {
     }
 
     /// Loads a word of the tuple of a link.
+    #[inline(always)]
     pub fn tuple_load(&mut self, word: u32) -> u64
         requires { is_tuple_word (sizes_of self.old) word ≡ true }
         ensures loads { LoadsTuple word self.old.view result self.new.view }

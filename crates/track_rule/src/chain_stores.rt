@@ -31,6 +31,7 @@ impl Play<Slot, View> for StoreLink {
 
 impl<'b> Pass<'b> {
     /// Stores a word of the tuple of a place that the pass has set to `OWNED` and of which no link is in a chain.
+    #[inline(always)]
     pub fn tuple_store(&mut self, word: u32, to: u64)
         requires tuple { is_tuple_word (sizes_of self.old) word ≡ true }
         requires own { is_own_tuple (sizes_of self.old) word self.old.view.buckets self.old.view.places.owned ≡ true }
@@ -42,6 +43,7 @@ impl<'b> Pass<'b> {
 
     /// Stores a link: as the next one of a link of the pass that is in no chain, as the first of a chain, or behind a link
     /// that is taken out of its chain.
+    #[inline(always)]
     pub fn link_store(&mut self, word: u32, to: u64)
         requires link { is_link_word (sizes_of self.old) word ≡ true }
         requires may { MayString word to self.old.view }

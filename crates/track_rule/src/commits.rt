@@ -53,6 +53,7 @@ const CONFIRM: u64 = 1 + (1 << 40);
 
 impl<'b> Pass<'b> {
     /// Makes the Confirm of a record; the caller picks the event.
+    #[inline(always)]
     fn add_confirm<J: Added>(&mut self, event: &Event) -> u64
         requires event { event.now ≡ J.event }
         requires can { CanAdd (subject_of J.event) self.old.view }
@@ -72,6 +73,7 @@ impl<'b> Pass<'b> {
 
     /// Makes the Confirm of a record whose place the pass has taken and whose links it has put in, and answers its number,
     /// which is the record's id; the id in the argument is not read.
+    #[inline(always)]
     pub fn confirm_add(&mut self, event: Event) -> u64
         requires can { CanAdd (subject_of event) self.old.view }
         ensures adds { HasAdded (subject_of event) self.old.view result self.new.view }
@@ -81,6 +83,7 @@ impl<'b> Pass<'b> {
     }
 
     /// Makes the phase of the place LIVE of the id that was just confirmed there.
+    #[inline(always)]
     pub fn phase_live(&mut self, place: u32, id: u64)
         requires held { is_held place self.old.view.places.held ≡ true }
         requires turn { has_hand place self.old.view ≡ 1 }

@@ -37,6 +37,7 @@ impl Play<Slot, View> for GiveExpects {
 impl<'b> Pass<'b> {
     /// Takes the turn of the expectations, if no pass has it, and their table out of its slot. The pass does not have the free
     /// list.
+    #[inline(always)]
     pub fn expects_take(&mut self) -> bool
         requires free { self.old.view.free ≡ None }
         requires expected { self.old.view.expected ≡ None }
@@ -54,6 +55,7 @@ impl<'b> Pass<'b> {
     }
 
     /// Puts this table, or none, in the place of the one that is out.
+    #[inline(always)]
     pub fn expects_swap(&mut self, table: Option<ExpectTable>) -> Option<ExpectTable>
         requires expected { has_expected self.old.view ≡ 1 }
         requires free { self.old.view.free ≡ None }
@@ -72,6 +74,7 @@ impl<'b> Pass<'b> {
     }
 
     /// Gives the turn back, and the table with it.
+    #[inline(always)]
     pub fn expects_give(&mut self)
         requires expected { has_expected self.old.view ≡ 1 }
         requires calm { self.old.view.commit.middle ≡ Calm }

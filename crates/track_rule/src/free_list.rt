@@ -35,6 +35,7 @@ impl FreeList {
     }
 
     /// Appends a place. Takes no memory.
+    #[inline(always)]
     pub fn push(&mut self, place: u32)
         requires { length self.old.items < self.old.room }
         ensures items { self.new.items ≡ self.old.items ++ place ∷ [] }
@@ -44,6 +45,7 @@ impl FreeList {
     }
 
     /// Takes out the last place, if there is one.
+    #[inline(always)]
     pub fn pop(&mut self) -> Option<u32>
         ensures some { IfSome result (λ p. self.old.items ≡ self.new.items ++ p ∷ []) }
         ensures none { IfNone result ((self.old.items ≡ []) × (self.new.items ≡ [])) }

@@ -4,6 +4,7 @@ ghost use Rattle.std.specs.Prelude.{◌≡◌};
 ghost use Rattle.track_rule.specs.History.{events_in, live_in};
 
 /// The number of events that the history word says.
+#[inline(always)]
 pub fn events_in(word: u64) -> u64
     ensures { result ≡ events_in word }
 {
@@ -11,6 +12,7 @@ pub fn events_in(word: u64) -> u64
 }
 
 /// The number of live entries that it says.
+#[inline(always)]
 pub fn live_in(word: u64) -> u32
     ensures { result ≡ live_in word }
 {

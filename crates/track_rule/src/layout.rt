@@ -25,6 +25,7 @@ pub const EXPECTS_SLOT: usize = 1;
 const PLACE_WORDS: usize = 9;
 
 /// The references word of a place, which is the first of its words.
+#[inline(always)]
 pub fn refs_word(sizes: &Sizes, place: u32) -> usize
     requires limits { AreWithinLimits sizes.now }
     requires place { place < sizes.now.entries }

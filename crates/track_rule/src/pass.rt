@@ -79,6 +79,7 @@ impl Board {
 
 impl<'b> Pass<'b> {
     /// The sizes of the table. No step.
+    #[inline(always)]
     pub fn sizes(&self) -> Sizes
         ensures sizes { result ≡ sizes_of self.now }
         ensures limits { AreWithinLimits result }

@@ -42,6 +42,7 @@ impl Play<Slot, View> for StorePhase {
 }
 
 /// The word of the phase of a place.
+#[inline(always)]
 pub fn phase_word(sizes: &Sizes, place: u32) -> usize
     requires limits { AreWithinLimits sizes.now }
     requires place { place < sizes.now.entries }
@@ -53,6 +54,7 @@ pub fn phase_word(sizes: &Sizes, place: u32) -> usize
 
 impl<'b> Pass<'b> {
     /// Loads the phase of a place. Where it is LIVE, a reference to look what stands there is for that entry.
+    #[inline(always)]
     pub fn phase_load(&mut self, place: u32) -> u64
         requires place { place < (sizes_of self.old).entries }
         ensures loads { LoadsPhase place self.old.view result self.new.view }
@@ -66,6 +68,7 @@ impl<'b> Pass<'b> {
     }
 
     /// Stores `FREE` as the phase of a place that the pass owes, or `OWNED` as that of a place that it has taken.
+    #[inline(always)]
     pub fn phase_store(&mut self, place: u32, to: u64)
         requires { may_store place to self.old.view ≡ true }
         ensures { self.new ≡ record self.old { view = phase_stored place to self.old.view } }

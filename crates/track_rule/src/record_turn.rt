@@ -42,6 +42,7 @@ impl Play<Slot, View> for GiveTurn {
 }
 
 /// The word of the turn of a place's record.
+#[inline(always)]
 fn turn_word(sizes: &Sizes, place: u32) -> usize
     requires limits { AreWithinLimits sizes.now }
     requires place { place < sizes.now.entries }
@@ -52,6 +53,7 @@ fn turn_word(sizes: &Sizes, place: u32) -> usize
 }
 
 /// The slot of the record of a place.
+#[inline(always)]
 fn record_slot(place: u32) -> usize
     ensures { result ≡ record_slot place }
 {
@@ -61,6 +63,7 @@ fn record_slot(place: u32) -> usize
 impl<'b> Pass<'b> {
     /// Takes the turn of the record of a place, if no pass has it, and the record out of its slot. The pass has no other
     /// record, and not the free list.
+    #[inline(always)]
     pub fn turn_take(&mut self, place: u32) -> bool
         requires place { place < (sizes_of self.old).entries }
         requires hand { self.old.view.commit.hand ≡ None }
@@ -75,6 +78,7 @@ impl<'b> Pass<'b> {
     }
 
     /// Puts this record, or none, in the place of the one that is out.
+    #[inline(always)]
     pub fn record_swap(&mut self, place: u32, subject: Option<Record>) -> Option<Record>
         requires turn { has_hand place self.old.view ≡ 1 }
         requires free { self.old.view.free ≡ None }
@@ -89,6 +93,7 @@ impl<'b> Pass<'b> {
     }
 
     /// The record that is out, or none. It stays there.
+    #[inline(always)]
     pub fn record_load(&mut self, place: u32) -> Option<Record>
         requires turn { has_hand place self.old.view ≡ 1 }
         requires free { self.old.view.free ≡ None }
@@ -102,6 +107,7 @@ impl<'b> Pass<'b> {
     }
 
     /// Puts a part into the record that is out, where there is one.
+    #[inline(always)]
     pub fn part_store(&mut self, place: u32, part: Part)
         requires turn { has_hand place self.old.view ≡ 1 }
         requires free { self.old.view.free ≡ None }
@@ -117,6 +123,7 @@ impl<'b> Pass<'b> {
     }
 
     /// Gives the turn back, and the record with it.
+    #[inline(always)]
     pub fn turn_give(&mut self, place: u32)
         requires place { place < (sizes_of self.old).entries }
         requires turn { has_hand place self.old.view ≡ 1 }

@@ -18,6 +18,7 @@ pub enum Slot {
 }
 
 /// The slot with this free list, or with none.
+#[inline(always)]
 pub fn with_free(list: Option<FreeList>) -> Slot
     ensures { result ≡ slot_of_free list }
 {
@@ -28,6 +29,7 @@ pub fn with_free(list: Option<FreeList>) -> Slot
 }
 
 /// The free list that lay in a slot.
+#[inline(always)]
 pub fn free_of(slot: Slot) -> Option<FreeList>
     ensures { result ≡ free_in slot }
 {
@@ -38,6 +40,7 @@ pub fn free_of(slot: Slot) -> Option<FreeList>
 }
 
 /// The slot with this table of expectations, or with none.
+#[inline(always)]
 pub fn with_expects(table: Option<ExpectTable>) -> Slot
     ensures { result ≡ slot_of_expects table }
 {
@@ -48,6 +51,7 @@ pub fn with_expects(table: Option<ExpectTable>) -> Slot
 }
 
 /// The table of expectations that lay in a slot.
+#[inline(always)]
 pub fn expects_of(slot: Slot) -> Option<ExpectTable>
     ensures { result ≡ expects_in slot }
 {
@@ -58,6 +62,7 @@ pub fn expects_of(slot: Slot) -> Option<ExpectTable>
 }
 
 /// The slot with this record, or with none.
+#[inline(always)]
 pub fn with_subject(subject: Option<Record>) -> Slot
     ensures { result ≡ slot_of_record subject }
 {
@@ -68,6 +73,7 @@ pub fn with_subject(subject: Option<Record>) -> Slot
 }
 
 /// The record that lay in a slot.
+#[inline(always)]
 pub fn subject_of(slot: Slot) -> Option<Record>
     ensures { result ≡ record_in slot }
 {

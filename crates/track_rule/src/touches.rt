@@ -28,6 +28,7 @@ const TOUCH: u64 = 1;
 
 impl<'b> Pass<'b> {
     /// Makes a Touch; the caller picks the event.
+    #[inline(always)]
     fn add_touch<J: Added>(&mut self, event: &Event) -> u64
         requires event { event.now ≡ J.event }
         requires can { CanTouch (touch_in J.event) self.old.view }
@@ -46,6 +47,7 @@ impl<'b> Pass<'b> {
 
     /// Makes the Touch of a live entry whose record the pass has under its turn, and answers its number. The record that the
     /// pass knows goes on with the event's part; the one in the slot is the caller's to change.
+    #[inline(always)]
     pub fn touch_add(&mut self, event: Event) -> u64
         requires can { CanTouch (touch_in event) self.old.view }
         ensures adds { HasTouched (touch_in event) self.old.view result self.new.view }

@@ -9,6 +9,7 @@ ghost use Rattle.track_rule.specs.Links.{is_link_word, is_tuple_word, last_link}
 use history_book::sizes::Sizes;
 
 /// The generation of a bucket.
+#[inline(always)]
 pub fn gen_word(sizes: &Sizes, bucket: u32) -> u32
     requires limits { AreWithinLimits sizes.now }
     requires bucket { bucket < sizes.now.buckets }
@@ -18,6 +19,7 @@ pub fn gen_word(sizes: &Sizes, bucket: u32) -> u32
 }
 
 /// The first link of the chain of a bucket.
+#[inline(always)]
 pub fn head_word(sizes: &Sizes, bucket: u32) -> u32
     requires limits { AreWithinLimits sizes.now }
     requires bucket { bucket < sizes.now.buckets }
@@ -28,6 +30,7 @@ pub fn head_word(sizes: &Sizes, bucket: u32) -> u32
 }
 
 /// The references of the place of a link, which are the first of its words.
+#[inline(always)]
 fn place_word(sizes: &Sizes, link: u64) -> u32
     requires limits { AreWithinLimits sizes.now }
     requires some { 0 < link }
@@ -38,6 +41,7 @@ fn place_word(sizes: &Sizes, link: u64) -> u32
 }
 
 /// The addresses of the tuple of a link.
+#[inline(always)]
 pub fn first_word(sizes: &Sizes, link: u64) -> u32
     requires limits { AreWithinLimits sizes.now }
     requires some { 0 < link }
@@ -49,6 +53,7 @@ pub fn first_word(sizes: &Sizes, link: u64) -> u32
 }
 
 /// What tells the flows between these addresses apart.
+#[inline(always)]
 pub fn second_word(sizes: &Sizes, link: u64) -> u32
     requires limits { AreWithinLimits sizes.now }
     requires some { 0 < link }
@@ -60,6 +65,7 @@ pub fn second_word(sizes: &Sizes, link: u64) -> u32
 }
 
 /// The link after a link.
+#[inline(always)]
 pub fn next_word(sizes: &Sizes, link: u64) -> u32
     requires limits { AreWithinLimits sizes.now }
     requires some { 0 < link }

@@ -1,6 +1,6 @@
 use Rattle.std.proofs.Common.{◌≡◌}
 use Rattle.entry_pool.specs.Turn.{Waits}
-use Rattle.entry_pool.proofs.turn.lock.Given as goal
+use Rattle.entry_pool.proofs.turn.take_turn.Given as goal
 
 abbrev pub invariant-turns : goal.invariant-turns
 invariant-turns g l = record {
