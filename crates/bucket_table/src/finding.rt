@@ -60,6 +60,7 @@ pub(crate) struct Tested {
 }
 
 /// The link of a place in a direction.
+#[inline(always)]
 fn link_of(direction: Direction, place: u32) -> u64
     ensures { result ≡ link_of direction place }
 {
@@ -70,6 +71,7 @@ fn link_of(direction: Direction, place: u32) -> u64
 }
 
 /// The entry that is live at a place which the pass tests, held for it then.
+#[inline(always)]
 pub fn live_at(pass: &mut Pass, place: u32) -> Option<Shown>
     requires place { place < (sizes_of pass.old).entries }
     requires testing { IsTesting place Testing pass.old }
@@ -91,6 +93,7 @@ pub fn live_at(pass: &mut Pass, place: u32) -> Option<Shown>
 }
 
 /// The direction in which a place has the tuple, the original one first. It was met in this one.
+#[inline(always)]
 fn direction_at(
     pass: &mut Pass,
     sizes: &Sizes,
@@ -119,6 +122,7 @@ fn direction_at(
 }
 
 /// The entry that is live at a place which the pass tests, with the tuple, which was met there in this direction.
+#[inline(always)]
 fn entry_at(
     pass: &mut Pass,
     sizes: &Sizes,
@@ -146,6 +150,7 @@ fn entry_at(
 }
 
 /// Gives up the reference to a place that was tested. Gives the place, if that was the last one.
+#[inline(always)]
 fn give_up(pass: &mut Pass, place: u32) -> Option<u32>
     requires { CanGiveUp place pass.old }
     ensures { GivesUp result place pass.old pass.new }
@@ -158,6 +163,7 @@ fn give_up(pass: &mut Pass, place: u32) -> Option<u32>
 }
 
 /// Loads the generation again, which has passed.
+#[inline(always)]
 fn load_again(pass: &mut Pass, sizes: &Sizes, goal: &Goal, owed: Option<u32>) -> FindOnce
     requires limits { AreWithinLimits sizes.now }
     requires sizes { sizes.now ≡ sizes_of pass.old }
@@ -174,6 +180,7 @@ fn load_again(pass: &mut Pass, sizes: &Sizes, goal: &Goal, owed: Option<u32>) ->
 }
 
 /// Tests a place that is held for it.
+#[inline(always)]
 fn test(pass: &mut Pass, sizes: &Sizes, goal: &Goal, place: u32, met: Direction) -> FindOnce
     requires limits { AreWithinLimits sizes.now }
     requires sizes { sizes.now ≡ sizes_of pass.old }
@@ -198,6 +205,7 @@ fn test(pass: &mut Pass, sizes: &Sizes, goal: &Goal, place: u32, met: Direction)
 }
 
 /// Holds the place of a link that was met with the tuple, and tests it.
+#[inline(always)]
 fn meet(pass: &mut Pass, sizes: &Sizes, goal: &Goal, place: u32, met: Direction) -> FindOnce
     requires limits { AreWithinLimits sizes.now }
     requires sizes { sizes.now ≡ sizes_of pass.old }
@@ -222,21 +230,23 @@ fn meet(pass: &mut Pass, sizes: &Sizes, goal: &Goal, place: u32, met: Direction)
 }
 
 /// Looks once for what is live under a tuple, the original one first, and holds its place. It takes no lock and does not wait.
+#[inline(always)]
 pub fn find_once(pass: &mut Pass, t: &Tuple) -> FindOnce
     requires mine { shuts_of (bucket_in (sizes_of pass.old) t.now) pass.old.view ≡ 0 }
     requires can { CanTest pass.old }
     ensures says { FindOnceSays result t.now pass.old pass.new }
     ensures words { ChangesWords (once_words result) pass.old.view pass.new.view }
 {
+    // Before the walk, which reckons the same, so that it is reckoned once.
+    let sizes = pass.sizes();
+    let [first, second] = words(t);
+    let bucket = bucket_of(t, sizes.seed, sizes.buckets);
     match follow(pass, t) {
         Followed::Link {
             place,
             direction,
             generation,
         } => {
-            let sizes = pass.sizes();
-            let [first, second] = words(t);
-            let bucket = bucket_of(t, sizes.seed, sizes.buckets);
             let goal = Goal {
                 bucket,
                 generation,

@@ -32,6 +32,7 @@ impl Model for Locked {
 }
 
 /// Shuts a bucket, if its generation is even and has not reached its last value, and no other pass is first.
+#[inline(always)]
 fn try_lock(pass: &mut Pass, bucket: u32) -> bool
     requires { bucket < (sizes_of pass.old).buckets }
     ensures { TriesLock result bucket pass.old pass.new }
@@ -47,6 +48,7 @@ fn try_lock(pass: &mut Pass, bucket: u32) -> bool
 }
 
 /// Waits for a bucket, and shuts it. It waits on where the generation has reached its last value.
+#[inline(always)]
 fn lock<R: Wait>(rt: &R, pass: &mut Pass, bucket: u32)
     requires bucket { bucket < (sizes_of pass.old).buckets }
     requires open { shuts_of bucket pass.old.view ≡ 0 }
@@ -62,6 +64,7 @@ fn lock<R: Wait>(rt: &R, pass: &mut Pass, bucket: u32)
 }
 
 /// Waits for two buckets, and locks them, the lower one first. Where both are one it locks that.
+#[inline(always)]
 pub fn lock_two<R: Wait>(rt: &R, pass: &mut Pass, a: u32, b: u32) -> Locked
     requires a { a < (sizes_of pass.old).buckets }
     requires b { b < (sizes_of pass.old).buckets }
@@ -81,6 +84,7 @@ pub fn lock_two<R: Wait>(rt: &R, pass: &mut Pass, a: u32, b: u32) -> Locked
 }
 
 /// Gives both buckets back, where their chains have the links of live entries alone and the pass is in the middle of no commit.
+#[inline(always)]
 pub fn unlock_two(pass: &mut Pass, locked: Locked)
     requires below { locked.upper < (sizes_of pass.old).buckets }
     requires shut { AreShut locked pass.old.view }

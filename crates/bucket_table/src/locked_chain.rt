@@ -19,9 +19,10 @@ use crate::lookup::place_of;
 use history_book::sizes::Sizes;
 use track_rule::pass::Pass;
 use track_rule::word_places::{first_word, head_word, next_word, second_word};
-use tuple_core::{Direction, Tuple, bucket_of, of_words, words};
+use tuple_core::{Direction, Tuple, bucket_of, bucket_of_words, words};
 
 /// The bucket of a link of the pass, by the words of its tuple.
+#[inline(always)]
 fn bucket_of_link(pass: &mut Pass, sizes: &Sizes, link: u64) -> u32
     requires limits { AreWithinLimits sizes.now }
     requires sizes { sizes.now ≡ sizes_of pass.old }
@@ -35,13 +36,11 @@ fn bucket_of_link(pass: &mut Pass, sizes: &Sizes, link: u64) -> u32
 {
     let first = pass.tuple_load(first_word(sizes, link));
     let second = pass.tuple_load(second_word(sizes, link));
-    match of_words([first, second]) {
-        Some(t) => bucket_of(&t, sizes.seed, sizes.buckets),
-        None => unreachable!(),
-    }
+    bucket_of_words(first, second, sizes.seed, sizes.buckets)
 }
 
 /// Puts a link that is in no chain in at the head of the chain of its bucket.
+#[inline(always)]
 fn put_link(pass: &mut Pass, sizes: &Sizes, bucket: u32, link: u64)
     requires limits { AreWithinLimits sizes.now }
     requires sizes { sizes.now ≡ sizes_of pass.old }
@@ -90,6 +89,7 @@ fn take_link(pass: &mut Pass, sizes: &Sizes, bucket: u32, link: u64)
 
 /// Puts both tuples of a place that the pass owns into their chains, where no link of another place of the pass stands in one.
 /// The reply link comes behind the original one.
+#[inline(always)]
 pub fn link(pass: &mut Pass, locked: &Locked, place: u32)
     requires place { place < (sizes_of pass.old).entries }
     requires shut { AreShut locked.now pass.old.view }
@@ -115,6 +115,7 @@ pub fn link(pass: &mut Pass, locked: &Locked, place: u32)
 }
 
 /// Takes both tuples of a place out of their chains.
+#[cold]
 pub fn unlink(pass: &mut Pass, locked: &Locked, place: u32)
     requires place { place < (sizes_of pass.old).entries }
     requires shut { AreShut locked.now pass.old.view }
@@ -138,6 +139,7 @@ pub fn unlink(pass: &mut Pass, locked: &Locked, place: u32)
 }
 
 /// Whether a link of a locked chain has these words.
+#[inline(always)]
 fn has_words(pass: &mut Pass, sizes: &Sizes, link: u64, goal: [u64; 2]) -> bool
     requires limits { AreWithinLimits sizes.now }
     requires sizes { sizes.now ≡ sizes_of pass.old }
@@ -154,6 +156,7 @@ fn has_words(pass: &mut Pass, sizes: &Sizes, link: u64, goal: [u64; 2]) -> bool
 }
 
 /// Whether a link has the tuple and is of the original direction.
+#[inline(always)]
 fn is_answer(link: u64, has: bool) -> bool
     requires { 0 < link }
     ensures { result ≡ (has && side_of link == 0) }
@@ -162,6 +165,7 @@ fn is_answer(link: u64, has: bool) -> bool
 }
 
 /// The first reply link with the tuple, or none, 0, after this link was met.
+#[inline(always)]
 fn first_reply(reply: u64, link: u64, has: bool) -> u64
     ensures { result ≡ (if has then (if reply == 0 then link else reply) else reply) }
 {
@@ -169,6 +173,7 @@ fn first_reply(reply: u64, link: u64, has: bool) -> u64
 }
 
 /// Finds the link of a locked chain that has the tuple, the original one first. None is that there is none.
+#[inline(always)]
 pub fn walk(pass: &mut Pass, locked: &Locked, t: &Tuple) -> Option<(u32, Direction)>
     requires shut { AreShut locked.now pass.old.view }
     requires bucket { has_bucket locked.now (bucket_in (sizes_of pass.old) t.now) ≡ true }
@@ -199,6 +204,7 @@ pub fn walk(pass: &mut Pass, locked: &Locked, t: &Tuple) -> Option<(u32, Directi
 }
 
 /// Whether a link has the tuple and is of the reply direction.
+#[inline(always)]
 fn is_reply(link: u64, has: bool) -> bool
     requires { 0 < link }
     ensures { result ≡ (has && side_of link == 1) }
@@ -208,6 +214,7 @@ fn is_reply(link: u64, has: bool) -> bool
 
 /// Finds the place of the reply link of a locked chain that has the tuple. None is that there is none. `walk` gives an original
 /// link in its stead, where both are there.
+#[cold]
 pub fn walk_reply(pass: &mut Pass, locked: &Locked, t: &Tuple) -> Option<u32>
     requires shut { AreShut locked.now pass.old.view }
     requires bucket { has_bucket locked.now (bucket_in (sizes_of pass.old) t.now) ≡ true }

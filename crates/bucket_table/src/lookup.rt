@@ -46,6 +46,7 @@ pub(crate) struct Goal {
 }
 
 /// Whether a link has the tuple.
+#[inline(always)]
 pub(crate) fn is_here(pass: &mut Pass, sizes: &Sizes, goal: &Goal, link: u64) -> bool
     requires limits { AreWithinLimits sizes.now }
     requires sizes { sizes.now ≡ sizes_of pass.old }
@@ -60,6 +61,7 @@ pub(crate) fn is_here(pass: &mut Pass, sizes: &Sizes, goal: &Goal, link: u64) ->
 }
 
 /// The way of a link.
+#[inline(always)]
 fn direction_of(link: u64) -> Direction
     requires { 0 < link }
     ensures { result ≡ direction_of link }
@@ -72,6 +74,7 @@ fn direction_of(link: u64) -> Direction
 }
 
 /// The place of a link.
+#[inline(always)]
 pub(crate) fn place_of(sizes: &Sizes, link: u64) -> u32
     requires limits { AreWithinLimits sizes.now }
     requires some { 0 < link }
@@ -83,6 +86,7 @@ pub(crate) fn place_of(sizes: &Sizes, link: u64) -> u32
 
 /// Follows the chain from this link, its first one, to a link with the tuple, and gives that, or the end, 0. None is that
 /// there are more links than any chain has.
+#[inline(always)]
 fn search(pass: &mut Pass, sizes: &Sizes, goal: &Goal, head: u64) -> Option<u64>
     requires limits { AreWithinLimits sizes.now }
     requires sizes { sizes.now ≡ sizes_of pass.old }
@@ -108,6 +112,7 @@ fn search(pass: &mut Pass, sizes: &Sizes, goal: &Goal, head: u64) -> Option<u64>
 }
 
 /// Where the end was met: the point, if the generation still stands.
+#[inline(always)]
 fn end(pass: &mut Pass, word: u32, goal: &Goal) -> Followed
     requires bucket { goal.now.bucket < (sizes_of pass.old).buckets }
     ensures { EndSays result word goal.now pass.old pass.new }
@@ -128,6 +133,7 @@ fn end(pass: &mut Pass, word: u32, goal: &Goal) -> Followed
 }
 
 /// Looks for a tuple in the chain of its bucket, which this pass has not shut. It takes no lock and does not wait.
+#[inline(always)]
 pub fn follow(pass: &mut Pass, t: &Tuple) -> Followed
     requires { shuts_of (bucket_in (sizes_of pass.old) t.now) pass.old.view ≡ 0 }
     ensures { FollowSays result t.now pass.old pass.new }

@@ -55,6 +55,7 @@ impl Model for Sending {
 impl Sending {
     /// Sends the next own events of a desk whose first ones it has sent, in order, until none is left or its queue is
     /// full. Takes no memory. It waits for no room, but may wait behind a listener that has stalled within a step.
+    #[inline(never)]
     pub fn pump<D: Desk, R: Wait>(&mut self, rt: &R, line: &Line, desk: &D) -> Pumped
         requires line { IsSendingOf line.now self.old }
         requires own { BeginsWith (D.sight desk.now).own self.old.sent }

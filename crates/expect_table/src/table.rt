@@ -79,6 +79,7 @@ fn is_rival(e: &Expectation, moment: u64, other: &Expectation) -> bool
 }
 
 /// The first that matches a packet with this tuple at the moment.
+#[inline(always)]
 pub fn first_match(items: &[Expectation], t: &Tuple, moment: u64) -> Option<Expectation>
     ensures { result ≡ matching t.now moment items.now }
 {
@@ -193,6 +194,7 @@ impl ExpectTable {
     }
 
     /// The first expectation that matches a packet with this tuple at the moment.
+    #[inline(always)]
     pub fn matching(&self, t: &Tuple, moment: u64) -> Option<Expectation>
         ensures { result ≡ matching t.now moment self.now.items }
     {

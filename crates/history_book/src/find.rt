@@ -83,6 +83,7 @@ pub fn find_id(records: &[Record], id: u64) -> Option<usize>
 }
 
 /// The label of a packet that finds this record in this direction.
+#[inline(always)]
 pub fn label(subject: &Record, direction: Direction) -> Label
     ensures { result ≡ label_of subject.now direction }
 {

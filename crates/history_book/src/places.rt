@@ -12,6 +12,7 @@ use crate::sight_laws::seeing_adds_up;
 use std::sync::Wait;
 
 /// Gives up a reference to a place, which is not owed afterwards.
+#[inline(always)]
 pub fn give_back<R: Wait, D: Desk>(rt: &R, desk: &mut D, place: u32)
     requires { is_held place (D.sight desk.old).held ≡ true }
     ensures saw { Saw (D.sight desk.old) (D.sight desk.new) }
@@ -27,6 +28,7 @@ pub fn give_back<R: Wait, D: Desk>(rt: &R, desk: &mut D, place: u32)
 }
 
 /// Gives up the only place that is held.
+#[inline(always)]
 pub fn give_up<R: Wait, D: Desk>(rt: &R, desk: &mut D, place: u32)
     requires held { is_held place (D.sight desk.old).held ≡ true }
     requires only { length (D.sight desk.old).held ≤ 1 }

@@ -15,6 +15,7 @@ pub enum Endian {
 }
 
 /// The number in the two bytes at `at`, the highest first (RFC 791, appendix B).
+#[inline(always)]
 pub fn big_u16_at(bytes: &[u8], at: usize) -> u16
     requires { at + 2 ≤ length bytes.now }
     ensures { result ≡ big_u16_at bytes.now at }
@@ -24,6 +25,7 @@ pub fn big_u16_at(bytes: &[u8], at: usize) -> u16
 }
 
 /// The number in the four bytes at `at`, the highest first.
+#[inline(always)]
 pub fn big_u32_at(bytes: &[u8], at: usize) -> u32
     requires { at + 4 ≤ length bytes.now }
     ensures { result ≡ big_u32_at bytes.now at }
@@ -33,6 +35,7 @@ pub fn big_u32_at(bytes: &[u8], at: usize) -> u32
 }
 
 /// The number in the two bytes at `at`, in an order.
+#[inline(always)]
 pub fn u16_at(order: Endian, bytes: &[u8], at: usize) -> u16
     requires { at + 2 ≤ length bytes.now }
     ensures { result ≡ u16_at order bytes.now at }
@@ -47,6 +50,7 @@ pub fn u16_at(order: Endian, bytes: &[u8], at: usize) -> u16
 }
 
 /// The number in the four bytes at `at`, in an order.
+#[inline(always)]
 pub fn u32_at(order: Endian, bytes: &[u8], at: usize) -> u32
     requires { at + 4 ≤ length bytes.now }
     ensures { result ≡ u32_at order bytes.now at }

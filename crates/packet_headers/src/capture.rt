@@ -190,6 +190,7 @@ fn read_header(bytes: &[u8]) -> Result<Form, CaptureFault>
 }
 
 /// How many of its parts make a second.
+#[inline(always)]
 fn second_parts(resolution: Resolution) -> u32
     ensures { result ≡ parts_of_second resolution }
 {
@@ -200,6 +201,7 @@ fn second_parts(resolution: Resolution) -> u32
 }
 
 /// The fraction of a second in microseconds, rounded down.
+#[inline(always)]
 fn microseconds(resolution: Resolution, fraction: u32) -> u32
     ensures exact { result ≡ microseconds_of resolution fraction }
     ensures below { result ≤ fraction }
@@ -212,6 +214,7 @@ fn microseconds(resolution: Resolution, fraction: u32) -> u32
 
 /// The frame of the record at `at`.
 #[tactic(auto, unfolding(crate::specs::CaptureRecord::record_at))]
+#[inline(always)]
 fn read_record(bytes: &[u8], form: Form, at: usize) -> Result<Frame, RecordFault>
     requires { at ≤ length bytes.now }
     ensures exact { result ≡ record_at bytes.now form at }

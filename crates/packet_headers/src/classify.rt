@@ -42,6 +42,7 @@ fn packet_of_version(link: Link, version: u8) -> Packet
 
 /// The IP packet at `at`, of which `captured` bytes are there (RFC 791).
 #[tactic(auto, unfolding(crate::specs::Classify::ip_packet))]
+#[inline(always)]
 fn ip_packet(link: Link, bytes: &[u8], at: usize, captured: usize) -> Packet
     requires { at + captured ≤ length bytes.now }
     ensures exact { result ≡ ip_packet link bytes.now at captured }
@@ -73,6 +74,7 @@ fn ip_packet(link: Link, bytes: &[u8], at: usize, captured: usize) -> Packet
 
 /// The Ethernet frame at `at`, of which `captured` bytes are there.
 #[tactic(auto, unfolding(crate::specs::Classify::ethernet_frame))]
+#[inline(always)]
 fn ethernet_frame(bytes: &[u8], at: usize, captured: usize) -> Packet
     requires { at + captured ≤ length bytes.now }
     ensures exact { result ≡ ethernet_frame bytes.now at captured }
@@ -94,6 +96,7 @@ fn ethernet_frame(bytes: &[u8], at: usize, captured: usize) -> Packet
 
 /// What the headers of a frame say.
 #[tactic(auto, unfolding(crate::specs::Classify::packet_of))]
+#[inline(always)]
 pub fn classify(bytes: &[u8], frame: &Frame) -> Packet
     requires { frame.now.start + frame.now.captured ≤ length bytes.now }
     ensures exact { result ≡ packet_of bytes.now frame.now }

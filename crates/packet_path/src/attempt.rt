@@ -58,6 +58,7 @@ pub struct Met {
 
 /// The class of a packet that passes by an entry, which was so before it and was found in this direction,
 /// by the event of this number, and of what came of its payload.
+#[inline(always)]
 fn passed(before: &Record, direction: Direction, number: u64, ftp: Ftp) -> Class
     requires { number < 2 ^ 40 }
     ensures { result ≡ Passed (label_of before.now direction) before.now.id (number + 1) ftp }
@@ -71,6 +72,7 @@ fn passed(before: &Record, direction: Direction, number: u64, ftp: Ftp) -> Class
 }
 
 /// Destroys the entry that a packet met and resets.
+#[inline(always)]
 fn reset_entry<R: Wait, D: Desk>(rt: &R, desk: &mut D, packet: &FlowView, met: &Met) -> Attempt
     requires classified { IsClassified (flow_packet packet.now) }
     requires met { IsMet (flow_packet packet.now) met.now (D.sight desk.old) }
@@ -107,6 +109,7 @@ fn reset_entry<R: Wait, D: Desk>(rt: &R, desk: &mut D, packet: &FlowView, met: &
 
 /// Destroys the entry that a packet met, which is expired or is reopened, for that reason; after four
 /// such ends no further one is made. The entry was so at the point `at`.
+#[inline(always)]
 fn end_entry<R: Wait, D: Desk>(
     rt: &R,
     desk: &mut D,
@@ -150,6 +153,7 @@ fn end_entry<R: Wait, D: Desk>(
 }
 
 /// Gives a packet to the entry that it met: what the step says is done.
+#[inline(always)]
 fn meet_entry<R: Wait, D: Desk>(
     rt: &R,
     desk: &mut D,
@@ -208,6 +212,7 @@ fn meet_entry<R: Wait, D: Desk>(
 
 /// Looks up what is live under a packet's tuple, and gives the packet to it or begins a flow; so many
 /// entries were destroyed for the packet before.
+#[inline(always)]
 pub fn try_packet<R: Wait, D: Desk>(
     rt: &R,
     desk: &mut D,

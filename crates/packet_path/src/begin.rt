@@ -45,6 +45,7 @@ pub struct NewReply {
 }
 
 /// Whether an entry with this reply tuple has the helper.
+#[inline(always)]
 fn is_helped(setup: &Setup, reply: &Tuple) -> bool
     ensures { result ≡ is_helped setup.now reply.now }
 {
@@ -52,6 +53,7 @@ fn is_helped(setup: &Setup, reply: &Tuple) -> bool
 }
 
 /// The point at which a packet was not expected, if it was not.
+#[inline(always)]
 fn unclaimed_at(claim: ClaimOutcome) -> Option<u64>
     ensures { result ≡ unclaimed_at claim }
 {
@@ -62,6 +64,7 @@ fn unclaimed_at(claim: ClaimOutcome) -> Option<u64>
 }
 
 /// The master of the expectation that a packet claimed, if it claimed one.
+#[inline(always)]
 fn claimed_master(claim: ClaimOutcome) -> Option<u64>
     ensures { result ≡ claimed_master claim }
 {
@@ -73,6 +76,7 @@ fn claimed_master(claim: ClaimOutcome) -> Option<u64>
 
 /// Claims what expects the packet, and confirms a new entry in the place that was taken for it. Nothing was live
 /// under the packet's tuple at the point `absent_at`, and the reply tuple was found from it on.
+#[inline(always)]
 fn confirm_flow<R: Wait, D: Desk>(
     rt: &R,
     desk: &mut D,
@@ -128,6 +132,7 @@ fn confirm_flow<R: Wait, D: Desk>(
 }
 
 /// The class of a packet that made an entry of this id, with the reply tuple that was found.
+#[inline(always)]
 fn made(found: &NewReply, id: u64, unclaimed: Option<u64>) -> Class
     requires { id < 2 ^ 40 }
     ensures { result ≡ Made id (id + 1) found.now.translated unclaimed }
@@ -141,6 +146,7 @@ fn made(found: &NewReply, id: u64, unclaimed: Option<u64>) -> Class
 }
 
 /// The class of a packet that would begin a flow, and met an entry that has one of the flow's tuples.
+#[inline(always)]
 fn met_winner(packet: &FlowView, translated: Translated, id: u64, both: bool, at: u64) -> Class
     ensures { result ≡ (if same_proto packet.now.tuple.proto proto.Udp && both
         then Merged id at translated else Clash id at translated) }
@@ -154,6 +160,7 @@ fn met_winner(packet: &FlowView, translated: Translated, id: u64, both: bool, at
 
 /// Drops an entry that may go, and confirms the new flow in the place that is free then, if one is. The table was full at
 /// the point `full_at`, and the reply tuple was found up to it.
+#[inline(always)]
 fn make_room<R: Wait, D: Desk>(
     rt: &R,
     desk: &mut D,
@@ -194,6 +201,7 @@ fn make_room<R: Wait, D: Desk>(
 }
 
 /// Takes a place for a new flow and confirms it there; in a full table an entry that may go is dropped for it.
+#[inline(always)]
 fn place_flow<R: Wait, D: Desk>(
     rt: &R,
     desk: &mut D,
@@ -231,6 +239,7 @@ fn place_flow<R: Wait, D: Desk>(
 
 /// Begins a flow for a packet under whose tuple nothing was live at the point `absent_at`, if one begins
 /// with it, a reply tuple is found for it, and there is room.
+#[inline(always)]
 pub fn begin_flow<R: Wait, D: Desk>(
     rt: &R,
     desk: &mut D,

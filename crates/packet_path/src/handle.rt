@@ -33,6 +33,7 @@ use std::sync::Wait;
 use tuple_core::{NoMemory, Tuple, invert};
 
 /// Handles a packet of a flow: attempts are made until one says what became of it.
+#[inline(always)]
 fn handle_flow<R: Wait, D: Desk>(rt: &R, desk: &mut D, packet: &FlowView, setup: &Setup) -> Verdict
     requires lawful { AllByRecursion IsLawfulRule setup.now.rules.items }
     requires classified { IsClassified (flow_packet packet.now) }
@@ -62,6 +63,7 @@ fn handle_flow<R: Wait, D: Desk>(rt: &R, desk: &mut D, packet: &FlowView, setup:
 }
 
 /// Looks up the entry that an ICMP error is about, by the inverse of the tuple in it.
+#[inline(always)]
 fn error_class<R: Wait, D: Desk>(
     rt: &R,
     desk: &mut D,
@@ -101,6 +103,7 @@ fn error_class<R: Wait, D: Desk>(
 }
 
 /// Why a frame is not tracked, as a verdict says it.
+#[inline(always)]
 fn untracked_why(cause: Untracked) -> UntrackedWhy
     ensures { cause_of result ≡ cause }
 {
@@ -112,6 +115,7 @@ fn untracked_why(cause: Untracked) -> UntrackedWhy
 }
 
 /// The bytes of a file in a span.
+#[inline(always)]
 fn bytes_in(bytes: &[u8], span: Span) -> &[u8]
     requires { IsSpanIn bytes.now span }
     ensures { result.now ≡ bytes_in bytes.now span }
@@ -122,6 +126,7 @@ fn bytes_in(bytes: &[u8], span: Span) -> &[u8]
 }
 
 /// Handles one packet of a file with these bytes in a zone, by what its headers say. Only a packet of a flow makes events.
+#[inline(always)]
 fn handle_packet<R: Wait, D: Desk>(
     rt: &R,
     desk: &mut D,
@@ -177,6 +182,7 @@ fn handle_packet<R: Wait, D: Desk>(
 /// nothing, and says what became of it. New flows are translated by the rules of the setup, and only a packet that begins one
 /// takes a place of the pool. Takes its memory first: `NoMemory` comes only where the desk had room for
 /// fewer than eight events, and then none was made, and the desk is as it was.
+#[inline(always)]
 pub fn handle<R: Wait, D: Desk>(
     rt: &R,
     desk: &mut D,

@@ -34,6 +34,7 @@ pub enum Wanted {
 }
 
 /// Whether the packet is an answer, or one was seen before it.
+#[inline(always)]
 fn is_established(label: Label) -> bool
     ensures { result ≡ is_established label }
 {
@@ -44,6 +45,7 @@ fn is_established(label: Label) -> bool
 }
 
 /// Whether the payload of a packet is read, which found its entry so and in this direction.
+#[inline(always)]
 fn is_read(packet: &FlowView, before: &Record, direction: Direction) -> bool
     ensures { result ≡ is_read (flow_packet packet.now) (record { subject = before.now; direction = direction }) }
 {
@@ -51,6 +53,7 @@ fn is_read(packet: &FlowView, before: &Record, direction: Direction) -> bool
 }
 
 /// What the payload of a packet asks for, which found its entry so and in this direction.
+#[inline(always)]
 fn want_named(packet: &FlowView, before: &Record, direction: Direction) -> Wanted
     ensures { WantedSays (flow_packet packet.now) (record { subject = before.now; direction = direction }) result }
 {
@@ -68,6 +71,7 @@ fn want_named(packet: &FlowView, before: &Record, direction: Direction) -> Wante
 
 /// Expects what the payload of a packet asks for, which the entry accepted that the place is held for, and that was
 /// so before it.
+#[inline(always)]
 pub fn follow_payload<R: Wait, D: Desk>(
     rt: &R,
     desk: &mut D,

@@ -25,6 +25,7 @@ pub enum Scan {
 }
 
 /// Drops the first entry, in the order of places, that may go at the moment. The table was full at the point `full_at`.
+#[inline(never)]
 pub fn drop_one<R: Wait, D: Desk>(rt: &R, desk: &mut D, moment: u64, full_at: u64) -> Scan
     requires seen { full_at ≤ length (D.sight desk.old).front }
     requires empty { HoldsNothing (D.sight desk.old) }

@@ -9,6 +9,7 @@ use crate::{Part, PartKind, TcpState};
 use tuple_core::Direction;
 
 /// The part of an entry that begins, and lives for this many seconds.
+#[inline(always)]
 pub fn begin(kind: PartKind, timeout: u64, moment: u64) -> Part
     requires timeout { timeout ≤ 432000 }
     requires moment { moment ≤ 10 ^ 16 }
@@ -23,6 +24,7 @@ pub fn begin(kind: PartKind, timeout: u64, moment: u64) -> Part
 }
 
 /// Whether a reply was seen, this packet included.
+#[inline(always)]
 fn replied_after(part: &Part, direction: Direction) -> bool
     ensures { result ≡ replied_after part.now direction }
 {
@@ -33,6 +35,7 @@ fn replied_after(part: &Part, direction: Direction) -> bool
 }
 
 /// Whether a connection is assured once a packet took it from the old state to the new one.
+#[inline(always)]
 fn tcp_assured(part: &Part, old: TcpState, new: TcpState) -> bool
     ensures { result ≡ tcp_assured part.now old new }
 {
@@ -43,6 +46,7 @@ fn tcp_assured(part: &Part, old: TcpState, new: TcpState) -> bool
 }
 
 /// The part of a connection that a packet takes from the old state to the new one.
+#[inline(always)]
 pub fn tcp_part(
     part: &Part,
     direction: Direction,
@@ -62,6 +66,7 @@ pub fn tcp_part(
 }
 
 /// The part of a flow of UDP after a packet.
+#[inline(always)]
 pub fn udp_part(part: &Part, direction: Direction, moment: u64) -> Part
     requires { moment ≤ 10 ^ 16 }
     ensures { result ≡ udp_part part.now direction moment }
@@ -80,6 +85,7 @@ pub fn udp_part(part: &Part, direction: Direction, moment: u64) -> Part
 }
 
 /// The part of a flow of ICMP after a packet.
+#[inline(always)]
 pub fn icmp_part(part: &Part, direction: Direction, moment: u64) -> Part
     requires { moment ≤ 10 ^ 16 }
     ensures { result ≡ icmp_part part.now direction moment }

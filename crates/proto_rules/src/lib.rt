@@ -92,6 +92,7 @@ pub enum Outcome {
 /// The part of the entry that begins with this segment at `moment`, in microseconds. `None` exactly
 /// where no entry begins with it. A capture counts its seconds in 32 bits, so that its moments are
 /// below the bound.
+#[inline(always)]
 pub fn start(segment: Segment, moment: u64) -> Option<Part>
     requires { moment ≤ 10 ^ 16 }
     ensures { result ≡ start_of segment moment }
@@ -106,6 +107,7 @@ pub fn start(segment: Segment, moment: u64) -> Option<Part>
 
 /// What a packet in this direction, with this segment and at `moment`, in microseconds, does to an
 /// entry of the same protocol.
+#[inline(always)]
 pub fn step(part: &Part, direction: Direction, segment: Segment, moment: u64) -> Outcome
     requires fits { moment ≤ 10 ^ 16 }
     requires same { is_of_protocol segment part.now.kind ≡ true }

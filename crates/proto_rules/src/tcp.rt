@@ -11,6 +11,7 @@ use crate::{Cell, Outcome, Part, PartKind, TcpState, tcp_cell};
 use tuple_core::{Direction, Kind};
 
 /// The part of the entry that begins with this segment, if one does.
+#[inline(always)]
 pub fn tcp_start(tcp_kind: Kind, moment: u64) -> Option<Part>
     requires { moment ≤ 10 ^ 16 }
     ensures { result ≡ tcp_start (tcp_cell Direction.Original tcp_kind TcpState.Unset) moment }
@@ -25,6 +26,7 @@ pub fn tcp_start(tcp_kind: Kind, moment: u64) -> Option<Part>
 }
 
 /// Whether a segment begins a new connection in place of one that was closed.
+#[inline(always)]
 fn reopens(old: TcpState, new: TcpState) -> bool
     ensures { result ≡ reopens old new }
 {
@@ -32,6 +34,7 @@ fn reopens(old: TcpState, new: TcpState) -> bool
 }
 
 /// What a segment does to a connection in this state.
+#[inline(always)]
 pub fn tcp_step(
     part: &Part,
     state: TcpState,

@@ -21,6 +21,7 @@ pub enum Cell {
 }
 
 /// The row of the grids for a kind of segment.
+#[inline(always)]
 fn row(tcp_kind: Kind) -> usize
     ensures exact { result ≡ row_of tcp_kind }
     ensures within { result < 6 }
@@ -29,6 +30,7 @@ fn row(tcp_kind: Kind) -> usize
 }
 
 /// The column of the grids for an old state.
+#[inline(always)]
 fn column(state: TcpState) -> usize
     ensures exact { result ≡ column_of state }
     ensures within { result < 10 }
@@ -37,6 +39,7 @@ fn column(state: TcpState) -> usize
 }
 
 /// The number in a row and a column of the grid for the segments in a direction.
+#[inline(always)]
 fn number_at(direction: Direction, row: usize, column: usize) -> u8
     requires row { row < 6 }
     requires column { column < 10 }
@@ -49,6 +52,7 @@ fn number_at(direction: Direction, row: usize, column: usize) -> u8
 }
 
 /// The cell that a number of the grids stands for.
+#[inline(always)]
 fn read_cell(number: u8) -> Cell
     requires { number < 12 }
     ensures { number_of result ≡ number }
@@ -71,6 +75,7 @@ fn read_cell(number: u8) -> Cell
 }
 
 /// What a segment of this kind and direction does to a connection in a state.
+#[inline(always)]
 pub fn tcp_cell(direction: Direction, tcp_kind: Kind, state: TcpState) -> Cell
     ensures { result ≡ tcp_cell direction tcp_kind state }
 {

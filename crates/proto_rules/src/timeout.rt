@@ -16,6 +16,7 @@ const UNANSWERED_TIMEOUT: u64 = 300;
 pub const ICMP_TIMEOUT: u64 = 30;
 
 /// The moment that is this many seconds after another.
+#[inline(always)]
 pub fn deadline(moment: u64, timeout: u64) -> u64
     requires moment { moment ≤ 10 ^ 16 }
     requires timeout { timeout ≤ 432000 }
@@ -25,6 +26,7 @@ pub fn deadline(moment: u64, timeout: u64) -> u64
 }
 
 /// Of a flow of UDP, by whether a reply was seen.
+#[inline(always)]
 pub fn udp_timeout(replied: bool) -> u64
     ensures exact { result ≡ udp_timeout replied }
     ensures small { result ≤ 432000 }
@@ -33,6 +35,7 @@ pub fn udp_timeout(replied: bool) -> u64
 }
 
 /// Of a connection in its new state, by whether a reply was seen before.
+#[inline(always)]
 pub fn tcp_lifetime(replied: bool, state: TcpState) -> u64
     ensures exact { result ≡ tcp_lifetime replied state }
     ensures small { result ≤ 432000 }

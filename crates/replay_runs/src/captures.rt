@@ -28,6 +28,7 @@ use tuple_core::NoMemory;
 /// Handles the frames of a capture, whose file has these bytes and whose packets are in a zone, in their order, with a
 /// desk that holds and owes nothing, and says what became of each. Events are counted from the first of this capture.
 /// The thread of this number passes the gate before each, and tells the listener behind it.
+#[inline(always)]
 fn replay_frames<R: Wait, G: Gate, D: Desk>(
     rt: &R,
     shared: &Shared<'_, '_, G>,
@@ -75,6 +76,7 @@ fn replay_frames<R: Wait, G: Gate, D: Desk>(
 
 /// Handles the frames of a capture in their order, with a desk that holds and owes nothing, and says what became of
 /// each. First it asks for room for the events of most captures: two for each frame. The listener is told behind each.
+#[inline(always)]
 pub fn replay_capture<R: Wait, G: Gate, D: Desk>(
     rt: &R,
     shared: &Shared<'_, '_, G>,

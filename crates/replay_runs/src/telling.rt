@@ -73,6 +73,7 @@ pub fn finish<R: Wait>(
 }
 
 /// Tells the listener of a thread's new events, where there is one.
+#[inline(always)]
 pub fn tell<R: Wait, D: Desk>(rt: &R, line: Option<&Line>, sending: &mut Option<Sending>, desk: &D)
     requires { Between (IsAlong (D.sight desk.now).own) (line_now line) sending.old }
     ensures told { Between (HasTold (D.sight desk.now).own) (line_now line.entry) sending.new }

@@ -62,6 +62,7 @@ impl<T> RoomList<T> {
     }
 
     /// Makes room for at least `more` further items.
+    #[inline(always)]
     pub fn reserve(&mut self, more: usize) -> Result<(), NoMemory>
         ensures items { self.new.items ≡ self.old.items }
         ensures room { OnOk result (length self.old.items + more ≤ self.new.room) }
@@ -81,6 +82,7 @@ impl<T> RoomList<T> {
     }
 
     /// Appends one item. Takes no memory.
+    #[inline(always)]
     pub fn push(&mut self, item: T)
         requires { length self.old.items < self.old.room }
         ensures items { self.new.items ≡ self.old.items ++ item ∷ [] }
@@ -100,6 +102,7 @@ impl<T> RoomList<T> {
     }
 
     /// The number of items.
+    #[inline(always)]
     pub fn len(&self) -> usize
         ensures exact { result ≡ length self.now.items }
         ensures fits { result ≤ self.now.room }
@@ -108,6 +111,7 @@ impl<T> RoomList<T> {
     }
 
     /// Whether there is no item.
+    #[inline(always)]
     pub fn is_empty(&self) -> bool
         ensures { result ≡ (length self.now.items == 0) }
     {
@@ -115,6 +119,7 @@ impl<T> RoomList<T> {
     }
 
     /// The item at `index`.
+    #[inline(always)]
     pub fn at(&self, index: usize) -> &T
         requires { index < length self.now.items }
         ensures { slice_get self.now.items index ≡ Some result.now }
@@ -123,6 +128,7 @@ impl<T> RoomList<T> {
     }
 
     /// All items.
+    #[inline(always)]
     pub fn as_slice(&self) -> &[T]
         ensures { result.now ≡ self.now.items }
     {

@@ -21,6 +21,7 @@ use tuple_core::Tuple;
 
 /// Ends the first expectation that a packet with this tuple matches at a moment, under the turn of the expectations, which are this
 /// table's.
+#[inline(always)]
 fn claim_first(
     pass: &mut Pass,
     table: &mut ExpectTable,
@@ -55,6 +56,7 @@ fn claim_first(
 }
 
 /// Waits for the turn of the expectations, and ends the first one that a packet with this tuple matches at a moment.
+#[inline(always)]
 pub fn claim<R: Wait>(
     rt: &R,
     pass: &mut Pass,

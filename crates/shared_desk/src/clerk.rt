@@ -113,6 +113,7 @@ impl<'t, G: Gate> Clerk<'t, G> {
     }
 
     /// Looks once for what is live under a tuple, the original one first, and holds its place. It does not wait, and shuts no bucket.
+    #[inline(always)]
     pub fn find_once(&mut self, t: &Tuple) -> FindOnce
         requires { length (sight_of self.old).held + length (sight_of self.old).owed ≤ 3 }
         ensures says { FindOnceSays result t.now self.old self.new }
@@ -123,6 +124,7 @@ impl<'t, G: Gate> Clerk<'t, G> {
     }
 
     /// Gives up one reference to a place, without waiting.
+    #[inline(always)]
     pub fn release_now(&mut self, place: u32) -> ReleaseOutcome
         requires { is_held place (sight_of self.old).held ≡ true }
         ensures says { ReleaseSays place (sight_of self.old) (sight_of self.new) result }

@@ -17,6 +17,7 @@ use std::thread;
 use track_rule::pass::Pass;
 
 /// The record that a flow becomes.
+#[inline(always)]
 pub fn record_for(flow: &Flow, id: u64, place: u32) -> Record
     ensures { result ≡ record_for flow.now id place }
 {
@@ -39,6 +40,7 @@ pub fn record_for(flow: &Flow, id: u64, place: u32) -> Record
 }
 
 /// Waits for the turn of the record of a place, and takes it.
+#[inline(always)]
 pub fn take_turn<R: Wait>(rt: &R, pass: &mut Pass, place: u32)
     requires place { place < (sizes_of pass.old).entries }
     requires calm { pass.old.view.commit.hand ≡ None }
@@ -58,6 +60,7 @@ pub fn take_turn<R: Wait>(rt: &R, pass: &mut Pass, place: u32)
 }
 
 /// Makes the second reference to a place that was taken, which becomes the table's.
+#[inline(always)]
 fn add_reference<R: Wait>(rt: &R, pass: &mut Pass, place: u32)
     requires place { place < (sizes_of pass.old).entries }
     requires second { is_second place pass.old.view ≡ true }
@@ -75,6 +78,7 @@ fn add_reference<R: Wait>(rt: &R, pass: &mut Pass, place: u32)
 }
 
 /// Makes the flow an entry, in a place whose two links are in no chain, while both buckets are locked. Gives its id.
+#[inline(always)]
 pub fn commit<R: Wait>(rt: &R, pass: &mut Pass, locked: &Locked, place: u32, flow: &Flow) -> u64
     requires { CanCommit place flow.now locked.now pass.old }
     ensures commits { Commits place flow.now result pass.old pass.new }

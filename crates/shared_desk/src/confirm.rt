@@ -20,6 +20,7 @@ use track_rule::pass::Pass;
 use tuple_core::bucket_of;
 
 /// Waits for the buckets of both tuples of a flow, and locks them.
+#[inline(always)]
 pub fn lock_flow<R: Wait>(rt: &R, pass: &mut Pass, flow: &Flow) -> Locked
     requires { pass.old.view.buckets.shut ≡ [] }
     ensures locks { LocksFlow flow.now result pass.old pass.new }
@@ -32,6 +33,7 @@ pub fn lock_flow<R: Wait>(rt: &R, pass: &mut Pass, flow: &Flow) -> Locked
 }
 
 /// Answers that a live entry stands in the way, and gives both buckets back.
+#[cold]
 fn blocked(
     pass: &mut Pass,
     locked: Locked,
@@ -50,6 +52,7 @@ fn blocked(
 }
 
 /// Makes the flow an entry, gives both buckets back, and puts the record in its slot, under its turn. Gives its id.
+#[inline(always)]
 fn enter<R: Wait>(rt: &R, pass: &mut Pass, locked: Locked, place: u32, flow: &Flow) -> u64
     requires locked { IsLocked flow.now locked pass.old }
     requires can { CanCommit place flow.now locked pass.old }
@@ -64,6 +67,7 @@ fn enter<R: Wait>(rt: &R, pass: &mut Pass, locked: Locked, place: u32, flow: &Fl
 }
 
 /// Confirms a flow under the turn of its place's record.
+#[inline(always)]
 fn confirm_locked<R: Wait, G: Gate>(
     rt: &R,
     pass: &mut Pass,
@@ -89,6 +93,7 @@ fn confirm_locked<R: Wait, G: Gate>(
 
 /// Confirms a flow in the place that was taken for it. While both buckets are locked and no live entry has one of its tuples, the
 /// gate is passed, before the flow becomes an entry.
+#[inline(always)]
 pub fn confirm<R: Wait, G: Gate>(
     rt: &R,
     pass: &mut Pass,

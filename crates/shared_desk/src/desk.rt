@@ -44,6 +44,7 @@ use tuple_core::{Direction, NoMemory, Segment, Tuple};
 impl<'t, G: Gate> Clerk<'t, G> {
     /// Looks once for what is live under a tuple, and makes the place free again that it then owes. None is that another pass moved
     /// what it looked at.
+    #[inline(always)]
     fn look<R: Wait>(&mut self, rt: &R, t: &Tuple) -> Option<FindOutcome>
         requires { length (sight_of self.old).held + length (sight_of self.old).owed ≤ 3 }
         ensures says { LookSays result t.now (sight_of self.old) (sight_of self.new) }
@@ -85,15 +86,18 @@ impl<'t, G: Gate> Desk for Clerk<'t, G> {
         self.pass.sizes().expectations
     }
 
+    #[inline(always)]
     fn made(&self) -> u64 {
         self.notes.len() as u64
     }
 
+    #[inline(always)]
     fn own(&self, index: u64) -> Note {
         *self.notes.at(index as usize)
     }
 
     /// Makes room for `k` further own events.
+    #[inline(always)]
     fn ready(&mut self, k: u64) -> Result<(), NoMemory>
         requires { length (sight_of self.old).own + k ≤ 2 ^ 30 }
         ensures ready { OnOk result (IsReady k (sight_of self.old) (sight_of self.new)) }
@@ -112,6 +116,7 @@ impl<'t, G: Gate> Desk for Clerk<'t, G> {
 
     /// Looks for what is live under a tuple, the original one first, and holds its place. It looks again where another pass moved what
     /// it looked at, and makes each place free again that it then owes: for that it may wait for the turn of the free list.
+    #[inline(always)]
     fn find<R: Wait>(&mut self, rt: &R, t: &Tuple) -> FindOutcome
         requires { length (sight_of self.old).held + length (sight_of self.old).owed ≤ 3 }
         ensures says { FindSays t.now (sight_of self.old) (sight_of self.new) result }
@@ -138,6 +143,7 @@ impl<'t, G: Gate> Desk for Clerk<'t, G> {
     }
 
     /// Takes a free place for a new entry. It may wait for the turn of the free list.
+    #[inline(always)]
     fn take<R: Wait>(&mut self, rt: &R) -> TakeOutcome
         requires { length (sight_of self.old).held + length (sight_of self.old).owed ≤ 3 }
         ensures says { TakeSays (sight_of self.old) (sight_of self.new) result }
@@ -150,6 +156,7 @@ impl<'t, G: Gate> Desk for Clerk<'t, G> {
 
     /// Confirms a new entry in a place that was taken for it. It may wait for the locks of two buckets. While both are locked and no
     /// clash was found it passes the gate, before the entry is made.
+    #[inline(always)]
     fn confirm<R: Wait>(&mut self, rt: &R, place: u32, flow: &Flow) -> ConfirmOutcome
         requires taken { is_taken place (sight_of self.old).held ≡ true }
         requires protocol { is_lawful_flow flow.now ≡ true }
@@ -165,6 +172,7 @@ impl<'t, G: Gate> Desk for Clerk<'t, G> {
 
     /// Touches the entry for which a place is held, with a packet of its protocol at a moment in microseconds. It may wait for the
     /// turn of the place's record.
+    #[inline(always)]
     fn touch<R: Wait>(
         &mut self,
         rt: &R,
@@ -206,6 +214,7 @@ impl<'t, G: Gate> Desk for Clerk<'t, G> {
 
     /// Destroys the entry for which a place is held, where the reason holds of it. It may wait for the turn of the place's record, then
     /// for that of the expectations, where the entry has the helper, and then for the locks of two buckets.
+    #[inline(never)]
     fn kill<R: Wait>(&mut self, rt: &R, place: u32, why: Why) -> KillOutcome
         requires held { is_held_for_entry place (sight_of self.old).held ≡ true }
         requires protocol { suits_entry why (held_id place (sight_of self.old).held)
@@ -224,6 +233,7 @@ impl<'t, G: Gate> Desk for Clerk<'t, G> {
 
     /// Makes the entry for which a place is held, which has the helper, expect a connection, from a moment in microseconds on and for
     /// 300 s. It may wait for the turn of the place's record, and for that of the expectations.
+    #[cold]
     fn expect<R: Wait>(&mut self, rt: &R, place: u32, want: Want, moment: u64) -> ExpectOutcome
         requires held { is_held_for_entry place (sight_of self.old).held ≡ true }
         requires helper { is_helped_entry (held_id place (sight_of self.old).held)
@@ -241,6 +251,7 @@ impl<'t, G: Gate> Desk for Clerk<'t, G> {
 
     /// Ends the first expectation that a packet with this tuple matches at a moment in microseconds. It may wait for the turn of the
     /// expectations.
+    #[inline(always)]
     fn claim<R: Wait>(&mut self, rt: &R, t: &Tuple, moment: u64) -> ClaimOutcome
         requires { 1 ≤ (sight_of self.old).spare }
         ensures says { ClaimSays t.now moment (sight_of self.old) (sight_of self.new) result }
@@ -279,6 +290,7 @@ impl<'t, G: Gate> Desk for Clerk<'t, G> {
 
     /// Holds a place for the entry that is live in it, if one is. It may wait for the turn of the place's record, and for that of the
     /// free list.
+    #[cold]
     fn hold<R: Wait>(&mut self, rt: &R, place: u32) -> HoldOutcome
         requires below { place < (sight_of self.old).sizes.entries }
         requires room { length (sight_of self.old).held + length (sight_of self.old).owed ≤ 3 }
@@ -290,6 +302,7 @@ impl<'t, G: Gate> Desk for Clerk<'t, G> {
     }
 
     /// Gives up one reference to a place, without waiting.
+    #[inline(always)]
     fn release<R: Wait>(&mut self, _rt: &R, place: u32) -> ReleaseOutcome
         requires { is_held place (sight_of self.old).held ≡ true }
         ensures says { ReleaseSays place (sight_of self.old) (sight_of self.new) result }
@@ -300,6 +313,7 @@ impl<'t, G: Gate> Desk for Clerk<'t, G> {
     }
 
     /// Makes a place free again, of which this clerk gave up the last reference. It may wait for the turn of the free list.
+    #[cold]
     fn recycle<R: Wait>(&mut self, rt: &R, place: u32)
         requires { is_owed place (sight_of self.old).owed ≡ true }
         ensures says { RecycleSays place (sight_of self.old) (sight_of self.new) }

@@ -21,6 +21,7 @@ use track_rule::pass::Pass;
 use track_rule::place_phase::LIVE;
 
 /// The record that is out of its slot, or none. It stays there.
+#[inline(always)]
 pub fn record_out(pass: &mut Pass, place: u32) -> Option<Record>
     requires { HasRecord place pass.old }
     ensures record { result ≡ subject_in pass.old.slots }
@@ -30,6 +31,7 @@ pub fn record_out(pass: &mut Pass, place: u32) -> Option<Record>
 }
 
 /// Reads the entry for which a place is held, under the turn of the place's record.
+#[cold]
 fn read_record(pass: &mut Pass, place: u32) -> PeekOutcome
     requires { HasRecord place pass.old }
     ensures peeks { Peeks place result pass.old pass.new }
@@ -59,6 +61,7 @@ pub fn peek<R: Wait>(rt: &R, pass: &mut Pass, place: u32) -> PeekOutcome
 }
 
 /// Touches the entry for which a place is held, under the turn of the place's record.
+#[inline(always)]
 fn touch_record(pass: &mut Pass, place: u32, packet: &Packet) -> (TouchOutcome, Option<MadeTouch>)
     requires has { HasRecord place pass.old }
     requires suits { SuitsEntry place packet.now pass.old }
@@ -79,6 +82,7 @@ fn touch_record(pass: &mut Pass, place: u32, packet: &Packet) -> (TouchOutcome, 
 }
 
 /// Waits for the turn of a place's record, and touches the entry for which the place is held.
+#[inline(always)]
 pub fn touch<R: Wait>(
     rt: &R,
     pass: &mut Pass,
@@ -98,6 +102,7 @@ pub fn touch<R: Wait>(
 }
 
 /// Destroys the entry for which a place is held, if the reason holds of it, under the turn of the place's record.
+#[cold]
 fn kill_record<R: Wait>(
     rt: &R,
     pass: &mut Pass,

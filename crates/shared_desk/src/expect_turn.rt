@@ -12,6 +12,7 @@ use std::thread;
 use track_rule::pass::Pass;
 
 /// Waits for the turn of the expectations, and takes it.
+#[inline(always)]
 fn take_turn<R: Wait>(rt: &R, pass: &mut Pass)
     requires { CanTakeExpects pass.old }
     ensures has { HasExpectTurn pass.old pass.new }
@@ -27,6 +28,7 @@ fn take_turn<R: Wait>(rt: &R, pass: &mut Pass)
 }
 
 /// Waits for the turn of the expectations, and takes it and their table.
+#[inline(always)]
 pub fn take_expects<R: Wait>(rt: &R, pass: &mut Pass) -> ExpectTable
     requires { CanTakeExpects pass.old }
     ensures has { HasExpects result pass.old pass.new }
@@ -40,6 +42,7 @@ pub fn take_expects<R: Wait>(rt: &R, pass: &mut Pass) -> ExpectTable
 }
 
 /// Gives the turn of the expectations back, with their table.
+#[inline(always)]
 pub fn give_expects(pass: &mut Pass, table: ExpectTable)
     requires knows { CanGiveExpected pass.old.view table }
     requires free { pass.old.view.free ≡ None }

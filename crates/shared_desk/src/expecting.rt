@@ -125,6 +125,7 @@ fn expect_record<R: Wait>(
 
 /// Waits for the turn of a place's record and then for that of the expectations, and makes the entry for which the place is held expect
 /// a connection.
+#[cold]
 pub fn expect<R: Wait>(
     rt: &R,
     pass: &mut Pass,

@@ -15,6 +15,7 @@ use track_rule::pass::Pass;
 use tuple_core::{Tuple, is_valid, words_determine_the_tuple};
 
 /// Looks once for what is live under a tuple, the original one first, and holds its place. Nothing is under one that is not valid.
+#[inline(always)]
 pub fn find_once(pass: &mut Pass, t: &Tuple) -> FindOnce
     requires shut { pass.old.view.buckets.shut ≡ [] }
     requires can { CanTest pass.old }

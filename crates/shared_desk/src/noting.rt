@@ -12,6 +12,7 @@ use history_book::record::Flow;
 use history_book::report::Notes;
 
 /// Notes the Confirm, if the call made it. There is room for it.
+#[inline(always)]
 pub fn note_confirm(
     notes: &mut Notes,
     spare: &mut u64,
@@ -39,6 +40,7 @@ pub fn note_confirm(
 }
 
 /// Notes an own event, if there is one. There is room for it.
+#[inline(always)]
 pub fn note_event(notes: &mut Notes, spare: &mut u64, made: Option<Note>)
     requires room { length notes.old.items + spare.old ≤ notes.old.room }
     requires spare { 1 ≤ spare.old }
@@ -52,6 +54,7 @@ pub fn note_event(notes: &mut Notes, spare: &mut u64, made: Option<Note>)
 }
 
 /// Notes the Touch by a packet, if the call made it. There is room for it.
+#[inline(always)]
 pub fn note_touch(notes: &mut Notes, spare: &mut u64, packet: &Packet, made: Option<MadeTouch>)
     requires room { length notes.old.items + spare.old ≤ notes.old.room }
     requires spare { 1 ≤ spare.old }

@@ -41,6 +41,7 @@ fn has_both(direction: Direction, reply: Option<u32>, place: u32) -> bool
 }
 
 /// Finds the entry that has the flow's original tuple, or else its reply tuple. None is that there is none.
+#[inline(always)]
 pub fn find_rival(pass: &mut Pass, locked: &Locked, flow: &Flow) -> Option<Rival>
     requires shut { AreShut locked.now pass.old.view }
     requires original { has_bucket locked.now (bucket_in (sizes_of pass.old) flow.now.original) ≡ true }

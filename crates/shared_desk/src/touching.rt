@@ -33,6 +33,7 @@ pub struct MadeTouch {
 }
 
 /// The Touch of the entry of this id by a packet, with which it goes on so.
+#[inline(always)]
 pub fn touch_event(packet: &Packet, id: u64, after: Part) -> Event
     ensures { result ≡ touch_of packet.now id after }
 {
@@ -51,6 +52,7 @@ pub fn touch_event(packet: &Packet, id: u64, after: Part) -> Event
 }
 
 /// The entry accepts a packet and goes on with this part. Gives the Touch.
+#[inline(always)]
 fn go_on(
     pass: &mut Pass,
     place: u32,
@@ -74,6 +76,7 @@ fn go_on(
 }
 
 /// Does what the step says that a packet does to an entry, which was so at this point.
+#[inline(always)]
 pub fn step_record(
     pass: &mut Pass,
     place: u32,

@@ -16,6 +16,7 @@ use track_rule::word_places::{first_word, second_word};
 use tuple_core::{Tuple, words};
 
 /// Stores the tuple of a link of a place of which no link is in a chain.
+#[inline(always)]
 fn store_tuple(pass: &mut Pass, sizes: &Sizes, link: u64, t: &Tuple)
     requires limits { AreWithinLimits sizes.now }
     requires sizes { sizes.now ≡ sizes_of pass.old }
@@ -33,6 +34,7 @@ fn store_tuple(pass: &mut Pass, sizes: &Sizes, link: u64, t: &Tuple)
 }
 
 /// Stores both tuples of a flow in the place that was taken for it.
+#[inline(always)]
 pub fn store_tuples(pass: &mut Pass, place: u32, flow: &Flow)
     requires { IsFresh place pass.old }
     ensures stores { StoresTuples place flow.now pass.old pass.new }

@@ -11,6 +11,10 @@ spread x = (x * 0x9E3779B97F4A7C15) % 2 ^ 64
 unfoldable pub mix : ℕ → ℕ
 mix x = bit_xor (spread x) (spread x / 2 ^ 32)
 
+-- of the tuple with these words
+abbrev pub bucket_of_words : ℕ → ℕ → ℕ → ℕ → ℕ
+bucket_of_words addresses flow seed buckets = mix (bit_xor (mix (bit_xor addresses seed)) flow) % buckets
+
 abbrev pub hash_of : Tuple → ℕ → ℕ
 hash_of t seed = mix (bit_xor (mix (bit_xor (address_word t) seed)) (flow_word t))
 

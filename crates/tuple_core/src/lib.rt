@@ -15,7 +15,7 @@ mod bucket;
 mod tests;
 mod word_pair;
 
-pub use bucket::bucket_of;
+pub use bucket::{bucket_of, bucket_of_words};
 pub use word_pair::{of_words, words, words_determine_the_tuple};
 
 /// Memory was wanted and not there.

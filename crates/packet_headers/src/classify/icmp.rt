@@ -22,6 +22,7 @@ pub const LEAST_CAPTURED: usize = 6;
 
 /// Whether a type is of an error: destination unreachable, source quench, redirect, time exceeded or
 /// parameter problem.
+#[inline(always)]
 fn is_error_type(kind: u8) -> bool
     ensures { result ≡ is_error_type kind }
 {
@@ -29,6 +30,7 @@ fn is_error_type(kind: u8) -> bool
 }
 
 /// Whether the payload has a header of ICMP, captured up to its identifier.
+#[inline(always)]
 fn has_icmp_header(payload: &Ipv4Payload) -> bool
     ensures { result ≡ has_icmp_header payload.now }
 {
@@ -36,6 +38,7 @@ fn has_icmp_header(payload: &Ipv4Payload) -> bool
 }
 
 /// The tuple of the message at `at`, if it asks or answers.
+#[inline(always)]
 pub fn query_tuple(addresses: Addresses, bytes: &[u8], at: usize) -> Option<Tuple>
     requires { at + 6 ≤ length bytes.now }
     ensures exact { result ≡ query_tuple addresses bytes.now at }
@@ -51,6 +54,7 @@ pub fn query_tuple(addresses: Addresses, bytes: &[u8], at: usize) -> Option<Tupl
 
 /// The packet whose payload is of ICMP.
 #[tactic(auto, unfolding(crate::specs::IcmpPacket::icmp_packet))]
+#[inline(always)]
 pub fn icmp_packet(bytes: &[u8], payload: &Ipv4Payload) -> Packet
     requires { LiesIn bytes.now payload.now }
     ensures exact { result ≡ icmp_packet bytes.now payload.now }

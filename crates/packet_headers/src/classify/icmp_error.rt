@@ -85,6 +85,7 @@ fn inner_tuple(bytes: &[u8], payload: &Ipv4Payload) -> Option<Tuple>
 }
 
 /// The error whose payload this is.
+#[cold]
 pub fn icmp_error(bytes: &[u8], payload: &Ipv4Payload) -> Packet
     requires { LiesIn bytes.now payload.now }
     ensures exact { result ≡ icmp_error bytes.now payload.now }

@@ -42,6 +42,7 @@ pub struct Ipv4Payload {
 }
 
 /// The bytes of the header at `at`.
+#[inline(always)]
 pub fn header_length(bytes: &[u8], at: usize) -> usize
     requires { at < length bytes.now }
     ensures exact { result ≡ header_length bytes.now at }
@@ -51,6 +52,7 @@ pub fn header_length(bytes: &[u8], at: usize) -> usize
 }
 
 /// The bytes of the packet at `at`, header and data.
+#[inline(always)]
 fn total_length(bytes: &[u8], at: usize) -> usize
     requires { at + 4 ≤ length bytes.now }
     ensures { result ≡ total_length bytes.now at }
@@ -59,6 +61,7 @@ fn total_length(bytes: &[u8], at: usize) -> usize
 }
 
 /// Whether the header of the packet at `at` is right, and its fixed part among the captured bytes.
+#[inline(always)]
 pub fn has_ipv4_header(bytes: &[u8], at: usize, captured: usize) -> bool
     requires { at + captured ≤ length bytes.now }
     ensures { result ≡ has_ipv4_header bytes.now at captured }
@@ -69,6 +72,7 @@ pub fn has_ipv4_header(bytes: &[u8], at: usize, captured: usize) -> bool
 }
 
 /// The place of a fragment in its packet, in units of eight bytes.
+#[inline(always)]
 pub fn fragment_offset(bytes: &[u8], at: usize) -> u16
     requires { at + 20 ≤ length bytes.now }
     ensures { result ≡ fragment_offset bytes.now at }
@@ -77,6 +81,7 @@ pub fn fragment_offset(bytes: &[u8], at: usize) -> u16
 }
 
 /// Whether the packet at `at` is a fragment: others follow, or others stand before it.
+#[inline(always)]
 pub fn is_fragment(bytes: &[u8], at: usize) -> bool
     requires { at + 20 ≤ length bytes.now }
     ensures { result ≡ is_fragment bytes.now at }
@@ -86,6 +91,7 @@ pub fn is_fragment(bytes: &[u8], at: usize) -> bool
 }
 
 /// The protocol with this number, if it is tracked.
+#[inline(always)]
 pub fn tracked_protocol(number: u8) -> Option<Proto>
     ensures { result ≡ tracked_protocol number }
 {
@@ -98,6 +104,7 @@ pub fn tracked_protocol(number: u8) -> Option<Proto>
 }
 
 /// The addresses of the packet at `at`.
+#[inline(always)]
 pub fn addresses_of(bytes: &[u8], at: usize) -> Addresses
     requires { at + 20 ≤ length bytes.now }
     ensures { result ≡ addresses_of bytes.now at }
@@ -109,6 +116,7 @@ pub fn addresses_of(bytes: &[u8], at: usize) -> Addresses
 }
 
 /// What the packet at `at` carries. `captured` of the packet's bytes are there.
+#[inline(always)]
 pub fn ipv4_payload(bytes: &[u8], at: usize, captured: usize) -> Ipv4Payload
     requires header { 20 ≤ captured }
     requires packet { header_length bytes.now at ≤ total_length bytes.now at }

@@ -13,6 +13,7 @@ pub const PORTS: usize = 4;
 
 /// The tuple with the ports at `at`.
 #[tactic(auto, using(crate::proofs::Ports::has_flow_by_ports))]
+#[inline(always)]
 pub fn ports_tuple(proto: Proto, addresses: Addresses, bytes: &[u8], at: usize) -> Tuple
     requires room { at + 4 ≤ length bytes.now }
     requires ports { has_ports proto ≡ true }

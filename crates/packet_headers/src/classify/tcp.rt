@@ -36,6 +36,7 @@ const ACK: u8 = 0x10;
 const URG: u8 = 0x20;
 
 /// The bytes of the header at `at`.
+#[inline(always)]
 fn data_offset(bytes: &[u8], at: usize) -> usize
     requires { at + 13 ≤ length bytes.now }
     ensures exact { result ≡ data_offset bytes.now at }
@@ -45,6 +46,7 @@ fn data_offset(bytes: &[u8], at: usize) -> usize
 }
 
 /// 1 where a control bit is set.
+#[inline(always)]
 fn flag(flags: u8, value: u8) -> u8
     requires { 0 < value }
     ensures exact { result ≡ flag flags value }
@@ -55,6 +57,7 @@ fn flag(flags: u8, value: u8) -> u8
 
 /// Whether a segment may have these control bits.
 #[tactic(auto, unfolding(crate::specs::TcpFlags::is_valid_flag_set))]
+#[inline(always)]
 fn is_valid_flag_set(flags: u8) -> bool
     ensures { result ≡ is_valid_flag_set flags }
 {
@@ -65,6 +68,7 @@ fn is_valid_flag_set(flags: u8) -> bool
 
 /// The kind of a segment, by its control bits.
 #[tactic(auto, unfolding(crate::specs::TcpFlags::kind))]
+#[inline(always)]
 fn kind(flags: u8) -> Kind
     ensures { result ≡ kind flags }
 {
@@ -84,6 +88,7 @@ fn kind(flags: u8) -> Kind
 }
 
 /// Whether the payload has a right header of TCP, captured up to its control bits.
+#[inline(always)]
 fn has_tcp_header(bytes: &[u8], payload: &Ipv4Payload) -> bool
     requires { LiesIn bytes.now payload.now }
     ensures { result ≡ has_tcp_header bytes.now payload.now }
@@ -96,6 +101,7 @@ fn has_tcp_header(bytes: &[u8], payload: &Ipv4Payload) -> bool
 }
 
 /// The captured data of the segment.
+#[inline(always)]
 fn tcp_payload(bytes: &[u8], payload: &Ipv4Payload) -> Span
     requires captured { 14 ≤ payload.now.captured }
     requires lies { LiesIn bytes.now payload.now }
@@ -115,6 +121,7 @@ fn tcp_payload(bytes: &[u8], payload: &Ipv4Payload) -> Span
 
 /// The packet whose payload is of TCP.
 #[tactic(auto, unfolding(crate::specs::TcpHeader::tcp_packet))]
+#[inline(always)]
 pub fn tcp_packet(bytes: &[u8], payload: &Ipv4Payload) -> Packet
     requires { LiesIn bytes.now payload.now }
     ensures exact { result ≡ tcp_packet bytes.now payload.now }

@@ -19,6 +19,7 @@ const HEADER: usize = 8;
 const LEAST_CAPTURED: usize = 6;
 
 /// The bytes of the datagram at `at`, header and data.
+#[inline(always)]
 fn udp_length(bytes: &[u8], at: usize) -> usize
     requires { at + 6 ≤ length bytes.now }
     ensures { result ≡ udp_length bytes.now at }
@@ -27,6 +28,7 @@ fn udp_length(bytes: &[u8], at: usize) -> usize
 }
 
 /// Whether the payload has a right header of UDP, captured up to its length.
+#[inline(always)]
 fn has_udp_header(bytes: &[u8], payload: &Ipv4Payload) -> bool
     requires { LiesIn bytes.now payload.now }
     ensures { result ≡ has_udp_header bytes.now payload.now }
@@ -39,6 +41,7 @@ fn has_udp_header(bytes: &[u8], payload: &Ipv4Payload) -> bool
 
 /// The packet whose payload is of UDP.
 #[tactic(auto, unfolding(crate::specs::UdpHeader::udp_packet))]
+#[inline(always)]
 pub fn udp_packet(bytes: &[u8], payload: &Ipv4Payload) -> Packet
     requires { LiesIn bytes.now payload.now }
     ensures exact { result ≡ udp_packet bytes.now payload.now }

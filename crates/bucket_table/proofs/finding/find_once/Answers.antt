@@ -17,7 +17,7 @@ returns-in-Link-clause-says c =
       first = get_or c.words.result 0 0;
       second = get_or c.words.result 1 0;
     } in
-    let sizes : c.sizes-sizes.result ≡ sizes_of c.args.pass.now = c.sizes-sizes.ensures.sizes ∙ ap sizes_of c.in-Link.ensures.reads.same in
+    let sizes : c.sizes-sizes.result ≡ sizes_of c.args.pass.now = c.sizes-sizes.ensures.sizes in
     meets_says c.args.t.now g c.in-Link.place c.in-Link.direction c.args.pass.now c.follow.new.pass
     (subst (λ (z : Sizes). 1 ≤ z.passes) sizes c.sizes-sizes.ensures.limits.some_passes) c.requires.mine c.in-Link.ensures
     (c.bucket_of-bucket.ensures.exact ∙ ap (λ (z : Sizes). bucket_in z c.args.t.now) sizes)
