@@ -127,6 +127,17 @@ impl<T> RoomList<T> {
         &self.items[index]
     }
 
+    /// A copy of the item at `index`.
+    #[inline(always)]
+    pub fn item(&self, index: usize) -> T
+    where
+        T: Copy,
+        requires { index < length self.now.items }
+        ensures { slice_get self.now.items index ≡ Some result }
+    {
+        *self.at(index)
+    }
+
     /// All items.
     #[inline(always)]
     pub fn as_slice(&self) -> &[T]

@@ -17,6 +17,7 @@ fn each_call_once(rt: HostRuntime) -> Result<(), Fail> {
     assert_eq!(rt; list.as_slice(), [10, 20, 30, 40, 50].as_slice());
     assert_eq!(rt; list.len(), 5);
     assert_eq!(rt; *list.at(3), 40);
+    assert_eq!(rt; list.item(2), 30);
     list.set(3, 45);
     assert_eq!(rt; list.remove(1), 20);
     assert_eq!(rt; list.as_slice(), [10, 30, 45, 50].as_slice());
