@@ -1,10 +1,10 @@
 -- A check of a history, as far as it has come: what it has seen is a legal history, and its table is the state after it.
-use Rattle.std.proofs.Common.{◌≡◌, ℕ, ◌+◌, ◌<◌, ◌≤◌, zero, suc, Bool, true, false, List, [], ◌∷◌, length, take, get_or, refl, sym, ap, subst, ◌∙◌, Some, arith, zero-add}
+use Rattle.std.proofs.Common.{◌≡◌, ℕ, ◌+◌, ◌<◌, ◌≤◌, zero, suc, Bool, true, false, List, [], ◌∷◌, length, take, refl, sym, ap, subst, ◌∙◌, Some, arith, zero-add}
 use Rattle.std.specs.List.{slice_get}
 use Rattle.std.specs.Prelude.{◌==◌, ◌&&◌, not}
 use Rattle.std.proofs.lemmas.Bool.{and_from, and_parts, eq-eqb, eqb-true, false≢true, not-false}
 use Rattle.std.proofs.lemmas.List.{take_all}
-use Rattle.std.proofs.lemmas.Option.{slice_get-get_or, slice_get_within}
+use Rattle.std.proofs.lemmas.Option.{slice_get_within}
 use Rattle.history_book.specs.Checked.{IsBrokenAt, IsFirstBroken, IsLegalHistory, TwoSizesDecide, is_broken_at, sizes_with}
 use Rattle.history_book.specs.declared.event.Event.{Event}
 use Rattle.history_book.specs.declared.event.Event.TheVariants.{Confirm, Touch, Destroy, Expect, Claim, Unexpect}
@@ -137,26 +137,24 @@ first_broken sizes items i s item h at bad = record {
   before = λ k low. none_broken sizes items i k h.front low;
 }
 
--- the same of the item that a loop reads
-pub sound_on : (sizes z : Sizes) (items : List Numbered) (i : ℕ) (d : Numbered) (b : Bool) (s t : State) → z ≡ sizes
-    → IsSoundTo sizes items i s → i < length items
-    → b ≡ not ((get_or items i d).number == i && may_happen z s i (get_or items i d).event) → b ≡ false
-    → t ≡ next s (get_or items i d).event → IsSoundTo sizes items (i + 1) t
-sound_on sizes z items i d b s t same h within tells is_false is =
-    let test : not ((get_or items i d).number == i && may_happen sizes s i (get_or items i d).event) ≡ false =
-    subst (λ (x : Sizes). not ((get_or items i d).number == i && may_happen x s i (get_or items i d).event) ≡ false) same
-    (sym tells ∙ is_false) in
-    sound_more sizes items i s t (get_or items i d) h (slice_get-get_or items i d within) test is
+-- the same where the sizes are those that a call answered
+pub sound_on : (sizes z : Sizes) (items : List Numbered) (i : ℕ) (item : Numbered) (b : Bool) (s t : State) → z ≡ sizes
+    → IsSoundTo sizes items i s → slice_get items i ≡ Some item
+    → b ≡ not (item.number == i && may_happen z s i item.event) → b ≡ false
+    → t ≡ next s item.event → IsSoundTo sizes items (i + 1) t
+sound_on sizes z items i item b s t same h at tells is_false is =
+    let test : not (item.number == i && may_happen sizes s i item.event) ≡ false =
+    subst (λ (x : Sizes). not (item.number == i && may_happen x s i item.event) ≡ false) same (sym tells ∙ is_false) in
+    sound_more sizes items i s t item h at test is
 
-pub broken_here : (sizes z : Sizes) (items : List Numbered) (i : ℕ) (d : Numbered) (b : Bool) (s : State) → z ≡ sizes
-    → IsSoundTo sizes items i s → i < length items
-    → b ≡ not ((get_or items i d).number == i && may_happen z s i (get_or items i d).event) → b ≡ true
+pub broken_here : (sizes z : Sizes) (items : List Numbered) (i : ℕ) (item : Numbered) (b : Bool) (s : State) → z ≡ sizes
+    → IsSoundTo sizes items i s → slice_get items i ≡ Some item
+    → b ≡ not (item.number == i && may_happen z s i item.event) → b ≡ true
     → IsFirstBroken sizes items i
-broken_here sizes z items i d b s same h within tells is_true =
-    let test : not ((get_or items i d).number == i && may_happen sizes s i (get_or items i d).event) ≡ true =
-    subst (λ (x : Sizes). not ((get_or items i d).number == i && may_happen x s i (get_or items i d).event) ≡ true) same
-    (sym tells ∙ is_true) in
-    first_broken sizes items i s (get_or items i d) h (slice_get-get_or items i d within) test
+broken_here sizes z items i item b s same h at tells is_true =
+    let test : not (item.number == i && may_happen sizes s i item.event) ≡ true =
+    subst (λ (x : Sizes). not (item.number == i && may_happen x s i item.event) ≡ true) same (sym tells ∙ is_true) in
+    first_broken sizes items i s item h at test
 
 pub legal_unbroken : (sizes : Sizes) (items : List Numbered) → IsLegalHistory sizes items → (k : ℕ) → ¬ IsBrokenAt sizes items k
 legal_unbroken sizes items h k bad =

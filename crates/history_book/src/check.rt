@@ -151,31 +151,6 @@ impl Table {
     }
 }
 
-/// Checks the items of a history of a tracker with so many places and room for so many expectations.
-fn check_items(
-    alloc: Global,
-    items: &[Numbered],
-    entries: u32,
-    expectations: u32,
-) -> Result<Checked, NoMemory>
-    ensures legal { IfOk result (λ c. IsTrue (says_legal c)
-        ↔ IsLegalHistory (sizes_with entries expectations) items.now) }
-    ensures live { IfOk result (CountsLive items.now) }
-    ensures broken { IfOk result (NamesFirstBroken (sizes_with entries expectations) items.now) }
-{
-    let sizes = sizes_with(entries, expectations);
-    let mut table = Table::new(alloc);
-    'items: for (index, item) in items.iter().enumerate() {
-        let number = index as u64;
-        if table.is_broken(&sizes, number, item) {
-            return Ok(Checked::Broken { number });
-        }
-        table.go_on(&item.event)?;
-    }
-    let live = table.records.len() as u32;
-    Ok(Checked::Legal { live })
-}
-
 /// Checks a history of a tracker with so many places and room for so many expectations. Takes memory for what is live and
 /// expected at once, and time in proportion to the history times that.
 pub fn check_history(
@@ -189,7 +164,18 @@ pub fn check_history(
     ensures live { IfOk result (CountsLive history.now.items) }
     ensures broken { IfOk result (NamesFirstBroken (sizes_with entries expectations) history.now.items) }
 {
-    check_items(alloc, history.as_slice(), entries, expectations)
+    let sizes = sizes_with(entries, expectations);
+    let mut table = Table::new(alloc);
+    'items: for index in 0..history.len() {
+        let number = index as u64;
+        let item = history.item(index);
+        if table.is_broken(&sizes, number, &item) {
+            return Ok(Checked::Broken { number });
+        }
+        table.go_on(&item.event)?;
+    }
+    let live = table.records.len() as u32;
+    Ok(Checked::Legal { live })
 }
 
 /// Of the sizes of a tracker, the places and the room for expectations alone say which histories are legal: a law, the

@@ -6,7 +6,6 @@ use crate::record::Record;
 use crate::report::History;
 use expect_table::expectation::{Expectation, Want};
 use proto_rules::{Part, PartKind, TcpState};
-use room_list::RoomList;
 use std::alloc::Global;
 use std::test::Fail;
 use tuple_core::{Direction, NoMemory, Proto, Segment, Tuple};
@@ -136,7 +135,7 @@ fn answer_from(
     entries: u32,
     expectations: u32,
 ) -> Result<Checked, NoMemory> {
-    let mut history: History = RoomList::empty(alloc);
+    let mut history = History::empty(alloc);
     let mut number = first;
     for event in events {
         let item = Numbered {
@@ -145,7 +144,8 @@ fn answer_from(
             index: 0,
             event: *event,
         };
-        history.append(&[item])?;
+        history.reserve(1)?;
+        history.push(item);
         number = number.saturating_add(1);
     }
     check_history(alloc, &history, entries, expectations)
@@ -223,7 +223,7 @@ fn numbers_that_are_not_the_indices(rt: HostRuntime) -> Result<(), Fail> {
     let alloc = rt.alloc();
     let shifted = answer_from(alloc, 1, &[asked!(1, 0, 9), asked!(2, 1, 9)], 2, 0)?;
     assert!(rt; matches!(shifted, Checked::Broken { number: 0 }));
-    let mut history: History = RoomList::empty(alloc);
+    let mut history = History::empty(alloc);
     for (number, event) in [(0, ASKED), (2, ANSWERED)] {
         let item = Numbered {
             number,
@@ -231,7 +231,8 @@ fn numbers_that_are_not_the_indices(rt: HostRuntime) -> Result<(), Fail> {
             index: 0,
             event,
         };
-        history.append(&[item])?;
+        history.reserve(1)?;
+        history.push(item);
     }
     let skipped = check_history(alloc, &history, 1, 0)?;
     assert!(rt; matches!(skipped, Checked::Broken { number: 1 }));

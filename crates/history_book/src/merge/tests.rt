@@ -134,7 +134,7 @@ fn interleaved(rt: HostRuntime) -> Result<(), Fail> {
     assert_eq!(rt; report.answers.len(), 2);
     assert_eq!(rt; report.history.len(), 8);
     for (place, (thread, index)) in NAMES.iter().enumerate() {
-        let item = report.history.at(place);
+        let item = report.history.item(place);
         assert_eq!(rt; item.number, place as u64);
         assert_eq!(rt; item.thread, *thread, "at {place}");
         assert_eq!(rt; item.index, *index, "at {place}");
