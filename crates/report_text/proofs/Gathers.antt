@@ -1,6 +1,8 @@
 -- How texts that are gathered one after another are one text.
-use Rattle.std.proofs.Common.{◌≡◌, ℕ, ◌+◌, ◌<◌, ◌≤◌, List, [], ◌++◌, length, get_or, take, Result, Ok, Err, IsErr, refl, arith, append_assoc, append-nil}
+use Rattle.std.proofs.Common.{◌≡◌, ℕ, ◌+◌, ◌<◌, ◌≤◌, List, [], ◌++◌, length, get_or, take, Some, Result, Ok, Err, IsErr, refl, arith, append_assoc, append-nil}
+use Rattle.std.specs.List.{slice_get}
 use Rattle.std.proofs.lemmas.List.{take_all}
+use Rattle.std.proofs.lemmas.Option.{get_or_from_slice_get, slice_get_within}
 use Rattle.ct_io.specs.Tape.{Tape}
 use Rattle.report_text.specs.Internal.Gathered.{Gathered, Lost, Sent}
 use Rattle.report_text.specs.Page.{Adds, Held}
@@ -129,6 +131,23 @@ pub gathered_step : {X : Type 0} (text : ℕ → X → List ℕ) (xs : List X) (
 gathered_step text xs i d p q r a b c (Ok done) err within s l = cc
 gathered_step text xs i d p q r a b c (Err fault) err within s l =
     lost_step text xs i d p q a b c within s l
+
+-- the same two steps where the next item is read as a copy
+pub sent_item : {X : Type 0} (text : ℕ → X → List ℕ) (xs : List X) (i : ℕ) (x : X)
+    (p q r : Held) (a b c : Tape) → slice_get xs i ≡ Some x →
+    Sent (texts_from text 0 (take i xs)) p q a b → Sent (text i x) q r b c →
+    Sent (texts_from text 0 (take (i + 1) xs)) p r a c
+sent_item text xs i x p q r a b c at s u =
+    sent_step text xs i x p q r a b c (slice_get_within xs i x at) s
+    (rw (get_or_from_slice_get xs i x x at) u)
+
+pub gathered_item : {X : Type 0} (text : ℕ → X → List ℕ) (xs : List X) (i : ℕ) (x : X)
+    (p q r : Held) (a b c : Tape) (result : Result (Unit {0}) WriteFault) → IsErr result →
+    slice_get xs i ≡ Some x → Sent (texts_from text 0 (take i xs)) p q a b →
+    Lost (text i x) q b c → Gathered (texts_from text 0 xs) p r a c result
+gathered_item text xs i x p q r a b c result err at s l =
+    gathered_step text xs i x p q r a b c result err (slice_get_within xs i x at) s
+    (rw (get_or_from_slice_get xs i x x at) l)
 
 -- where the page was empty and bytes were lost, first bytes of the text were written
 pub lost_front : (text : List ℕ) (p : Held) (a b : Tape) → p.text ≡ [] → Lost text p a b →

@@ -16,17 +16,17 @@ use crate::page::{LONGEST_LINE, Page};
 use crate::write::{WriteFault, make_room, write_all};
 use ct_io::Sink;
 use history_book::report::{Report, Verdicts};
-use history_book::verdict::Verdict;
 
 /// How often each first word occurs, in their order. No number of verdicts is too large for it.
 type Counts = [u128; WORDS];
 
 /// Counts the first words of some more verdicts.
-fn count_verdicts(counts: &mut Counts, verdicts: &[Verdict])
-    requires { (word : FirstWord) → slice_index counts.old (place_of word) + length verdicts.now < 2 ^ 128 }
-    ensures { Counted verdicts.now counts.old counts.new }
+fn count_verdicts(counts: &mut Counts, verdicts: &Verdicts)
+    requires { (word : FirstWord) → slice_index counts.old (place_of word) + length verdicts.now.items < 2 ^ 128 }
+    ensures { Counted verdicts.now.items counts.old counts.new }
 {
-    'verdicts: for verdict in verdicts {
+    'verdicts: for index in 0..verdicts.len() {
+        let verdict = verdicts.item(index);
         counts[FirstWord::of(verdict.class).place()] += 1;
     }
 }
@@ -37,7 +37,7 @@ fn count_threads(threads: &[Verdicts]) -> Counts
 {
     let mut counts = [0; WORDS];
     'threads: for verdicts in threads {
-        count_verdicts(&mut counts, verdicts.as_slice());
+        count_verdicts(&mut counts, verdicts);
     }
     counts
 }

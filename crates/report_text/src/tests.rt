@@ -4,12 +4,12 @@ use crate::page::LONGEST_LINE;
 use crate::write::{write_each, write_report};
 use ct_io::MemSink;
 use expect_table::expectation::{Expectation, Want};
+use history_book::answer::Answers;
 use history_book::event::{Event, Numbered, Why};
 use history_book::record::Record;
-use history_book::report::Report;
+use history_book::report::{History, Report, ThreadVerdicts, Verdicts};
 use history_book::verdict::{Class, Ftp, Label, Translated, UntrackedWhy, Verdict};
 use proto_rules::{Part, PartKind, TcpState};
-use room_list::RoomList;
 use std::alloc::Global;
 use std::process::Abort;
 use std::test::Fail;
@@ -130,18 +130,30 @@ fn passed(label: Label, at: u64, ftp: Ftp) -> Verdict {
     })
 }
 
+/// A list of these verdicts.
+fn verdicts_of(alloc: Global, items: &[Verdict]) -> Result<Verdicts, NoMemory> {
+    let mut verdicts = Verdicts::empty(alloc);
+    for item in items {
+        verdicts.reserve(1)?;
+        verdicts.push(*item);
+    }
+    Ok(verdicts)
+}
+
 /// A report with these events, and these verdicts for each thread.
 fn report_of(
     alloc: Global,
     events: &[Numbered],
     verdicts: &[&[Verdict]],
 ) -> Result<Report, NoMemory> {
-    let mut history = RoomList::new(alloc, 0)?;
-    history.append(events)?;
-    let mut threads = RoomList::new(alloc, 0)?;
+    let mut history = History::empty(alloc);
+    for event in events {
+        history.reserve(1)?;
+        history.push(*event);
+    }
+    let mut threads = ThreadVerdicts::new(alloc, 0)?;
     for list in verdicts {
-        let mut own = RoomList::new(alloc, 0)?;
-        own.append(list)?;
+        let own = verdicts_of(alloc, list)?;
         threads.reserve(1)?;
         threads.push(own);
     }
@@ -149,7 +161,7 @@ fn report_of(
         history,
         live: 1,
         threads,
-        answers: RoomList::new(alloc, 0)?,
+        answers: Answers::new(alloc, 0)?,
     })
 }
 

@@ -17,7 +17,7 @@ use ct_io::{Failed, Sink};
 use expect_table::expectation::Expectation;
 use history_book::answer::{Answer, Row, Said};
 use history_book::event::Numbered;
-use history_book::report::{Report, Verdicts};
+use history_book::report::{History, Report, Verdicts};
 use history_book::verdict::Verdict;
 
 /// Writing failed.
@@ -152,15 +152,16 @@ fn write_script_head<K: Sink>(
 #[tactic(auto, using(crate::proofs::Gathers::sent_none, crate::proofs::Gathers::sent_each))]
 fn write_events<K: Sink>(
     script: usize,
-    events: &[Numbered],
+    events: &History,
     page: &mut Page,
     out: &mut K,
 ) -> Result<(), WriteFault>
-    ensures { Gathered (texts_from (line_of_event script) 0 events.now) page.old page.new
+    ensures { Gathered (texts_from (line_of_event script) 0 events.now.items) page.old page.new
         (K.tape out.old) (K.tape out.new) result }
 {
-    'events: for event in events {
-        write_event(script, event, page, out)?;
+    'events: for index in 0..events.len() {
+        let event = events.item(index);
+        write_event(script, &event, page, out)?;
     }
     Ok(())
 }
@@ -169,11 +170,11 @@ fn write_events<K: Sink>(
 #[tactic(auto, using(crate::proofs::Gathers::gathered_then, crate::proofs::Gathers::lost_more), unfolding(crate::specs::Report::history_text))]
 fn write_history<K: Sink>(
     script: usize,
-    events: &[Numbered],
+    events: &History,
     page: &mut Page,
     out: &mut K,
 ) -> Result<(), WriteFault>
-    ensures { Gathered (history_text script events.now) page.old page.new
+    ensures { Gathered (history_text script events.now.items) page.old page.new
         (K.tape out.old) (K.tape out.new) result }
 {
     write_history_head(events.len(), page, out)?;
@@ -183,15 +184,16 @@ fn write_history<K: Sink>(
 /// Writes the line of each verdict, or holds it back.
 #[tactic(auto, using(crate::proofs::Gathers::sent_none, crate::proofs::Gathers::sent_each))]
 fn write_verdicts<K: Sink>(
-    verdicts: &[Verdict],
+    verdicts: &Verdicts,
     page: &mut Page,
     out: &mut K,
 ) -> Result<(), WriteFault>
-    ensures { Gathered (texts_from verdict_line 0 verdicts.now) page.old page.new
+    ensures { Gathered (texts_from verdict_line 0 verdicts.now.items) page.old page.new
         (K.tape out.old) (K.tape out.new) result }
 {
-    'verdicts: for (index, verdict) in verdicts.iter().enumerate() {
-        write_verdict(index, verdict, page, out)?;
+    'verdicts: for index in 0..verdicts.len() {
+        let verdict = verdicts.item(index);
+        write_verdict(index, &verdict, page, out)?;
     }
     Ok(())
 }
@@ -208,7 +210,7 @@ fn write_thread<K: Sink>(
         (K.tape out.old) (K.tape out.new) result }
 {
     write_thread_head(thread, verdicts.len(), page, out)?;
-    write_verdicts(verdicts.as_slice(), page, out)
+    write_verdicts(verdicts, page, out)
 }
 
 /// Writes the verdicts of each thread, or holds them back.
@@ -234,7 +236,7 @@ fn write_tracking<K: Sink>(report: &Report, page: &mut Page, out: &mut K) -> Res
         (K.tape out.old) (K.tape out.new) result }
 {
     let script = report.threads.len();
-    write_history(script, report.history.as_slice(), page, out)?;
+    write_history(script, &report.history, page, out)?;
     write_threads(report.threads.as_slice(), page, out)
 }
 

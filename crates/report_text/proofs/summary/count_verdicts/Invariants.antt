@@ -3,4 +3,4 @@ use Rattle.report_text.specs.Internal.Counting.{Counted}
 use Rattle.report_text.proofs.summary.count_verdicts.Given as goal
 
 abbrev pub invariant-verdicts : goal.invariant-verdicts
-invariant-verdicts l = Counted (take l.verdict-index l.verdicts) l.initial.counts l.counts
+invariant-verdicts l = Counted (take l.index l.verdicts.items) l.initial.counts l.counts

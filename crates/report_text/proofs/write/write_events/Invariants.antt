@@ -6,5 +6,5 @@ use Rattle.report_text.proofs.write.write_events.Given as goal
 
 abbrev pub invariant-events : goal.invariant-events
 invariant-events g l =
-    Sent (texts_from (line_of_event l.script) 0 (take l.event-index l.events)) l.initial.page l.page
+    Sent (texts_from (line_of_event l.script) 0 (take l.index l.events.items)) l.initial.page l.page
     (g.K.Sink.tape l.initial.out) (g.K.Sink.tape l.out)
