@@ -22,8 +22,9 @@ type Counts = [u128; WORDS];
 
 /// Counts the first words of some more verdicts.
 fn count_verdicts(counts: &mut Counts, verdicts: &Verdicts)
-    requires { (word : FirstWord) → slice_index counts.old (place_of word) + length verdicts.now.items < 2 ^ 128 }
-    ensures { Counted verdicts.now.items counts.old counts.new }
+    requires { (word : FirstWord) → slice_index counts.old (place_of word) + 2 ^ 64 ≤ 2 ^ 128 }
+    ensures counted { Counted verdicts.now.items counts.old counts.new }
+    ensures few { length verdicts.now.items < 2 ^ 64 }
 {
     'verdicts: for index in 0..verdicts.len() {
         let verdict = verdicts.item(index);

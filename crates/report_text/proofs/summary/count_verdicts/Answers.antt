@@ -1,0 +1,8 @@
+use Rattle.std.proofs.Common.{rules}
+use Rattle.report_text.proofs.Counts.{counted_more}
+use Rattle.report_text.proofs.summary.count_verdicts.Goals as goal
+
+pub verdicts-preserved : goal.verdicts-preserved
+verdicts-preserved c =
+    counted_more c.args.verdicts.now.items c.verdicts.index c.item-verdict.result c.args.counts.now c.verdicts.counts c.place.result
+    c.item-verdict.ensures (rw c.of.ensures at c.place.ensures) (search rules) c.verdicts.invariant
