@@ -1,13 +1,14 @@
 -- The sessions and the lines, one event after another.
-use Rattle.std.proofs.Common.{◌≡◌, ◌∙◌, ℕ, suc, zero, ◌+◌, ◌<◌, ◌≤◌, Bool, true, false, cond, List, [], ◌∷◌, ◌++◌, length, get_or, take, drop, map, Option, Some, None, refl, sym, ap, subst, arith, append_assoc, append-nil, drop-cons}
+use Rattle.std.proofs.Common.{◌≡◌, ◌∙◌, ℕ, suc, zero, ◌+◌, ◌≤◌, Bool, true, false, cond, List, [], ◌∷◌, ◌++◌, length, take, drop, map, Option, Some, None, refl, sym, ap, subst, arith, append_assoc, append-nil, drop-cons}
 use Rattle.std.specs.Prelude.{◌==◌, option_to_list}
-use Rattle.std.specs.List.{fold}
+use Rattle.std.specs.List.{fold, slice_get}
 use Rattle.std.specs.Option.{option_map}
 use Rattle.std.specs.BTreeMap.{BTreeMap, is_at}
 use Rattle.std.specs.Ordering.{nat_cmp}
 use Rattle.std.proofs.lemmas.Bool.Decides.{nat_tests}
 use Rattle.std.proofs.lemmas.List.{take_more}
 use Rattle.std.proofs.lemmas.List.Sums.{fold-append}
+use Rattle.std.proofs.lemmas.Option.{get_or_from_slice_get, slice_get_within}
 use Rattle.history_book.specs.declared.event.Event.TheVariants.{Confirm, Touch, Destroy}
 use Rattle.history_book.specs.declared.event.Numbered.{Numbered}
 use Rattle.history_book.specs.declared.event.Why.{Why}
@@ -110,30 +111,38 @@ put_back old mid new id now out back q = back q ∙ (ap (λ (s : Option Session)
     either true = refl
     either false = refl
 
+-- one item more
+first_more : (items : List Numbered) (i : ℕ) (item : Numbered) → slice_get items i ≡ Some item → take (i + 1) items ≡ take i items ++ item ∷ []
+first_more items i item at =
+    take_more items i item (slice_get_within items i item at)
+    ∙ ap (λ (x : Numbered). take i items ++ x ∷ []) (get_or_from_slice_get items i item item at)
+
 -- the sessions after the first items, and one item more
-pub session_more : (run : Run) (items : List Numbered) (i : ℕ) (d : Numbered) (id : ℕ) → i < length items
-    → session_of run id (take (i + 1) items) ≡ after_item run id (session_of run id (take i items)) (get_or items i d)
+pub session_more : (run : Run) (items : List Numbered) (i : ℕ) (item : Numbered) (id : ℕ) → slice_get items i ≡ Some item
+    → session_of run id (take (i + 1) items) ≡ after_item run id (session_of run id (take i items)) item
 unfolding session_of
-session_more run items i d id within =
-    ap (fold (after_item run id) None) (take_more items i d within)
-    ∙ fold-append (after_item run id) None (take i items) (get_or items i d ∷ [])
+session_more run items i item id at =
+    ap (fold (after_item run id) None) (first_more items i item at)
+    ∙ fold-append (after_item run id) None (take i items) (item ∷ [])
 
 pub session_first : (run : Run) (items : List Numbered) (id : ℕ) → session_of run id (take 0 items) ≡ None
 unfolding session_of
 session_first run items id = refl
 
 -- the lines behind the first items begin with that of the next one
-from_here : (items : List Numbered) (i : ℕ) (d : Numbered) → i < length items → drop i items ≡ get_or items i d ∷ drop (i + 1) items
-from_here items i d within = subst (λ (k : ℕ). drop i items ≡ get_or items i d ∷ drop k items) one (drop-cons items i d within)
+from_here : (items : List Numbered) (i : ℕ) (item : Numbered) → slice_get items i ≡ Some item → drop i items ≡ item ∷ drop (i + 1) items
+from_here items i item at =
+    subst (λ (k : ℕ). drop i items ≡ item ∷ drop k items) one
+    (drop-cons items i item (slice_get_within items i item at) ∙ ap (λ (x : Numbered). x ∷ drop (suc i) items) (get_or_from_slice_get items i item item at))
   where
     one : suc i ≡ i + 1
     one = omega arith
 
-pub lines_more : (run : Run) (items : List Numbered) (i : ℕ) (d : Numbered) → i < length items
+pub lines_more : (run : Run) (items : List Numbered) (i : ℕ) (item : Numbered) → slice_get items i ≡ Some item
     → lines_behind run (take i items) (drop i items)
-    ≡ option_to_list (line_by run (λ id. session_of run id (take i items)) (get_or items i d)) ++ lines_behind run (take (i + 1) items) (drop (i + 1) items)
+    ≡ option_to_list (line_by run (λ id. session_of run id (take i items)) item) ++ lines_behind run (take (i + 1) items) (drop (i + 1) items)
 unfolding lines_behind
-lines_more run items i d within = rw (from_here items i d within, take_more items i d within) refl
+lines_more run items i item at = rw (from_here items i item at, first_more items i item at) refl
 
 nothing_left : (items : List Numbered) (i : ℕ) → length items ≤ i → drop i items ≡ []
 nothing_left [] zero past = refl
@@ -161,24 +170,23 @@ none_yet run items sessions lines empty nothing = record {
 same_line : (run : Run) (item : Numbered) (one other : ℕ → Option Session) → ((q : ℕ) → one q ≡ other q) → line_by run one item ≡ line_by run other item
 same_line run item one other same = λ i. line_by run (λ q. same q i) item
 
-pub one_more : (run : Run) (items : List Numbered) (i : ℕ) (d : Numbered) (old new : BTreeMap ℕ Session) (lines more : List Rewrite) (line : Option Rewrite)
-    → i < length items → SoFar run items i old lines
-    → ((q : ℕ) → at_id new q ≡ after_item run q (at_id old q) (get_or items i d))
-    → option_map seen line ≡ line_by run (at_id old) (get_or items i d)
+pub one_more : (run : Run) (items : List Numbered) (i : ℕ) (item : Numbered) (old new : BTreeMap ℕ Session) (lines more : List Rewrite) (line : Option Rewrite)
+    → slice_get items i ≡ Some item → SoFar run items i old lines
+    → ((q : ℕ) → at_id new q ≡ after_item run q (at_id old q) item)
+    → option_map seen line ≡ line_by run (at_id old) item
     → map seen more ≡ map seen lines ++ option_to_list (option_map seen line)
     → SoFar run items (i + 1) new more
-one_more run items i d old new lines more line within so_far sessions says puts =
-    let by : option_to_list (option_map seen line) ≡ option_to_list (line_by run (λ q. session_of run q (take i items)) (get_or items i d)) =
-    ap option_to_list (says ∙ same_line run (get_or items i d) (at_id old) (λ q. session_of run q (take i items)) so_far.each) in
+one_more run items i item old new lines more line at so_far sessions says puts =
+    let by : option_to_list (option_map seen line) ≡ option_to_list (line_by run (λ q. session_of run q (take i items)) item) =
+    ap option_to_list (says ∙ same_line run item (at_id old) (λ q. session_of run q (take i items)) so_far.each) in
     let later : List Line = lines_behind run (take (i + 1) items) (drop (i + 1) items) in
     record {
       all =
           ap (λ (ls : List Line). ls ++ later) puts
           ∙ (append_assoc (map seen lines) (option_to_list (option_map seen line)) later
           ∙ (ap (λ (ls : List Line). map seen lines ++ (ls ++ later)) by
-          ∙ (ap (λ (ls : List Line). map seen lines ++ ls) (sym (lines_more run items i d within)) ∙ so_far.all)));
-      each = λ q.
-          sessions q ∙ (ap (λ (s : Option Session). after_item run q s (get_or items i d)) (so_far.each q) ∙ sym (session_more run items i d q within));
+          ∙ (ap (λ (ls : List Line). map seen lines ++ ls) (sym (lines_more run items i item at)) ∙ so_far.all)));
+      each = λ q. sessions q ∙ (ap (λ (s : Option Session). after_item run q s item) (so_far.each q) ∙ sym (session_more run items i item q at));
     }
 
 pub all_lines : (run : Run) (items : List Numbered) (i : ℕ) (sessions : BTreeMap ℕ Session) (lines : List Rewrite) → length items ≤ i → SoFar run items i sessions lines

@@ -1,13 +1,12 @@
 //! What a packet asks for.
 
-ghost use Rattle.std.specs.Prelude.{◌≡◌, IfSome};
+ghost use Rattle.std.specs.Prelude.{◌≡◌, IfSome, slice_get};
 ghost use Rattle.ftp_helper.specs.Span.{IsShortSpan};
 ghost use Rattle.ftp_rewrite.specs.NewEnd.{asked_by, expected_ask, want_by};
 
-use crate::sent::item_at;
 use expect_table::expectation::Want;
 use ftp_helper::{EndSpan, end_span, named_end};
-use history_book::event::Event;
+use history_book::event::{Event, Numbered};
 use history_book::report::History;
 use history_book::verdict::Ftp;
 use tuple_core::Direction;
@@ -19,12 +18,25 @@ pub struct Ask {
     pub span: EndSpan,
 }
 
+/// The event of this number, if there is one.
+#[tactic(auto, using(std::proofs::lemmas::Option::slice_get_past))]
+fn event_at(history: &History, id: u64) -> Option<Numbered>
+    ensures { result ≡ slice_get history.now.items id }
+{
+    let index = id as usize;
+    if index < history.len() {
+        Some(history.item(index))
+    } else {
+        None
+    }
+}
+
 /// The connection that the event of this number expects.
 #[tactic(auto, unfolding(crate::specs::NewEnd::want_by))]
 fn want_by(history: &History, id: u64) -> Option<Want>
     ensures { result ≡ want_by history.now.items id }
 {
-    let item = item_at(history, id as usize)?;
+    let item = event_at(history, id)?;
     match item.event {
         Event::Expect { expectation, .. } => Some(expectation.want),
         _ => None,

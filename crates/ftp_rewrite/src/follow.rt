@@ -165,33 +165,20 @@ fn put(lines: &mut Rewrites, line: Option<Rewrite>) -> Result<(), NoMemory>
     Ok(())
 }
 
-/// All lines of these events, which are those of the report.
-#[tactic(auto, using(crate::proofs::Sessions::none_yet, crate::proofs::Sessions::one_more, crate::proofs::Sessions::all_lines))]
-fn follow_all(
-    alloc: Global,
-    report: &Report,
-    captures: &Captures,
-    items: &[Numbered],
-) -> Result<Rewrites, NoMemory>
-    requires inside { All LiesInIts captures.now.items }
-    requires items { items.now ≡ report.now.history.items }
-    ensures { IfOk result (λ lines. map seen lines.items ≡ rewritten (run_of report.now (map recorded captures.now.items))) }
-{
-    let mut sessions: Sessions = BTreeMap::new(alloc);
-    let mut lines = Rewrites::empty(alloc);
-    'items: for item in items {
-        let line = follow(alloc, report, captures, &mut sessions, item)?;
-        put(&mut lines, line)?;
-    }
-    Ok(lines)
-}
-
 /// How each packet of a connection leaves, from its first edit on, of a report on these captures, in the order of the events
 /// by which the entries let the packets pass. By its code, memory is in proportion to the lines with their payloads, and to
 /// the connections with the helper that live at once.
+#[tactic(auto, using(crate::proofs::Sessions::none_yet, crate::proofs::Sessions::one_more, crate::proofs::Sessions::all_lines))]
 pub fn rewrites(alloc: Global, report: &Report, captures: &Captures) -> Result<Rewrites, NoMemory>
     requires { All LiesInIts captures.now.items }
     ensures { IfOk result (λ lines. map seen lines.items ≡ rewritten (run_of report.now (map recorded captures.now.items))) }
 {
-    follow_all(alloc, report, captures, report.history.as_slice())
+    let mut sessions: Sessions = BTreeMap::new(alloc);
+    let mut lines = Rewrites::empty(alloc);
+    'items: for index in 0..report.history.len() {
+        let item = report.history.item(index);
+        let line = follow(alloc, report, captures, &mut sessions, &item)?;
+        put(&mut lines, line)?;
+    }
+    Ok(lines)
 }

@@ -8,8 +8,8 @@ ghost use Rattle.ftp_rewrite.specs.Sent.{LiesInIts, bytes_in, data_in, ftp_by, p
 
 use capture_list::Captures;
 use history_book::event::Numbered;
-use history_book::report::ThreadVerdicts;
-use history_book::verdict::{Class, Ftp};
+use history_book::report::{ThreadVerdicts, Verdicts};
+use history_book::verdict::{Class, Ftp, Verdict};
 use packet_headers::classify::classify;
 use packet_headers::frame::{Frame, Span};
 use packet_headers::packet::Packet;
@@ -60,7 +60,7 @@ fn sent_in<'p>(bytes: &'p [u8], frame: &Frame) -> Option<SegmentView<'p>>
 
 /// The item of a list at an index, if there is one.
 #[tactic(auto, using(std::proofs::lemmas::Option::slice_get_past))]
-pub fn item_at<T>(list: &RoomList<T>, index: usize) -> Option<&T>
+fn item_at<T>(list: &RoomList<T>, index: usize) -> Option<&T>
     ensures { Gives (λ item. item.now) result (slice_get list.now.items index) }
 {
     if index < list.len() {
@@ -111,12 +111,24 @@ fn passed_by(class: &Class, id: u64, number: u64) -> Option<Ftp>
     }
 }
 
+/// The verdict on the packet of this index, if there is one.
+#[tactic(auto, using(std::proofs::lemmas::Option::slice_get_past))]
+fn verdict_on(verdicts: &Verdicts, index: usize) -> Option<Verdict>
+    ensures { result ≡ slice_get verdicts.now.items index }
+{
+    if index < verdicts.len() {
+        Some(verdicts.item(index))
+    } else {
+        None
+    }
+}
+
 /// What came of the data of the packet that made this event of an entry.
 #[tactic(auto, unfolding(crate::specs::Sent::ftp_by))]
 pub fn ftp_by(threads: &ThreadVerdicts, item: &Numbered, id: u64) -> Option<Ftp>
     ensures { result ≡ ftp_by threads.now.items item.now id }
 {
     let verdicts = item_at(threads, item.thread as usize)?;
-    let verdict = item_at(verdicts, item.index as usize)?;
+    let verdict = verdict_on(verdicts, item.index as usize)?;
     passed_by(&verdict.class, id, item.number)
 }
