@@ -67,7 +67,7 @@ fn without_a_listener_what_fits_is_heard(rt: HostRuntime) -> Result<(), Fail> {
     assert_eq!(rt; sendings.at(0).sent(), 1);
     let heard = line.finish(&rt, hearing, sendings)?;
     assert_eq!(rt; heard.len(), 1);
-    assert!(rt; are_first(heard.at(0).as_slice(), PORT, 1));
+    assert!(rt; are_first(heard.at(0), PORT, 1));
     Ok(())
 }
 
@@ -109,7 +109,7 @@ fn what_did_not_fit_is_sent_once_there_is_room(rt: HostRuntime) -> Result<(), Fa
     sendings.push(sending);
     let heard = line.finish(&rt, hearing, sendings)?;
     assert!(rt; heard.len() == 1);
-    assert!(rt; are_first(heard.at(0).as_slice(), PORT, 2));
+    assert!(rt; are_first(heard.at(0), PORT, 2));
     Ok(())
 }
 
@@ -127,8 +127,8 @@ fn two_senders_are_told_apart(rt: HostRuntime) -> Result<(), Fail> {
     let _ = hearing.listen(&rt, &line, &NoGate, 3);
     let heard = line.finish(&rt, hearing, sendings)?;
     assert!(rt; heard.len() == 2);
-    assert!(rt; are_first(heard.at(0).as_slice(), PORT, 3));
-    assert!(rt; are_first(heard.at(1).as_slice(), PORT + 1, 4));
+    assert!(rt; are_first(heard.at(0), PORT, 3));
+    assert!(rt; are_first(heard.at(1), PORT + 1, 4));
     Ok(())
 }
 
@@ -149,11 +149,11 @@ fn as_many_as_fit_and_one_more(rt: HostRuntime) -> Result<(), Fail> {
     let (is_sent, heard) = heard_of(&rt, rt.alloc(), 1_024)?;
     assert!(rt; is_sent);
     assert!(rt; heard.len() == 1);
-    assert!(rt; are_first(heard.at(0).as_slice(), PORT, 1_024));
+    assert!(rt; are_first(heard.at(0), PORT, 1_024));
     let (is_sent, heard) = heard_of(&rt, rt.alloc(), 1_025)?;
     assert!(rt; !is_sent);
     assert!(rt; heard.len() == 1);
-    assert!(rt; are_first(heard.at(0).as_slice(), PORT, 1_024));
+    assert!(rt; are_first(heard.at(0), PORT, 1_024));
     Ok(())
 }
 
@@ -185,7 +185,7 @@ fn sixty_three_senders(rt: HostRuntime) -> Result<(), Fail> {
     let heard = line.finish(&rt, hearing, sendings)?;
     assert!(rt; heard.len() == 63);
     'lists: for sender in 0..63u16 {
-        let notes = heard.at(usize::from(sender)).as_slice();
+        let notes = heard.at(usize::from(sender));
         assert!(rt; are_first(notes, PORT + sender, usize::from(sender.min(32))));
     }
     Ok(())

@@ -70,8 +70,8 @@ static CHANGES: [Change; 11] = [
 ];
 
 /// The third event, changed.
-fn event_changed(item: &Numbered, change: Change) -> Numbered {
-    let mut changed = *item;
+fn event_changed(item: Numbered, change: Change) -> Numbered {
+    let mut changed = item;
     match change {
         Change::Number => changed.number = 1,
         Change::Index => changed.index = 1,
@@ -82,23 +82,34 @@ fn event_changed(item: &Numbered, change: Change) -> Numbered {
     changed
 }
 
+/// Puts an event behind the others.
+fn put(events: &mut History, item: Numbered) -> Result<(), NoMemory> {
+    events.reserve(1)?;
+    events.push(item);
+    Ok(())
+}
+
 /// Puts the third event, changed, behind the events before it.
-fn put_changed(events: &mut History, item: &Numbered, change: Change) -> Result<(), NoMemory> {
+fn put_changed(events: &mut History, item: Numbered, change: Change) -> Result<(), NoMemory> {
     match change {
-        Change::Twice => events.append(&[*item, *item]),
+        Change::Twice => {
+            put(events, item)?;
+            put(events, item)
+        }
         Change::LeftOut => Ok(()),
-        _ => events.append(&[event_changed(item, change)]),
+        _ => put(events, event_changed(item, change)),
     }
 }
 
 /// The events with this change.
-fn events_changed(alloc: Global, items: &[Numbered], change: Change) -> Result<History, NoMemory> {
+fn events_changed(alloc: Global, history: &History, change: Change) -> Result<History, NoMemory> {
     let mut events = History::empty(alloc);
-    for (place, item) in items.iter().enumerate() {
+    for place in 0..history.len() {
+        let item = history.item(place);
         if place == 2 {
             put_changed(&mut events, item, change)?;
         } else {
-            events.append(&[*item])?;
+            put(&mut events, item)?;
         }
     }
     Ok(events)
@@ -115,8 +126,8 @@ fn passed_at(at: u64) -> Class {
 }
 
 /// The third verdict, changed.
-fn verdict_changed(verdict: &Verdict, change: Change) -> Verdict {
-    let mut changed = *verdict;
+fn verdict_changed(verdict: Verdict, change: Change) -> Verdict {
+    let mut changed = verdict;
     match change {
         Change::First => changed.first = 3,
         Change::Made => changed.made = 2,
@@ -130,27 +141,25 @@ fn verdict_changed(verdict: &Verdict, change: Change) -> Verdict {
 /// The verdicts of the one thread with this change.
 fn verdicts_changed(
     alloc: Global,
-    items: &[Verdict],
+    threads: &ThreadVerdicts,
     change: Change,
 ) -> Result<Verdicts, NoMemory> {
     let mut verdicts = Verdicts::empty(alloc);
-    for (place, item) in items.iter().enumerate() {
+    if threads.is_empty() {
+        return Ok(verdicts);
+    }
+    let first = threads.at(0);
+    for place in 0..first.len() {
+        let item = first.item(place);
         let verdict = if place == 2 {
             verdict_changed(item, change)
         } else {
-            *item
+            item
         };
-        verdicts.append(&[verdict])?;
+        verdicts.reserve(1)?;
+        verdicts.push(verdict);
     }
     Ok(verdicts)
-}
-
-/// The verdicts of the first thread.
-fn first_thread(threads: &ThreadVerdicts) -> &[Verdict] {
-    if threads.is_empty() {
-        return &[];
-    }
-    threads.at(0).as_slice()
 }
 
 /// The count of live entries with this change.
@@ -164,9 +173,9 @@ fn live_changed(live: u32, change: Change) -> u32 {
 /// The report with this change.
 fn report_changed(alloc: Global, report: &Report, change: Change) -> Result<Report, NoMemory> {
     let mut threads = ThreadVerdicts::new(alloc, 1)?;
-    threads.push(verdicts_changed(alloc, first_thread(&report.threads), change)?);
+    threads.push(verdicts_changed(alloc, &report.threads, change)?);
     Ok(Report {
-        history: events_changed(alloc, report.history.as_slice(), change)?,
+        history: events_changed(alloc, &report.history, change)?,
         live: live_changed(report.live, change),
         threads,
         answers: Answers::empty(alloc),

@@ -85,30 +85,36 @@ static OPENING: Case<'static> = Case {
 };
 
 /// The Confirm and the Destroy of a history.
-fn without_touches(alloc: Global, items: &[Numbered]) -> Result<History, NoMemory> {
+fn without_touches(alloc: Global, history: &History) -> Result<History, NoMemory> {
     let mut events = History::empty(alloc);
-    for item in items {
+    for index in 0..history.len() {
+        let item = history.item(index);
         if !matches!(item.event, Event::Touch { .. }) {
             let number = events.len() as u64;
-            events.append(&[Numbered { number, ..*item }])?;
+            events.reserve(1)?;
+            events.push(Numbered { number, ..item });
         }
     }
     Ok(events)
 }
 
 /// The first verdict, and that the second packet met nothing, behind both events and with none of its own.
-fn answered_late(alloc: Global, items: &[Verdict], late: Class) -> Result<Verdicts, NoMemory> {
+fn answered_late(
+    alloc: Global,
+    threads: &ThreadVerdicts,
+    late: Class,
+) -> Result<Verdicts, NoMemory> {
     let mut verdicts = Verdicts::empty(alloc);
-    for (place, item) in items.iter().enumerate() {
-        if place == 0 {
-            verdicts.append(&[*item])?;
-        }
+    if !threads.is_empty() && threads.at(0).len() > 0 {
+        verdicts.reserve(1)?;
+        verdicts.push(threads.at(0).item(0));
     }
-    verdicts.append(&[Verdict {
+    verdicts.reserve(1)?;
+    verdicts.push(Verdict {
         class: late,
         first: 1,
         made: 0,
-    }])?;
+    });
     Ok(verdicts)
 }
 
@@ -126,20 +132,12 @@ fn flushed(alloc: Global) -> Result<Answers, NoMemory> {
     Ok(answers)
 }
 
-/// The verdicts of the first thread.
-fn first_thread(threads: &ThreadVerdicts) -> &[Verdict] {
-    if threads.is_empty() {
-        return &[];
-    }
-    threads.at(0).as_slice()
-}
-
 /// The false report: the second packet met nothing, behind the flush.
 fn falsified(alloc: Global, report: &Report, late: Class) -> Result<Report, NoMemory> {
     let mut threads = ThreadVerdicts::new(alloc, 1)?;
-    threads.push(answered_late(alloc, first_thread(&report.threads), late)?);
+    threads.push(answered_late(alloc, &report.threads, late)?);
     Ok(Report {
-        history: without_touches(alloc, report.history.as_slice())?,
+        history: without_touches(alloc, &report.history)?,
         live: report.live,
         threads,
         answers: flushed(alloc)?,

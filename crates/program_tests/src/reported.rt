@@ -4,8 +4,8 @@
 use event_listen::heard::Heard;
 use history_book::answer::Answer;
 use history_book::check::{Checked, check_history};
-use history_book::event::{Note, Numbered};
-use history_book::report::Report;
+use history_book::event::Numbered;
+use history_book::report::{History, Notes, Report, Verdicts};
 use history_book::verdict::{Class, Ftp, Translated, Verdict};
 use std::alloc::Global;
 use tuple_core::NoMemory;
@@ -32,7 +32,7 @@ pub fn is_history(alloc: Global, report: &Report, places: u32) -> Result<bool, N
 /// The way of a thread through the history: where its next event is looked for, how many it has made, and its mark.
 #[derive(Drop)]
 struct Way<'h> {
-    items: &'h [Numbered],
+    history: &'h History,
     thread: usize,
     at: usize,
     made: u64,
@@ -118,11 +118,11 @@ impl Points {
 impl Way<'_> {
     /// The thread's next event, if it made one more.
     fn next(&mut self) -> Option<Numbered> {
-        let (_, ahead) = self.items.split_at(self.at.min(self.items.len()));
-        for (passed, item) in ahead.iter().enumerate() {
+        for index in self.at..self.history.len() {
+            let item = self.history.item(index);
             if item.thread as usize == self.thread {
-                self.at = self.at.wrapping_add(passed).wrapping_add(1);
-                return Some(*item);
+                self.at = index.wrapping_add(1);
+                return Some(item);
             }
         }
         None
@@ -133,7 +133,7 @@ impl Way<'_> {
     fn take(&mut self, index: usize, first: u64, made: u64) -> Option<Points> {
         let mut points = Points {
             least: self.mark,
-            limit: self.items.len() as u64,
+            limit: self.history.len() as u64,
             most: self.mark,
             are_kept: first == self.made,
         };
@@ -174,9 +174,9 @@ impl Way<'_> {
 }
 
 /// The way of a thread from the beginning on.
-fn way_of(items: &[Numbered], thread: usize) -> Way<'_> {
+fn way_of(history: &History, thread: usize) -> Way<'_> {
     Way {
-        items,
+        history,
         thread,
         at: 0,
         made: 0,
@@ -186,10 +186,10 @@ fn way_of(items: &[Numbered], thread: usize) -> Way<'_> {
 
 /// The mark of a thread that made just the events of these verdicts, in their order, and of which no point is older than
 /// what it had seen. None where that is not so.
-fn mark_behind(items: &[Numbered], thread: usize, verdicts: &[Verdict]) -> Option<u64> {
-    let mut way = way_of(items, thread);
-    for (index, verdict) in verdicts.iter().enumerate() {
-        if !way.has_verdict(index, verdict) {
+fn mark_behind(history: &History, thread: usize, verdicts: &Verdicts) -> Option<u64> {
+    let mut way = way_of(history, thread);
+    for index in 0..verdicts.len() {
+        if !way.has_verdict(index, &verdicts.item(index)) {
             return None;
         }
     }
@@ -209,8 +209,8 @@ struct Waiting {
 }
 
 /// The same of the script.
-fn are_answers(items: &[Numbered], script: Waiting, answers: &[Answer]) -> bool {
-    let mut way = way_of(items, script.thread);
+fn are_answers(history: &History, script: Waiting, answers: &[Answer]) -> bool {
+    let mut way = way_of(history, script.thread);
     for (index, answer) in answers.iter().enumerate() {
         if script.wait == Some(index) {
             way.mark = way.mark.max(script.end);
@@ -223,9 +223,9 @@ fn are_answers(items: &[Numbered], script: Waiting, answers: &[Answer]) -> bool 
 }
 
 /// Whether each event is of a thread of a capture, of which there are so many, or of the script's behind them.
-fn are_of_threads(items: &[Numbered], captures: usize) -> bool {
-    for item in items {
-        if item.thread as usize > captures {
+fn are_of_threads(history: &History, captures: usize) -> bool {
+    for index in 0..history.len() {
+        if history.item(index).thread as usize > captures {
             return false;
         }
     }
@@ -235,14 +235,14 @@ fn are_of_threads(items: &[Numbered], captures: usize) -> bool {
 /// Whether the spans and points of all threads are as they have to be, where so many commands of the script stand in front
 /// of its line `wait`, if it has one: no packet was answered behind the first command behind that.
 pub fn are_spans(report: &Report, wait: Option<usize>) -> bool {
-    let items = report.history.as_slice();
+    let history = &report.history;
     let threads = report.threads.as_slice();
-    if !are_of_threads(items, threads.len()) {
+    if !are_of_threads(history, threads.len()) {
         return false;
     }
     let mut end = 0;
     for (thread, verdicts) in threads.iter().enumerate() {
-        match mark_behind(items, thread, verdicts.as_slice()) {
+        match mark_behind(history, thread, verdicts) {
             None => return false,
             Some(mark) => end = mark.max(end),
         }
@@ -252,15 +252,16 @@ pub fn are_spans(report: &Report, wait: Option<usize>) -> bool {
         wait,
         end,
     };
-    are_answers(items, script, report.answers.as_slice())
+    are_answers(history, script, report.answers.as_slice())
 }
 
 /// Whether these are the first events of a thread, by their numbers.
-fn begins_thread(items: &[Numbered], thread: usize, notes: &[Note]) -> bool {
+fn begins_thread(history: &History, thread: usize, notes: &Notes) -> bool {
     let mut index = 0;
-    for item in items {
+    for place in 0..history.len() {
+        let item = history.item(place);
         if item.thread as usize == thread && index < notes.len() {
-            if notes[index].number != item.number {
+            if notes.item(index).number != item.number {
                 return false;
             }
             index += 1;
@@ -276,8 +277,7 @@ pub fn are_first(report: &Report, heard: Option<&Heard>) -> bool {
         return true;
     };
     for thread in 0..heard.len() {
-        let notes = heard.at(thread).as_slice();
-        if !begins_thread(report.history.as_slice(), thread, notes) {
+        if !begins_thread(&report.history, thread, heard.at(thread)) {
             return false;
         }
     }

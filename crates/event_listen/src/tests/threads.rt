@@ -131,7 +131,7 @@ fn two_senders_beside_a_listener(rt: HostRuntime) -> Result<(), Fail> {
     sendings.push(second);
     let heard = line.finish(&rt, hearing?, sendings)?;
     assert!(rt; heard.len() == 2);
-    assert!(rt; are_first(heard.at(0).as_slice(), PORT, 1_000));
-    assert!(rt; are_first(heard.at(1).as_slice(), PORT + 1, 700));
+    assert!(rt; are_first(heard.at(0), PORT, 1_000));
+    assert!(rt; are_first(heard.at(1), PORT + 1, 700));
     Ok(())
 }

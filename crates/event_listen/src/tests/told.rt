@@ -12,7 +12,7 @@ use history_book::outcome::{
     PeekOutcome, ReleaseOutcome, TakeOutcome, TouchOutcome, UnexpectOutcome,
 };
 use history_book::record::{Flow, Record};
-use history_book::report::{Expectations, History};
+use history_book::report::{Expectations, History, Notes};
 use proto_rules::{Part, PartKind};
 use std::alloc::Global;
 use std::marker::Model;
@@ -96,9 +96,13 @@ fn is_event_at(note: &Note, number: u64, port: u16) -> bool {
 }
 
 /// Whether these are so many first events of the desk with this port.
-pub fn are_first(notes: &[Note], port: u16, count: usize) -> bool {
-    let mut notes_are = notes.iter().enumerate();
-    notes.len() == count && notes_are.all(|(index, note)| is_event_at(note, index as u64, port))
+pub fn are_first(notes: &Notes, port: u16, count: usize) -> bool {
+    'notes: for index in 0..notes.len() {
+        if !is_event_at(&notes.item(index), index as u64, port) {
+            return false;
+        }
+    }
+    notes.len() == count
 }
 
 impl Told {
@@ -149,7 +153,7 @@ impl Desk for Told {
     }
 
     fn own(&self, index: u64) -> Note {
-        let item = self.history.at(index as usize);
+        let item = self.history.item(index as usize);
         Note {
             number: item.number,
             event: item.event,

@@ -305,10 +305,11 @@ fn made_and_full(report: &Report) -> (u32, u32) {
     let mut made = 0u32;
     let mut full = 0u32;
     for thread in report.threads.as_slice() {
-        for verdict in thread.as_slice() {
-            if matches!(verdict.class, Class::Made { .. }) {
+        for index in 0..thread.len() {
+            let class = thread.item(index).class;
+            if matches!(class, Class::Made { .. }) {
                 made = made.wrapping_add(1);
-            } else if matches!(verdict.class, Class::Full { .. }) {
+            } else if matches!(class, Class::Full { .. }) {
                 full = full.wrapping_add(1);
             }
         }

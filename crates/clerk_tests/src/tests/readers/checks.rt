@@ -56,8 +56,8 @@ impl Events {
 
     /// Enters all events of a clerk.
     pub fn enter_all(&mut self, notes: &Notes) -> bool {
-        'notes: for note in notes.as_slice() {
-            if !self.enter(note) {
+        'notes: for index in 0..notes.len() {
+            if !self.enter(&notes.item(index)) {
                 return false;
             }
         }
