@@ -169,7 +169,7 @@ whole_legal sizes items i s h all =
     subst (λ (l : List Numbered). IsLegalHistory sizes l) (take_all i items all) h.front
 
 -- the item at an index
-there : (items : List Numbered) (i : ℕ) → i < length items → (item : Numbered) × (slice_get items i ≡ Some item)
+pub there : {X : Type 0} (items : List X) (i : ℕ) → i < length items → (item : X) × (slice_get items i ≡ Some item)
 there [] i low = absurd (omega (arith, low))
 there (x ∷ xs) zero low = (x, refl)
 there (x ∷ xs) (suc i) low = there xs i (omega (arith, low))

@@ -28,3 +28,4 @@ pub mod Sights
 pub mod Examples
 pub mod ZoneExamples
 pub mod Merging
+pub mod Ordering

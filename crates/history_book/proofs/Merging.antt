@@ -2,20 +2,21 @@
 use Rattle.std.proofs.Common.{◌≡◌, ℕ, true, false, ⊎_elim, ◌<◌, ◌≤◌, ◌+◌, ◌-◌, zero, suc, List, [], ◌∷◌, ◌++◌, length, take, drop, refl, sym, ap, subst, ◌∙◌, Some, arith, length-drop, append_assoc}
 use Rattle.std.specs.List.{All, AllByRecursion, AllPairs, IsDistinct, list_any, slice_get}
 use Rattle.std.specs.Prelude.{◌≢◌, eqb, map, slice_index_or, slice_set}
-use Rattle.std.proofs.lemmas.List.{append-nil, drop_all, drop_more, get_or-append-add, get_or_append_left, length-append, length-map, length-set, take-append-drop}
+use Rattle.std.proofs.lemmas.List.{append-nil, drop-drop, drop_all, drop_more, get_or-append-add, get_or_append_left, length-append, length-map, length-set, take-append-drop}
 use Rattle.std.proofs.lemmas.Bool.{eqb-true, ne_eqb, or_cases, true_from_ne_false}
 use Rattle.std.proofs.lemmas.Map.Keys.{IsDistinct-cons}
 use Rattle.std.proofs.lemmas.Map.Steps.{length-le_from_distinct_below}
-use Rattle.std.proofs.lemmas.Option.{same_Some, slice_get_within}
+use Rattle.std.proofs.lemmas.Option.{get_or_from_slice_get, same_Some, slice_get_within}
 use Rattle.history_book.proofs.Entries.{each_fails}
-use Rattle.std.proofs.lemmas.List.Elements.{All-drop, recursion_from_All}
+use Rattle.std.proofs.lemmas.List.Elements.{recursion_from_All}
 use Rattle.history_book.specs.declared.answer.Answer.{Answer}
 use Rattle.history_book.specs.declared.event.Note.{Note}
 use Rattle.history_book.specs.declared.event.Numbered.{Numbered}
 use Rattle.history_book.specs.declared.verdict.Verdict.{Verdict}
-use Rattle.history_book.specs.Internal.Merging.{AllHavePlaces, HavePlaces, all_named, laid, made_in, named, named_in, threads_named}
+use Rattle.history_book.specs.Internal.Merging.{AllHavePlaces, all_named, laid, made_in, named, named_in, threads_named}
 use Rattle.history_book.specs.Merge.{AreNumbers, CoverEach, CoverFrom, IsMerged, EventSpan, all_notes, spans_of, spans_of_answers, spans_of_verdicts}
 use Rattle.history_book.specs.Numbered.{IsNumberedFrom, notes_of}
+use Rattle.history_book.specs.Order.{no_notes, notes_in}
 use Rattle.room_list.specs.Roomed.{Roomed}
 
 pub laid-append : (ns ms history : List Numbered) → laid (ns ++ ms) history ≡ laid ms (laid ns history)
@@ -377,47 +378,35 @@ all_placed total lists e numbers =
     in_each_list (λ n. n.number < total) lists
     (subst (λ (k : ℕ). All (λ n. n.number < k) (all_notes lists)) (sym e) numbers.below)
 
--- a packet or command is given the next of the rest, which are laid
-pub record Lays (thread index made : ℕ) (rest later : List Note) (history new : List Numbered) : Type 0 where
-  pub left : later ≡ drop made rest
-  pub put : new ≡ laid (named thread index (take made rest)) history
-
-pub share_laid : {thread index made : ℕ} {rest later : List Note} {history new : List Numbered}
-    → Lays thread index made rest later history new → (s : EventSpan) (ss all : List EventSpan) → made ≡ s.made → all ≡ s ∷ ss
-    → laid (named_in thread (index + 1) later ss) new ≡ laid (named_in thread index rest all) history
-share_laid {thread = thread} {index = index} {made = made} {rest = rest} {later = later}
-    {history = history} {new = new} lays s ss all e is =
-    ap (λ (l : List Note). laid (named_in thread (index + 1) l ss) new) (lays.left ∙ ap (λ (m : ℕ). drop m rest) e)
+-- a packet's or command's events are laid, and then those of the others
+pub share_laid : (thread index made first : ℕ) (notes : List Note) (history new : List Numbered) (s : EventSpan)
+    (ss all : List EventSpan) → new ≡ laid (named thread index (take made (drop first notes))) history → made ≡ s.made
+    → all ≡ s ∷ ss
+    → laid (named_in thread (index + 1) (drop (first + made) notes) ss) new
+    ≡ laid (named_in thread index (drop first notes) all) history
+share_laid thread index made first notes history new s ss all put e is =
+    let rest = drop first notes in
+    let later : drop (first + made) notes ≡ drop s.made rest =
+    ap (λ (m : ℕ). drop (first + m) notes) e ∙ sym (drop-drop s.made first notes) in
+    ap (λ (l : List Note). laid (named_in thread (index + 1) l ss) new) later
     ∙ ap (λ (h : List Numbered). laid (named_in thread (index + 1) (drop s.made rest) ss) h)
-    (lays.put ∙ ap (λ (m : ℕ). laid (named thread index (take m rest)) history) e)
+    (put ∙ ap (λ (m : ℕ). laid (named thread index (take m rest)) history) e)
     ∙ sym (laid-append (named thread index (take s.made rest)) (named_in thread (index + 1) (drop s.made rest) ss)
     history)
     ∙ ap (λ (x : List EventSpan). laid (named_in thread index rest x) history) (sym is)
 
-pub share_covered : {thread index made : ℕ} {rest later : List Note} {history new : List Numbered}
-    → Lays thread index made rest later history new → (s : EventSpan) (ss all : List EventSpan) → made ≡ s.made → all ≡ s ∷ ss
-    → made_in all ≡ length rest → made_in ss ≡ length later
-share_covered {made = made} {rest = rest} lays s ss all e is covered =
-    let sum : s.made + made_in ss ≡ length rest = sym (ap made_in is) ∙ covered in
-    omega (arith, ap length lays.left, length-drop made rest)
+pub share_covered : (made first total : ℕ) (s : EventSpan) (ss all : List EventSpan) → made ≡ s.made → all ≡ s ∷ ss
+    → first + made_in all ≡ total → first + made + made_in ss ≡ total
+share_covered made first total s ss all e is covered =
+    let sum : made_in all ≡ s.made + made_in ss = ap made_in is in omega (arith, e, sum, covered)
 
-pub share_placed : {thread index made : ℕ} {rest later : List Note} {history new : List Numbered}
-    → Lays thread index made rest later history new → HavePlaces (length history) rest → HavePlaces (length new) later
-share_placed {thread = thread} {index = index} {made = made} {rest = rest} {later = later}
-    {history = history} {new = new} lays placed =
-    let same : length new ≡ length history =
-    ap length lays.put ∙ length-laid (named thread index (take made rest)) history in
-    let left : HavePlaces (length history) (drop made rest) =
-    All-drop (λ n. n.number < length history) made rest placed in
-    subst (λ (k : ℕ). HavePlaces k later) (sym same)
-    (subst (λ (l : List Note). HavePlaces (length history) l) (sym lays.left) left)
-
-pub next_verdict : (verdicts : List Verdict) (index : ℕ) (d : Verdict) → index < length verdicts
+pub next_verdict : (verdicts : List Verdict) (index : ℕ) (v : Verdict) → slice_get verdicts index ≡ Some v
     → spans_of_verdicts (drop index verdicts)
-    ≡ record { first = (slice_index_or verdicts index d).first; made = (slice_index_or verdicts index d).made }
-    ∷ spans_of_verdicts (drop (index + 1) verdicts)
-next_verdict verdicts index d within =
-    ap (λ (vs : List Verdict). spans_of_verdicts vs) (drop_more verdicts index d within)
+    ≡ record { first = v.first; made = v.made } ∷ spans_of_verdicts (drop (index + 1) verdicts)
+next_verdict verdicts index v is =
+    ap (λ (vs : List Verdict). spans_of_verdicts vs)
+    (drop_more verdicts index v (slice_get_within verdicts index v is)
+    ∙ ap (λ (x : Verdict). x ∷ drop (index + 1) verdicts) (get_or_from_slice_get verdicts index v v is))
 
 pub next_answer : (answers : List Answer) (index : ℕ) (d : Answer) → index < length answers
     → spans_of_answers (drop index answers)
@@ -426,24 +415,22 @@ pub next_answer : (answers : List Answer) (index : ℕ) (d : Answer) → index <
 next_answer answers index d within =
     ap (λ (vs : List Answer). spans_of_answers vs) (drop_more answers index d within)
 
-pub thread_laid : (thread : ℕ) (lists : List (Roomed Note)) (threads : List (Roomed Verdict)) (l : Roomed Note)
-    (t : Roomed Verdict) (notes : List Note) (verdicts : List Verdict) (history new : List Numbered)
-    → thread < length threads → length threads ≤ length lists → l ≡ slice_index_or lists thread l
-    → t ≡ slice_index_or threads thread t → notes ≡ l.items → verdicts ≡ t.items
-    → new ≡ laid (named_in thread 0 notes (spans_of_verdicts verdicts)) history
+-- one more thread's events are laid
+pub thread_laid : (thread : ℕ) (lists : List (Roomed Note)) (threads : List (Roomed Verdict)) (t : Roomed Verdict)
+    (history new : List Numbered) → thread < length threads → length threads ≤ length lists
+    → t ≡ slice_index_or threads thread t
+    → new ≡ laid (named_in thread 0 (notes_in lists thread) (spans_of_verdicts t.items)) history
     → laid (threads_named (thread + 1) (drop (thread + 1) lists) (drop (thread + 1) threads)) new
     ≡ laid (threads_named thread (drop thread lists) (drop thread threads)) history
-thread_laid thread lists threads l t notes verdicts history new within short is_list is_thread items of_thread is_laid =
+thread_laid thread lists threads t history new within short is_thread is_laid =
+    let l : Roomed Note = slice_index_or lists thread no_notes in
     let lists_left = drop (thread + 1) lists in
     let threads_left = drop (thread + 1) threads in
     let later = threads_named (thread + 1) lists_left threads_left in
-    let next_list : drop thread lists ≡ l ∷ lists_left =
-    drop_more lists thread l (omega arith) ∙ ap (λ (x : Roomed Note). x ∷ lists_left) (sym is_list) in
+    let next_list : drop thread lists ≡ l ∷ lists_left = drop_more lists thread _ (omega arith) in
     let next_thread : drop thread threads ≡ t ∷ threads_left =
     drop_more threads thread t within ∙ ap (λ (x : Roomed Verdict). x ∷ threads_left) (sym is_thread) in
     ap (laid later) is_laid
-    ∙ ap (λ (x : List Note). laid later (laid (named_in thread 0 x (spans_of_verdicts verdicts)) history)) items
-    ∙ ap (λ (x : List Verdict). laid later (laid (named_in thread 0 l.items (spans_of_verdicts x)) history)) of_thread
     ∙ sym (laid-append (named_in thread 0 l.items (spans_of_verdicts t.items)) later history)
     ∙ ap (λ (x : List (Roomed Note)). laid (threads_named thread x (t ∷ threads_left)) history) (sym next_list)
     ∙ ap (λ (x : List (Roomed Verdict)). laid (threads_named thread (drop thread lists) x) history) (sym next_thread)
@@ -458,25 +445,23 @@ threads_done thread lists threads history past =
     ap (λ (x : List (Roomed Verdict)). laid (threads_named thread lists x) history) (drop_all thread threads past)
     ∙ ap (λ (x : List Numbered). laid x history) (none_named thread lists)
 
-pub script_placed : (total number : ℕ) (lists : List (Roomed Note)) (d : Roomed Note) (notes : List Note)
-    → notes ≡ (slice_index_or lists number d).items → number < length lists → AllHavePlaces total lists
-    → HavePlaces total notes
-script_placed total number lists d notes is within placed =
-    subst (λ (l : List Note). HavePlaces total l) (sym is) (placed number d within)
-
 -- the threads' events and then the script's are all events
 pub laid_in_turn : (lists : List (Roomed Note)) (threads : List (Roomed Verdict)) (answers : List Answer)
-    (d : Roomed Note) (notes : List Note) (blank mid final : List Numbered)
-    → notes ≡ (slice_index_or lists (length threads) d).items → length lists ≡ length threads + 1
-    → mid ≡ laid (threads_named 0 lists threads) blank
-    → final ≡ laid (named_in (length threads) 0 notes (spans_of_answers answers)) mid
+    (blank mid final : List Numbered) → length lists ≡ length threads + 1 → mid ≡ laid (threads_named 0 lists threads) blank
+    → final ≡ laid (named_in (length threads) 0 (notes_in lists (length threads)) (spans_of_answers answers)) mid
     → final ≡ laid (all_named 0 lists (spans_of threads answers)) blank
-laid_in_turn lists threads answers d notes blank mid final is long mid_is final_is =
-    let last = named_in (length threads) 0 notes (spans_of_answers answers) in
-    let all : threads_named 0 lists threads ++ last ≡ all_named 0 lists (spans_of threads answers) =
-    ap (λ (l : List Note). threads_named 0 lists threads ++ named_in (length threads) 0 l (spans_of_answers answers)) is
-    ∙ sym (script_last 0 (length threads) lists threads answers d (omega arith) long) in
+laid_in_turn lists threads answers blank mid final long mid_is final_is =
+    let last = named_in (length threads) 0 (notes_in lists (length threads)) (spans_of_answers answers) in
     final_is
     ∙ ap (laid last) mid_is
     ∙ sym (laid-append (threads_named 0 lists threads) last blank)
-    ∙ ap (λ (x : List Numbered). laid x blank) all
+    ∙ ap (λ (x : List Numbered). laid x blank)
+    (sym (script_last 0 (length threads) lists threads answers no_notes (omega arith) long))
+
+-- each list is no longer than all
+pub all_short : (lists : List (Roomed Note)) (total : ℕ) → length (all_notes lists) ≤ total
+    → All (λ (l : Roomed Note). length l.items ≤ total) lists
+all_short [] total few k d within = absurd (omega arith)
+all_short (l ∷ lists) total few zero d within = omega (arith, few, length-append l.items (all_notes lists))
+all_short (l ∷ lists) total few (suc k) d within =
+    all_short lists total (omega (arith, few, length-append l.items (all_notes lists))) k d (omega arith)

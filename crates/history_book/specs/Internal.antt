@@ -2,3 +2,4 @@
 pub mod Merging
 pub mod Late
 pub mod Checking
+pub mod Ordering

@@ -10,6 +10,7 @@ pub mod Label
 pub mod Notes
 pub mod Mark
 pub mod Numbered
+pub mod Order
 pub mod Checked
 pub mod Merge
 pub mod Internal

@@ -11,6 +11,7 @@ pub mod laws;
 pub mod legality;
 pub mod many_threads;
 pub mod merge;
+pub mod order;
 pub mod outcome;
 pub mod place_use;
 pub mod places;

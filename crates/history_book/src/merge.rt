@@ -1,132 +1,162 @@
 //! The events of several threads as the one history.
 
-ghost use Rattle.std.specs.Prelude.{◌≡◌, ◌+◌, ◌<◌, ◌≤◌, ◌^◌, All, IfOk, length};
-ghost use Rattle.history_book.specs.Internal.Merging.{AllHavePlaces, AreLayable, HavePlaces, all_named, laid, made_in, named, named_in, threads_named};
+ghost use Rattle.std.specs.Prelude.{◌≡◌, ◌+◌, ◌<◌, ◌≤◌, ◌^◌, All, IfOk, drop, length, take};
+ghost use Rattle.history_book.specs.Internal.Merging.{AllAreShort, AllHavePlaces, AreLayable, HavePlaces, all_named, laid, made_in, named, named_in, threads_named};
 ghost use Rattle.history_book.specs.Merge.{AreNumbers, CoverEach, IsMerged, all_notes, spans_of, spans_of_answers, spans_of_verdicts};
 ghost use Rattle.history_book.specs.Numbered.{IsNumberedFrom};
+ghost use Rattle.history_book.specs.Order.{IsWithin, in_order, notes_in};
 
 use crate::answer::{Answer, Answers};
-use crate::event::{Event, Note, Numbered, Why};
-use crate::report::{History, Notes, Report, ThreadVerdicts, Verdicts};
-use crate::verdict::Verdict;
+use crate::order::{History, Order, Origin};
+use crate::report::{Notes, Report, ThreadVerdicts, Verdicts};
 use std::alloc::Global;
 use tuple_core::NoMemory;
 
 #[cfg(test)]
 mod tests;
 
-/// What stands at a place of the history until its event is laid there.
-const BLANK: Numbered = Numbered {
-    number: 0,
+/// What stands in the order until an event is laid there.
+const BLANK: Origin = Origin {
     thread: 0,
+    note: 0,
     index: 0,
-    event: Event::Destroy {
-        id: 0,
-        why: Why::Flushed,
-    },
 };
 
-/// How many events the lists have. More than can be counted have no room in memory.
-fn count_events(lists: &[Notes]) -> Result<usize, NoMemory>
-    ensures { IfOk result (λ n. n ≡ length (all_notes lists.now)) }
+/// How many events the lists have. More than the order has places for have no room in memory.
+fn count_events(lists: &[Notes]) -> Result<u32, NoMemory>
+    ensures all { IfOk result (λ n. n ≡ length (all_notes lists.now)) }
+    ensures few { IfOk result (λ n. n < 2 ^ 32) }
 {
     let mut total: usize = 0;
     'lists: for notes in lists {
         total = total.checked_add(notes.len()).ok_or(NoMemory)?;
     }
-    Ok(total)
+    u32::try_from(total).map_err(|_| NoMemory)
 }
 
-/// A history of so many blanks.
-fn blank_history(alloc: Global, total: usize) -> Result<History, NoMemory>
-    ensures { IfOk result (λ history. length history.items ≡ total) }
+/// An order of so many events, none of which is laid yet.
+fn blank_order(alloc: Global, total: usize) -> Result<Order, NoMemory>
+    ensures { IfOk result (λ order. length order.items ≡ total) }
 {
-    let mut history = History::new(alloc, total)?;
+    let mut order = Order::new(alloc, total)?;
     'blanks: for _place in 0..total {
-        history.push(BLANK);
+        order.push(BLANK);
     }
-    Ok(history)
+    Ok(order)
 }
 
-/// Lays the events that the packet or command of this index made.
-fn lay_span(notes: &[Note], thread: u32, index: u32, history: &mut History)
-    requires { HavePlaces (length history.old.items) notes.now }
-    ensures { history.new.items ≡ laid (named thread index notes.now) history.old.items }
+/// Lays `made` events of a thread, from `first` on, as those of the packet or command of this index.
+fn lay_span(lists: &[Notes], thread: u32, index: u32, first: usize, made: usize, order: &mut Order)
+    requires thread { thread < length lists.now }
+    requires span { first + made ≤ length (notes_in lists.now thread) }
+    requires few { length (notes_in lists.now thread) ≤ 2 ^ 32 }
+    requires placed { HavePlaces (length order.old.items) (notes_in lists.now thread) }
+    ensures { in_order lists.now order.new.items
+        ≡ laid (named thread index (take made (drop first (notes_in lists.now thread)))) (in_order lists.now order.old.items) }
 {
-    'notes: for note in notes {
-        history.set(
-            note.number as usize,
-            Numbered {
-                number: note.number,
+    let notes = &lists[thread as usize];
+    'notes: for at in first..first + made {
+        let number = notes.item(at).number as usize;
+        let note = at as u32;
+        order.set(
+            number,
+            Origin {
                 thread,
+                note,
                 index,
-                event: note.event,
             },
         );
     }
 }
 
 /// Lays the events of a thread: each verdict has the next of them.
-fn lay_thread(notes: &[Note], verdicts: &[Verdict], thread: u32, history: &mut History)
-    requires few { length verdicts.now < 2 ^ 32 }
-    requires covered { made_in (spans_of_verdicts verdicts.now) ≡ length notes.now }
-    requires placed { HavePlaces (length history.old.items) notes.now }
-    ensures { history.new.items ≡ laid (named_in thread 0 notes.now (spans_of_verdicts verdicts.now)) history.old.items }
+fn lay_thread(lists: &[Notes], thread: u32, verdicts: &Verdicts, order: &mut Order)
+    requires thread { thread < length lists.now }
+    requires few { length verdicts.now.items < 2 ^ 32 }
+    requires short { length (notes_in lists.now thread) ≤ 2 ^ 32 }
+    requires covered { made_in (spans_of_verdicts verdicts.now.items) ≡ length (notes_in lists.now thread) }
+    requires placed { HavePlaces (length order.old.items) (notes_in lists.now thread) }
+    ensures { in_order lists.now order.new.items
+        ≡ laid (named_in thread 0 (notes_in lists.now thread) (spans_of_verdicts verdicts.now.items)) (in_order lists.now order.old.items) }
 {
-    let mut rest = notes;
-    'verdicts: for (index, verdict) in verdicts.iter().enumerate() {
-        let (span, later) = rest.split_at(usize::from(verdict.made));
-        lay_span(span, thread, index as u32, history);
-        rest = later;
+    let mut first: usize = 0;
+    'verdicts: for index in 0..verdicts.len() {
+        let made = usize::from(verdicts.item(index).made);
+        lay_span(lists, thread, index as u32, first, made, order);
+        first += made;
     }
 }
 
 /// Lays the events of the script, which has this number among the threads: each answer has the next of them.
-fn lay_script(notes: &[Note], answers: &[Answer], thread: u32, history: &mut History)
+fn lay_script(lists: &[Notes], thread: u32, answers: &[Answer], order: &mut Order)
+    requires thread { thread < length lists.now }
     requires few { length answers.now < 2 ^ 32 }
-    requires covered { made_in (spans_of_answers answers.now) ≡ length notes.now }
-    requires placed { HavePlaces (length history.old.items) notes.now }
-    ensures { history.new.items ≡ laid (named_in thread 0 notes.now (spans_of_answers answers.now)) history.old.items }
+    requires short { length (notes_in lists.now thread) ≤ 2 ^ 32 }
+    requires covered { made_in (spans_of_answers answers.now) ≡ length (notes_in lists.now thread) }
+    requires placed { HavePlaces (length order.old.items) (notes_in lists.now thread) }
+    ensures { in_order lists.now order.new.items
+        ≡ laid (named_in thread 0 (notes_in lists.now thread) (spans_of_answers answers.now)) (in_order lists.now order.old.items) }
 {
-    let mut rest = notes;
+    let mut first: usize = 0;
     'answers: for (index, answer) in answers.iter().enumerate() {
-        let (span, later) = rest.split_at(answer.made as usize);
-        lay_span(span, thread, index as u32, history);
-        rest = later;
+        let made = answer.made as usize;
+        lay_span(lists, thread, index as u32, first, made, order);
+        first += made;
     }
 }
 
 /// Lays the events of each thread, which stand in the list of its number.
-fn lay_threads(lists: &[Notes], threads: &[Verdicts], history: &mut History)
+fn lay_threads(lists: &[Notes], threads: &[Verdicts], order: &mut Order)
     requires lists { length threads.now ≤ length lists.now }
     requires threads { length threads.now < 2 ^ 32 }
-    requires layable { AreLayable (length history.old.items) lists.now threads.now }
-    ensures { history.new.items ≡ laid (threads_named 0 lists.now threads.now) history.old.items }
+    requires layable { AreLayable (length order.old.items) lists.now threads.now }
+    ensures { in_order lists.now order.new.items
+        ≡ laid (threads_named 0 lists.now threads.now) (in_order lists.now order.old.items) }
 {
     'threads: for (thread, verdicts) in threads.iter().enumerate() {
-        let notes = &lists[thread];
-        lay_thread(
-            notes.as_slice(),
-            verdicts.as_slice(),
-            thread as u32,
-            history,
-        );
+        lay_thread(lists, thread as u32, verdicts, order);
     }
 }
 
 /// Lays the events of each thread and then the script's, which stand in the last list.
-fn lay_all(lists: &[Notes], threads: &[Verdicts], answers: &[Answer], history: &mut History)
+fn lay_all(lists: &[Notes], threads: &[Verdicts], answers: &[Answer], order: &mut Order)
     requires lists { length lists.now ≡ length threads.now + 1 }
     requires threads { length threads.now < 2 ^ 32 }
     requires verdicts { All (λ vs. length vs.items < 2 ^ 32) threads.now }
     requires answers { length answers.now < 2 ^ 32 }
+    requires short { AllAreShort lists.now }
     requires spans { CoverEach lists.now (spans_of threads.now answers.now) }
-    requires placed { AllHavePlaces (length history.old.items) lists.now }
-    ensures { history.new.items ≡ laid (all_named 0 lists.now (spans_of threads.now answers.now)) history.old.items }
+    requires placed { AllHavePlaces (length order.old.items) lists.now }
+    ensures { in_order lists.now order.new.items
+        ≡ laid (all_named 0 lists.now (spans_of threads.now answers.now)) (in_order lists.now order.old.items) }
 {
-    lay_threads(lists, threads, history);
+    lay_threads(lists, threads, order);
     let script = threads.len();
-    lay_script(lists[script].as_slice(), answers, script as u32, history);
+    lay_script(lists, script as u32, answers, order);
+}
+
+/// The order of all events by their numbers.
+fn order_events(
+    alloc: Global,
+    lists: &[Notes],
+    threads: &[Verdicts],
+    answers: &[Answer],
+) -> Result<Order, NoMemory>
+    requires lists { length lists.now ≡ length threads.now + 1 }
+    requires threads { length threads.now < 2 ^ 32 }
+    requires verdicts { All (λ vs. length vs.items < 2 ^ 32) threads.now }
+    requires answers { length answers.now < 2 ^ 32 }
+    requires numbers { AreNumbers (all_notes lists.now) }
+    requires spans { CoverEach lists.now (spans_of threads.now answers.now) }
+    ensures within { IfOk result (λ order. All (IsWithin lists.now) order.items) }
+    ensures merged { IfOk result (λ order.
+        IsMerged lists.now (spans_of threads.now answers.now) (in_order lists.now order.items)) }
+    ensures numbered { IfOk result (λ order. IsNumberedFrom 0 (in_order lists.now order.items)) }
+{
+    let total = count_events(lists)?;
+    let mut order = blank_order(alloc, total as usize)?;
+    lay_all(lists, threads, answers, &mut order);
+    Ok(order)
 }
 
 /// Lays the events of several threads into the one history, each at its number, with the thread and the index of the
@@ -151,12 +181,14 @@ pub fn merge(
     ensures answers { IfOk result (λ r. r.answers ≡ answers) }
     ensures live { IfOk result (λ r. r.live ≡ live) }
 {
-    let lists = lists.as_slice();
-    let total = count_events(lists)?;
-    let mut history = blank_history(alloc, total)?;
-    lay_all(lists, threads.as_slice(), answers.as_slice(), &mut history);
+    let order = order_events(
+        alloc,
+        lists.as_slice(),
+        threads.as_slice(),
+        answers.as_slice(),
+    )?;
     Ok(Report {
-        history,
+        history: History::of(lists, order),
         live,
         threads,
         answers,

@@ -1,13 +1,11 @@
 //! What a run of the tracker gives.
 
 use crate::answer::Answers;
-use crate::event::{Note, Numbered};
+use crate::event::Note;
+pub use crate::order::History;
 use crate::verdict::Verdict;
 use expect_table::expectation::Expectation;
 use room_list::RoomList;
-
-/// The events of the one history, in order of their numbers.
-pub type History = RoomList<Numbered>;
 
 /// The events of one thread, in order of their numbers.
 pub type Notes = RoomList<Note>;

@@ -144,8 +144,7 @@ fn answer_from(
             index: 0,
             event: *event,
         };
-        history.reserve(1)?;
-        history.push(item);
+        history.push(item)?;
         number = number.saturating_add(1);
     }
     check_history(alloc, &history, entries, expectations)
@@ -231,8 +230,7 @@ fn numbers_that_are_not_the_indices(rt: HostRuntime) -> Result<(), Fail> {
             index: 0,
             event,
         };
-        history.reserve(1)?;
-        history.push(item);
+        history.push(item)?;
     }
     let skipped = check_history(alloc, &history, 1, 0)?;
     assert!(rt; matches!(skipped, Checked::Broken { number: 1 }));

@@ -1,24 +1,27 @@
-use Rattle.std.proofs.Common.{ap, ◌∙◌, List}
-use Rattle.history_book.specs.declared.event.Note.{Note}
-use Rattle.history_book.specs.Internal.Merging.{laid, named}
-use Rattle.history_book.proofs.Merging.{Lays, next_verdict, share_covered, share_laid, share_placed}
+use Rattle.std.proofs.Common.{ap, arith, drop, length, take, ◌∙◌}
+use Rattle.history_book.specs.Internal.Merging.{made_in, named}
+use Rattle.history_book.specs.Order.{notes_in}
+use Rattle.history_book.proofs.Merging.{next_verdict, share_covered, share_laid}
+use Rattle.history_book.proofs.Ordering.{same_length}
 use Rattle.history_book.proofs.merge.lay_thread.Goals as goal
+
+pub lay_span-requires-clause-span : goal.lay_span-requires-clause-span
+lay_span-requires-clause-span c =
+    let next = next_verdict c.args.verdicts.now.items c.verdicts.index c.item.result c.item.ensures in
+    omega (arith, c.verdicts.invariant.covered, ap made_in next, c.from-made.ensures)
 
 pub verdicts-preserved : goal.verdicts-preserved
 verdicts-preserved c =
-    let lays : Lays c.args.thread c.verdicts.index c.from.result c.verdicts.rest.now c.split_at.result.1.now
-    c.verdicts.history.items c.lay_span.new.history.items = record {
-      left = c.split_at.ensures.back;
-      put = c.lay_span.ensures
-          ∙ ap (λ (l : List Note). laid (named c.args.thread c.verdicts.index l) c.verdicts.history.items)
-          c.split_at.ensures.front;
-    } in
+    let notes = notes_in c.args.lists.now c.args.thread in
+    let next = next_verdict c.args.verdicts.now.items c.verdicts.index c.item.result c.item.ensures in
     record {
-      items = share_laid lays _ _ _ c.from.ensures
-          (next_verdict c.args.verdicts.now c.verdicts.index _ c.verdicts-test.true)
+      items = share_laid c.args.thread c.verdicts.index c.from-made.result c.verdicts.first notes _ _ _ _ _
+          c.lay_span.ensures c.from-made.ensures next
           ∙ c.verdicts.invariant.items;
-      covered = share_covered lays _ _ _ c.from.ensures
-          (next_verdict c.args.verdicts.now c.verdicts.index _ c.verdicts-test.true)
+      covered = share_covered c.from-made.result c.verdicts.first (length notes) _ _ _ c.from-made.ensures next
           c.verdicts.invariant.covered;
-      placed = share_placed lays c.verdicts.invariant.placed;
+      length = same_length c.args.lists.now
+          (named c.args.thread c.verdicts.index (take c.from-made.result (drop c.verdicts.first notes))) _ _
+          c.lay_span.ensures
+          ∙ c.verdicts.invariant.length;
     }
