@@ -2,7 +2,7 @@
 
 ghost use Rattle.std.specs.Prelude.{◌≡◌, ◌+◌, ◌≤◌, ◌^◌, All, length, IfOk};
 ghost use Rattle.std.specs.List.{AllByRecursion};
-ghost use Rattle.capture_list.specs.Frames.{frames_in};
+ghost use Rattle.packet_headers.specs.Frames.{frames_in};
 ghost use Rattle.conntrack_cmd.specs.Moment.{moment_of};
 ghost use Rattle.history_book.specs.Sizes.{AreWithinLimits};
 ghost use Rattle.nat_setup.specs.Rule.{IsLawfulRule};
@@ -11,11 +11,11 @@ ghost use Rattle.replay_runs.specs.Replaying.{work_of};
 ghost use Rattle.replay_runs.specs.Report.{IsWellFormed};
 
 use book_desk::turn_desk::TurnBook;
-use capture_list::Captures;
 use conntrack_cmd::read::Script;
 use ct_io::Gate;
 use history_book::report::Report;
 use history_book::sizes::Sizes;
+use packet_headers::frame::Captures;
 use packet_path::setup::Setup;
 use replay_runs::laws::left_runs_end;
 use replay_runs::replay::{replay_on, report};

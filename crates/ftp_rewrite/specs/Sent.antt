@@ -2,7 +2,7 @@
 use Rattle.std.specs.Prelude.{ℕ, ◌+◌, ◌==◌, ◌&&◌, if◌then◌else◌, List, [], take, drop, slice_get, Option, Some, None, option_and_then}
 use Rattle.std.specs.Option.{option_map}
 use Rattle.room_list.specs.Roomed.{Roomed}
-use Rattle.capture_list.specs.declared.Capture.{Capture}
+use Rattle.packet_headers.specs.declared.frame.Capture.{Capture}
 use Rattle.history_book.specs.declared.event.Numbered.{Numbered}
 use Rattle.history_book.specs.declared.verdict.Class.{Class}
 use Rattle.history_book.specs.declared.verdict.Class.TheVariants as class

@@ -6,12 +6,11 @@ ghost use Rattle.packet_headers.specs.Span.{IsSpanIn};
 ghost use Rattle.ftp_rewrite.specs.Internal.Seen.{Gives, sent_among, sent_of};
 ghost use Rattle.ftp_rewrite.specs.Sent.{LiesInIts, bytes_in, data_in, ftp_by, passed_by, recorded, sent_by, sent_in};
 
-use capture_list::Captures;
 use history_book::event::Numbered;
 use history_book::report::{ThreadVerdicts, Verdicts};
 use history_book::verdict::{Class, Ftp, Verdict};
 use packet_headers::classify::classify;
-use packet_headers::frame::{Frame, Span};
+use packet_headers::frame::{Captures, Frame, Span};
 use packet_headers::packet::Packet;
 use packet_headers::tcp_numbers::{TcpNumbers, tcp_numbers};
 use room_list::RoomList;

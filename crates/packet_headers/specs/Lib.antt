@@ -18,3 +18,4 @@ pub mod ClassifySound
 pub mod ClassifyLaws
 pub mod LayoutLaws
 pub mod PacketLayout
+pub mod Frames

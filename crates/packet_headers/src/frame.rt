@@ -1,6 +1,6 @@
 //! Where the packets of a capture lie.
 
-use room_list::RoomList;
+use room_list::{Bytes, RoomList};
 
 /// What stands before the IP packet of a frame (the link types of pcap 2.4).
 #[derive(Clone, Copy)]
@@ -27,6 +27,17 @@ pub struct Frame {
 
 /// The frames of a capture, in the order of its records.
 pub type Frames = RoomList<Frame>;
+
+/// A capture as it was read: the bytes of its file, its frames, which lie in them, and the zone of their packets.
+#[derive(Drop)]
+pub struct Capture {
+    pub bytes: Bytes,
+    pub frames: Frames,
+    pub zone: u16,
+}
+
+/// Captures, in the order in which the words name them.
+pub type Captures = RoomList<Capture>;
 
 /// Bytes of the file from `start` up to `end`, which is not among them. Where no
 /// place is told both are 0.

@@ -18,7 +18,7 @@ use Rattle.history_book.specs.Sight.{Sight}
 use Rattle.history_book.specs.WentOn.{IsSamePass}
 use Rattle.packet_path.specs.declared.setup.Setup.{Setup}
 use Rattle.packet_path.specs.Laws.{VerdictsStillFit}
-use Rattle.capture_list.specs.declared.Capture.{Capture}
+use Rattle.packet_headers.specs.declared.frame.Capture.{Capture}
 use Rattle.replay_runs.specs.declared.desks.Joined.{Joined}
 use Rattle.replay_runs.specs.declared.jobs.Job.{Job}
 use Rattle.replay_runs.specs.declared.shared.Shared.{Shared}

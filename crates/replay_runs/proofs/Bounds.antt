@@ -11,8 +11,8 @@ use Rattle.history_book.specs.declared.verdict.Verdict.{Verdict}
 use Rattle.packet_headers.specs.Capture.{AreInside, AreTimely, is_timely}
 use Rattle.packet_headers.specs.declared.frame.Frame.{Frame}
 use Rattle.packet_path.specs.Packet.{Given, given_of}
-use Rattle.capture_list.specs.declared.Capture.{Capture}
-use Rattle.capture_list.specs.Frames.{frames_in}
+use Rattle.packet_headers.specs.declared.frame.Capture.{Capture}
+use Rattle.packet_headers.specs.Frames.{frames_in}
 use Rattle.replay_runs.specs.Internal.Jobs.{CanBeReplayed}
 use Rattle.replay_runs.specs.Internal.Replayed.{given_frames}
 use Rattle.replay_runs.specs.Report.{at_start, latest, latest_of, past_packet, Progress, TrackerSetup, VerdictsFit}

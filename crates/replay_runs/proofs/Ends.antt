@@ -7,7 +7,7 @@ use Rattle.std.proofs.lemmas.Grind.{flat_map-append}
 use Rattle.std.proofs.lemmas.List.{append-nil, map-append}
 use Rattle.std.proofs.lemmas.List.Elements.{All-from_recursion, recursion_from_All}
 use Rattle.atomic_table.specs.Seated.{TableId}
-use Rattle.capture_list.specs.declared.Capture.{Capture}
+use Rattle.packet_headers.specs.declared.frame.Capture.{Capture}
 use Rattle.event_listen.specs.Line.{AreSendingsOf, EarSight, HasSentNothing, IsHearingOf, IsSendingOf, LineSight, SendingSight}
 use Rattle.history_book.specs.declared.event.Note.{Note}
 use Rattle.history_book.specs.Sight.{Sight}

@@ -22,7 +22,7 @@ use Rattle.history_book.specs.Sight.{IsKnown, Sight}
 use Rattle.history_book.specs.Sizes.{AreWithinLimits}
 use Rattle.packet_path.specs.Laws.{VerdictsStillFit}
 use Rattle.packet_path.specs.Packet.{Given}
-use Rattle.capture_list.specs.declared.Capture.{Capture}
+use Rattle.packet_headers.specs.declared.frame.Capture.{Capture}
 use Rattle.replay_runs.specs.declared.desks.Joined.{Joined}
 use Rattle.replay_runs.specs.declared.shared.Shared.{Shared}
 use Rattle.replay_runs.specs.declared.listened.Listened.{Listened}

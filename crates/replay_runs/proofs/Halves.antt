@@ -4,7 +4,7 @@ use Rattle.std.specs.List.{AllByRecursion, AllZip}
 use Rattle.std.proofs.lemmas.List.{take-append-drop}
 use Rattle.history_book.specs.Sight.{Sight}
 use Rattle.packet_path.specs.declared.setup.Setup.{Setup}
-use Rattle.capture_list.specs.declared.Capture.{Capture}
+use Rattle.packet_headers.specs.declared.frame.Capture.{Capture}
 use Rattle.replay_runs.specs.declared.jobs.Job.{Job}
 use Rattle.replay_runs.specs.Internal.Jobs.{AllRan}
 use Rattle.replay_runs.proofs.Each.{each_dropped, each_taken}

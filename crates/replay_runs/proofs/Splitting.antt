@@ -11,7 +11,7 @@ use Rattle.room_list.specs.Roomed.{Roomed}
 use Rattle.history_book.specs.declared.verdict.Verdict.{Verdict}
 use Rattle.history_book.specs.Sight.{IsKnown, Sight}
 use Rattle.history_book.specs.Split.{CanSplit, Splits}
-use Rattle.capture_list.specs.declared.Capture.{Capture}
+use Rattle.packet_headers.specs.declared.frame.Capture.{Capture}
 use Rattle.replay_runs.specs.declared.jobs.Job.{Job}
 use Rattle.replay_runs.specs.Internal.Jobs.{AreFurther, CanBeReplayed, HasSplit, IsFurther, IsSet}
 use Rattle.replay_runs.proofs.Each.{each_append}

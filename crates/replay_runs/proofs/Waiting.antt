@@ -4,7 +4,7 @@ use Rattle.std.specs.Prelude.{MatchOption, Ok, Option}
 use Rattle.std.specs.List.{AllByRecursion, AllZip}
 use Rattle.std.specs.Option.{option_to_list}
 use Rattle.std.proofs.lemmas.Slice.Zip.{AllZip-long}
-use Rattle.capture_list.specs.declared.Capture.{Capture}
+use Rattle.packet_headers.specs.declared.frame.Capture.{Capture}
 use Rattle.conntrack_cmd.specs.declared.command.Command.{Command}
 use Rattle.event_listen.specs.Line.{EarSight, SendingSight}
 use Rattle.history_book.specs.declared.event.Note.{Note}

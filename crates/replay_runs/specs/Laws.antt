@@ -1,6 +1,6 @@
 -- What is always so of runs.
 use Rattle.std.specs.Prelude.{◌≡◌, ℕ, List}
-use Rattle.capture_list.specs.declared.Capture.{Capture}
+use Rattle.packet_headers.specs.declared.frame.Capture.{Capture}
 use Rattle.conntrack_cmd.specs.declared.read.Script.{Script}
 use Rattle.history_book.specs.declared.report.Closed.{Closed}
 use Rattle.history_book.specs.declared.sizes.Sizes.{Sizes}

@@ -2,7 +2,7 @@
 use Rattle.std.specs.Prelude.{List, map}
 use Rattle.conntrack_cmd.specs.declared.read.Script.{Script}
 use Rattle.packet_path.specs.Packet.{given_of}
-use Rattle.capture_list.specs.declared.Capture.{Capture}
+use Rattle.packet_headers.specs.declared.frame.Capture.{Capture}
 use Rattle.replay_runs.specs.Report.{Work}
 
 -- the work of these captures and this script

@@ -14,12 +14,11 @@ ghost use Rattle.replay_runs.specs.Internal.Telling.{Between, HasTold, line_now,
 use crate::jobs::Job;
 use crate::shared::Shared;
 use crate::telling::tell;
-use capture_list::Capture;
 use ct_io::{Crossing, Gate};
 use history_book::desk::Desk;
 use history_book::sight_laws::going_on_adds_up;
 use history_book::verdict::Verdict;
-use packet_headers::frame::Frame;
+use packet_headers::frame::{Capture, Frame};
 use packet_path::handle::handle;
 use packet_path::laws::{lower_marks_fit, verdicts_still_fit};
 use std::sync::Wait;

@@ -8,10 +8,10 @@ ghost use Rattle.replay_runs.specs.Internal.Telling.{ends_in, HandsOut};
 
 use crate::jobs::Job;
 use crate::telling::put_back;
-use capture_list::Capture;
 use event_listen::sending::Sendings;
 use history_book::many_threads::SharedDesk;
 use history_book::report::{Notes, ThreadVerdicts, Verdicts};
+use packet_headers::frame::Capture;
 use std::alloc::Global;
 use tuple_core::NoMemory;
 

@@ -9,11 +9,11 @@ ghost use Rattle.replay_runs.specs.Internal.Telling.{IsReady, line_now, Told};
 
 use crate::captures::replay_capture;
 use crate::shared::Shared;
-use capture_list::Capture;
 use ct_io::Gate;
 use event_listen::sending::Sending;
 use history_book::desk::Desk;
 use history_book::report::Verdicts;
+use packet_headers::frame::Capture;
 use std::sync::Wait;
 use std::thread::{Threads, join_mut};
 use tuple_core::NoMemory;

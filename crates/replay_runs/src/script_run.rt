@@ -9,7 +9,6 @@ ghost use Rattle.replay_runs.specs.Report.{latest, latest_of};
 
 use crate::shared::Shared;
 use crate::telling::tell;
-use capture_list::Capture;
 use conntrack_cmd::command::Command;
 use conntrack_cmd::laws::{answers_still_fit, lower_marks_fit};
 use conntrack_cmd::perform::perform;
@@ -18,6 +17,7 @@ use event_listen::sending::Sending;
 use history_book::answer::{Answer, Answers};
 use history_book::desk::Desk;
 use history_book::sight_laws::going_on_adds_up;
+use packet_headers::frame::Capture;
 use std::sync::Wait;
 use tuple_core::NoMemory;
 

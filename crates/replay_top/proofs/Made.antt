@@ -10,7 +10,7 @@ use Rattle.history_book.specs.declared.event.Note.{Note}
 use Rattle.history_book.specs.declared.sizes.Sizes.{Sizes}
 use Rattle.nat_setup.specs.declared.rule.Rule.{Rule}
 use Rattle.packet_path.specs.Packet.{Given}
-use Rattle.capture_list.specs.declared.Capture.{Capture}
+use Rattle.packet_headers.specs.declared.frame.Capture.{Capture}
 use Rattle.run_inputs.specs.declared.flaw.FileKind.TheVariants as kind
 use Rattle.run_inputs.specs.declared.input.Inputs.{Inputs}
 use Rattle.run_inputs.specs.Content.{Content, no_totals, rules, script, Totals, totals_with}

@@ -3,8 +3,8 @@ use Rattle.std.proofs.Common.{◌≡◌, ◌∙◌, ◌+◌, true, false, List, 
 use Rattle.std.specs.Prelude.{All, remove, slice_get}
 use Rattle.std.proofs.lemmas.List.{length-append, map-append}
 use Rattle.std.proofs.lemmas.List.Elements.{All-head, All-nil, All-push, All-tail}
-use Rattle.capture_list.specs.Frames.{frames_in}
-use Rattle.capture_list.specs.declared.Capture.{Capture}
+use Rattle.packet_headers.specs.Frames.{frames_in}
+use Rattle.packet_headers.specs.declared.frame.Capture.{Capture}
 use Rattle.packet_headers.specs.Capture.{AreInside, AreTimely}
 use Rattle.replay_top.specs.Internal.Replaying.{Prepared, prepared}
 use Rattle.run_inputs.specs.Ready.{CanReplay}

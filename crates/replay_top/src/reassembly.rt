@@ -5,8 +5,8 @@ ghost use Rattle.packet_headers.specs.Capture.{AreInside, AreTimely};
 ghost use Rattle.replay_top.specs.Internal.Replaying.{prepared};
 ghost use Rattle.run_inputs.specs.Ready.{CanReplay};
 
-use capture_list::{Capture, Captures};
 use ip_reassembly::Defragged;
+use packet_headers::frame::{Capture, Captures};
 use std::alloc::Global;
 use tuple_core::NoMemory;
 

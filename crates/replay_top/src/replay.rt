@@ -2,7 +2,7 @@
 
 ghost use Rattle.std.specs.Prelude.{◌≡◌, ◌+◌, ◌≤◌, ◌^◌, All, is_some, length, map, IfOk};
 ghost use Rattle.std.specs.List.{AllByRecursion};
-ghost use Rattle.capture_list.specs.Frames.{frames_in};
+ghost use Rattle.packet_headers.specs.Frames.{frames_in};
 ghost use Rattle.conntrack_cmd.specs.Moment.{moment_of};
 ghost use Rattle.ftp_rewrite.specs.Sent.{recorded};
 ghost use Rattle.history_book.specs.Sizes.{AreWithinLimits};
@@ -16,10 +16,10 @@ ghost use Rattle.replay_top.specs.Replay.{rewrite_lines};
 
 use crate::ending::Replayed;
 use crate::rewriting::{kept_if, rewrites_of};
-use capture_list::Captures;
 use conntrack_cmd::read::Script;
 use ct_io::Gate;
 use history_book::sizes::Sizes;
+use packet_headers::frame::Captures;
 use packet_path::setup::Setup;
 use replay_runs::laws::left_runs_end;
 use replay_runs::replay::{replay_on, report};

@@ -6,10 +6,10 @@ ghost use Rattle.ftp_rewrite.specs.Sent.{LiesInIts};
 ghost use Rattle.replay_top.specs.Internal.Replaying.{kept_if, kept_lines, rewritten_text};
 ghost use Rattle.report_text.specs.Wrote.{Wrote};
 
-use capture_list::Captures;
 use ct_io::Sink;
 use ftp_rewrite::{Rewrites, rewrites, write_rewrites};
 use history_book::report::Report;
+use packet_headers::frame::Captures;
 use report_text::page::LONGEST_LINE;
 use report_text::write::WriteFault;
 use std::alloc::Global;

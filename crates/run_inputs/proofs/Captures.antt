@@ -7,12 +7,12 @@ use Rattle.std.proofs.lemmas.List.Elements.{All-push}
 use Rattle.command_words.specs.Asked.{texts}
 use Rattle.ct_io.specs.Source.{SameFaults, Source, Stays}
 use Rattle.packet_headers.specs.Capture.{AreInside, AreTimely}
-use Rattle.capture_list.specs.declared.Capture.{Capture}
+use Rattle.packet_headers.specs.declared.frame.Capture.{Capture}
 use Rattle.run_inputs.specs.declared.flaw.FileKind.TheVariants as kind
 use Rattle.run_inputs.specs.declared.flaw.Refusal.{Refusal}
 use Rattle.run_inputs.specs.Content.{totals_with, frames, IsRead, most_capture_bytes, most_packets, no_totals, Totals}
 use Rattle.run_inputs.specs.Reading.{bytes_in, contents_in, GaveCapture, GaveCaptures, GaveContents, HasCauseFrom, IsGiven, part_of, totals_after, zones_in}
-use Rattle.capture_list.specs.Frames.{frames_in}
+use Rattle.packet_headers.specs.Frames.{frames_in}
 use Rattle.run_inputs.specs.Files.{files_of_kind, InputFile}
 use Rattle.run_inputs.proofs.OneByOne.{cause_behind_all, cause_front, cause_later, is_given_later, same_faults, stays_then}
 use Rattle.room_list.specs.Roomed.{Roomed}

@@ -6,8 +6,8 @@ use Rattle.std.proofs.Math.Nat.{mul-le-mul_left, mul_left_comm}
 use Rattle.std.proofs.lemmas.List.{length-append, length-map, map-append}
 use Rattle.std.proofs.lemmas.List.Elements.{All-append, All-cons, All-nil}
 use Rattle.std.proofs.lemmas.List.FromFn.{length-map-range_with_len}
-use Rattle.capture_list.specs.Frames.{frames_in}
-use Rattle.capture_list.specs.declared.Capture.{Capture}
+use Rattle.packet_headers.specs.Frames.{frames_in}
+use Rattle.packet_headers.specs.declared.frame.Capture.{Capture}
 use Rattle.command_words.specs.Words.{IsWorkloadWithin, Workload}
 use Rattle.made_captures.specs.Laws.{MadeCapturesHaveNoFault, MadeCapturesHaveNoOtherFrames}
 use Rattle.made_captures.specs.MadeCapture.{contents, made_capture, made_captures}

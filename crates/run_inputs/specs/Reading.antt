@@ -6,7 +6,7 @@ use Rattle.conntrack_cmd.specs.declared.read.Script.{Script}
 use Rattle.ct_io.specs.Source.{SameFaults, Source}
 use Rattle.nat_setup.specs.declared.rule.Rule.{Rule}
 use Rattle.packet_headers.specs.Capture.{AreInside, AreTimely}
-use Rattle.capture_list.specs.declared.Capture.{Capture}
+use Rattle.packet_headers.specs.declared.frame.Capture.{Capture}
 use Rattle.run_inputs.specs.declared.totals.CaptureTotals.{CaptureTotals}
 use Rattle.run_inputs.specs.declared.flaw.FileKind.{FileKind}
 use Rattle.run_inputs.specs.declared.flaw.FileKind.TheVariants as kind

@@ -5,9 +5,9 @@ use Rattle.conntrack_cmd.specs.Moment.{moment_of}
 use Rattle.conntrack_cmd.specs.declared.command.Command.{Command}
 use Rattle.nat_setup.specs.Rule.{IsLawfulRule}
 use Rattle.packet_headers.specs.Capture.{AreInside, AreTimely}
-use Rattle.capture_list.specs.declared.Capture.{Capture}
+use Rattle.packet_headers.specs.declared.frame.Capture.{Capture}
 use Rattle.run_inputs.specs.declared.input.Inputs.{Inputs}
-use Rattle.capture_list.specs.Frames.{frames_in}
+use Rattle.packet_headers.specs.Frames.{frames_in}
 
 -- captures that can be replayed together
 pub record CanReplay (captures : List Capture) : Type 0 where

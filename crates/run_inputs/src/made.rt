@@ -1,7 +1,7 @@
 //! The inputs of a made workload: captures that are made, and read as those of files are.
 
 ghost use Rattle.std.specs.Prelude.{◌≡◌, ◌≤◌, IfOk, length};
-ghost use Rattle.capture_list.specs.declared.Capture.{Capture};
+ghost use Rattle.packet_headers.specs.declared.frame.Capture.{Capture};
 ghost use Rattle.command_words.specs.Asked.{workload_as};
 ghost use Rattle.command_words.specs.Words.{IsWorkloadWithin};
 ghost use Rattle.made_captures.specs.MadeCapture.{contents, made_captures};
@@ -12,12 +12,12 @@ ghost use Rattle.run_inputs.specs.Reading.{bytes_in, contents_in, GaveMade, zone
 ghost use Rattle.run_inputs.specs.Ready.{CanReplay};
 
 use crate::input::{Inputs, no_script, zone_at};
-use capture_list::{Capture, Captures};
 use command_words::Workload;
 use made_captures::laws::made_captures_are_read;
 use made_captures::{MadeCaptures, make_captures};
 use nat_setup::rule::Rules;
 use packet_headers::capture::{CaptureError, read_capture};
+use packet_headers::frame::{Capture, Captures};
 use room_list::Bytes;
 use std::alloc::Global;
 use tuple_core::NoMemory;

@@ -3,7 +3,7 @@ use Rattle.std.specs.Prelude.{◌≡◌, ℕ, cond, List, Option, Some, None, sl
 use Rattle.std.specs.BTreeMap.{BTreeMap, get, is_at}
 use Rattle.std.specs.Ordering.{nat_cmp}
 use Rattle.history_book.specs.declared.event.Numbered.{Numbered}
-use Rattle.capture_list.specs.declared.Capture.{Capture}
+use Rattle.packet_headers.specs.declared.frame.Capture.{Capture}
 use Rattle.ftp_rewrite.specs.declared.sent.SegmentView.{SegmentView}
 use Rattle.ftp_rewrite.specs.declared.session.Session.{Session}
 use Rattle.ftp_rewrite.specs.Sent.{◌>>=◌, Sent, sent_in}

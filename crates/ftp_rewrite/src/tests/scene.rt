@@ -4,7 +4,6 @@ ghost use Rattle.std.specs.Prelude.{All, IfOk, OnOk};
 ghost use Rattle.ftp_rewrite.specs.Sent.{LiesInIts};
 
 use crate::{rewrites, write_rewrites};
-use capture_list::{Capture, Captures};
 use ct_io::MemSink;
 use expect_table::expectation::{Expectation, Want};
 use history_book::answer::Answers;
@@ -14,6 +13,7 @@ use history_book::report::{History, Report, ThreadVerdicts, Verdicts};
 use history_book::verdict::{Class, Ftp, Label, Translated, Verdict};
 use packet_headers::Bytes;
 use packet_headers::capture::read_capture;
+use packet_headers::frame::{Capture, Captures};
 use proto_rules::{Part, PartKind, TcpState};
 use std::alloc::Global;
 use tuple_core::{Direction, Kind, NoMemory, Proto, Segment, Tuple};

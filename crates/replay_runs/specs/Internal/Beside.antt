@@ -1,7 +1,7 @@
 -- The threads of captures and the script's, which run beside each other.
 use Rattle.std.specs.Prelude.{◌≡◌, ◌+◌, ◌≤◌, List, length, OnOk, Result}
 use Rattle.std.specs.List.{AllByRecursion, AllZip}
-use Rattle.capture_list.specs.declared.Capture.{Capture}
+use Rattle.packet_headers.specs.declared.frame.Capture.{Capture}
 use Rattle.conntrack_cmd.specs.declared.command.Command.{Command}
 use Rattle.history_book.specs.Sight.{Sight}
 use Rattle.nat_setup.specs.Rule.{IsLawfulRule}

@@ -11,7 +11,7 @@ use Rattle.history_book.specs.Point.{StartsWith}
 use Rattle.history_book.specs.Sight.{IsKnown, Sight}
 use Rattle.packet_headers.specs.Capture.{AreInside, AreTimely}
 use Rattle.packet_path.specs.declared.setup.Setup.{Setup}
-use Rattle.capture_list.specs.declared.Capture.{Capture}
+use Rattle.packet_headers.specs.declared.frame.Capture.{Capture}
 use Rattle.replay_runs.specs.declared.jobs.Job.{Job}
 use Rattle.replay_runs.specs.Run.{items_of}
 use Rattle.replay_runs.specs.Internal.Replayed.{given_frames, Replayed}

@@ -6,7 +6,7 @@ use Rattle.history_book.specs.Sight.{IsKnown, Sight}
 use Rattle.history_book.specs.WentOn.{WentOn}
 use Rattle.packet_path.specs.Packet.{Given, given_of}
 use Rattle.packet_path.specs.declared.setup.Setup.{Setup}
-use Rattle.capture_list.specs.declared.Capture.{Capture}
+use Rattle.packet_headers.specs.declared.frame.Capture.{Capture}
 use Rattle.replay_runs.specs.Report.{at_start, past_verdicts, TrackerSetup, VerdictsFit}
 
 -- what was given of the frames of a capture

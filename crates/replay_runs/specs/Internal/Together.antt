@@ -6,7 +6,7 @@ use Rattle.history_book.specs.declared.event.Note.{Note}
 use Rattle.history_book.specs.Merge.{all_notes}
 use Rattle.history_book.specs.Sight.{IsKnown, Sight}
 use Rattle.packet_path.specs.declared.setup.Setup.{Setup}
-use Rattle.capture_list.specs.declared.Capture.{Capture}
+use Rattle.packet_headers.specs.declared.frame.Capture.{Capture}
 use Rattle.replay_runs.specs.declared.desks.Joined.{Joined}
 use Rattle.replay_runs.specs.Internal.Answered.{past_answers}
 use Rattle.replay_runs.specs.Internal.Replayed.{given_frames, tracker_with}

@@ -1,6 +1,6 @@
 -- What a replay is given, and what it gives.
 use Rattle.std.specs.Prelude.{◌≡◌, ℕ, Bool, false, true, is_some, List, [], map, None, Option, Some}
-use Rattle.capture_list.specs.declared.Capture.{Capture}
+use Rattle.packet_headers.specs.declared.frame.Capture.{Capture}
 use Rattle.command_words.specs.Words.{Request}
 use Rattle.conntrack_cmd.specs.declared.read.Script.{Script}
 use Rattle.ftp_rewrite.specs.Line.{seen}

@@ -1,6 +1,6 @@
 -- The frames of several captures.
 use Rattle.std.specs.Prelude.{ℕ, ◌+◌, List, [], ◌∷◌, length}
-use Rattle.capture_list.specs.declared.Capture.{Capture}
+use Rattle.packet_headers.specs.declared.frame.Capture.{Capture}
 
 -- how many frames the captures have
 abbrev pub frames_in : List Capture → ℕ
