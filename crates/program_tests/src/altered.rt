@@ -82,22 +82,15 @@ fn event_changed(item: Numbered, change: Change) -> Numbered {
     changed
 }
 
-/// Puts an event behind the others.
-fn put(events: &mut History, item: Numbered) -> Result<(), NoMemory> {
-    events.reserve(1)?;
-    events.push(item);
-    Ok(())
-}
-
 /// Puts the third event, changed, behind the events before it.
 fn put_changed(events: &mut History, item: Numbered, change: Change) -> Result<(), NoMemory> {
     match change {
         Change::Twice => {
-            put(events, item)?;
-            put(events, item)
+            events.push(item)?;
+            events.push(item)
         }
         Change::LeftOut => Ok(()),
-        _ => put(events, event_changed(item, change)),
+        _ => events.push(event_changed(item, change)),
     }
 }
 
@@ -109,7 +102,7 @@ fn events_changed(alloc: Global, history: &History, change: Change) -> Result<Hi
         if place == 2 {
             put_changed(&mut events, item, change)?;
         } else {
-            put(&mut events, item)?;
+            events.push(item)?;
         }
     }
     Ok(events)

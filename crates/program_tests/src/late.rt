@@ -91,8 +91,7 @@ fn without_touches(alloc: Global, history: &History) -> Result<History, NoMemory
         let item = history.item(index);
         if !matches!(item.event, Event::Touch { .. }) {
             let number = events.len() as u64;
-            events.reserve(1)?;
-            events.push(Numbered { number, ..item });
+            events.push(Numbered { number, ..item })?;
         }
     }
     Ok(events)

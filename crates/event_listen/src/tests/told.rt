@@ -111,7 +111,7 @@ impl Told {
         requires { events ≤ 2 ^ 20 }
         ensures { IfOk result (λ d. length d.own ≡ events) }
     {
-        let mut history = History::new(alloc, events as usize)?;
+        let mut history = History::empty(alloc);
         'events: for index in 0..events {
             let number = u64::from(index);
             history.push(Numbered {
@@ -119,7 +119,7 @@ impl Told {
                 thread: 0,
                 index: 0,
                 event: event_at(number, port),
-            });
+            })?;
         }
         match check_history(alloc, &history, 1, 0)? {
             Checked::Legal { .. } => Ok(Told { history }),
