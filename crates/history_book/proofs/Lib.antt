@@ -29,3 +29,4 @@ pub mod Examples
 pub mod ZoneExamples
 pub mod Merging
 pub mod Ordering
+pub mod Packing

@@ -11,6 +11,8 @@ pub mod Notes
 pub mod Mark
 pub mod Numbered
 pub mod Order
+pub mod Packed
+pub mod ShortVerdict
 pub mod Checked
 pub mod Merge
 pub mod Internal

@@ -13,10 +13,12 @@ pub mod many_threads;
 pub mod merge;
 pub mod order;
 pub mod outcome;
+pub mod packed;
 pub mod place_use;
 pub mod places;
 pub mod record;
 pub mod report;
+pub mod short_verdict;
 pub mod sight_laws;
 pub mod sizes;
 #[cfg(test)]
