@@ -12,6 +12,7 @@ pub mod Mark
 pub mod Numbered
 pub mod Order
 pub mod Packed
+pub mod ShortNote
 pub mod ShortVerdict
 pub mod Checked
 pub mod Merge

@@ -18,6 +18,7 @@ pub mod place_use;
 pub mod places;
 pub mod record;
 pub mod report;
+pub mod short_note;
 pub mod short_verdict;
 pub mod sight_laws;
 pub mod sizes;
