@@ -3,15 +3,18 @@
 use crate::answer::Answers;
 use crate::event::Note;
 pub use crate::order::History;
+use crate::packed::PackedList;
+use crate::short_note::ShortNote;
+use crate::short_verdict::ShortVerdict;
 use crate::verdict::Verdict;
 use expect_table::expectation::Expectation;
 use room_list::RoomList;
 
 /// The events of one thread, in order of their numbers.
-pub type Notes = RoomList<Note>;
+pub type Notes = PackedList<ShortNote, Note>;
 
 /// The verdicts on the packets of one thread, in order.
-pub type Verdicts = RoomList<Verdict>;
+pub type Verdicts = PackedList<ShortVerdict, Verdict>;
 
 /// Expectations, in order of id.
 pub type Expectations = RoomList<Expectation>;
