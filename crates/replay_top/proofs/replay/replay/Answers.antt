@@ -1,7 +1,22 @@
-use Rattle.std.proofs.Common.{ap, ◌∙◌}
+use Rattle.std.proofs.Common.{◌≡◌, All, Bool, true, false, Some, ap, subst, sym, ◌∙◌}
+use Rattle.std.proofs.lemmas.Option.{none-some, same_Some}
+use Rattle.ftp_rewrite.specs.Sent.{LiesInIts}
+use Rattle.packet_headers.specs.Capture.{AreInside}
+use Rattle.packet_headers.specs.declared.frame.Capture.{Capture}
+use Rattle.replay_top.specs.Internal.Replaying.{kept_if}
+use Rattle.room_list.specs.Roomed.{Roomed}
 use Rattle.replay_runs.specs.Replaying.{work_of}
 use Rattle.shared_desk.specs.Sights.{ClerkSight, sight_of}
 use Rattle.replay_top.proofs.replay.replay.Goals as goal
+
+-- what is kept is what was there
+kept_lie : (rewrite : Bool) (captures x : Roomed Capture) → kept_if rewrite captures ≡ Some x
+    → All (λ (c : Capture). AreInside c.bytes.items c.frames.items) captures.items → All LiesInIts x.items
+kept_lie false captures x e inside = absurd (none-some x e)
+kept_lie true captures x e inside = subst (λ (y : Roomed Capture). All LiesInIts y.items) (same_Some captures x e) inside
+
+pub rewrites_of-requires : goal.rewrites_of-requires
+rewrites_of-requires g c = λ x is. kept_lie c.args.rewrite c.args.captures x (sym c.kept_if-kept.ensures ∙ is) c.requires.inside
 
 pub report-requires : goal.report-requires
 report-requires g c = record {
