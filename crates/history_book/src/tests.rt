@@ -11,6 +11,8 @@ use expect_table::expectation::{Expectation, Want};
 use proto_rules::{Part, PartKind, TcpState};
 use tuple_core::{Direction, Kind, Proto, Segment, Tuple};
 
+pub(crate) mod packed_lists;
+
 /// From 10.0.0.1:5000 to 10.0.0.2:53.
 const QUERY: Tuple = Tuple {
     proto: Proto::Udp,

@@ -1,14 +1,14 @@
 //! What two threads and a script made, whose events interleave by number.
 
-ghost use Rattle.std.specs.Prelude.{◌≡◌, ◌+◌, ◌<◌, ◌^◌, [], ◌++◌, IfOk, length};
+ghost use Rattle.std.specs.Prelude.{◌≡◌, ◌+◌, ◌<◌, ◌^◌, [], ◌++◌, length};
 ghost use Rattle.history_book.specs.Merge.{AreNumbers, CoverFrom, spans_of_answers, spans_of_verdicts};
 
 use super::merge;
 use crate::answer::{Answer, Answers, Said};
 use crate::event::{Event, Note};
 use crate::report::{Report, ThreadVerdicts};
+use crate::tests::packed_lists::list_of;
 use crate::verdict::{Class, UntrackedWhy, Verdict};
-use room_list::RoomList;
 use std::alloc::Global;
 use std::test::Fail;
 use tuple_core::NoMemory;
@@ -58,14 +58,6 @@ const NAMES: [(u32, u32); 8] = [
     (0, 2),
     (2, 1),
 ];
-
-fn list_of<T: Copy>(alloc: Global, items: &[T]) -> Result<RoomList<T>, NoMemory>
-    ensures { IfOk result (λ list. list.items ≡ items.now) }
-{
-    let mut list = RoomList::new(alloc, items.len())?;
-    list.append(items)?;
-    Ok(list)
-}
 
 /// An answer that has so many events, from this index on.
 fn answer(first: u64, made: u64) -> Answer

@@ -1,0 +1,8 @@
+use Rattle.std.specs.Prelude.{◌≡◌, ◌≤◌, length, take}
+use Rattle.history_book.proofs.tests.packed_lists.list_of.Given as goal
+
+abbrev pub invariant-items : goal.invariant-items
+invariant-items g l = record {
+  items : l.list.items ≡ take l.item-index l.items;
+  room : length l.items ≤ l.list.room;
+}
