@@ -1,5 +1,5 @@
 -- How texts that are gathered one after another are one text.
-use Rattle.std.proofs.Common.{◌≡◌, ℕ, ◌+◌, ◌<◌, ◌≤◌, List, [], ◌++◌, length, get_or, take, Some, Result, Ok, Err, IsErr, refl, arith, append_assoc, append-nil}
+use Rattle.std.proofs.Common.{◌≡◌, ℕ, ◌+◌, ◌<◌, ◌≤◌, List, [], ◌++◌, length, get_or, take, drop, Some, Result, Ok, Err, IsErr, refl, arith, append_assoc, append-nil}
 use Rattle.std.specs.List.{slice_get}
 use Rattle.std.proofs.lemmas.List.{take_all}
 use Rattle.std.proofs.lemmas.Option.{get_or_from_slice_get, slice_get_within}
@@ -148,6 +148,24 @@ pub gathered_item : {X : Type 0} (text : ℕ → X → List ℕ) (xs : List X) (
 gathered_item text xs i x p q r a b c result err at s l =
     gathered_step text xs i x p q r a b c result err (slice_get_within xs i x at) s
     (rw (get_or_from_slice_get xs i x x at) l)
+
+-- bytes were lost before the next item came
+pub gathered_before : {X : Type 0} (text : ℕ → X → List ℕ) (xs : List X) (i : ℕ)
+    (p q r : Held) (a b c : Tape) (result : Result (Unit {0}) WriteFault) → IsErr result →
+    i ≤ length xs → Sent (texts_from text 0 (take i xs)) p q a b → Lost [] q b c →
+    Gathered (texts_from text 0 xs) p r a c result
+gathered_before text xs i p q r a b c (Ok done) err within s l = cc
+gathered_before text xs i p q r a b c (Err fault) err within s l =
+    rw (texts_from-split text xs i within)
+    (lost_then _ _ p q a b c s (lost_line (texts_from text i (drop i xs)) q b c l))
+
+-- two pieces on a page are one
+pub adds_then : (most more : ℕ) (one two : List ℕ) (p q r : Held) →
+    Adds most one p q → Adds more two q r → Adds (most + more) (one ++ two) p r
+adds_then most more one two p q r s u = record {
+  joined = cc (append_assoc p.text one two, s.joined, u.joined);
+  short = omega (arith, s.short, u.short);
+}
 
 -- where the page was empty and bytes were lost, first bytes of the text were written
 pub lost_front : (text : List ℕ) (p : Held) (a b : Tape) → p.text ≡ [] → Lost text p a b →

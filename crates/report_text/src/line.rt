@@ -1,11 +1,14 @@
 //! The lines of a report. Each is written on a page that has room for the longest one.
 
-ghost use Rattle.report_text.specs.Line.{event_line, history_head, script_head, thread_head, verdict_line};
+ghost use Rattle.std.specs.Fmt.{decimal};
+ghost use Rattle.std.specs.Prelude.{◌++◌, codes};
+ghost use Rattle.report_text.specs.Line.{event_line, history_head, script_head, thread_head};
 ghost use Rattle.report_text.specs.Page.{Adds, HasRoom};
+ghost use Rattle.report_text.specs.Piece.{class_text};
 
 use crate::page::{LONGEST_LINE, Page};
 use history_book::event::Numbered;
-use history_book::verdict::Verdict;
+use history_book::verdict::Class;
 
 impl<'b> Page<'b> {
     /// Writes the line before the events.
@@ -21,11 +24,11 @@ impl<'b> Page<'b> {
 
     /// Writes the line of an event, with a script of this number among the threads.
     #[tactic(auto, unfolding(crate::specs::Line::event_line))]
+    #[inline(always)]
     pub(crate) fn event_line(&mut self, script: usize, e: &Numbered)
         requires { HasRoom LONGEST_LINE self.old }
         ensures { Adds LONGEST_LINE (event_line script e.now) self.old self.new }
     {
-        self.number(e.number);
         self.event(script, e);
         self.text(b"\n");
     }
@@ -43,15 +46,23 @@ impl<'b> Page<'b> {
         self.text(b"\n");
     }
 
-    /// Writes the line of the verdict on the packet of this index.
-    #[tactic(auto, unfolding(crate::specs::Line::verdict_line))]
-    pub(crate) fn verdict_line(&mut self, index: usize, verdict: &Verdict)
-        requires { HasRoom LONGEST_LINE self.old }
-        ensures { Adds LONGEST_LINE (verdict_line index verdict.now) self.old self.new }
+    /// Begins the line of the verdict on the packet of this index.
+    #[inline(always)]
+    pub(crate) fn verdict_head(&mut self, index: usize)
+        requires { HasRoom 21 self.old }
+        ensures { Adds 21 (decimal index ++ codes " ") self.old self.new }
     {
         self.number(index);
         self.text(b" ");
-        self.class(verdict.class);
+    }
+
+    /// Writes what became of a packet, at its line's end.
+    #[inline(always)]
+    pub(crate) fn class_line(&mut self, class: Class)
+        requires { HasRoom 117 self.old }
+        ensures { Adds 117 (class_text class ++ codes "\n") self.old self.new }
+    {
+        self.class(class);
         self.text(b"\n");
     }
 

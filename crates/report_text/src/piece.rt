@@ -1,8 +1,9 @@
 //! The pieces of a line, each written on a page that has room for it.
 
-ghost use Rattle.std.specs.Prelude.{◌≤◌, ◌++◌, length};
+ghost use Rattle.std.specs.Fmt.{decimal};
+ghost use Rattle.std.specs.Prelude.{◌≤◌, ◌++◌, codes, length};
 ghost use Rattle.report_text.specs.Page.{Adds, HasRoom};
-ghost use Rattle.report_text.specs.Piece.{address_text, claimed_text, class_text, direction_word, ends_text, entry_text, error_word, event_rest, event_text, event_word, expectation_text, flow_text, ftp_text, label_word, made_word, master_text, point_text, proto_word, record_text, replaced_text, state_text, state_word, thread_word, touched_text, tuple_text, untracked_word, want_text, who_text, why_text, zone_text};
+ghost use Rattle.report_text.specs.Piece.{address_text, claimed_text, class_text, direction_word, ends_text, entry_text, error_word, event_text, expectation_text, flow_text, ftp_text, label_word, made_word, master_text, point_text, proto_word, record_text, replaced_text, state_text, state_word, thread_word, touched_text, tuple_text, untracked_word, want_text, who_text, why_text, zone_text};
 
 use crate::page::Page;
 use expect_table::expectation::{Expectation, Want};
@@ -276,28 +277,32 @@ impl<'b> Page<'b> {
         self.master(Some(master));
     }
 
-    /// Writes the word of an event.
-    fn event_word(&mut self, event: &Event)
-        requires { HasRoom 8 self.old }
-        ensures { Adds 8 (event_word event.now) self.old self.new }
+    /// Writes the number of an event, its word, and who made it.
+    #[inline(always)]
+    fn event_head(&mut self, word: &[u8], script: usize, e: &Numbered)
+        requires few { length word.now ≤ 8 }
+        requires room { HasRoom 51 self.old }
+        ensures { Adds 51 (decimal e.now.number ++ codes " " ++ word.now ++ codes " "
+            ++ who_text script e.now.thread e.now.index) self.old self.new }
     {
-        match event {
-            Event::Confirm { .. } => self.text(b"confirm"),
-            Event::Touch { .. } => self.text(b"touch"),
-            Event::Destroy { .. } => self.text(b"destroy"),
-            Event::Expect { .. } => self.text(b"expect"),
-            Event::Claim { .. } => self.text(b"claim"),
-            Event::Unexpect { .. } => self.text(b"unexpect"),
-        }
+        self.number(e.number);
+        self.text(b" ");
+        self.text(word);
+        self.text(b" ");
+        self.who(script, e.thread, e.index);
     }
 
-    /// Writes what an event does.
-    fn event_rest(&mut self, event: &Event)
-        requires { HasRoom 230 self.old }
-        ensures { Adds 230 (event_rest event.now) self.old self.new }
+    /// Writes the number of an event, the event, and who made it. It asks what happened first, and once.
+    #[inline(always)]
+    #[tactic(auto, unfolding(crate::specs::Piece::event_text))]
+    pub(crate) fn event(&mut self, script: usize, e: &Numbered)
+        requires { HasRoom 281 self.old }
+        ensures { Adds 281 (decimal e.now.number
+            ++ event_text (who_text script e.now.thread e.now.index) e.now.event) self.old self.new }
     {
-        match *event {
+        match e.event {
             Event::Confirm { subject } => {
+                self.event_head(b"confirm", script, e);
                 self.text(b" ");
                 self.record(&subject);
             }
@@ -306,8 +311,12 @@ impl<'b> Page<'b> {
                 direction,
                 after,
                 ..
-            } => self.touched(id, direction, &after),
+            } => {
+                self.event_head(b"touch", script, e);
+                self.touched(id, direction, &after);
+            }
             Event::Destroy { id, why } => {
+                self.event_head(b"destroy", script, e);
                 self.text(b" id=");
                 self.number(id);
                 self.why(why);
@@ -316,32 +325,25 @@ impl<'b> Page<'b> {
                 expectation,
                 replaced,
                 ..
-            } => self.expectation(&expectation, replaced),
+            } => {
+                self.event_head(b"expect", script, e);
+                self.expectation(&expectation, replaced);
+            }
             Event::Claim {
                 expectation,
                 master,
                 ..
-            } => self.claimed(expectation, master),
+            } => {
+                self.event_head(b"claim", script, e);
+                self.claimed(expectation, master);
+            }
             Event::Unexpect { expectation, .. } => {
+                self.event_head(b"unexpect", script, e);
                 self.text(b" expect=");
                 self.number(expectation);
                 self.text(b" expired");
             }
         }
-    }
-
-    /// Writes an event, and who made it.
-    #[tactic(auto, unfolding(crate::specs::Piece::event_text))]
-    pub(crate) fn event(&mut self, script: usize, e: &Numbered)
-        requires { HasRoom 261 self.old }
-        ensures { Adds 261 (event_text (who_text script e.now.thread e.now.index) e.now.event)
-            self.old self.new }
-    {
-        self.text(b" ");
-        self.event_word(&e.event);
-        self.text(b" ");
-        self.who(script, e.thread, e.index);
-        self.event_rest(&e.event);
     }
 
     /// Writes a point of the history.

@@ -4,7 +4,7 @@ ghost use Rattle.std.specs.Borrow.{Bor};
 ghost use Rattle.std.specs.List.{flat_map};
 ghost use Rattle.std.specs.Prelude.{ℕ, ◌≤◌, List, [], length, IfOk};
 ghost use Rattle.report_text.specs.Internal.Gathered.{Gathered};
-ghost use Rattle.report_text.specs.Line.{event_line, history_head, script_head, thread_head, verdict_line};
+ghost use Rattle.report_text.specs.Line.{history_head, script_head, thread_head, verdict_line};
 ghost use Rattle.report_text.specs.Page.{HasRoom};
 ghost use Rattle.report_text.specs.Answer.{answer_head, answer_text, got_text, line_of_expectation, line_of_row, rows_text};
 ghost use Rattle.report_text.specs.Report.{history_text, line_of_event, report_text, script_text, thread_text, tracking_text};
@@ -16,9 +16,7 @@ use crate::page::{LONGEST_LINE, Page};
 use ct_io::{Failed, Sink};
 use expect_table::expectation::Expectation;
 use history_book::answer::{Answer, Row, Said};
-use history_book::event::Numbered;
 use history_book::report::{History, Report, Verdicts};
-use history_book::verdict::Verdict;
 
 /// Writing failed.
 #[derive(Clone, Copy, Debug)]
@@ -85,22 +83,6 @@ fn write_history_head<K: Sink>(
     Ok(())
 }
 
-/// Writes the line of an event, or holds it back, with a script of this number among the threads.
-#[tactic(auto, using(crate::proofs::Gathers::sent_line, crate::proofs::Gathers::lost_line))]
-fn write_event<K: Sink>(
-    script: usize,
-    event: &Numbered,
-    page: &mut Page,
-    out: &mut K,
-) -> Result<(), WriteFault>
-    ensures { Gathered (event_line script event.now) page.old page.new
-        (K.tape out.old) (K.tape out.new) result }
-{
-    make_room(page, out)?;
-    page.event_line(script, event);
-    Ok(())
-}
-
 /// Writes the line before the verdicts of a thread, or holds it back.
 #[tactic(auto, using(crate::proofs::Gathers::sent_line, crate::proofs::Gathers::lost_line))]
 fn write_thread_head<K: Sink>(
@@ -114,22 +96,6 @@ fn write_thread_head<K: Sink>(
 {
     make_room(page, out)?;
     page.thread_head(thread, packets);
-    Ok(())
-}
-
-/// Writes the line of the verdict on the packet of this index, or holds it back.
-#[tactic(auto, using(crate::proofs::Gathers::sent_line, crate::proofs::Gathers::lost_line))]
-fn write_verdict<K: Sink>(
-    index: usize,
-    verdict: &Verdict,
-    page: &mut Page,
-    out: &mut K,
-) -> Result<(), WriteFault>
-    ensures { Gathered (verdict_line index verdict.now) page.old page.new
-        (K.tape out.old) (K.tape out.new) result }
-{
-    make_room(page, out)?;
-    page.verdict_line(index, verdict);
     Ok(())
 }
 
@@ -160,8 +126,9 @@ fn write_events<K: Sink>(
         (K.tape out.old) (K.tape out.new) result }
 {
     'events: for index in 0..events.len() {
+        make_room(page, out)?;
         let event = events.item(index);
-        write_event(script, &event, page, out)?;
+        page.event_line(script, &event);
     }
     Ok(())
 }
@@ -192,8 +159,10 @@ fn write_verdicts<K: Sink>(
         (K.tape out.old) (K.tape out.new) result }
 {
     'verdicts: for index in 0..verdicts.len() {
+        make_room(page, out)?;
+        page.verdict_head(index);
         let verdict = verdicts.item(index);
-        write_verdict(index, &verdict, page, out)?;
+        page.class_line(verdict.class);
     }
     Ok(())
 }
