@@ -1,6 +1,6 @@
 -- The slot of the expectations that a pass has out; and a pass that took it, changed it, or gave it back is one at its table.
 use Rattle.std.specs.Prelude.{is_some, unwrap_or}
-use Rattle.std.proofs.Common.{◌≡◌, ℕ, ◌<◌, true, Option, Some, None, List, [], ◌∷◌, ◌++◌, length, refl, sym, ap, subst, ◌∙◌, arith}
+use Rattle.std.proofs.Common.{◌≡◌, ℕ, ◌<◌, true, Option, Some, None, List, [], ◌∷◌, ◌++◌, get_or, length, refl, sym, ap, subst, ◌∙◌, arith}
 use Rattle.std.proofs.lemmas.Bool.{false≢true}
 use Rattle.std.proofs.lemmas.Option.{none-some}
 use Rattle.atomic_table.specs.Seated.{TableId}
@@ -117,6 +117,20 @@ swapped me first then last inside new out put front changed back =
     back ∙ ap (λ (m : Me Slot View). (m.0, turned m.1)) changed ∙ ap (λ (m : Me Slot View). (m.0, rest m.1 ++ (1, inside) ∷ [])) front
     ∙ ap (λ (c : List (ℕ × Slot)). (me.0, rest c ++ (1, inside) ∷ [])) out.first
     ∙ ap (λ (x : Slot). (me.0, before_expects me.1 ++ (1, x) ∷ [])) put
+
+-- a pass that brought the table to the front, looked at it, and brought it back behind the others, is as it was
+pub looked_between : (table table' : TableId) (me first last : Me Slot View) (inside : Slot) → ExpectsOut me.1 → table' ≡ table → first ≡ (me.0, turned me.1)
+    → first.1 ≡ (1, inside) ∷ rest first.1 → last ≡ (first.0, turned ((1, inside) ∷ rest first.1)) → sight_at table' last ≡ sight_at table me
+looked_between table table' me first last inside out there front lent back =
+    ap (λ (t : TableId). sight_at t last) there
+    ∙ ap (sight_at table) (back ∙ ap (λ (c : List (ℕ × Slot)). (first.0, turned c)) (sym lent) ∙ ap (λ (m : Me Slot View). (m.0, turned m.1)) front
+    ∙ ap (λ (c : List (ℕ × Slot)). (me.0, c)) (ap turned out.first ∙ sym out.last))
+
+-- the slot that is lent in between has the table
+pub lent_is : (me first : Me Slot View) (lent : Slot) → ExpectsOut me.1 → first ≡ (me.0, turned me.1) → first.1 ≡ (1, lent) ∷ rest first.1
+    → expects_in lent ≡ expects_at me.1
+lent_is me first lent out front there =
+    ap (λ (c : List (ℕ × Slot)). expects_in (get_or c 0 (0, lent)).1) (sym there ∙ ap (λ (m : Me Slot View). m.1) front ∙ out.first) ∙ sym (inside_is me.1 out)
 
 -- one slot more, behind the others
 more_numbers : (c : List (ℕ × Slot)) (k : ℕ) (x : Slot) → numbers (c ++ (k, x) ∷ []) ≡ numbers c ++ k ∷ []

@@ -3,6 +3,7 @@
 -- not out then.
 use Rattle.std.specs.Prelude.{◌≡◌, ℕ, ◌==◌, Bool, MatchBool, Option, Some, None, List, [], ◌∷◌, ◌++◌, unwrap_or}
 use Rattle.atomic_table.specs.Table.{Me, Step, rest, turned}
+use Rattle.expect_table.specs.Expectations.{without_id}
 use Rattle.expect_table.specs.declared.expectation.Expectation.{Expectation}
 use Rattle.room_list.specs.Roomed.{Roomed}
 use Rattle.track_rule.specs.declared.slot.Slot.{Slot}
@@ -24,6 +25,10 @@ no_table = record { items = []; room = 0 }
 
 abbrev pub table_in : List (ℕ × Slot) → Roomed Expectation
 table_in slots = unwrap_or (expects_at slots) no_table
+
+-- the table without the expectation of this id
+abbrev pub table_without : ℕ → Roomed Expectation → Roomed Expectation
+table_without id table = record table { items = without_id id table.items }
 
 -- the slots that stand before it
 abbrev pub before_expects : List (ℕ × Slot) → List (ℕ × Slot)
