@@ -82,14 +82,31 @@ told_aside v log a = record { front = a.front; told = a.told; legal = a.legal; f
 pub told_whole : (v : PassSight) (log : List Event) → AreAll (aside v).view log → AreAll v.view log
 told_whole v log a = record { front = a.front; told = a.told; legal = a.legal; few = a.few; passes = a.passes; shares = a.shares; alone = a.alone }
 
--- what was done under the turn was done
-module _ (table : Roomed Expectation) (v w x y : PassSight) (unturned : v.view.expected ≡ None) (h : HasExpects table v w)
-    (gave : y ≡ record x { view = gave_expected x.view; slots = before_expects x.slots }) where
-  pub told_before : (log : List Event) → AreAll (aside w).view log → AreAll v.view log
-  told_before log all =
-      let a = subst (λ (k : PassSight). AreAll (aside k).view log) h.same all in
-      record { front = a.front; told = a.told; legal = a.legal; few = a.few; passes = a.passes; shares = a.shares; alone = a.alone }
+-- a pass that has the turn is, but for that and its readings, as before
+abbrev pub IsUnder : PassSight → PassSight → Type 0
+IsUnder v w = aside w ≡ record v { view = record v.view { readings = w.view.readings } }
 
+pub under_slot : (v w : PassSight) (list : List Expectation) (inside : Slot) → v.view.expected ≡ None
+    → w ≡ record v { view = record v.view { expected = Some list; readings = w.view.readings }; slots = v.slots ++ (1, inside) ∷ [] } → IsUnder v w
+under_slot v w list inside unturned same = ap aside same ∙ (λ i. record v {
+  view = record v.view { expected = sym unturned i; readings = w.view.readings };
+  slots = before_last v.slots (1, inside) i;
+})
+
+-- with the table in hand, and with the table in its slot
+pub in_hand : (table : Roomed Expectation) (v w : PassSight) → v.view.expected ≡ None → HasExpects table v w → IsUnder v w
+in_hand table v w unturned h = under_slot v w table.items (slot_of_expects None) unturned h.same
+
+pub in_slot : (v w : PassSight) → v.view.expected ≡ None → HasExpectTurn v w → IsUnder v w
+in_slot v w unturned h = under_slot v w (table_in w.slots).items (Expects (table_in w.slots)) unturned h.same
+
+-- what was done under the turn was done
+pub told_before : (v w : PassSight) → IsUnder v w → (log : List Event) → AreAll (aside w).view log → AreAll v.view log
+told_before v w h log all =
+    let a = subst (λ (k : PassSight). AreAll k.view log) h all in
+    record { front = a.front; told = a.told; legal = a.legal; few = a.few; passes = a.passes; shares = a.shares; alone = a.alone }
+
+module _ (v w x y : PassSight) (h : IsUnder v w) (gave : y ≡ record x { view = gave_expected x.view; slots = before_expects x.slots }) where
   pub done_before : (f : Seen → Seen) (g : Places → Places) (d : Commit → Commit)
       → aside x ≡ record (aside w) {
         view = record (aside w).view { seen = f w.view.seen; places = g w.view.places; commit = d w.view.commit; walk = x.view.walk; readings = x.view.readings };
@@ -103,34 +120,28 @@ module _ (table : Roomed Expectation) (v w x y : PassSight) (unturned : v.view.e
           seen = f v.view.seen;
           places = g v.view.places;
           commit = d v.view.commit;
-          expected = None;
           walk = x.view.walk;
           readings = x.view.readings ++ stored 2 0 ∷ [];
         };
-        slots = before_expects (v.slots ++ (1, slot_of_expects None) ∷ []);
       } =
-      gave ∙ ap (λ (k : PassSight). record k { view = noted (stored 2 0) k.view; slots = before_expects k.slots }) same
+      gave ∙ ap (λ (k : PassSight). record k { view = noted (stored 2 0) k.view }) same
       ∙ ap (λ (k : PassSight). record k {
         view = record k.view {
           seen = f k.view.seen;
           places = g k.view.places;
           commit = d k.view.commit;
-          expected = None;
           walk = x.view.walk;
           readings = x.view.readings ++ stored 2 0 ∷ [];
         };
-        slots = before_expects k.slots;
-      }) h.same in
+      }) h in
       whole ∙ (λ i. record v {
         view = record v.view {
           seen = f v.view.seen;
           places = g v.view.places;
           commit = d v.view.commit;
-          expected = sym unturned i;
           walk = sym (ap (λ (k : PassSight). k.view.walk) whole) i;
           readings = sym (ap (λ (k : PassSight). k.view.readings) whole) i;
         };
-        slots = before_last v.slots (1, slot_of_expects None) i;
       })
 
   pub seen_before : (f : Seen → Seen)

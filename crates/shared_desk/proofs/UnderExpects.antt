@@ -3,14 +3,11 @@ use Rattle.std.proofs.Common.{◌≡◌, ℕ, true, None, List, [], ◌∷◌, �
 use Rattle.std.specs.Prelude.{find}
 use Rattle.expect_table.specs.Expectations.{matching}
 use Rattle.expect_table.specs.Match.{has_id}
-use Rattle.expect_table.specs.declared.expectation.Expectation.{Expectation}
-use Rattle.room_list.specs.Roomed.{Roomed}
 use Rattle.tuple_core.specs.declared.Tuple.{Tuple}
 use Rattle.expect_table.specs.declared.expectation.Want.{Want}
 use Rattle.expect_table.specs.declared.table.AddOutcome.{AddOutcome}
 use Rattle.expect_table.specs.declared.table.AddOutcome.TheVariants as add
 use Rattle.history_book.specs.Entry.{zone_of_entry}
-use Rattle.history_book.specs.declared.sizes.Sizes.{Sizes}
 use Rattle.history_book.specs.declared.outcome.ExpectOutcome.{ExpectOutcome}
 use Rattle.history_book.specs.declared.outcome.ExpectOutcome.TheVariants as expect
 use Rattle.track_rule.specs.KeptWords.{is_kept_for}
@@ -35,18 +32,18 @@ use Rattle.track_rule.specs.Sights.{PassSight, sizes_of}
 use Rattle.track_rule.specs.Steps.{AreAll}
 use Rattle.shared_desk.specs.Claiming.{Claims, HasLooked, HasMade, Unexpects}
 use Rattle.shared_desk.specs.Commit.{seen_with}
-use Rattle.shared_desk.specs.ExpectTurn.{HasExpects, aside}
-use Rattle.shared_desk.proofs.ExpectTurn.{done_before, seen_before, told_aside, told_before}
+use Rattle.shared_desk.specs.ExpectTurn.{aside}
+use Rattle.shared_desk.proofs.ExpectTurn.{IsUnder, done_before, seen_before, told_aside, told_before}
 
-module _ (table : Roomed Expectation) (v w x y : PassSight) (unturned : v.view.expected ≡ None) (h : HasExpects table v w)
+module _ (v w x y : PassSight) (h : IsUnder v w)
     (gave : y ≡ record x { view = gave_expected x.view; slots = before_expects x.slots }) where
   pub made_given : (number : ℕ) (e : Event) → HasMade number e (aside w) (aside x) → HasMade number e v y
   made_given number e m = record {
     log = m.log;
-    all = told_before table v w x y unturned h gave m.log m.all;
+    all = told_before v w h m.log m.all;
     number_is = m.number_is;
-    legal = subst (λ (k : PassSight). is_legal (sizes_of k) (m.log ++ e ∷ []) ≡ true) h.same m.legal;
-    same = seen_before table v w x y unturned h gave (seen_with m.log number e) m.same;
+    legal = subst (λ (k : PassSight). is_legal (sizes_of k) (m.log ++ e ∷ []) ≡ true) h m.legal;
+    same = seen_before v w x y h gave (seen_with m.log number e) m.same;
   }
 
   -- it looked
@@ -56,7 +53,7 @@ module _ (table : Roomed Expectation) (v w x y : PassSight) (unturned : v.view.e
     own_front : y ≡ record v {
       view = record v.view { seen = record v.view.seen { front = x.view.seen.front }; walk = y.view.walk; readings = y.view.readings };
     }
-    own_front = seen_before table v w x y unturned h gave (λ s. record s { front = x.view.seen.front }) same
+    own_front = seen_before v w x y h gave (λ s. record s { front = x.view.seen.front }) same
 
     front_is : y.view.seen.front ≡ x.view.seen.front
     front_is = ap (λ (k : PassSight). k.view.seen.front) own_front
@@ -69,7 +66,7 @@ module _ (table : Roomed Expectation) (v w x y : PassSight) (unturned : v.view.e
     }) (sym front_is)
 
     all_then : AreAll v.view y.view.seen.front
-    all_then = subst (λ (es : List Event). AreAll v.view es) (sym front_is) (told_before table v w x y unturned h gave x.view.seen.front all)
+    all_then = subst (λ (es : List Event). AreAll v.view es) (sym front_is) (told_before v w h x.view.seen.front all)
 
     point_then : (at : ℕ) → at ≡ length x.view.seen.front → at ≡ length y.view.seen.front
     point_then at point = point ∙ ap (λ (es : List Event). length es) (sym front_is)
@@ -83,7 +80,7 @@ module _ (table : Roomed Expectation) (v w x y : PassSight) (unturned : v.view.e
   }
 
   held_then : (place id : ℕ) → is_kept_for place id v.view.places.held ≡ true → is_kept_for place id w.view.places.held ≡ true
-  held_then place id kept = subst (λ (k : PassSight). is_kept_for place id k.view.places.held ≡ true) (sym h.same) kept
+  held_then place id kept = subst (λ (k : PassSight). is_kept_for place id k.view.places.held ≡ true) (sym h) kept
 
   pub left_given : (place at : ℕ) (F : ℕ → List Event → Type 0) → IsLeft place at F (aside w) (aside x) → IsLeft place at F v y
   left_given place at F l = record {
@@ -106,22 +103,22 @@ module _ (table : Roomed Expectation) (v w x y : PassSight) (unturned : v.view.e
       → IsLeft place at (IsRefused (sizes_of w).expectations at w.view.seen.front want moment o) (aside w) (aside x)
       → IsLeft place at (IsRefused (sizes_of v).expectations at v.view.seen.front want moment o) v y
   refused_given place at want moment o l =
-      subst (λ (k : PassSight). IsLeft place at (IsRefused (sizes_of k).expectations at k.view.seen.front want moment o) v y) h.same
+      subst (λ (k : PassSight). IsLeft place at (IsRefused (sizes_of k).expectations at k.view.seen.front want moment o) v y) h
       (left_given place at (IsRefused (sizes_of w).expectations at w.view.seen.front want moment o) l)
 
   pub expect_given : (place : ℕ) (want : Want) (moment : ℕ) (o : ExpectOutcome) → Expects place want moment o (aside w) (aside x) → Expects place want moment o v y
   expect_given place want moment (expect.Expected id replaced) e = record {
     master = e.master;
     its = λ i kept. e.its i (held_then place i kept);
-    made = subst (λ (k : PassSight). HasMade id (Expect (expectation_at id e.master (zone_of_entry e.master k.view.seen.front) want moment) replaced moment) v y) h.same
+    made = subst (λ (k : PassSight). HasMade id (Expect (expectation_at id e.master (zone_of_entry e.master k.view.seen.front) want moment) replaced moment) v y) h
         (made_given id (Expect (expectation_at id e.master (zone_of_entry e.master w.view.seen.front) want moment) replaced moment) e.made);
   }
   expect_given place want moment (expect.MasterGone at) l = left_given place at IsNotLive l
   expect_given place want moment (expect.Clash id at) l = refused_given place at want moment (add.Clash id) l
   expect_given place want moment (expect.ExpectFull at) l = refused_given place at want moment add.Full l
 
-  pub end_given : (place : ℕ) (r : Record) (why : Why) (number : ℕ) → EndsEntry place r why number w x → EndsEntry place r why number v y
-  end_given place r why number e =
+  pub end_given : v.view.expected ≡ None → (place : ℕ) (r : Record) (why : Why) (number : ℕ) → EndsEntry place r why number w x → EndsEntry place r why number v y
+  end_given unturned place r why number e =
       let same : y ≡ record v {
         view = record v.view {
           seen = seen_with e.ended.log number (destroy_of r why) v.view.seen;
@@ -130,14 +127,14 @@ module _ (table : Roomed Expectation) (v w x y : PassSight) (unturned : v.view.e
           walk = y.view.walk;
           readings = y.view.readings;
         };
-      } = done_before table v w x y unturned h gave (seen_with e.ended.log number (destroy_of r why)) (λ p. record p { ended = x.view.places.ended })
+      } = done_before v w x y h gave (seen_with e.ended.log number (destroy_of r why)) (λ p. record p { ended = x.view.places.ended })
       (λ d. dead_commit place r) (ap aside e.same) in
       record {
         ended = record {
           log = e.ended.log;
-          all = told_before table v w x y unturned h gave e.ended.log (told_aside w e.ended.log e.ended.all);
+          all = told_before v w h e.ended.log (told_aside w e.ended.log e.ended.all);
           number_is = e.ended.number_is;
-          legal = subst (λ (k : PassSight). is_legal (sizes_of k) (e.ended.log ++ destroy_of r why ∷ []) ≡ true) h.same e.ended.legal;
+          legal = subst (λ (k : PassSight). is_legal (sizes_of k) (e.ended.log ++ destroy_of r why ∷ []) ≡ true) h e.ended.legal;
           found = e.ended.found;
         };
         same = same ∙ (λ i. record v {

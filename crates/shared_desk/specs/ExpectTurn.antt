@@ -1,10 +1,10 @@
--- The turn of the expectations, with their table in the hands of the pass.
+-- The turn of the expectations, with their table in its slot, or in the hands of the pass.
 use Rattle.std.specs.Prelude.{◌≡◌, Some, None, [], ◌∷◌, ◌++◌}
 use Rattle.expect_table.specs.declared.expectation.Expectation.{Expectation}
 use Rattle.room_list.specs.Roomed.{Roomed}
 use Rattle.track_rule.specs.declared.slot.Slot.TheVariants.{Expects}
 use Rattle.track_rule.specs.declared.view.Middle.TheVariants.{Calm}
-use Rattle.track_rule.specs.ExpectTurns.{expects_at, table_in}
+use Rattle.track_rule.specs.ExpectTurns.{before_expects, expects_at, table_in}
 use Rattle.track_rule.specs.Sights.{PassSight, sizes_of}
 use Rattle.track_rule.specs.Slots.{slot_of_expects}
 
@@ -34,6 +34,6 @@ pub record HasExpects (table : Roomed Expectation) (v w : PassSight) : Type 0 wh
   }
   pub room : table.room ≡ (sizes_of v).expectations
 
--- the pass as if it had not that turn
+-- the pass as if it had not that turn, nor that slot
 abbrev pub aside : PassSight → PassSight
-aside p = record p { view = record p.view { expected = None } }
+aside p = record p { view = record p.view { expected = None }; slots = before_expects p.slots }

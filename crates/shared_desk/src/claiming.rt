@@ -1,15 +1,17 @@
 //! Expectations end by the packets that match them, or in time, and are listed.
 
-ghost use Rattle.std.specs.Prelude.{◌≡◌, ◌<◌, ◌≤◌, ◌^◌, length};
+ghost use Rattle.std.specs.Prelude.{◌≡◌, ◌<◌, ◌≤◌, ◌^◌, None, Some, is_some, length, true};
+ghost use Rattle.expect_table.specs.Expectations.{matching};
 ghost use Rattle.track_rule.specs.ChangesOnly.{ChangesWords, is_expect_turn, is_history, where_so};
 ghost use Rattle.shared_desk.specs.Changed.{claim_words, is_claimed, is_removed, unexpect_words};
 ghost use Rattle.shared_desk.specs.Claiming.{Claims, HasLooked, Unexpects};
 ghost use Rattle.shared_desk.specs.ExpectTurn.{CanTakeExpects, aside};
 ghost use Rattle.shared_desk.specs.Touching.{Notes};
-ghost use Rattle.track_rule.specs.ExpectTurns.{CanGiveExpected};
+ghost use Rattle.track_rule.specs.ExpectTurns.{CanGiveExpected, expects_at, table_in};
 ghost use Rattle.track_rule.specs.Sights.{sizes_of};
 
-use crate::expect_turn::{give_expects, take_expects};
+use crate::expect_turn::{give_expects, take_expects, take_turn};
+use expect_table::expectation::Expectation;
 use expect_table::table::ExpectTable;
 use history_book::event::{Event, Note};
 use history_book::outcome::{ClaimOutcome, UnexpectOutcome};
@@ -19,26 +21,26 @@ use track_rule::history_word::events_in;
 use track_rule::pass::Pass;
 use tuple_core::Tuple;
 
-/// Ends the first expectation that a packet with this tuple matches at a moment, under the turn of the expectations, which are this
-/// table's.
+/// Ends this expectation, the first that a packet with this tuple matches at a moment, under the turn of the expectations, where their
+/// table lies.
 #[inline(always)]
-fn claim_first(
+fn claim_met(
     pass: &mut Pass,
-    table: &mut ExpectTable,
+    met: &Expectation,
     t: &Tuple,
     moment: u64,
 ) -> (ClaimOutcome, Option<Note>)
-    requires knows { CanGiveExpected pass.old.view table.old }
+    requires met { matching t.now moment (table_in pass.old.slots).items ≡ Some met.now }
+    requires there { is_some (expects_at pass.old.slots) ≡ true }
+    requires knows { CanGiveExpected pass.old.view (table_in pass.old.slots) }
+    requires free { pass.old.view.free ≡ None }
     requires few { length pass.old.view.seen.own < 2 ^ 30 }
     ensures claims { Claims t.now moment result.0 (aside pass.old) (aside pass.new) }
     ensures words { ChangesWords (where_so (is_claimed result.0) is_history) pass.old.view pass.new.view }
-    ensures knows { CanGiveExpected pass.new.view table.new }
+    ensures there { is_some (expects_at pass.new.slots) ≡ true }
+    ensures knows { CanGiveExpected pass.new.view (table_in pass.new.slots) }
     ensures noted { Notes result.1 pass.old.view.seen.own pass.new.view.seen.own }
 {
-    let Some(met) = table.matching(t, moment) else {
-        let at = events_in(pass.history_load());
-        return (ClaimOutcome::Unclaimed { at }, None);
-    };
     let event = Event::Claim {
         expectation: met.id,
         master: met.master,
@@ -46,7 +48,7 @@ fn claim_first(
         moment,
     };
     let number = pass.claim_add(event);
-    table.remove(met.id);
+    pass.expects_remove(met.id);
     let claimed = ClaimOutcome::Claimed {
         number,
         expectation: met.id,
@@ -69,9 +71,14 @@ pub fn claim<R: Wait>(
     ensures words { ChangesWords (claim_words result.0) pass.old.view pass.new.view }
     ensures noted { Notes result.1 pass.old.view.seen.own pass.new.view.seen.own }
 {
-    let mut table = take_expects(rt, pass);
-    let outcome = claim_first(pass, &mut table, t, moment);
-    give_expects(pass, table);
+    take_turn(rt, pass);
+    let Some(met) = pass.expects_matching(t, moment) else {
+        let at = events_in(pass.history_load());
+        pass.expects_give();
+        return (ClaimOutcome::Unclaimed { at }, None);
+    };
+    let outcome = claim_met(pass, &met, t, moment);
+    pass.expects_give();
     outcome
 }
 

@@ -1,4 +1,4 @@
-//! The turn of the expectations, with their table in the hands of the pass.
+//! The turn of the expectations, with their table in its slot, or in the hands of the pass.
 
 ghost use Rattle.std.specs.Prelude.{◌≡◌, None};
 ghost use Rattle.track_rule.specs.ChangesOnly.{ChangesWords, is_expect_turn};
@@ -11,9 +11,9 @@ use std::sync::Wait;
 use std::thread;
 use track_rule::pass::Pass;
 
-/// Waits for the turn of the expectations, and takes it.
+/// Waits for the turn of the expectations, and takes it. Their table stays where it lies, out of the reach of other passes.
 #[inline(always)]
-fn take_turn<R: Wait>(rt: &R, pass: &mut Pass)
+pub fn take_turn<R: Wait>(rt: &R, pass: &mut Pass)
     requires { CanTakeExpects pass.old }
     ensures has { HasExpectTurn pass.old pass.new }
     ensures words { ChangesWords is_expect_turn pass.old.view pass.new.view }

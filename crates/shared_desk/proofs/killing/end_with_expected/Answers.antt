@@ -4,13 +4,14 @@ use Rattle.track_rule.specs.ChangesOnly.{either, is_expect_turn, where_so}
 use Rattle.track_rule.specs.Readings.{stored}
 use Rattle.shared_desk.specs.Changed.{end_words}
 use Rattle.shared_desk.proofs.Wording.{where_in}
+use Rattle.shared_desk.proofs.ExpectTurn.{in_hand}
 use Rattle.shared_desk.proofs.UnderExpects.{end_given}
 use Rattle.shared_desk.proofs.killing.end_with_expected.Goals as goal
 
 pub returns-clause-ends : goal.returns-clause-ends
 returns-clause-ends g c =
-    end_given c.take_expects-table.result c.args.pass.now c.take_expects-table.new.pass c.end_entry-number.new.pass c.give_expects.new.pass
-    c.requires.free.expected c.take_expects-table.ensures.has c.give_expects.ensures
+    end_given c.args.pass.now c.take_expects-table.new.pass c.end_entry-number.new.pass c.give_expects.new.pass
+    (in_hand c.take_expects-table.result c.args.pass.now c.take_expects-table.new.pass c.requires.free.expected c.take_expects-table.ensures.has) c.give_expects.ensures c.requires.free.expected
     c.args.place c.args.subject.now c.args.why c.end_entry-number.result c.end_entry-number.ensures.ends
 
 pub returns-clause-words : goal.returns-clause-words
