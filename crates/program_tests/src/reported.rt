@@ -118,8 +118,9 @@ impl Points {
 impl Way<'_> {
     /// The thread's next event, if it made one more.
     fn next(&mut self) -> Option<Numbered> {
-        for index in self.at..self.history.len() {
-            let item = self.history.item(index);
+        let history = self.history;
+        for index in self.at..history.len() {
+            let item = history.item(index);
             if item.thread as usize == self.thread {
                 self.at = index.wrapping_add(1);
                 return Some(item);
