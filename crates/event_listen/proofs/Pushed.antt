@@ -1,7 +1,7 @@
 -- A sending is taken out of a line's list, and put back at its end.
 use Rattle.std.proofs.Common.{◌≡◌, List, [], ◌∷◌, ◌++◌, length, sym, ap, ◌∙◌, subst, arith, map}
 use Rattle.std.specs.Prelude.{All}
-use Rattle.std.proofs.lemmas.List.{length-map, nil_from_length}
+use Rattle.std.proofs.lemmas.List.{append-nil, length-map, nil_from_length}
 use Rattle.atomic_table.specs.Seated.{TableId}
 use Rattle.event_listen.specs.Line.{AreSendingsOf, HasSentNothing, IsSendingOf, LineSight, SendingSight}
 use Rattle.event_listen.specs.Pump.{BeginsWith, PumpSays}
@@ -39,6 +39,11 @@ pub last_begins : (own : List Note) (all left : List SendingSight) (last : Sendi
 last_begins own all left last h is =
     let nothing = all_end HasSentNothing left last (subst (All HasSentNothing) is h) in
     (own, ap (λ l. l ++ own) (sym nothing.sent))
+
+-- what was sent are first own events still
+pub pumped_begins : (own : List Note) (old new : SendingSight) (answer : Pumped) → PumpSays own old new answer → BeginsWith own new.sent
+pumped_begins own old new pumped.All says = ([], sym (ap (λ (s : SendingSight). s.sent) says) ∙ sym (append-nil new.sent))
+pumped_begins own old new pumped.Full says = says.next
 
 -- all are there again after two pumps by the last one
 pub pumped_twice : (line : LineSight) (own : List Note) (all left again : List SendingSight) (first second third : SendingSight) (answer answer' : Pumped)

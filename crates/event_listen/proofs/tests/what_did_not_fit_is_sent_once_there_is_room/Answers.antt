@@ -1,8 +1,12 @@
-use Rattle.event_listen.proofs.Pushed.{last_begins, last_is, pumped_twice, stays_of}
+use Rattle.event_listen.proofs.Pushed.{last_begins, last_is, pumped_begins, pumped_twice, stays_of}
 use Rattle.event_listen.proofs.tests.what_did_not_fit_is_sent_once_there_is_room.Goals as goal
 
 pub pump-first-requires-clause-own : goal.pump-first-requires-clause-own
 pump-first-requires-clause-own g c = last_begins c.in_ok-desk.desk.own c.in_ok-line.sendings.items c.pop.new.self.items c.in-Some.sending c.in_ok-line.ensures.unsent c.in-Some.ensures.item
+
+pub pump-second-requires-clause-own : goal.pump-second-requires-clause-own
+pump-second-requires-clause-own g c =
+    pumped_begins c.in_ok-desk.desk.own c.in-Some.sending c.pump-first.new.self c.pump-first.result c.pump-first.ensures
 
 pub pump-second-requires-clause-line : goal.pump-second-requires-clause-line
 pump-second-requires-clause-line g c =
