@@ -1,5 +1,5 @@
 """What the documents name: each name of docs/DEFINITIONS.md, docs/INSIDE.md and docs/HEADLINE.md stands in its file, and each of a crate's
-page somewhere."""
+page somewhere, a call at its type or its module."""
 import functools
 import glob
 import os
@@ -9,6 +9,10 @@ from checking import TOP, count, read
 
 SPAN = re.compile(r"`([^`]+)`")
 NAME = re.compile(r"[A-Za-z_][\w']*")
+CALL = re.compile(r"\w+::\w+")
+ITEM = re.compile(r"^(?!where\b)(?=[\w#/}])", re.MULTILINE)  # where an item, its attribute, its comment or its closing brace begins
+OWNER = re.compile(r"(?:pub(?:\([a-z]+\))? )?(?:unsafe )?(impl|trait|enum)\b([^{]*)")
+FUNCTION = re.compile(r"\bfn (\w+)")
 
 
 @functools.cache
@@ -91,10 +95,37 @@ def all_names():
     return frozenset(name for file in sorted(files) for name in NAME.findall(read(file)))
 
 
+def calls_of(module, text):
+    """The functions and variants of a source, each behind its type, its trait or its module, as `Type::name`."""
+    found = set()
+    for item in ITEM.split(text):
+        head = OWNER.match(item)
+        owners = NAME.findall(head[2]) if head else [module]
+        names = NAME.findall(item) if head and head[1] == "enum" else FUNCTION.findall(item)
+        found.update(f"{owner}::{name}" for owner in owners for name in names)
+    return found
+
+
+def module_of(file):
+    """The module of a source: that of lib.rt is its crate."""
+    module = os.path.basename(file).removesuffix(".rt")
+    return os.path.basename(os.path.dirname(os.path.dirname(file))) if module == "lib" else module
+
+
+@functools.cache
+def all_calls():
+    """The functions and variants of all crates."""
+    files = sorted(glob.glob(os.path.join(TOP, "crates", "*", "src", "**", "*.rt"), recursive=True))
+    return frozenset().union(*(calls_of(module_of(file), read(file)) for file in files))
+
+
 def unknown_in(page):
-    """The names of a crate's page that stand in no source and no definition; a word without capitals or `_` may be anything."""
-    names = {word for word in SPAN.findall(page) if NAME.fullmatch(word) and not word.islower() or "_" in word and NAME.fullmatch(word)}
-    return sorted(name for name in names if not is_crate(name) and name not in all_names())
+    """The names of a crate's page that stand in no source and no definition, and those `Type::call` that the type does not have; a word
+    without capitals or `_` may be anything."""
+    words = set(SPAN.findall(page))
+    names = {word for word in words if NAME.fullmatch(word) and (not word.islower() or "_" in word)}
+    gone = {name for name in names if not is_crate(name) and name not in all_names()}
+    return sorted(gone | {word for word in words if CALL.fullmatch(word) and word not in all_calls()})
 
 
 def check_crate_pages():
@@ -104,6 +135,8 @@ def check_crate_pages():
     unknown = {page: unknown_in(read(page)) for page in pages}
     count("crates: what a page names is there", not any(unknown.values()), str({page: names for page, names in unknown.items() if names}))
     count("crates: a name that is gone is told", unknown_in("`IsNowhere` and `is_valid` and `nowhere_at_all`") == ["IsNowhere", "nowhere_at_all"])
+    found = unknown_in("`Grid::at`, `Grid::split`, `Nobody::at`, `Sink::write`, `Why::Flushed`, `Why::Wished`, `classify::classify`, `classify::handle`")
+    count("crates: a call that its type does not have is told", found == ["Grid::split", "Nobody::at", "Why::Wished", "classify::handle"], found)
 
 
 def check_all():
