@@ -6,7 +6,7 @@ ghost use Rattle.case_grid.specs.Droppable.{droppable_cells};
 ghost use Rattle.proto_rules.specs.Droppable.{drop_column, drop_row, droppable, first_row};
 
 use crate::{Part, PartKind};
-use case_grid::droppable_cells;
+use case_grid::droppable_table;
 
 /// The first row of the grid for a protocol, that of entries that are not assured.
 fn first_row(kind: PartKind) -> usize
@@ -47,5 +47,5 @@ fn column(kind: PartKind) -> usize
 pub fn droppable(part: &Part) -> bool
     ensures { result ≡ droppable part.now }
 {
-    droppable_cells().at(row(part.kind, part.assured), column(part.kind)) == 1
+    droppable_table().at(row(part.kind, part.assured), column(part.kind)) == 1
 }

@@ -6,7 +6,7 @@ ghost use Rattle.proto_rules.specs.TcpGrid.{grid_of, number_of, row_of};
 ghost use Rattle.proto_rules.specs.TcpTable.{column_of, tcp_cell};
 
 use crate::TcpState;
-use case_grid::{tcp_original, tcp_reply};
+use case_grid::{tcp_original_table, tcp_reply_table};
 use tuple_core::{Direction, Kind};
 
 /// What a segment does to a connection in some state.
@@ -46,8 +46,8 @@ fn number_at(direction: Direction, row: usize, column: usize) -> u8
     ensures { result ≡ cell (grid_of direction) row column }
 {
     match direction {
-        Direction::Original => tcp_original().at(row, column),
-        Direction::Reply => tcp_reply().at(row, column),
+        Direction::Original => tcp_original_table().at(row, column),
+        Direction::Reply => tcp_reply_table().at(row, column),
     }
 }
 

@@ -11,7 +11,7 @@ use crate::classify::ipv4::Ipv4Payload;
 use crate::classify::ports::ports_tuple;
 use crate::frame::Span;
 use crate::packet::Packet;
-use case_grid::flag_sets;
+use case_grid::flag_set_table;
 use tuple_core::{Kind, Proto, Segment};
 
 /// The least bytes of a header.
@@ -63,7 +63,7 @@ fn is_valid_flag_set(flags: u8) -> bool
 {
     let row = 2 * flag(flags, URG) + flag(flags, ACK);
     let column = 4 * flag(flags, RST) + 2 * flag(flags, SYN) + flag(flags, FIN);
-    flag_sets().at(usize::from(row), usize::from(column)) == 1
+    flag_set_table().at(usize::from(row), usize::from(column)) == 1
 }
 
 /// The kind of a segment, by its control bits.
