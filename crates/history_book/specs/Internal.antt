@@ -2,4 +2,5 @@
 pub mod Merging
 pub mod Late
 pub mod Checking
-pub mod Ordering
+pub mod Order
+pub mod Packed

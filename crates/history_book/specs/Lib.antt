@@ -10,8 +10,6 @@ pub mod Label
 pub mod Notes
 pub mod Mark
 pub mod Numbered
-pub mod Order
-pub mod Packed
 pub mod ShortNote
 pub mod ShortVerdict
 pub mod Checked

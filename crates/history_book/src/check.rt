@@ -168,7 +168,7 @@ pub fn check_history(
     let mut table = Table::new(alloc);
     'items: for index in 0..history.len() {
         let number = index as u64;
-        let item = history.item(index);
+        let item = history.at(index);
         if table.is_broken(&sizes, number, &item) {
             return Ok(Checked::Broken { number });
         }

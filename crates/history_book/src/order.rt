@@ -1,8 +1,7 @@
 //! The one history as the order of the threads' events.
 
-ghost use Rattle.std.specs.Prelude.{◌≡◌, ◌==◌, ◌<◌, ◌≤◌, [], ◌∷◌, ◌++◌, All, IfOk, OnErr, OnOk, length, slice_get};
-ghost use Rattle.history_book.specs.Internal.Ordering.{Grew};
-ghost use Rattle.history_book.specs.Order.{IsWithin, in_order, notes_in};
+ghost use Rattle.std.specs.Prelude.{◌≡◌, ◌==◌, ◌+◌, ◌<◌, ◌≤◌, [], ◌∷◌, ◌++◌, All, IfOk, OnErr, OnOk, length, slice_get};
+ghost use Rattle.history_book.specs.Internal.Order.{IsWithin, in_order, numbered_in};
 
 use crate::event::{Note, Numbered};
 use crate::report::Notes;
@@ -20,56 +19,51 @@ pub struct Origin {
     pub index: u32,
 }
 
-/// Origins of events, in order of the events' numbers.
+/// Origins of events.
 pub type Order = RoomList<Origin>;
 
-/// The events of the one history. Each stands in the list of its thread, and the history keeps where: contracts see a
-/// list of the events.
+/// The events of the one history, as a list with room. Those that were merged stand in the lists of their threads, and the
+/// history keeps where; those that were pushed stand behind them.
 #[derive(Drop)]
 pub struct History {
     lists: Vec<Notes>,
     order: Order,
+    pushed: RoomList<Numbered>,
+    len: usize,
+    room: usize,
 }
 
 impl Model for History {
-    ghost use Rattle.std.specs.Prelude.{All};
+    ghost use Rattle.std.specs.Prelude.{◌++◌};
     ghost use Rattle.room_list.specs.Roomed.{Roomed};
     ghost use Rattle.history_book.specs.declared.event.Numbered.{Numbered};
-    ghost use Rattle.history_book.specs.Order.{IsWithin, in_order};
+    ghost use Rattle.history_book.specs.Internal.Order.{IsKept, in_order};
 
     ghost Value = { Roomed Numbered };
 
-    ghost view = { λ h. record { items = in_order h.lists.items h.order.items; room = h.order.room } };
+    ghost view = { λ h. record { items = in_order h.lists.items h.order.items ++ h.pushed.items; room = h.room } };
 
-    ghost invariant = { λ h. All (IsWithin h.lists.items) h.order.items };
+    ghost invariant = { λ h. IsKept h.lists.items h.order.items h.pushed h.len h.room };
 }
 
-/// Appends empty lists until the thread of this number has one.
-fn add_lists(lists: &mut Vec<Notes>, thread: u32) -> Result<(), NoMemory>
-    ensures grew { Grew lists.old.items lists.new.items }
-    ensures has { OnOk result (thread < length lists.new.items) }
+/// The event of this origin.
+#[inline(always)]
+fn event_of(lists: &[Notes], origin: Origin) -> Numbered
+    requires { IsWithin lists.now origin }
+    ensures { result ≡ numbered_in lists.now origin }
 {
-    'lists: for _list in lists.len()..thread as usize + 1 {
-        lists.try_reserve(1)?;
-        lists.push_reserved(Notes::empty(*lists.allocator()));
+    let Origin {
+        thread,
+        note,
+        index,
+    } = origin;
+    let Note { number, event } = lists[thread as usize].at(note as usize);
+    Numbered {
+        number,
+        thread,
+        index,
+        event,
     }
-    Ok(())
-}
-
-/// Appends an event to the list of a thread. Gives its place there.
-fn add_note(lists: &mut Vec<Notes>, thread: u32, note: Note) -> Result<u32, NoMemory>
-    ensures grew { Grew lists.old.items lists.new.items }
-    ensures has { IfOk result (λ _. thread < length lists.new.items) }
-    ensures stands { IfOk result (λ at. slice_get (notes_in lists.new.items thread) at ≡ Some note) }
-{
-    add_lists(lists, thread)?;
-    let notes = &mut lists[thread as usize];
-    let Ok(at) = u32::try_from(notes.len()) else {
-        return Err(NoMemory);
-    };
-    notes.reserve(1)?;
-    notes.push(note);
-    Ok(at)
 }
 
 impl History {
@@ -80,45 +74,69 @@ impl History {
         History {
             lists: Vec::new(alloc),
             order: Order::empty(alloc),
+            pushed: RoomList::empty(alloc),
+            len: 0,
+            room: 0,
         }
     }
 
-    /// The events of these origins.
+    /// The events of these origins. It has no room for more, and none that `clear` would have to keep.
     pub(crate) fn of(lists: Vec<Notes>, order: Order) -> Self
         requires { All (IsWithin lists.items) order.items }
         ensures { result.items ≡ in_order lists.items order.items }
     {
-        History { lists, order }
+        let pushed = RoomList::empty(*lists.allocator());
+        let len = order.len();
+        History {
+            lists,
+            order,
+            pushed,
+            len,
+            room: 0,
+        }
     }
 
-    /// Appends an event, whatever its number, and makes the room that it needs.
-    pub fn push(&mut self, item: Numbered) -> Result<(), NoMemory>
-        ensures ok { OnOk result (self.new.items ≡ self.old.items ++ item ∷ []) }
-        ensures err { OnErr result (self.new.items ≡ self.old.items) }
+    /// A history without events, with room for at least `room` events.
+    pub fn new(alloc: Global, room: usize) -> Result<Self, NoMemory>
+        ensures empty { IfOk result (λ h. h.items ≡ []) }
+        ensures room { IfOk result (λ h. room ≤ h.room) }
     {
-        let Numbered {
-            number,
-            thread,
-            index,
-            event,
-        } = item;
-        self.order.reserve(1)?;
-        let note = add_note(&mut self.lists, thread, Note { number, event })?;
-        self.order.push(Origin {
-            thread,
-            note,
-            index,
-        });
+        let mut history = History::empty(alloc);
+        history.reserve(room)?;
+        Ok(history)
+    }
+
+    /// Makes room for at least `more` further events.
+    pub fn reserve(&mut self, more: usize) -> Result<(), NoMemory>
+        ensures items { self.new.items ≡ self.old.items }
+        ensures room { OnOk result (length self.old.items + more ≤ self.new.room) }
+        ensures kept { self.old.room ≤ self.new.room }
+        ensures err { OnErr result (self.new.room ≡ self.old.room) }
+    {
+        let room = self.len.checked_add(more).ok_or(NoMemory)?;
+        if self.room < room {
+            self.pushed.reserve(room - self.pushed.len())?;
+            self.room = room;
+        }
         Ok(())
     }
 
-    /// The number of events.
+    /// Appends an event, whatever its number. Takes no memory.
+    pub fn push(&mut self, item: Numbered)
+        requires { length self.old.items < self.old.room }
+        ensures items { self.new.items ≡ self.old.items ++ item ∷ [] }
+        ensures room { self.new.room ≡ self.old.room }
+    {
+        self.pushed.push(item);
+        self.len += 1;
+    }
+
+    /// The number of events. A history that was merged may have more than it has room for.
     #[inline(always)]
     pub fn len(&self) -> usize
         ensures exact { result ≡ length self.now.items }
-        ensures fits { result ≤ self.now.room }
     {
-        self.order.len()
+        self.len
     }
 
     /// Whether there is no event.
@@ -126,26 +144,31 @@ impl History {
     pub fn is_empty(&self) -> bool
         ensures { result ≡ (length self.now.items == 0) }
     {
-        self.order.is_empty()
+        self.len == 0
     }
 
-    /// The event at `index`.
+    /// A copy of the event at `index`.
     #[inline(always)]
-    pub fn item(&self, index: usize) -> Numbered
+    pub fn at(&self, index: usize) -> Numbered
         requires { index < length self.now.items }
         ensures { slice_get self.now.items index ≡ Some result }
     {
-        let Origin {
-            thread,
-            note,
-            index,
-        } = self.order.item(index);
-        let Note { number, event } = self.lists[thread as usize].item(note as usize);
-        Numbered {
-            number,
-            thread,
-            index,
-            event,
+        let ordered = self.order.len();
+        if index < ordered {
+            event_of(self.lists.as_slice(), self.order.item(index))
+        } else {
+            self.pushed.item(index - ordered)
         }
+    }
+
+    /// Takes all events out and keeps the room. Takes no memory.
+    pub fn clear(&mut self)
+        ensures items { self.new.items ≡ [] }
+        ensures room { self.new.room ≡ self.old.room }
+    {
+        self.lists.clear();
+        self.order.clear();
+        self.pushed.clear();
+        self.len = 0;
     }
 }

@@ -144,7 +144,8 @@ fn answer_from(
             index: 0,
             event: *event,
         };
-        history.push(item)?;
+        history.reserve(1)?;
+        history.push(item);
         number = number.saturating_add(1);
     }
     check_history(alloc, &history, entries, expectations)
@@ -230,7 +231,8 @@ fn numbers_that_are_not_the_indices(rt: HostRuntime) -> Result<(), Fail> {
             index: 0,
             event,
         };
-        history.push(item)?;
+        history.reserve(1)?;
+        history.push(item);
     }
     let skipped = check_history(alloc, &history, 1, 0)?;
     assert!(rt; matches!(skipped, Checked::Broken { number: 1 }));

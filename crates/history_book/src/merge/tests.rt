@@ -5,8 +5,8 @@ ghost use Rattle.history_book.specs.Merge.{AreNumbers, CoverFrom, spans_of_answe
 
 use super::merge;
 use crate::answer::{Answer, Answers, Said};
-use crate::event::{Event, Note};
-use crate::report::{Report, ThreadVerdicts};
+use crate::event::{Event, Note, Numbered};
+use crate::report::{History, Report, ThreadVerdicts};
 use crate::tests::packed_lists::list_of;
 use crate::verdict::{Class, UntrackedWhy, Verdict};
 use std::alloc::Global;
@@ -107,26 +107,44 @@ fn merged(
     merge(alloc, lists, threads, answers, 5)
 }
 
-#[test]
-fn interleaved(rt: HostRuntime) -> Result<(), Fail> {
-    let mut answers = Answers::new(rt.alloc(), 2)?;
+/// Eight events of both threads and the script.
+fn eight(alloc: Global) -> Result<Report, NoMemory> {
+    let mut answers = Answers::new(alloc, 2)?;
     answers.push(answer(0, 1));
     answers.push(answer(1, 2));
-    let report = merged(
-        rt.alloc(),
+    merged(
+        alloc,
         &FIRST,
         &SECOND,
         &SCRIPT,
         &FIRST_VERDICTS,
         &SECOND_VERDICTS,
         answers,
-    )?;
+    )
+}
+
+/// An event of the script.
+fn scripted(number: u64) -> Numbered {
+    Numbered {
+        number,
+        thread: 2,
+        index: 7,
+        event: Event::Unexpect {
+            expectation: 0,
+            moment: 0,
+        },
+    }
+}
+
+#[test]
+fn interleaved(rt: HostRuntime) -> Result<(), Fail> {
+    let report = eight(rt.alloc())?;
     assert_eq!(rt; report.live, 5);
     assert_eq!(rt; report.threads.len(), 2);
     assert_eq!(rt; report.answers.len(), 2);
     assert_eq!(rt; report.history.len(), 8);
     for (place, (thread, index)) in NAMES.iter().enumerate() {
-        let item = report.history.item(place);
+        let item = report.history.at(place);
         assert_eq!(rt; item.number, place as u64);
         assert_eq!(rt; item.thread, *thread, "at {place}");
         assert_eq!(rt; item.index, *index, "at {place}");
@@ -143,5 +161,35 @@ fn nothing_made(rt: HostRuntime) -> Result<(), Fail> {
     let report = merged(rt.alloc(), &[], &[], &[], &[], &[], answers)?;
     assert!(rt; report.history.is_empty());
     assert_eq!(rt; report.threads.len(), 2);
+    Ok(())
+}
+
+#[test]
+fn pushed_behind_what_was_merged(rt: HostRuntime) -> Result<(), Fail> {
+    let mut report = eight(rt.alloc())?;
+    report.history.reserve(1)?;
+    report.history.push(scripted(8));
+    assert_eq!(rt; report.history.len(), 9);
+    assert_eq!(rt; report.history.at(7).number, 7);
+    assert_eq!(rt; report.history.at(8).number, 8);
+    assert_eq!(rt; report.history.at(8).index, 7);
+    report.history.clear();
+    assert!(rt; report.history.is_empty());
+    report.history.push(scripted(0));
+    assert_eq!(rt; report.history.len(), 1);
+    assert_eq!(rt; report.history.at(0).thread, 2);
+    Ok(())
+}
+
+#[test]
+fn cleared_history_keeps_its_room(rt: HostRuntime) -> Result<(), Fail> {
+    let mut history = History::new(rt.alloc(), 2)?;
+    history.push(scripted(0));
+    history.push(scripted(1));
+    history.clear();
+    history.push(scripted(2));
+    history.push(scripted(3));
+    assert_eq!(rt; history.len(), 2);
+    assert_eq!(rt; history.at(1).number, 3);
     Ok(())
 }

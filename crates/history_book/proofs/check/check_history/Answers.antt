@@ -15,12 +15,12 @@ pub items-preserved : goal.items-preserved
 items-preserved c =
     sound_on (sizes_with c.args.entries c.args.expectations) c.sizes_with-sizes.result c.args.history.now.items c.items.index _
     c.is_broken.result (state_in c.items.table) (state_in c.go_on.new.self) c.sizes_with-sizes.ensures c.items.invariant
-    c.item-item.ensures c.is_broken.ensures c.if-is_broken.false c.in_ok-go_on.ensures
+    c.at-item.ensures c.is_broken.ensures c.if-is_broken.false c.in_ok-go_on.ensures
 
 pub returns-then-is_broken-clause-broken : goal.returns-then-is_broken-clause-broken
 returns-then-is_broken-clause-broken c =
     broken_here (sizes_with c.args.entries c.args.expectations) c.sizes_with-sizes.result c.args.history.now.items c.items.index _
-    c.is_broken.result (state_in c.items.table) c.sizes_with-sizes.ensures c.items.invariant c.item-item.ensures
+    c.is_broken.result (state_in c.items.table) c.sizes_with-sizes.ensures c.items.invariant c.at-item.ensures
     c.is_broken.ensures c.if-is_broken.true
 
 pub returns-then-is_broken-clause-legal : goal.returns-then-is_broken-clause-legal
@@ -28,7 +28,7 @@ returns-then-is_broken-clause-legal c = (
   λ t. absurd (false≢true t),
   λ h. absurd (legal_unbroken (sizes_with c.args.entries c.args.expectations) c.args.history.now.items h c.items.index
       (broken_here (sizes_with c.args.entries c.args.expectations) c.sizes_with-sizes.result c.args.history.now.items c.items.index _
-      c.is_broken.result (state_in c.items.table) c.sizes_with-sizes.ensures c.items.invariant c.item-item.ensures
+      c.is_broken.result (state_in c.items.table) c.sizes_with-sizes.ensures c.items.invariant c.at-item.ensures
       c.is_broken.ensures c.if-is_broken.true).here),
 )
 
