@@ -1,5 +1,5 @@
 -- Values behind forms, each of which stands for one.
-use Rattle.std.proofs.Common.{◌≡◌, ℕ, ◌<◌, zero, suc, List, [], ◌∷◌, ◌++◌, length, true, refl, sym, ap, subst, ◌∙◌, None, Some, Option, arith}
+use Rattle.std.proofs.Common.{◌≡◌, ℕ, ◌<◌, ◌^◌, zero, suc, List, [], ◌∷◌, ◌++◌, length, true, refl, sym, ap, subst, ◌∙◌, None, Some, Option, arith}
 use Rattle.std.specs.List.{AllByRecursion, cons_option, filter_map, slice_get}
 use Rattle.std.specs.Prelude.{is_some, slice_index_or}
 use Rattle.std.proofs.lemmas.List.{length-append}
@@ -7,7 +7,7 @@ use Rattle.std.proofs.lemmas.Option.{get_or_from_slice_get, same_Some, slice_get
 use Rattle.std.proofs.lemmas.List.Elements.{All-push, filter_map-append, recursion_from_All}
 use Rattle.history_book.specs.declared.packed.Stored.{Stored}
 use Rattle.history_book.specs.declared.packed.Stored.TheVariants.{Here, Whole}
-use Rattle.history_book.specs.Packed.{ArePacked, value_of, values_of}
+use Rattle.history_book.specs.Internal.Packed.{ArePacked, value_of, values_of}
 use Rattle.room_list.specs.Roomed.{Roomed}
 
 length_one : {T : Type 0} (o : Option T) (vs : List T) (n : ℕ) → length vs ≡ n → is_some o ≡ true
@@ -77,6 +77,10 @@ module _ {S T : Type 0} (stored : S → Stored T) (forms : Roomed S) (whole : Ro
       → length forms.items ≡ length now.items
   length_seen now seen = sym length_values ∙ ap (λ (l : Roomed T). length l.items) seen
 
+  pub is_few : (now : Roomed T) → record { items = values_of stored whole.items forms.items; room = room } ≡ now
+      → length now.items < 2 ^ 32
+  is_few now seen = omega (arith, length_seen now seen, h.fits, h.few)
+
   -- room for one more value is room for its form
   pub has_room : (now : Roomed T) → record { items = values_of stored whole.items forms.items; room = room } ≡ now
       → length now.items < now.room → length forms.items < room
@@ -113,7 +117,7 @@ module _ {S T : Type 0} (stored : S → Stored T) (forms : Roomed S) (whole : Ro
           (ap (λ (o : Stored T). is_some (value_of whole.items o)) says));
       fits = omega (arith, ap length items, length-append forms.items (form ∷ []), short);
       form_room = omega (arith, h.form_room, same);
-      whole_room = omega (arith, h.whole_room, ap length items, length-append forms.items (form ∷ []));
+      whole_room = h.whole_room;
       fewer = omega (arith, h.fewer, ap length items, length-append forms.items (form ∷ []));
       few = h.few;
     }
@@ -148,15 +152,7 @@ module _ {S T : Type 0} (stored : S → Stored T) (forms : Roomed S) (whole : Ro
           (ap is_some push_named));
       fits = omega (arith, ap length items, length-append forms.items (form ∷ []), short);
       form_room = omega (arith, h.form_room, same);
-      whole_room = omega (
-        arith,
-        h.whole_room,
-        ap length items,
-        length-append forms.items (form ∷ []),
-        more_same,
-        ap length more_items,
-        length-append whole.items (value ∷ []),
-      );
+      whole_room = omega (arith, h.whole_room, more_same);
       fewer = omega (
         arith,
         h.fewer,

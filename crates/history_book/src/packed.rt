@@ -1,6 +1,6 @@
 //! Lists of values most of which have a short form.
 
-ghost use Rattle.std.specs.Prelude.{◌≡◌, ◌==◌, ◌+◌, ◌<◌, ◌≤◌, [], ◌∷◌, ◌++◌, IfOk, IfSome, OnErr, OnOk, length, slice_get};
+ghost use Rattle.std.specs.Prelude.{◌≡◌, ◌==◌, ◌+◌, ◌<◌, ◌≤◌, ◌^◌, [], ◌∷◌, ◌++◌, IfOk, IfSome, OnErr, OnOk, length, slice_get};
 ghost use Rattle.history_book.specs.declared.packed.Stored.TheVariants.{Here, Whole};
 
 use room_list::RoomList;
@@ -24,7 +24,7 @@ pub trait Form<T>: Copy {
     /// What it says.
     ghost stored: { Self → Stored T };
 
-    /// The short form of a value, if it has one.
+    /// The short form that a value may have.
     fn of(value: &T) -> Option<Self>
         ensures { IfSome result (λ form. stored form ≡ Here value.now) };
 
@@ -37,8 +37,9 @@ pub trait Form<T>: Copy {
         ensures { result ≡ stored self.now };
 }
 
-/// A list with room, as `RoomList`, in which each value takes the memory of its form; one that has no short form stands
-/// whole in a second list besides. Contracts see its values and the number of values for which it has room.
+/// A list with room, as `RoomList`, of fewer than 2^32 values. Each value has a form in one list, and one without a short
+/// form stands whole in a second list besides. Room is asked for as if none had a short form. Contracts see its values
+/// and the number of values for which it has room.
 #[derive(Drop)]
 pub struct PackedList<S: Form<T>, T: Copy> {
     forms: RoomList<S>,
@@ -47,7 +48,7 @@ pub struct PackedList<S: Form<T>, T: Copy> {
 }
 
 impl<S: Form<T>, T: Copy> Model for PackedList<S, T> {
-    ghost use Rattle.history_book.specs.Packed.{ArePacked, values_of};
+    ghost use Rattle.history_book.specs.Internal.Packed.{ArePacked, values_of};
     ghost use Rattle.room_list.specs.Roomed.{Roomed};
 
     ghost Value = { Roomed T };
@@ -90,7 +91,8 @@ impl<S: Form<T>, T: Copy> PackedList<S, T> {
         Ok(list)
     }
 
-    /// Makes room for at least `more` further values.
+    /// Makes room for at least `more` further values, whatever their forms. A list has room for fewer than 2^32 values: more
+    /// are answered as if memory were missing.
     #[inline(always)]
     pub fn reserve(&mut self, more: usize) -> Result<(), NoMemory>
         ensures items { self.new.items ≡ self.old.items }
@@ -99,14 +101,15 @@ impl<S: Form<T>, T: Copy> PackedList<S, T> {
         ensures err { OnErr result (self.new.room ≡ self.old.room) }
     {
         let room = self.forms.len().saturating_add(more);
+        if room <= self.room {
+            return Ok(());
+        }
         if room > u32::MAX as usize {
             return Err(NoMemory);
         }
         self.forms.reserve(more)?;
-        self.whole.reserve(more)?;
-        if self.room < room {
-            self.room = room;
-        }
+        self.whole.reserve(room - self.whole.len())?;
+        self.room = room;
         Ok(())
     }
 
@@ -132,6 +135,7 @@ impl<S: Form<T>, T: Copy> PackedList<S, T> {
     pub fn len(&self) -> usize
         ensures exact { result ≡ length self.now.items }
         ensures fits { result ≤ self.now.room }
+        ensures few { length self.now.items < 2 ^ 32 }
     {
         self.forms.len()
     }
@@ -146,7 +150,7 @@ impl<S: Form<T>, T: Copy> PackedList<S, T> {
 
     /// A copy of the value at `index`.
     #[inline(always)]
-    pub fn item(&self, index: usize) -> T
+    pub fn at(&self, index: usize) -> T
         requires { index < length self.now.items }
         ensures { slice_get self.now.items index ≡ Some result }
     {
@@ -154,5 +158,14 @@ impl<S: Form<T>, T: Copy> PackedList<S, T> {
             Stored::Here(value) => value,
             Stored::Whole(at) => self.whole.item(at as usize),
         }
+    }
+
+    /// Takes all values out and keeps the room. Takes no memory.
+    pub fn clear(&mut self)
+        ensures items { self.new.items ≡ [] }
+        ensures room { self.new.room ≡ self.old.room }
+    {
+        self.forms.clear();
+        self.whole.clear();
     }
 }

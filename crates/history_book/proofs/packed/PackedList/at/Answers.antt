@@ -1,8 +1,8 @@
 use Rattle.std.proofs.Common.{ap, arith, sym, ◌∙◌}
 use Rattle.std.specs.Prelude.{slice_get}
-use Rattle.history_book.specs.Packed.{value_of}
+use Rattle.history_book.specs.Internal.Packed.{value_of}
 use Rattle.history_book.proofs.Packing.{get_value, length_seen, stands_whole}
-use Rattle.history_book.proofs.packed.PackedList.item.Goals as goal
+use Rattle.history_book.proofs.packed.PackedList.at.Goals as goal
 use Rattle.room_list.specs.Roomed.{Roomed}
 
 pub item-requires : goal.item-requires
