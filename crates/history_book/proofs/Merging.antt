@@ -16,7 +16,7 @@ use Rattle.history_book.specs.declared.verdict.Verdict.{Verdict}
 use Rattle.history_book.specs.Internal.Merging.{AllHavePlaces, all_named, laid, made_in, named, named_in, threads_named}
 use Rattle.history_book.specs.Merge.{AreNumbers, CoverEach, CoverFrom, IsMerged, EventSpan, all_notes, spans_of, spans_of_answers, spans_of_verdicts}
 use Rattle.history_book.specs.Numbered.{IsNumberedFrom, notes_of}
-use Rattle.history_book.specs.Order.{no_notes, notes_in}
+use Rattle.history_book.specs.Internal.Order.{no_notes, notes_in}
 use Rattle.room_list.specs.Roomed.{Roomed}
 
 pub laid-append : (ns ms history : List Numbered) → laid (ns ++ ms) history ≡ laid ms (laid ns history)
@@ -457,11 +457,3 @@ laid_in_turn lists threads answers blank mid final long mid_is final_is =
     ∙ sym (laid-append (threads_named 0 lists threads) last blank)
     ∙ ap (λ (x : List Numbered). laid x blank)
     (sym (script_last 0 (length threads) lists threads answers no_notes (omega arith) long))
-
--- each list is no longer than all
-pub all_short : (lists : List (Roomed Note)) (total : ℕ) → length (all_notes lists) ≤ total
-    → All (λ (l : Roomed Note). length l.items ≤ total) lists
-all_short [] total few k d within = absurd (omega arith)
-all_short (l ∷ lists) total few zero d within = omega (arith, few, length-append l.items (all_notes lists))
-all_short (l ∷ lists) total few (suc k) d within =
-    all_short lists total (omega (arith, few, length-append l.items (all_notes lists))) k d (omega arith)

@@ -1,10 +1,10 @@
 //! The events of several threads as the one history.
 
 ghost use Rattle.std.specs.Prelude.{◌≡◌, ◌+◌, ◌<◌, ◌≤◌, ◌^◌, All, IfOk, drop, length, take};
-ghost use Rattle.history_book.specs.Internal.Merging.{AllAreShort, AllHavePlaces, AreLayable, HavePlaces, all_named, laid, made_in, named, named_in, threads_named};
+ghost use Rattle.history_book.specs.Internal.Merging.{AllHavePlaces, AreLayable, HavePlaces, all_named, laid, made_in, named, named_in, threads_named};
 ghost use Rattle.history_book.specs.Merge.{AreNumbers, CoverEach, IsMerged, all_notes, spans_of, spans_of_answers, spans_of_verdicts};
 ghost use Rattle.history_book.specs.Numbered.{IsNumberedFrom};
-ghost use Rattle.history_book.specs.Order.{IsWithin, in_order, notes_in};
+ghost use Rattle.history_book.specs.Internal.Order.{IsWithin, in_order, notes_in};
 
 use crate::answer::{Answer, Answers};
 use crate::order::{History, Order, Origin};
@@ -22,16 +22,17 @@ const BLANK: Origin = Origin {
     index: 0,
 };
 
-/// How many events the lists have. More than the order has places for have no room in memory.
-fn count_events(lists: &[Notes]) -> Result<u32, NoMemory>
-    ensures all { IfOk result (λ n. n ≡ length (all_notes lists.now)) }
-    ensures few { IfOk result (λ n. n < 2 ^ 32) }
+/// How many events the lists have.
+fn count_events(lists: &[Notes]) -> usize
+    requires { length lists.now ≤ 2 ^ 32 }
+    ensures all { result ≡ length (all_notes lists.now) }
+    ensures few { result < 2 ^ 64 }
 {
     let mut total: usize = 0;
     'lists: for notes in lists {
-        total = total.checked_add(notes.len()).ok_or(NoMemory)?;
+        total += notes.len();
     }
-    u32::try_from(total).map_err(|_| NoMemory)
+    total
 }
 
 /// An order of so many events, none of which is laid yet.
@@ -49,14 +50,14 @@ fn blank_order(alloc: Global, total: usize) -> Result<Order, NoMemory>
 fn lay_span(lists: &[Notes], thread: u32, index: u32, first: usize, made: usize, order: &mut Order)
     requires thread { thread < length lists.now }
     requires span { first + made ≤ length (notes_in lists.now thread) }
-    requires few { length (notes_in lists.now thread) ≤ 2 ^ 32 }
     requires placed { HavePlaces (length order.old.items) (notes_in lists.now thread) }
     ensures { in_order lists.now order.new.items
         ≡ laid (named thread index (take made (drop first (notes_in lists.now thread)))) (in_order lists.now order.old.items) }
 {
     let notes = &lists[thread as usize];
+    prove!(notes.len() <= u32::MAX as usize);
     'notes: for at in first..first + made {
-        let number = notes.item(at).number as usize;
+        let number = notes.at(at).number as usize;
         let note = at as u32;
         order.set(
             number,
@@ -73,15 +74,16 @@ fn lay_span(lists: &[Notes], thread: u32, index: u32, first: usize, made: usize,
 fn lay_thread(lists: &[Notes], thread: u32, verdicts: &Verdicts, order: &mut Order)
     requires thread { thread < length lists.now }
     requires few { length verdicts.now.items < 2 ^ 32 }
-    requires short { length (notes_in lists.now thread) ≤ 2 ^ 32 }
     requires covered { made_in (spans_of_verdicts verdicts.now.items) ≡ length (notes_in lists.now thread) }
     requires placed { HavePlaces (length order.old.items) (notes_in lists.now thread) }
     ensures { in_order lists.now order.new.items
         ≡ laid (named_in thread 0 (notes_in lists.now thread) (spans_of_verdicts verdicts.now.items)) (in_order lists.now order.old.items) }
 {
+    let notes = &lists[thread as usize];
+    prove!(notes.len() <= u32::MAX as usize);
     let mut first: usize = 0;
     'verdicts: for index in 0..verdicts.len() {
-        let made = usize::from(verdicts.item(index).made);
+        let made = usize::from(verdicts.at(index).made);
         lay_span(lists, thread, index as u32, first, made, order);
         first += made;
     }
@@ -91,12 +93,13 @@ fn lay_thread(lists: &[Notes], thread: u32, verdicts: &Verdicts, order: &mut Ord
 fn lay_script(lists: &[Notes], thread: u32, answers: &[Answer], order: &mut Order)
     requires thread { thread < length lists.now }
     requires few { length answers.now < 2 ^ 32 }
-    requires short { length (notes_in lists.now thread) ≤ 2 ^ 32 }
     requires covered { made_in (spans_of_answers answers.now) ≡ length (notes_in lists.now thread) }
     requires placed { HavePlaces (length order.old.items) (notes_in lists.now thread) }
     ensures { in_order lists.now order.new.items
         ≡ laid (named_in thread 0 (notes_in lists.now thread) (spans_of_answers answers.now)) (in_order lists.now order.old.items) }
 {
+    let notes = &lists[thread as usize];
+    prove!(notes.len() <= u32::MAX as usize);
     let mut first: usize = 0;
     'answers: for (index, answer) in answers.iter().enumerate() {
         let made = answer.made as usize;
@@ -124,7 +127,6 @@ fn lay_all(lists: &[Notes], threads: &[Verdicts], answers: &[Answer], order: &mu
     requires threads { length threads.now < 2 ^ 32 }
     requires verdicts { All (λ vs. length vs.items < 2 ^ 32) threads.now }
     requires answers { length answers.now < 2 ^ 32 }
-    requires short { AllAreShort lists.now }
     requires spans { CoverEach lists.now (spans_of threads.now answers.now) }
     requires placed { AllHavePlaces (length order.old.items) lists.now }
     ensures { in_order lists.now order.new.items
@@ -153,8 +155,7 @@ fn order_events(
         IsMerged lists.now (spans_of threads.now answers.now) (in_order lists.now order.items)) }
     ensures numbered { IfOk result (λ order. IsNumberedFrom 0 (in_order lists.now order.items)) }
 {
-    let total = count_events(lists)?;
-    let mut order = blank_order(alloc, total as usize)?;
+    let mut order = blank_order(alloc, count_events(lists))?;
     lay_all(lists, threads, answers, &mut order);
     Ok(order)
 }

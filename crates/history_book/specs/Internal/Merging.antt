@@ -1,5 +1,5 @@
 -- The events of several threads under their names, one after the other, and a history into which they are laid.
-use Rattle.std.specs.Prelude.{◌≡◌, ℕ, ◌+◌, ◌<◌, ◌≤◌, ◌^◌, All, List, [], ◌∷◌, ◌++◌, drop, length, map, slice_index_or, slice_set, take}
+use Rattle.std.specs.Prelude.{◌≡◌, ℕ, ◌+◌, ◌<◌, ◌^◌, All, List, [], ◌∷◌, ◌++◌, drop, length, map, slice_index_or, slice_set, take}
 use Rattle.history_book.specs.declared.event.Note.{Note}
 use Rattle.history_book.specs.declared.event.Numbered.{Numbered}
 use Rattle.history_book.specs.declared.verdict.Verdict.{Verdict}
@@ -45,14 +45,9 @@ HavePlaces total notes = All (λ n. n.number < total) notes
 abbrev pub AllHavePlaces : ℕ → List (Roomed Note) → Type 0
 AllHavePlaces total lists = All (λ (notes : Roomed Note). HavePlaces total notes.items) lists
 
--- an order's numbers count the events of each list
-abbrev pub AllAreShort : List (Roomed Note) → Type 0
-AllAreShort lists = All (λ (notes : Roomed Note). length notes.items ≤ 2 ^ 32) lists
-
--- each thread has a list of events, all of which its verdicts have and the history has a place for
+-- each thread has few verdicts and a list of events, all of which its verdicts have and the history has a place for
 pub record AreLayable (total : ℕ) (lists : List (Roomed Note)) (threads : List (Roomed Verdict)) : Type 0 where
   pub few : All (λ vs. length vs.items < 2 ^ 32) threads
-  pub short : AllAreShort lists
   pub covered : (k : ℕ) (d : Roomed Note) (e : Roomed Verdict) → k < length threads
       → made_in (spans_of_verdicts (slice_index_or threads k e).items) ≡ length (slice_index_or lists k d).items
   pub placed : AllHavePlaces total lists

@@ -1,6 +1,6 @@
 use Rattle.std.proofs.Common.{arith, length, sym, subst, ℕ}
 use Rattle.history_book.specs.Internal.Merging.{HavePlaces, threads_named}
-use Rattle.history_book.specs.Order.{in_order, no_notes, notes_in}
+use Rattle.history_book.specs.Internal.Order.{in_order, no_notes, notes_in}
 use Rattle.history_book.proofs.Merging.{covered_script, covered_thread, laid_in_turn}
 use Rattle.history_book.proofs.Ordering.{same_length}
 use Rattle.history_book.proofs.merge.lay_all.Goals as goal
@@ -8,7 +8,6 @@ use Rattle.history_book.proofs.merge.lay_all.Goals as goal
 pub lay_threads-requires-clause-layable : goal.lay_threads-requires-clause-layable
 lay_threads-requires-clause-layable c = record {
   few = c.requires.verdicts;
-  short = c.requires.short;
   covered = λ k d v within.
       covered_thread c.args.lists.now c.args.threads.now c.args.answers.now k d v c.requires.spans within;
   placed = c.requires.placed;

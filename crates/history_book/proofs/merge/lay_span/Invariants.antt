@@ -1,6 +1,6 @@
 use Rattle.std.specs.Prelude.{◌≡◌, drop, length, take, ◌+◌, ◌-◌}
 use Rattle.history_book.specs.Internal.Merging.{laid, named}
-use Rattle.history_book.specs.Order.{in_order, notes_in}
+use Rattle.history_book.specs.Internal.Order.{in_order, notes_in}
 use Rattle.history_book.proofs.merge.lay_span.Given as goal
 
 abbrev pub invariant-notes : goal.invariant-notes

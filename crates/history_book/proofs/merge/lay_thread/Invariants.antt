@@ -1,7 +1,7 @@
 use Rattle.std.specs.Prelude.{◌≡◌, ◌+◌, drop, length}
 use Rattle.history_book.specs.Internal.Merging.{laid, made_in, named_in}
 use Rattle.history_book.specs.Merge.{spans_of_verdicts}
-use Rattle.history_book.specs.Order.{in_order, notes_in}
+use Rattle.history_book.specs.Internal.Order.{in_order, notes_in}
 use Rattle.history_book.proofs.merge.lay_thread.Given as goal
 
 abbrev pub invariant-verdicts : goal.invariant-verdicts

@@ -1,7 +1,7 @@
 use Rattle.std.proofs.Common.{drop, sym, ◌∙◌}
 use Rattle.history_book.specs.Internal.Merging.{named_in}
 use Rattle.history_book.specs.Merge.{spans_of_verdicts}
-use Rattle.history_book.specs.Order.{in_order, notes_in}
+use Rattle.history_book.specs.Internal.Order.{in_order, notes_in}
 use Rattle.history_book.proofs.Merging.{thread_laid, threads_done}
 use Rattle.history_book.proofs.Ordering.{same_length}
 use Rattle.history_book.proofs.merge.lay_threads.Goals as goal

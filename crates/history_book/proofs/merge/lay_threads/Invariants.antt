@@ -1,6 +1,6 @@
 use Rattle.std.specs.Prelude.{◌≡◌, drop, length}
 use Rattle.history_book.specs.Internal.Merging.{laid, threads_named}
-use Rattle.history_book.specs.Order.{in_order}
+use Rattle.history_book.specs.Internal.Order.{in_order}
 use Rattle.history_book.proofs.merge.lay_threads.Given as goal
 
 abbrev pub invariant-threads : goal.invariant-threads

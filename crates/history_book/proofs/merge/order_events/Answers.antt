@@ -1,6 +1,6 @@
 use Rattle.std.proofs.Common.{arith, length, ◌∙◌}
 use Rattle.history_book.specs.Merge.{spans_of}
-use Rattle.history_book.proofs.Merging.{all_placed, all_short}
+use Rattle.history_book.proofs.Merging.{all_placed}
 use Rattle.history_book.proofs.Ordering.{IsLaid, merged_order, numbered_order, within_order}
 use Rattle.history_book.proofs.merge.order_events.Goals.{After-lay_all}
 use Rattle.history_book.proofs.merge.order_events.Goals as goal
@@ -9,21 +9,17 @@ laid_all : (c : After-lay_all)
     → IsLaid c.args.lists.now (spans_of c.args.threads.now c.args.answers.now) c.in_ok-order.order.items
     c.lay_all.new.order.items
 laid_all c = record {
-  long = c.in_ok-order.ensures ∙ c.in_ok-total.ensures.all;
-  few = omega (arith, c.in_ok-total.ensures.all, c.in_ok-total.ensures.few);
+  long = c.in_ok-order.ensures ∙ c.count_events.ensures.all;
+  few = omega (arith, c.count_events.ensures.all, c.count_events.ensures.few);
   numbers = c.requires.numbers;
   covers = c.requires.spans;
   all = c.lay_all.ensures;
 }
 
-pub lay_all-requires-clause-short : goal.lay_all-requires-clause-short
-lay_all-requires-clause-short c =
-    all_short c.args.lists.now 4294967296 (omega (arith, c.in_ok-total.ensures.all, c.in_ok-total.ensures.few))
-
 pub lay_all-requires-clause-placed : goal.lay_all-requires-clause-placed
 lay_all-requires-clause-placed c =
     all_placed (length c.in_ok-order.order.items) c.args.lists.now
-    (c.in_ok-order.ensures ∙ c.in_ok-total.ensures.all) c.requires.numbers
+    (c.in_ok-order.ensures ∙ c.count_events.ensures.all) c.requires.numbers
 
 pub returns-clause-within : goal.returns-clause-within
 returns-clause-within c = within_order (laid_all c)
