@@ -1,4 +1,4 @@
-//! Events in two fifths of their memory.
+//! Short forms of events.
 
 ghost use Rattle.std.specs.Prelude.{◌≡◌, IfSome, IsTrue};
 ghost use Rattle.history_book.specs.declared.event.Event.TheVariants.{Confirm};
@@ -12,7 +12,7 @@ use crate::short_verdict::narrow;
 use proto_rules::{Part, PartKind};
 use tuple_core::{Direction, Segment, Tuple, invert, is_valid};
 
-/// An event with its number in 40 bytes: numbers below 2^32.
+/// An event with its number, both of numbers below 2^32, or where it stands whole.
 #[derive(Clone, Copy)]
 pub enum ShortNote {
     /// It stands whole in a second list, at this index.
@@ -62,7 +62,7 @@ fn plain_reply(original: &Tuple) -> Tuple
     }
 }
 
-/// Whether the Confirm of this number is a plain one.
+/// A test that only a plain Confirm of this number passes.
 #[inline(always)]
 fn is_plain(number: u64, r: &Record) -> bool
     ensures { IsTrue result → r.now ≡ plain_record number r.now.place r.now.original r.now.part }
@@ -70,7 +70,7 @@ fn is_plain(number: u64, r: &Record) -> bool
     r.id == number && !r.helper && r.master.is_none() && r.reply == plain_reply(&r.original)
 }
 
-/// The short form of a Confirm, if it has one.
+/// The short form that a Confirm may have.
 #[inline(always)]
 fn short_confirm(number: u64, r: &Record) -> Option<ShortNote>
     ensures { IfSome result (λ s. stored_note s ≡ Here (record { number = number; event = Confirm r.now })) }

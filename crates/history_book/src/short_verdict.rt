@@ -1,4 +1,4 @@
-//! Verdicts in a quarter of their memory.
+//! Short forms of verdicts.
 
 ghost use Rattle.std.specs.Prelude.{◌≡◌, IfSome, Ok};
 ghost use Rattle.history_book.specs.ShortVerdict.{class_or_place, stored_verdict};
@@ -65,7 +65,7 @@ pub enum ShortClass {
     },
 }
 
-/// A verdict in 24 bytes.
+/// A verdict whose numbers are below 2^32, or where it stands whole.
 #[derive(Clone, Copy)]
 pub struct ShortVerdict {
     class: ShortClass,
@@ -73,7 +73,7 @@ pub struct ShortVerdict {
     made: u8,
 }
 
-/// The number, if it is below 2^32.
+/// The number in 32 bits, or None: one of 2^32 or more has None.
 #[inline(always)]
 pub(crate) fn narrow(n: u64) -> Option<u32>
     ensures { IfSome result (λ m. m ≡ n) }
@@ -81,7 +81,7 @@ pub(crate) fn narrow(n: u64) -> Option<u32>
     u32::try_from(n).ok()
 }
 
-/// The short form of a class, if it has one.
+/// The short form that a class may have.
 #[inline(always)]
 fn short_class(class: &Class) -> Option<ShortClass>
     ensures { IfSome result (λ s. class_or_place s ≡ Ok class.now) }

@@ -8,7 +8,7 @@ use crate::record::Record;
 use crate::report::{Notes, Verdicts};
 use crate::short_note::ShortNote;
 use crate::short_verdict::ShortVerdict;
-use crate::verdict::{Class, Ftp, Label, Translated, Verdict};
+use crate::verdict::{Class, Ftp, Label, Translated, UntrackedWhy, Verdict};
 use proto_rules::{Part, PartKind};
 use std::alloc::Global;
 use std::test::Fail;
@@ -142,14 +142,21 @@ macro_rules! passed {
     };
 }
 
+/// A class that names this entry and this point.
+macro_rules! of_entry {
+    ($class:ident, $id:expr, $at:expr) => {
+        Class::$class { id: $id, at: $at }
+    };
+}
+
 /// A reply tuple that a rule chose.
 const CHOSEN: Translated = Translated::Chosen {
     reply: tuple!(2, 1, 53, 5001),
     kept_taken_at: None,
 };
 
-/// Verdicts, and whether they have a short form.
-const VERDICTS: [(Verdict, bool); 12] = [
+/// Verdicts, some of each class, and whether they have a short form.
+const VERDICTS: [(Verdict, bool); 23] = [
     (verdict!(Class::BadHeader, LAST), true),
     (verdict!(Class::BadHeader, NEXT), false),
     (verdict!(Class::NoEntry { at: LAST }, 0), true),
@@ -165,6 +172,65 @@ const VERDICTS: [(Verdict, bool); 12] = [
     (verdict!(passed!(LAST, Ftp::Nothing), 2), true),
     (verdict!(passed!(NEXT, Ftp::Nothing), 2), false),
     (verdict!(passed!(6, Ftp::Address), 2), false),
+    (verdict!(Class::Untracked(UntrackedWhy::Fragment), 3), true),
+    (verdict!(of_entry!(BadState, LAST, LAST), 3), true),
+    (verdict!(Class::ErrorLost { at: LAST }, 3), true),
+    (verdict!(of_entry!(ErrorAddress, LAST, LAST), 3), true),
+    (
+        verdict!(
+            Class::Error {
+                direction: Direction::Reply,
+                id: LAST,
+                at: LAST,
+            },
+            3
+        ),
+        true,
+    ),
+    (verdict!(of_entry!(Ignored, LAST, LAST), 3), true),
+    (
+        verdict!(
+            Class::Merged {
+                id: 7,
+                at: 7,
+                translated: Translated::Plain,
+            },
+            3
+        ),
+        false,
+    ),
+    (
+        verdict!(
+            Class::Clash {
+                id: 8,
+                at: 8,
+                translated: Translated::Plain,
+            },
+            3
+        ),
+        false,
+    ),
+    (
+        verdict!(
+            Class::NoPort {
+                from: LAST,
+                to: LAST,
+            },
+            3
+        ),
+        true,
+    ),
+    (
+        verdict!(
+            Class::Full {
+                from: LAST,
+                at: LAST,
+            },
+            3
+        ),
+        true,
+    ),
+    (verdict!(of_entry!(Contended, LAST, LAST), 3), true),
 ];
 
 /// A list of these values.
@@ -195,12 +261,22 @@ fn names(note: &Note) -> (u64, u64, u64) {
     }
 }
 
-/// The id and the point that a verdict names, and its first event.
+/// The id, or the first point, and the last point that a verdict names, and its first event.
 fn points(verdict: &Verdict) -> (u64, u64, u64) {
     match verdict.class {
-        Class::NoEntry { at } => (0, at, verdict.first),
-        Class::Made { id, at, .. } | Class::Passed { id, at, .. } => (id, at, verdict.first),
-        _ => (0, 0, verdict.first),
+        Class::Untracked(_) | Class::BadHeader => (0, 0, verdict.first),
+        Class::NoEntry { at } | Class::ErrorLost { at } => (0, at, verdict.first),
+        Class::BadState { id, at }
+        | Class::ErrorAddress { id, at }
+        | Class::Error { id, at, .. }
+        | Class::Made { id, at, .. }
+        | Class::Passed { id, at, .. }
+        | Class::Ignored { id, at }
+        | Class::Merged { id, at, .. }
+        | Class::Clash { id, at, .. }
+        | Class::Contended { id, at } => (id, at, verdict.first),
+        Class::NoPort { from, to } => (from, to, verdict.first),
+        Class::Full { from, at } => (from, at, verdict.first),
     }
 }
 
@@ -209,6 +285,21 @@ fn nothing_in_it(rt: HostRuntime) {
     let notes = Notes::empty(rt.alloc());
     assert!(rt; notes.is_empty());
     assert_eq!(rt; notes.empty_like().len(), 0);
+}
+
+#[test]
+fn cleared_list_keeps_its_room(rt: HostRuntime) -> Result<(), Fail> {
+    let mut notes = Notes::new(rt.alloc(), 2)?;
+    notes.push(touched!(NEXT, 0));
+    notes.push(touched!(1, 1));
+    notes.clear();
+    assert!(rt; notes.is_empty());
+    notes.push(touched!(NEXT, 2));
+    notes.push(touched!(3, NEXT));
+    assert_eq!(rt; notes.len(), 2);
+    assert_eq!(rt; notes.at(0).number, NEXT);
+    assert_eq!(rt; notes.at(1).number, 3);
+    Ok(())
 }
 
 #[test]
@@ -221,7 +312,7 @@ fn notes_with_a_short_form_and_without(rt: HostRuntime) -> Result<(), Fail> {
     }
     assert_eq!(rt; notes.len(), 14);
     for (at, (note, _)) in NOTES.iter().enumerate() {
-        assert_eq!(rt; names(&notes.item(at)), names(note), "at {at}");
+        assert_eq!(rt; names(&notes.at(at)), names(note), "at {at}");
     }
     Ok(())
 }
@@ -234,9 +325,9 @@ fn verdicts_with_a_short_form_and_without(rt: HostRuntime) -> Result<(), Fail> {
         verdicts.reserve(1)?;
         verdicts.push(*verdict);
     }
-    assert_eq!(rt; verdicts.len(), 12);
+    assert_eq!(rt; verdicts.len(), 23);
     for (at, (verdict, _)) in VERDICTS.iter().enumerate() {
-        let read = verdicts.item(at);
+        let read = verdicts.at(at);
         assert_eq!(rt; points(&read), points(verdict), "at {at}");
         assert_eq!(rt; read.made, 3, "at {at}");
     }
