@@ -215,7 +215,7 @@ impl<'t, G: Gate> Desk for TurnDesk<'t, G> {
     }
 
     fn own(&self, index: u64) -> Note {
-        self.pass.notes.item(index as usize)
+        self.pass.notes.at(index as usize)
     }
 
     fn ready(&mut self, k: u64) -> Result<(), NoMemory> {

@@ -103,7 +103,7 @@ impl Desk for BusyDesk {
     }
 
     fn own(&self, index: u64) -> Note {
-        self.notes.item(index as usize)
+        self.notes.at(index as usize)
     }
 
     fn ready(&mut self, k: u64) -> Result<(), NoMemory> {

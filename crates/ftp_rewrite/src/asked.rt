@@ -25,7 +25,7 @@ fn event_at(history: &History, id: u64) -> Option<Numbered>
 {
     let index = id as usize;
     if index < history.len() {
-        Some(history.item(index))
+        Some(history.at(index))
     } else {
         None
     }

@@ -176,7 +176,7 @@ pub fn rewrites(alloc: Global, report: &Report, captures: &Captures) -> Result<R
     let mut sessions: Sessions = BTreeMap::new(alloc);
     let mut lines = Rewrites::empty(alloc);
     'items: for index in 0..report.history.len() {
-        let item = report.history.item(index);
+        let item = report.history.at(index);
         let line = follow(alloc, report, captures, &mut sessions, &item)?;
         put(&mut lines, line)?;
     }

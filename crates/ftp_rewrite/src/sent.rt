@@ -116,7 +116,7 @@ fn verdict_on(verdicts: &Verdicts, index: usize) -> Option<Verdict>
     ensures { result ≡ slice_get verdicts.now.items index }
 {
     if index < verdicts.len() {
-        Some(verdicts.item(index))
+        Some(verdicts.at(index))
     } else {
         None
     }

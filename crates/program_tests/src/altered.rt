@@ -86,23 +86,29 @@ fn event_changed(item: Numbered, change: Change) -> Numbered {
 fn put_changed(events: &mut History, item: Numbered, change: Change) -> Result<(), NoMemory> {
     match change {
         Change::Twice => {
-            events.push(item)?;
-            events.push(item)
+            events.reserve(2)?;
+            events.push(item);
+            events.push(item);
         }
-        Change::LeftOut => Ok(()),
-        _ => events.push(event_changed(item, change)),
+        Change::LeftOut => {}
+        _ => {
+            events.reserve(1)?;
+            events.push(event_changed(item, change));
+        }
     }
+    Ok(())
 }
 
 /// The events with this change.
 fn events_changed(alloc: Global, history: &History, change: Change) -> Result<History, NoMemory> {
     let mut events = History::empty(alloc);
     for place in 0..history.len() {
-        let item = history.item(place);
+        let item = history.at(place);
         if place == 2 {
             put_changed(&mut events, item, change)?;
         } else {
-            events.push(item)?;
+            events.reserve(1)?;
+            events.push(item);
         }
     }
     Ok(events)
@@ -143,7 +149,7 @@ fn verdicts_changed(
     }
     let first = threads.at(0);
     for place in 0..first.len() {
-        let item = first.item(place);
+        let item = first.at(place);
         let verdict = if place == 2 {
             verdict_changed(item, change)
         } else {

@@ -88,10 +88,11 @@ static OPENING: Case<'static> = Case {
 fn without_touches(alloc: Global, history: &History) -> Result<History, NoMemory> {
     let mut events = History::empty(alloc);
     for index in 0..history.len() {
-        let item = history.item(index);
+        let item = history.at(index);
         if !matches!(item.event, Event::Touch { .. }) {
             let number = events.len() as u64;
-            events.push(Numbered { number, ..item })?;
+            events.reserve(1)?;
+            events.push(Numbered { number, ..item });
         }
     }
     Ok(events)
@@ -106,7 +107,7 @@ fn answered_late(
     let mut verdicts = Verdicts::empty(alloc);
     if !threads.is_empty() && threads.at(0).len() > 0 {
         verdicts.reserve(1)?;
-        verdicts.push(threads.at(0).item(0));
+        verdicts.push(threads.at(0).at(0));
     }
     verdicts.reserve(1)?;
     verdicts.push(Verdict {

@@ -120,7 +120,7 @@ impl Way<'_> {
     fn next(&mut self) -> Option<Numbered> {
         let history = self.history;
         for index in self.at..history.len() {
-            let item = history.item(index);
+            let item = history.at(index);
             if item.thread as usize == self.thread {
                 self.at = index.wrapping_add(1);
                 return Some(item);
@@ -190,7 +190,7 @@ fn way_of(history: &History, thread: usize) -> Way<'_> {
 fn mark_behind(history: &History, thread: usize, verdicts: &Verdicts) -> Option<u64> {
     let mut way = way_of(history, thread);
     for index in 0..verdicts.len() {
-        if !way.has_verdict(index, &verdicts.item(index)) {
+        if !way.has_verdict(index, &verdicts.at(index)) {
             return None;
         }
     }
@@ -226,7 +226,7 @@ fn are_answers(history: &History, script: Waiting, answers: &[Answer]) -> bool {
 /// Whether each event is of a thread of a capture, of which there are so many, or of the script's behind them.
 fn are_of_threads(history: &History, captures: usize) -> bool {
     for index in 0..history.len() {
-        if history.item(index).thread as usize > captures {
+        if history.at(index).thread as usize > captures {
             return false;
         }
     }
@@ -260,9 +260,9 @@ pub fn are_spans(report: &Report, wait: Option<usize>) -> bool {
 fn begins_thread(history: &History, thread: usize, notes: &Notes) -> bool {
     let mut index = 0;
     for place in 0..history.len() {
-        let item = history.item(place);
+        let item = history.at(place);
         if item.thread as usize == thread && index < notes.len() {
-            if notes.item(index).number != item.number {
+            if notes.at(index).number != item.number {
                 return false;
             }
             index += 1;

@@ -27,7 +27,7 @@ fn count_verdicts(counts: &mut Counts, verdicts: &Verdicts)
     ensures few { length verdicts.now.items < 2 ^ 64 }
 {
     'verdicts: for index in 0..verdicts.len() {
-        let verdict = verdicts.item(index);
+        let verdict = verdicts.at(index);
         counts[FirstWord::of(verdict.class).place()] += 1;
     }
 }

@@ -148,7 +148,8 @@ fn report_of(
 ) -> Result<Report, NoMemory> {
     let mut history = History::empty(alloc);
     for event in events {
-        history.push(*event)?;
+        history.reserve(1)?;
+        history.push(*event);
     }
     let mut threads = ThreadVerdicts::new(alloc, 0)?;
     for list in verdicts {

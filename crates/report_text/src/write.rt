@@ -127,7 +127,7 @@ fn write_events<K: Sink>(
 {
     'events: for index in 0..events.len() {
         make_room(page, out)?;
-        let event = events.item(index);
+        let event = events.at(index);
         page.event_line(script, &event);
     }
     Ok(())
@@ -161,7 +161,7 @@ fn write_verdicts<K: Sink>(
     'verdicts: for index in 0..verdicts.len() {
         make_room(page, out)?;
         page.verdict_head(index);
-        let verdict = verdicts.item(index);
+        let verdict = verdicts.at(index);
         page.class_line(verdict.class);
     }
     Ok(())

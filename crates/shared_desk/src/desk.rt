@@ -93,7 +93,7 @@ impl<'t, G: Gate> Desk for Clerk<'t, G> {
 
     #[inline(always)]
     fn own(&self, index: u64) -> Note {
-        self.notes.item(index as usize)
+        self.notes.at(index as usize)
     }
 
     /// Makes room for `k` further own events.

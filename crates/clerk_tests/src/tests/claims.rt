@@ -144,7 +144,7 @@ fn made_by(note: &Note) -> Option<Made> {
 /// Enters all events of a clerk under their numbers, which no other ones have.
 fn enter_all(events: &mut [Option<Made>], notes: &Notes) -> bool {
     'notes: for index in 0..notes.len() {
-        let note = notes.item(index);
+        let note = notes.at(index);
         let number = note.number as usize;
         if number >= events.len() || events[number].is_some() {
             return false;

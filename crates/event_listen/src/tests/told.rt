@@ -98,7 +98,7 @@ fn is_event_at(note: &Note, number: u64, port: u16) -> bool {
 /// Whether these are so many first events of the desk with this port.
 pub fn are_first(notes: &Notes, port: u16, count: usize) -> bool {
     'notes: for index in 0..notes.len() {
-        if !is_event_at(&notes.item(index), index as u64, port) {
+        if !is_event_at(&notes.at(index), index as u64, port) {
             return false;
         }
     }
@@ -114,12 +114,13 @@ impl Told {
         let mut history = History::empty(alloc);
         'events: for index in 0..events {
             let number = u64::from(index);
+            history.reserve(1)?;
             history.push(Numbered {
                 number,
                 thread: 0,
                 index: 0,
                 event: event_at(number, port),
-            })?;
+            });
         }
         match check_history(alloc, &history, 1, 0)? {
             Checked::Legal { .. } => Ok(Told { history }),
@@ -153,7 +154,7 @@ impl Desk for Told {
     }
 
     fn own(&self, index: u64) -> Note {
-        let item = self.history.item(index as usize);
+        let item = self.history.at(index as usize);
         Note {
             number: item.number,
             event: item.event,

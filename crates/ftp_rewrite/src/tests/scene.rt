@@ -221,12 +221,13 @@ fn add_step(scene: &mut Scene, step: &Step) -> Result<(), NoMemory> {
         add_packet(track, step, class)?;
     }
     if let Some(event) = event(step, number) {
+        scene.history.reserve(1)?;
         scene.history.push(Numbered {
             number,
             thread: step.thread,
             index,
             event,
-        })?;
+        });
     }
     Ok(())
 }

@@ -306,7 +306,7 @@ fn made_and_full(report: &Report) -> (u32, u32) {
     let mut full = 0u32;
     for thread in report.threads.as_slice() {
         for index in 0..thread.len() {
-            let class = thread.item(index).class;
+            let class = thread.at(index).class;
             if matches!(class, Class::Made { .. }) {
                 made = made.wrapping_add(1);
             } else if matches!(class, Class::Full { .. }) {

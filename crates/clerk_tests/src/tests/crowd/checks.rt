@@ -79,7 +79,7 @@ fn enter(found: &mut Found, thread: u8, note: &Note) -> bool {
 /// Enters all events of a thread.
 pub fn enter_all(found: &mut Found, thread: u8, notes: &Notes) -> bool {
     'notes: for index in 0..notes.len() {
-        if !enter(found, thread, &notes.item(index)) {
+        if !enter(found, thread, &notes.at(index)) {
             return false;
         }
         found.events = found.events.wrapping_add(1);

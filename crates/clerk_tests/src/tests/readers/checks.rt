@@ -57,7 +57,7 @@ impl Events {
     /// Enters all events of a clerk.
     pub fn enter_all(&mut self, notes: &Notes) -> bool {
         'notes: for index in 0..notes.len() {
-            if !self.enter(&notes.item(index)) {
+            if !self.enter(&notes.at(index)) {
                 return false;
             }
         }

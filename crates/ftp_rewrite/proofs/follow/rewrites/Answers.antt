@@ -11,9 +11,9 @@ items-init c =
 
 pub items-preserved : goal.items-preserved
 items-preserved c =
-    one_more (run_of c.args.report.now (map recorded c.args.captures.now.items)) c.args.report.now.history.items c.items.index c.item-item.result c.items.sessions c.follow.new.sessions
+    one_more (run_of c.args.report.now (map recorded c.args.captures.now.items)) c.args.report.now.history.items c.items.index c.at-item.result c.items.sessions c.follow.new.sessions
     c.items.lines.items c.put.new.lines.items c.in_ok-line.line
-    c.item-item.ensures c.items.invariant c.in_ok-line.ensures.sessions c.in_ok-line.ensures.line c.in_ok-put.ensures
+    c.at-item.ensures c.items.invariant c.in_ok-line.ensures.sessions c.in_ok-line.ensures.line c.in_ok-put.ensures
 
 pub returns : goal.returns
 returns c =

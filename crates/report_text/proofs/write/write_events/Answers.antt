@@ -10,5 +10,5 @@ returns-in_err-make_room g c =
 
 pub events-preserved : goal.events-preserved
 events-preserved g c =
-    sent_item (line_of_event c.args.script) _ _ _ _ _ _ _ _ _ c.item-event.ensures c.events.invariant
+    sent_item (line_of_event c.args.script) _ _ _ _ _ _ _ _ _ c.at-event.ensures c.events.invariant
     (sent_line _ _ _ _ _ _ _ c.in_ok-make_room.ensures.gathered c.event_line.ensures)

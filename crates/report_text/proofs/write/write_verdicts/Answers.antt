@@ -19,7 +19,7 @@ returns-in_err-make_room g c =
 
 pub verdicts-preserved : goal.verdicts-preserved
 verdicts-preserved g c =
-    sent_item verdict_line _ _ _ _ _ _ _ _ _ c.item-verdict.ensures c.verdicts.invariant
-    (rw (pieces c.verdicts.index c.item-verdict.result)
+    sent_item verdict_line _ _ _ _ _ _ _ _ _ c.at-verdict.ensures c.verdicts.invariant
+    (rw (pieces c.verdicts.index c.at-verdict.result)
     (sent_line _ _ _ _ _ _ _ c.in_ok-make_room.ensures.gathered
     (adds_then _ _ _ _ _ _ _ c.verdict_head.ensures c.class_line.ensures)))

@@ -7,11 +7,11 @@ use Rattle.event_listen.specs.Told.{note_of}
 use Rattle.event_listen.proofs.Told.{length-own, told_knows}
 use Rattle.event_listen.proofs.tests.told.ToldDesk.own.Goals as goal
 
-pub item-item-requires : goal.item-item-requires
-item-item-requires c = omega (arith, c.requires, length-own c.self.inside.history.items, ap (λ (s : Sight). length s.own) c.self.view_is)
+pub at-item-requires : goal.at-item-requires
+at-item-requires c = omega (arith, c.requires, length-own c.self.inside.history.items, ap (λ (s : Sight). length s.own) c.self.view_is)
 
 pub returns-clause-exact : goal.returns-clause-exact
-returns-clause-exact c = ap (λ (s : Sight). slice_get s.own c.args.index) (sym c.self.view_is) ∙ slice_get-map note_of c.self.inside.history.items c.args.index ∙ ap (option_map note_of) c.item-item.ensures
+returns-clause-exact c = ap (λ (s : Sight). slice_get s.own c.args.index) (sym c.self.view_is) ∙ slice_get-map note_of c.self.inside.history.items c.args.index ∙ ap (option_map note_of) c.at-item.ensures
 
 pub returns-clause-knows : goal.returns-clause-knows
 returns-clause-knows c = rw (← c.self.view_is) (told_knows _ c.self.invariant.0 c.self.invariant.1)
