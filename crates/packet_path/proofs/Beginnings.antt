@@ -15,6 +15,7 @@ use Rattle.history_book.specs.declared.event.Event.TheVariants.{Confirm}
 use Rattle.history_book.specs.declared.desk.Hold.{Hold}
 use Rattle.history_book.specs.declared.event.Note.{Note}
 use Rattle.history_book.specs.declared.outcome.ClaimOutcome.{ClaimOutcome}
+use Rattle.history_book.specs.declared.outcome.TakeOutcome.TheVariants as take
 use Rattle.history_book.specs.declared.record.Flow.{Flow}
 use Rattle.history_book.specs.declared.record.Record.{Record}
 use Rattle.history_book.specs.declared.verdict.Class.{Class}
@@ -50,21 +51,29 @@ use Rattle.history_book.specs.SightLaws.{GoingOnAddsUp, RestingIsSeeing}
 use Rattle.history_book.specs.State.{Found, State, first_found, live_under, winner}
 use Rattle.history_book.specs.StateLaws.{AbsentTuplesAreNobodys, FreeIsAbsent}
 use Rattle.packet_path.specs.Packet.{FlowPacket}
-use Rattle.packet_path.specs.Internal.Attempt.{Answers, HadPlace, IsFoundBefore, IsFoundFor, claimed_master, unclaimed_at}
+use Rattle.packet_path.specs.Internal.Attempt.{Answers, HadPlace, IsFoundFor, claimed_master, unclaimed_at}
 use Rattle.history_book.specs.declared.answer.Row.{Row}
 use Rattle.history_book.specs.declared.event.Why.TheVariants.{Dropped}
 use Rattle.history_book.specs.Sizes.{fewest_of_full}
-use Rattle.packet_path.specs.Internal.Scan.{DropsNone, DropsOne}
+use Rattle.packet_path.specs.Internal.Scan.{DropsNone, DropsOne, RoomSays}
 use Rattle.packet_path.specs.Room.{Dropping, IsFullAt, MakesRoom, drop_by, drops_by}
 use Rattle.packet_path.specs.Winner.{IsNewWinner, MeetsWinner}
 use Rattle.packet_path.proofs.Claims.{LookedFor}
 use Rattle.packet_path.proofs.Growth.{at_grows, claims_grows, room_grows, translated_grows}
-use Rattle.packet_path.proofs.Attempts.{absent_upto, flow_answer, points_more, silent, silent_answer, starts_longer, starts_refl}
+use Rattle.packet_path.proofs.Attempts.{absent_upto, flow_answer, placed_went, points_more, silent, silent_answer, starts_longer, starts_refl}
 
 -- the flow that a packet begins
 abbrev pub flow_of : FlowPacket → Part → Tuple → Bool → Option ℕ → Flow
 flow_of packet part reply helper master =
     record { original = packet.tuple; reply = reply; part = part; helper = helper; master = master }
+
+-- nothing was live under the packet's tuple at this point, and the reply tuple was found from there on, up to a point at which the
+-- table was full
+pub record IsFoundBefore (setup : Setup) (packet : FlowPacket) (s : Sight) (absent_at full_at : ℕ) (found : NewReply) : Type 0 where
+  order : absent_at ≤ full_at
+  absent : At s.front absent_at (λ x. live_under packet.tuple x ≡ None)
+  translation : WasTranslated s.front (rule_for setup.rules.items packet.tuple) packet.tuple absent_at full_at found.translated found.reply
+  full : IsFullAt s.sizes s.front full_at
 
 -- the drop of a row
 abbrev pub dropping : Row → Dropping
@@ -236,7 +245,7 @@ module _ (states : StatesStay) (events : EventsStay) where
       }
 
   -- the table was full, and no entry that could go was live throughout the scan
-  pub full_none : (setup : Setup) (old new : Sight) (packet : FlowPacket) (found : NewReply) (n absent_at full_at at : ℕ) → n ≤ 4
+  full_none : (setup : Setup) (old new : Sight) (packet : FlowPacket) (found : NewReply) (n absent_at full_at at : ℕ) → n ≤ 4
       → IsFoundBefore setup packet old absent_at full_at found → IsSome (start_of packet.segment packet.moment)
       → DropsNone (Dropped packet.moment) full_at old new at → Answers setup old new packet n absent_at (class.Full full_at at)
   full_none setup old new packet found n absent_at full_at at few is starts none =
@@ -274,7 +283,7 @@ module _ (states : StatesStay) (events : EventsStay) where
       })
 
   -- a drop, and the table was full again
-  pub full_again : GoingOnAddsUp → (setup : Setup) (old mid new : Sight) (packet : FlowPacket) (found : NewReply) (n absent_at full_at at : ℕ) (row : Row)
+  full_again : GoingOnAddsUp → (setup : Setup) (old mid new : Sight) (packet : FlowPacket) (found : NewReply) (n absent_at full_at at : ℕ) (row : Row)
       → n ≤ 4 → HoldsNothing mid → IsFoundBefore setup packet old absent_at full_at found → IsSome (start_of packet.segment packet.moment)
       → DropsOne (Dropped packet.moment) full_at old mid row → FindsFull mid new at
       → Answers setup old new packet n absent_at (class.Full full_at at)
@@ -309,6 +318,15 @@ module _ (states : StatesStay) (events : EventsStay) where
             });
       }
 
+  -- no place was had: no entry was dropped, or one and the table was full again
+  pub no_room : GoingOnAddsUp → (setup : Setup) (old new : Sight) (packet : FlowPacket) (found : NewReply) (n absent_at full_at at : ℕ) → n ≤ 4
+      → IsFoundBefore setup packet old absent_at full_at found → IsSome (start_of packet.segment packet.moment)
+      → RoomSays (Dropped packet.moment) full_at old new (take.Full at) → Answers setup old new packet n absent_at (class.Full full_at at)
+  no_room going setup old new packet found n absent_at full_at at few is starts (inl none) =
+      full_none setup old new packet found n absent_at full_at at few is starts none
+  no_room going setup old new packet found n absent_at full_at at few is starts (inr vain) =
+      full_again going setup old vain.mid new packet found n absent_at full_at at vain.row few vain.empty is starts vain.one vain.finds
+
   -- a free place was had
   pub had_free : (setup : Setup) (old now : Sight) (packet : FlowPacket) (found : NewReply) (absent_at : ℕ) → WentOn old now []
       → IsFoundFor setup packet old.front absent_at found → HadPlace setup packet old now absent_at found
@@ -328,15 +346,17 @@ module _ (states : StatesStay) (events : EventsStay) where
       }
 
   -- a place was had after a drop
-  pub had_dropped : GoingOnAddsUp → (setup : Setup) (old mid now : Sight) (packet : FlowPacket) (found : NewReply) (absent_at full_at : ℕ) (row : Row)
-      → IsFoundBefore setup packet old absent_at full_at found → DropsOne (Dropped packet.moment) full_at old mid row → WentOn mid now []
+  pub had_dropped : GoingOnAddsUp → (setup : Setup) (old now : Sight) (packet : FlowPacket) (found : NewReply) (absent_at full_at place : ℕ)
+      → IsFoundBefore setup packet old absent_at full_at found → RoomSays (Dropped packet.moment) full_at old now (take.Taken place)
       → HadPlace setup packet old now absent_at found
-  had_dropped going setup old mid now packet found absent_at full_at row is one then =
-      let went : WentOn old now (drop_by packet (dropping row) ∷ []) = going.twice old mid now _ [] one.made.went then in
+  had_dropped going setup old now packet found absent_at full_at place is room =
+      let one = room.one in
+      let then : WentOn room.mid now [] = placed_went room.mid now place room.takes in
+      let went : WentOn old now (drop_by packet (dropping room.row) ∷ []) = going.twice old room.mid now _ [] one.made.went then in
       let starts : StartsWith now.front old.front = went.front in
       let rule = rule_for setup.rules.items packet.tuple in
       record {
-        dropped = Some (dropping row);
+        dropped = Some (dropping room.row);
         went = went;
         found_at = full_at;
         order = is.order;
@@ -344,7 +364,8 @@ module _ (states : StatesStay) (events : EventsStay) where
         absent = at_grows states now.front old.front absent_at (λ x. live_under packet.tuple x ≡ None) starts is.absent;
         translation = translated_grows events states now.front old.front starts rule packet.tuple absent_at full_at found.translated found.reply
             is.translation;
-        room = drop_makes_room old mid now packet full_at (length now.front) row is.full one then.front (starts_longer now.front mid.front then.front);
+        room = drop_makes_room old room.mid now packet full_at (length now.front) room.row is.full one then.front
+            (starts_longer now.front room.mid.front then.front);
       }
 
   -- a packet confirmed the entry of its flow, after a place was had and it was looked for among the expectations

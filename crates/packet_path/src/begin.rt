@@ -3,6 +3,7 @@
 ghost use Rattle.std.specs.Prelude.{◌≡◌, ℕ, ◌+◌, ◌<◌, ◌≤◌, ◌^◌, ◌&&◌, if◌then◌else◌, None, Some, length};
 ghost use Rattle.std.specs.List.{AllByRecursion};
 ghost use Rattle.tuple_core.specs.declared.Proto.TheVariants as proto;
+ghost use Rattle.history_book.specs.declared.event.Why.TheVariants.{Dropped};
 ghost use Rattle.history_book.specs.declared.verdict.Class.TheVariants.{Clash, Made, Merged};
 ghost use Rattle.history_book.specs.Legality.{same_proto};
 ghost use Rattle.history_book.specs.Point.{At};
@@ -12,7 +13,8 @@ ghost use Rattle.nat_setup.specs.Rule.{IsLawfulRule};
 ghost use Rattle.packet_path.specs.Internal.Attempt.{Answers, claimed_master, IsClassified};
 ghost use Rattle.history_book.specs.Places.{HoldsNothing, HoldsOne};
 ghost use Rattle.packet_path.specs.Packet.{flow_packet};
-ghost use Rattle.packet_path.specs.Internal.Attempt.{HadPlace, IsFoundBefore, IsFoundFor, IsReplyOf, TookOne, unclaimed_at};
+ghost use Rattle.packet_path.specs.Internal.Attempt.{HadPlace, IsFoundFor, IsReplyOf, TookOne, unclaimed_at};
+ghost use Rattle.packet_path.specs.Internal.Scan.{HoldsTaken, RoomSays, taken_in_room};
 ghost use Rattle.packet_path.specs.Made.{is_helped};
 ghost use Rattle.packet_path.specs.Taken.{taken_by};
 ghost use Rattle.proto_rules.specs.Start.{start_of};
@@ -158,45 +160,23 @@ fn met_winner(packet: &FlowView, translated: Translated, id: u64, both: bool, at
     }
 }
 
-/// Drops an entry that may go, and confirms the new flow in the place that is free then, if one is. The table was full at
-/// the point `full_at`, and the reply tuple was found up to it.
-#[inline(always)]
-fn make_room<R: Wait, D: Desk>(
-    rt: &R,
-    desk: &mut D,
-    packet: &FlowView,
-    setup: &Setup,
-    part: Part,
-    found: &NewReply,
-    absent_at: u64,
-    full_at: u64,
-) -> Class
-    requires classified { IsClassified (flow_packet packet.now) }
-    requires starts { start_of packet.now.segment packet.now.moment ≡ Some part }
-    requires valid { IsReplyOf packet.now.tuple found.now.reply }
+/// Drops an entry that may go, and takes the place that is free then, if one is. The table was full at the point `full_at`.
+#[cold]
+#[inline(never)]
+fn make_room<R: Wait, D: Desk>(rt: &R, desk: &mut D, moment: u64, full_at: u64) -> TakeOutcome
     requires seen { full_at ≤ length (D.sight desk.old).front }
     requires empty { HoldsNothing (D.sight desk.old) }
-    requires spare { 3 ≤ (D.sight desk.old).spare }
+    requires spare { 1 ≤ (D.sight desk.old).spare }
     requires knows { IsKnown (D.sight desk.old) }
-    ensures answers { (killed : ℕ) → killed ≤ 4 →
-        IsFoundBefore setup.now (flow_packet packet.now) (D.sight desk.old) absent_at full_at found.now →
-        Answers setup.now (D.sight desk.old) (D.sight desk.new) (flow_packet packet.now) killed absent_at result }
-    ensures empty { HoldsNothing (D.sight desk.new) }
-    ensures taken { (D.sight desk.new).taken ≡ taken_by result (D.sight desk.old).taken }
+    ensures says { RoomSays (Dropped moment) full_at (D.sight desk.old) (D.sight desk.new) result }
+    ensures holds { HoldsTaken result (D.sight desk.new) }
+    ensures spare { (D.sight desk.old).spare ≤ (D.sight desk.new).spare + 1 }
+    ensures taken { (D.sight desk.new).taken ≡ taken_in_room result (D.sight desk.old).taken }
     ensures knows { IsKnown (D.sight desk.new) }
 {
-    events_stay();
-    going_on_adds_up();
-    seeing_adds_up();
-    states_stay();
-    match drop_one(rt, desk, packet.moment, full_at) {
-        Scan::Nothing { at } => Class::Full { from: full_at, at },
-        Scan::Dropped(_) => match desk.take(rt) {
-            TakeOutcome::Full { at } => Class::Full { from: full_at, at },
-            TakeOutcome::Taken { place } => {
-                confirm_flow(rt, desk, packet, setup, part, found, place, absent_at)
-            }
-        },
+    match drop_one(rt, desk, moment, full_at) {
+        Scan::Nothing { at } => TakeOutcome::Full { at },
+        Scan::Dropped(_) => desk.take(rt),
     }
 }
 
@@ -227,14 +207,14 @@ fn place_flow<R: Wait, D: Desk>(
     going_on_adds_up();
     seeing_adds_up();
     states_stay();
-    match desk.take(rt) {
-        TakeOutcome::Full { at } => {
-            make_room(rt, desk, packet, setup, part, found, absent_at, at)
-        }
-        TakeOutcome::Taken { place } => {
-            confirm_flow(rt, desk, packet, setup, part, found, place, absent_at)
-        }
-    }
+    let place = match desk.take(rt) {
+        TakeOutcome::Taken { place } => place,
+        TakeOutcome::Full { at: full_at } => match make_room(rt, desk, packet.moment, full_at) {
+            TakeOutcome::Taken { place } => place,
+            TakeOutcome::Full { at } => return Class::Full { from: full_at, at },
+        },
+    };
+    confirm_flow(rt, desk, packet, setup, part, found, place, absent_at)
 }
 
 /// Begins a flow for a packet under whose tuple nothing was live at the point `absent_at`, if one begins
@@ -267,27 +247,22 @@ pub fn begin_flow<R: Wait, D: Desk>(
     let Some(part) = start(packet.segment, packet.moment) else {
         return Class::NoEntry { at: absent_at };
     };
-    match translate(rt, desk, &setup.rules, &packet.tuple) {
-        TranslateOutcome::Plain => {
-            let found = NewReply {
-                reply: invert(&packet.tuple),
-                translated: Translated::Plain,
-            };
-            place_flow(rt, desk, packet, setup, part, &found, absent_at)
-        }
+    let found = match translate(rt, desk, &setup.rules, &packet.tuple) {
+        TranslateOutcome::Plain => NewReply {
+            reply: invert(&packet.tuple),
+            translated: Translated::Plain,
+        },
         TranslateOutcome::Chosen {
             reply,
             kept_taken_at,
-        } => {
-            let found = NewReply {
+        } => NewReply {
+            reply,
+            translated: Translated::Chosen {
                 reply,
-                translated: Translated::Chosen {
-                    reply,
-                    kept_taken_at,
-                },
-            };
-            place_flow(rt, desk, packet, setup, part, &found, absent_at)
-        }
-        TranslateOutcome::NoPort { from, to } => Class::NoPort { from, to },
-    }
+                kept_taken_at,
+            },
+        },
+        TranslateOutcome::NoPort { from, to } => return Class::NoPort { from, to },
+    };
+    place_flow(rt, desk, packet, setup, part, &found, absent_at)
 }

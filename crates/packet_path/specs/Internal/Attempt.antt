@@ -33,7 +33,7 @@ use Rattle.packet_path.specs.declared.payload.Wanted.{Wanted}
 use Rattle.packet_path.specs.declared.payload.Wanted.TheVariants.{Nothing, Foreign, End}
 use Rattle.packet_path.specs.FtpPart.{Asks, NamesNone, FtpFits}
 use Rattle.history_book.specs.Mark.{ftp_points, points_of}
-use Rattle.packet_path.specs.Room.{Dropping, HasRoom, IsFullAt, drops_by}
+use Rattle.packet_path.specs.Room.{Dropping, HasRoom, drops_by}
 use Rattle.packet_path.specs.Taken.{taken_by}
 use Rattle.packet_path.specs.Verdict.{FitsFrame, Kills, KillsAll}
 
@@ -58,13 +58,6 @@ pub record IsReplyOf (t reply : Tuple) : Type 0 where
 pub record IsFoundFor (setup : Setup) (packet : FlowPacket) (log : List Event) (absent_at : ℕ) (found : NewReply) : Type 0 where
   pub absent : At log absent_at (λ s. live_under packet.tuple s ≡ None)
   pub translation : WasTranslated log (rule_for setup.rules.items packet.tuple) packet.tuple absent_at (length log) found.translated found.reply
-
--- the same up to a point at which the table was full
-pub record IsFoundBefore (setup : Setup) (packet : FlowPacket) (s : Sight) (absent_at full_at : ℕ) (found : NewReply) : Type 0 where
-  pub order : absent_at ≤ full_at
-  pub absent : At s.front absent_at (λ x. live_under packet.tuple x ≡ None)
-  pub translation : WasTranslated s.front (rule_for setup.rules.items packet.tuple) packet.tuple absent_at full_at found.translated found.reply
-  pub full : IsFullAt s.sizes s.front full_at
 
 -- a place was had for the packet's flow, where the table was full by a drop: from what the desk knew first to what it
 -- knows now

@@ -5,36 +5,38 @@ use Rattle.nat_setup.specs.Rule.{rule_for}
 use Rattle.nat_setup.specs.Translation.{WasTranslated}
 use Rattle.packet_path.proofs.Attempts.{answers_after}
 use Rattle.packet_path.proofs.Beginnings.{no_entry, no_port, reply_found}
+use Rattle.packet_path.specs.Internal.Attempt.{IsFoundFor}
 use Rattle.packet_path.specs.Packet.{flow_packet}
 use Rattle.packet_path.proofs.begin.begin_flow.Goals as goal
+use Rattle.packet_path.proofs.begin.begin_flow.Goals.{in-Plain, in-Chosen}
 
 pub returns-in_default-clause-answers : goal.returns-in_default-clause-answers
 returns-in_default-clause-answers g c = λ killed few.
     no_entry c.states_stay.ensures c.events_stay.ensures c.seeing_adds_up.ensures.resting c.args.setup.now (g.D.Desk.sight c.args.desk.now) (flow_packet c.args.packet.now) killed
     c.args.absent_at few c.requires.absent (search rules)
 
-pub returns-in-Plain-clause-answers : goal.returns-in-Plain-clause-answers
-returns-in-Plain-clause-answers g c = λ killed few.
+pub returns-clause-answers : goal.returns-clause-answers
+returns-clause-answers g c = λ killed few.
     let s = g.D.Desk.sight c.args.desk.now in
     let mid = g.D.Desk.sight c.translate.new.desk in
-    answers_after c.states_stay.ensures c.events_stay.ensures c.going_on_adds_up.ensures.all c.seeing_adds_up.ensures.twice c.args.setup.now s mid (g.D.Desk.sight c.place_flow.new.desk)
-    (flow_packet c.args.packet.now) killed c.args.absent_at c.place_flow.result c.translate.ensures.saw
-    (c.place_flow.ensures.answers killed few
-    (reply_found c.states_stay.ensures c.events_stay.ensures c.args.setup.now (flow_packet c.args.packet.now) s mid c.args.absent_at c.invert.result Plain
-    c.requires.absent c.translate.ensures.saw
-    (subst
-    (λ (u : Tuple). WasTranslated mid.front (rule_for c.args.setup.now.rules.items c.args.packet.now.tuple) c.args.packet.now.tuple (length s.front) (length mid.front) Plain u)
-    (sym c.invert.ensures.exact) c.in-Plain.ensures.says)))
-
-pub returns-in-Chosen-clause-answers : goal.returns-in-Chosen-clause-answers
-returns-in-Chosen-clause-answers g c = λ killed few.
-    let s = g.D.Desk.sight c.args.desk.now in
-    let mid = g.D.Desk.sight c.translate.new.desk in
-    answers_after c.states_stay.ensures c.events_stay.ensures c.going_on_adds_up.ensures.all c.seeing_adds_up.ensures.twice c.args.setup.now s mid (g.D.Desk.sight c.place_flow-in-Chosen.new.desk)
-    (flow_packet c.args.packet.now) killed c.args.absent_at c.place_flow-in-Chosen.result c.translate.ensures.saw
-    (c.place_flow-in-Chosen.ensures.answers killed few
-    (reply_found c.states_stay.ensures c.events_stay.ensures c.args.setup.now (flow_packet c.args.packet.now) s mid c.args.absent_at c.in-Chosen.reply
-    (Chosen c.in-Chosen.reply c.in-Chosen.kept_taken_at) c.requires.absent c.translate.ensures.saw c.in-Chosen.ensures.says))
+    let setup = c.args.setup.now in
+    let packet = flow_packet c.args.packet.now in
+    let is : IsFoundFor setup packet mid.front c.args.absent_at c.match-translate.found = elim c.match-translate.branch [
+      | in-Plain w ↦
+          subst (IsFoundFor setup packet mid.front c.args.absent_at) (sym w.found-is)
+          (reply_found c.states_stay.ensures c.events_stay.ensures setup packet s mid c.args.absent_at w.invert.result Plain
+          c.requires.absent c.translate.ensures.saw
+          (subst
+          (λ (u : Tuple). WasTranslated mid.front (rule_for setup.rules.items packet.tuple) packet.tuple (length s.front) (length mid.front) Plain u)
+          (sym w.invert.ensures.exact) w.in-Plain.ensures.says))
+      | in-Chosen w ↦
+          subst (IsFoundFor setup packet mid.front c.args.absent_at) (sym w.found-is)
+          (reply_found c.states_stay.ensures c.events_stay.ensures setup packet s mid c.args.absent_at w.in-Chosen.reply
+          (Chosen w.in-Chosen.reply w.in-Chosen.kept_taken_at) c.requires.absent c.translate.ensures.saw w.in-Chosen.ensures.says)
+    ] in
+    answers_after c.states_stay.ensures c.events_stay.ensures c.going_on_adds_up.ensures.all c.seeing_adds_up.ensures.twice setup s mid
+    (g.D.Desk.sight c.place_flow.new.desk) packet killed c.args.absent_at c.place_flow.result c.translate.ensures.saw
+    (c.place_flow.ensures.answers killed few is)
 
 pub returns-in-NoPort-clause-answers : goal.returns-in-NoPort-clause-answers
 returns-in-NoPort-clause-answers g c = λ killed few.
