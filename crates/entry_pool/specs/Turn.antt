@@ -1,4 +1,4 @@
--- A pass that has the free list, out of its slot.
+-- A pass that has the turn of the free list, with the list's slot out.
 use Rattle.std.specs.Prelude.{◌≡◌, ℕ, ◌+◌, ◌<◌, ◌≤◌, ◌==◌, not, min, false, Some, List, ◌∷◌, ◌++◌, length}
 use Rattle.history_book.specs.Sight.{notes_from}
 use Rattle.history_book.specs.declared.event.Event.{Event}
@@ -40,7 +40,7 @@ pub record IsListOf (v : PassSight) (list : Roomed ℕ) : Type 0 where
 abbrev pub with_list : List ℕ → List Reading → View → View
 with_list places readings v = record v { free = Some places; readings = readings }
 
--- and the list out of the reach of other passes, in its slot
+-- the pass has that turn, with the slot out and the list in it, out of the reach of other passes
 pub record HasFreeTurn (v w : PassSight) : Type 0 where
   pub same : w ≡ record {
     table = v.table;

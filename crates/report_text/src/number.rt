@@ -33,7 +33,7 @@ fn put_pair(number: u64, buffer: &mut [u8], at: usize)
     buffer[at + 1] = ones;
 }
 
-/// Writes the four last digits of a number at `at`, which has no others.
+/// Writes a number below 10,000 at `at` in four digits, zeros in front of it included.
 #[inline(always)]
 fn put_four(number: u64, buffer: &mut [u8], at: usize)
     requires four { number < 10 ^ 4 }
@@ -44,7 +44,7 @@ fn put_four(number: u64, buffer: &mut [u8], at: usize)
     put_pair(number % 100, buffer, at + 2);
 }
 
-/// Writes the eight last digits of a number at `at`, which has no others.
+/// Writes a number below 100,000,000 at `at` in eight digits, zeros in front of it included.
 #[inline(always)]
 fn put_eight(number: u64, buffer: &mut [u8], at: usize)
     requires eight { number < 10 ^ 8 }
@@ -103,7 +103,7 @@ fn put_middle(number: u64, buffer: &mut [u8], at: usize) -> usize
     end + 4
 }
 
-/// Writes a number of more than eight digits at `at` but for its eight last ones, and answers where these are to stand.
+/// Writes a number below 10^12 at `at`, and answers where it ends. It is what stands before the last eight digits of another.
 fn put_upper(upper: u64, buffer: &mut [u8], at: usize) -> usize
     requires below { upper < 10 ^ 12 }
     requires room { at + length (decimal upper) ≤ length buffer.old }

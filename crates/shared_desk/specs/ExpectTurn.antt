@@ -15,8 +15,8 @@ pub record CanTakeExpects (v : PassSight) : Type 0 where
   pub free : v.view.free ≡ None
   pub calm : v.view.commit.middle ≡ Calm
 
--- The pass has the turn of the expectations, with their table out of its slot, behind the slots that were out before, and knows what
--- is expected. All else is as it was, but the readings.
+-- The pass has the turn of the expectations, with the slot of their table out, the table in it, behind the slots that were out
+-- before, and knows what is expected. All else is as it was, but the readings.
 pub record HasExpectTurn (v w : PassSight) : Type 0 where
   pub same : w ≡ record v {
     view = record v.view { expected = Some (table_in w.slots).items; readings = w.view.readings };

@@ -44,8 +44,8 @@ with_expects table slots = before_expects slots ++ (1, slot_of_expects table) �
 abbrev pub with_expected : List Expectation → View → View
 with_expected list v = noted (stored 2 1) (record v { expected = Some list })
 
--- The turn was free, and the pass has it now, with the table out of its slot, behind the slots that were out before. The table has
--- the room of the sizes.
+-- The turn was free, and the pass has it now, with the slot of the table out, the table in it, behind the slots that were out
+-- before. The table has the room of the sizes.
 pub record TookExpected (v : View) (slots : List (ℕ × Slot)) (w : View) (slots' : List (ℕ × Slot)) : Type 0 where
   pub view : w ≡ with_expected (table_in slots').items v
   pub out : slots' ≡ slots ++ (1, Expects (table_in slots')) ∷ []

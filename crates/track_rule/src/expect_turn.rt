@@ -1,5 +1,5 @@
-//! The turn of the expectations. A pass takes it, has their table out of its slot, looks and changes where it lies, or moves it
-//! away and puts it back, and gives the turn back. Taking and giving back are each one atomic step; what is done with the table is
+//! The turn of the expectations. A pass that takes it has the slot of their table out, and the table in it. It looks at the
+//! table and changes it there, or moves it away and puts it back, and gives the slot back with the turn. Taking and giving back are each one atomic step; what is done with the table is
 //! none. A pass may have the turn of a record at the same time. Then the slot of the record stands before that of the
 //! expectations, which is brought to the front to be lent, exchanged or given back.
 
@@ -65,8 +65,8 @@ fn remove_in(slot: &mut Slot, id: u64)
 }
 
 impl<'b> Pass<'b> {
-    /// Takes the turn of the expectations, if no pass has it, and their table out of its slot. The pass does not have the free
-    /// list.
+    /// Takes the turn of the expectations, if no pass has it, and with it the slot of their table. The pass does not have the
+    /// free list.
     #[inline(always)]
     pub fn expects_take(&mut self) -> bool
         requires free { self.old.view.free ≡ None }
@@ -84,7 +84,7 @@ impl<'b> Pass<'b> {
         true
     }
 
-    /// Puts this table, or none, in the place of the one that is out.
+    /// Puts this table, or none, in the slot that is out, and answers what was in it.
     #[inline(always)]
     pub fn expects_swap(&mut self, table: Option<ExpectTable>) -> Option<ExpectTable>
         requires expected { has_expected self.old.view ≡ 1 }
@@ -103,8 +103,8 @@ impl<'b> Pass<'b> {
         expects_of(found)
     }
 
-    /// The first expectation of the table that is out which a packet with this tuple matches at a moment in microseconds. The
-    /// table stays where it lies.
+    /// The first expectation of the table in the slot that is out which a packet with this tuple matches at a moment in
+    /// microseconds. The table stays there.
     #[inline(always)]
     pub fn expects_matching(&mut self, t: &Tuple, moment: u64) -> Option<Expectation>
         requires expected { has_expected self.old.view ≡ 1 }
@@ -118,7 +118,7 @@ impl<'b> Pass<'b> {
         found
     }
 
-    /// Takes the expectation of this id out of the table that is out, where it lies.
+    /// Takes the expectation of this id out of the table, which stays in the slot that is out.
     #[inline(always)]
     pub fn expects_remove(&mut self, id: u64)
         requires expected { has_expected self.old.view ≡ 1 }

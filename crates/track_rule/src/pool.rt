@@ -43,7 +43,7 @@ impl<'b> Pass<'b> {
             == 0
     }
 
-    /// Puts this list, or none, in the place of the one that is out.
+    /// Puts this list, or none, in the slot that is out, and answers what was in it.
     pub fn free_swap(&mut self, list: Option<FreeList>) -> Option<FreeList>
         requires turn { is_some self.old.view.free ≡ true }
         ensures list { result ≡ free_at self.old.slots }
@@ -55,7 +55,7 @@ impl<'b> Pass<'b> {
         )
     }
 
-    /// Takes the last place out of the list that is out, where it lies. None is that the list has none.
+    /// Takes the last place off the list, which stays in the slot that is out. None is that the list has none.
     #[inline(always)]
     pub fn free_pop(&mut self) -> Option<u32>
         requires turn { is_some self.old.view.free ≡ true }
@@ -71,7 +71,7 @@ impl<'b> Pass<'b> {
         }
     }
 
-    /// Puts a place on the list that is out, where it lies. Takes no memory.
+    /// Puts a place on the list, which stays in the slot that is out. Takes no memory.
     #[inline(always)]
     pub fn free_push(&mut self, place: u32)
         requires turn { is_some self.old.view.free ≡ true }

@@ -1,4 +1,4 @@
--- The last digits of a number, as many as are asked for, zeros in front of it included.
+-- The digits of a number below 100, below 10,000 and below 100,000,000, zeros in front of it included.
 use Rattle.std.specs.Prelude.{ℕ, ◌+◌, ◌/◌, ◌%◌, List, [], ◌∷◌, ◌++◌}
 
 abbrev pub two_digits : ℕ → List ℕ
