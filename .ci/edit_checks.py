@@ -1,5 +1,5 @@
-"""Each wrong body of a crate can be applied, those of must-fail/ and those of wrong-bodies/: a text that it replaces stands exactly
-once in its file, in what the pairs before it left."""
+"""Each wrong body of a crate can be applied: a text that it replaces stands exactly once in its file, in what the pairs before it
+left."""
 import glob
 import os
 
@@ -26,8 +26,6 @@ def fault(crate, edit):
 
 
 def check_all():
-    edits = sorted(glob.glob(os.path.join(TOP, "crates", "*", "must-fail", "*.edit")) + glob.glob(os.path.join(TOP, "crates", "*", "wrong-bodies", "*.edit")))
+    edits = sorted(glob.glob(os.path.join(TOP, "crates", "*", "must-fail", "*.edit")))
     faults = [(os.path.relpath(it, TOP), why) for it in edits if (why := fault(os.path.dirname(os.path.dirname(it)), it))]
     count(f"edits: {len(edits)} wrong bodies can be applied", edits and not faults, faults)
-    twice = [it for it in edits if "must-fail" in it and os.path.exists(it.replace("must-fail", "wrong-bodies"))]
-    count("edits: none is in both folders", not twice, twice)
