@@ -1,10 +1,11 @@
 -- One kill after another, and what is left when a frame is handled.
-use Rattle.std.proofs.Common.{◌≡◌, ℕ, ◌+◌, ◌-◌, max, ◌≤◌, List, [], ◌∷◌, ◌++◌, length, Some, refl, sym, ap, subst, ◌∙◌, arith, length-append}
+use Rattle.std.proofs.Common.{◌≡◌, ℕ, ◌+◌, ◌-◌, max, ◌≤◌, Bool, true, false, List, [], ◌∷◌, ◌++◌, length, Some, refl, sym, ap, subst, ◌∙◌, arith, length-append}
 use Rattle.std.specs.List.{AllByRecursion}
 use Rattle.std.specs.Prelude.{◌≢◌}
 use Rattle.tuple_core.specs.Inverse.{inverse}
 use Rattle.tuple_core.specs.declared.Direction.{Direction}
 use Rattle.tuple_core.specs.declared.Tuple.{Tuple}
+use Rattle.room_list.specs.Roomed.{Roomed}
 use Rattle.history_book.specs.declared.event.Event.{Event}
 use Rattle.history_book.specs.declared.event.Note.{Note}
 use Rattle.history_book.specs.declared.record.Record.{Record}
@@ -24,10 +25,12 @@ use Rattle.packet_path.specs.Packet.{FlowPacket}
 use Rattle.packet_path.specs.Error.{AnswersError, IsMisdirected, IsRelated, LooksUp}
 use Rattle.packet_headers.specs.declared.packet.Packet.TheVariants as packet
 use Rattle.packet_path.specs.Internal.Attempt.{Answers, IsKilling, KilledOne}
-use Rattle.packet_path.specs.Handled.{Handled}
+use Rattle.packet_path.specs.Internal.Fast.{Accepted, AcceptedOrNot, HandledOrNot}
+use Rattle.packet_path.specs.Handled.{Handled, HandledInto}
 use Rattle.packet_path.specs.Packet.{Given, IsFlow}
 use Rattle.packet_path.specs.declared.setup.Setup.{Setup}
 use Rattle.history_book.specs.Mark.{points_of}
+use Rattle.packet_path.specs.Laws.{LowerMarksFit}
 use Rattle.packet_path.specs.Taken.{taken_by}
 use Rattle.packet_path.specs.Verdict.{FitsFrame, Kills, KillsAll}
 use Rattle.packet_path.proofs.Growth.{at_grows, kills_all_grows}
@@ -107,6 +110,43 @@ module _ (states : StatesStay) (events : EventsStay) (going : GoingOnAddsUp) (ol
         owed = empty.owed;
         taken = taken ∙ ap (taken_by verdict.class) k.taken;
       }
+
+  -- nothing was done yet
+  killing_none : IsKnown old → HoldsNothing old → IsKilling old old packet 0
+  killing_none known empty = record {
+    kills = [];
+    went = (going.resting old).went;
+    count = refl;
+    few = omega arith;
+    all = tt;
+    mark = omega arith;
+    spare = omega arith;
+    taken = refl;
+    empty = empty;
+    known = known;
+  }
+
+  -- a packet was answered before any kill, and its verdict is appended
+  pub accepted_into : (setup : Setup) (first base : ℕ) (new : Sight) (before after : Roomed Verdict) → IsKnown old → HoldsNothing old
+      → HoldsNothing new → first ≡ length old.own → Accepted setup packet first base old new before after
+      → (given : Given) → IsFlow given packet → HandledInto base setup given old new before after
+  accepted_into setup first base new before after known nothing empty starts a given flow =
+      let verdict : Verdict = record { class = a.class; first = first; made = length new.own - first } in
+      record {
+        verdict = verdict;
+        handled = killing_done setup old new 0 verdict given flow (killing_none known nothing) a.answers a.taken empty starts
+            (ap (λ n. length new.own - n) starts);
+        items = a.appended.items;
+        room = a.appended.room;
+      }
+
+  -- the same, or nothing was done
+  pub accepted_or_not : (setup : Setup) (first base : ℕ) (new : Sight) (before after : Roomed Verdict) (done : Bool) → IsKnown old → HoldsNothing old
+      → HoldsNothing new → first ≡ length old.own → AcceptedOrNot setup packet first base old new before after done
+      → (given : Given) → IsFlow given packet → HandledOrNot base setup given old new before after done
+  accepted_or_not setup first base new before after true known nothing empty starts a given flow =
+      accepted_into setup first base new before after known nothing empty starts a given flow
+  accepted_or_not setup first base new before after false known nothing empty starts left given flow = left
 
 -- what is handled after making room is handled
 pub handled_ready : (setup : Setup) (k : ℕ) (old mid new : Sight) (given : Given) (verdict : Verdict) → IsReady k old mid → Handled setup given mid new verdict
@@ -207,4 +247,41 @@ error_misdirected states old mid new inner looked_up outer place id at moment d 
     named = looked.fact.fact.named;
     address = λ e. address (ap (λ (t : Tuple). t.dst) same ∙ e);
   };
+}
+
+-- what is handled after the desk had seen more is handled
+handled_after : LowerMarksFit → GoingOnAddsUp → (setup : Setup) (old mid new : Sight) (given : Given) (verdict : Verdict) → Saw old mid
+    → Handled setup given mid new verdict → Handled setup given old new verdict
+handled_after lower going setup old mid new given verdict saw h = record {
+  own = h.own;
+  went = going.after old mid new h.own saw h.went;
+  first = omega (arith, h.first, ap length saw.went.own, length-append old.own []);
+  made = h.made;
+  few = h.few;
+  fits = lower setup old.sizes new.front (length old.front) (length mid.front) given h.own verdict.class
+      (starts_longer mid.front old.front saw.went.front)
+      (subst (λ (z : Sizes). FitsFrame setup z new.front (length mid.front) given h.own verdict.class) saw.went.pass.sizes h.fits);
+  points = h.points;
+  held = h.held;
+  owed = h.owed;
+  taken = h.taken ∙ ap (taken_by verdict.class) saw.taken;
+}
+
+-- the same of a verdict that is appended
+pub appended_after : LowerMarksFit → GoingOnAddsUp → (base : ℕ) (setup : Setup) (old mid new : Sight) (given : Given) (before after : Roomed Verdict)
+    → Saw old mid → HandledInto base setup given mid new before after → HandledInto base setup given old new before after
+appended_after lower going base setup old mid new given before after saw h = record {
+  verdict = h.verdict;
+  handled = handled_after lower going setup old mid new given h.verdict saw h.handled;
+  items = h.items;
+  room = h.room;
+}
+
+pub appended_ready : (base : ℕ) (setup : Setup) (k : ℕ) (old mid new : Sight) (given : Given) (before after : Roomed Verdict) → IsReady k old mid
+    → HandledInto base setup given mid new before after → HandledInto base setup given old new before after
+appended_ready base setup k old mid new given before after ready h = record {
+  verdict = h.verdict;
+  handled = handled_ready setup k old mid new given h.verdict ready h.handled;
+  items = h.items;
+  room = h.room;
 }

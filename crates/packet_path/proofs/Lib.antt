@@ -8,4 +8,5 @@ pub mod Claims
 pub mod Beginnings
 pub mod Meetings
 pub mod Handling
+pub mod Accepting
 pub mod Scanning

@@ -1,6 +1,7 @@
 -- What handling one frame leaves of a desk.
-use Rattle.std.specs.Prelude.{◌≡◌, ◌≤◌, List, [], length}
+use Rattle.std.specs.Prelude.{◌≡◌, ℕ, ◌-◌, ◌≤◌, List, [], ◌∷◌, ◌++◌, length}
 use Rattle.std.specs.List.{AllByRecursion}
+use Rattle.room_list.specs.Roomed.{Roomed}
 use Rattle.history_book.specs.declared.event.Note.{Note}
 use Rattle.history_book.specs.declared.verdict.Verdict.{Verdict}
 use Rattle.history_book.specs.Mark.{points_of}
@@ -25,3 +26,14 @@ pub record Handled (setup : Setup) (given : Given) (old new : Sight) (verdict : 
   pub held : new.held ≡ []
   pub owed : new.owed ≡ []
   pub taken : new.taken ≡ taken_by verdict.class old.taken
+
+-- the verdict, with its events counted from this index of the desk's own on
+abbrev pub counted_from : ℕ → Verdict → Verdict
+counted_from base verdict = record verdict { first = verdict.first - base }
+
+-- A frame was handled so, and its verdict, counted so, is now the last of a list, for which there was room.
+pub record HandledInto (base : ℕ) (setup : Setup) (given : Given) (old new : Sight) (before after : Roomed Verdict) : Type 0 where
+  pub verdict : Verdict
+  pub handled : Handled setup given old new verdict
+  pub items : after.items ≡ before.items ++ counted_from base verdict ∷ []
+  pub room : after.room ≡ before.room

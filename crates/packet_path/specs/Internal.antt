@@ -1,3 +1,4 @@
 -- What private functions keep for the clauses of the public ones. A reader of those need not open it.
 pub mod Scan
 pub mod Attempt
+pub mod Fast

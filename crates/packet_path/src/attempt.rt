@@ -59,7 +59,7 @@ pub struct Met {
 /// The class of a packet that passes by an entry, which was so before it and was found in this direction,
 /// by the event of this number, and of what came of its payload.
 #[inline(always)]
-fn passed(before: &Record, direction: Direction, number: u64, ftp: Ftp) -> Class
+pub fn passed(before: &Record, direction: Direction, number: u64, ftp: Ftp) -> Class
     requires { number < 2 ^ 40 }
     ensures { result ≡ Passed (label_of before.now direction) before.now.id (number + 1) ftp }
 {

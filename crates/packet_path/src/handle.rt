@@ -1,6 +1,6 @@
 //! What becomes of one packet, over any desk.
 
-ghost use Rattle.std.specs.Prelude.{◌≡◌, ℕ, ◌+◌, ◌<◌, ◌≤◌, ◌^◌, true, [], length, IfOk, OnErr};
+ghost use Rattle.std.specs.Prelude.{◌≡◌, ℕ, ◌+◌, ◌<◌, ◌≤◌, ◌^◌, true, [], length, IfOk, OnErr, OnOk};
 ghost use Rattle.std.specs.List.{AllByRecursion};
 ghost use Rattle.tuple_core.specs.Tuple.{is_valid};
 ghost use Rattle.history_book.specs.WentOn.{Saw};
@@ -9,7 +9,7 @@ ghost use Rattle.nat_setup.specs.Rule.{IsLawfulRule};
 ghost use Rattle.packet_headers.specs.ClassifySound.{has_valid_tuple, HasItsProtocol, HasPayloadIn};
 ghost use Rattle.packet_headers.specs.Span.{IsSpanIn};
 ghost use Rattle.packet_headers.specs.declared.packet.Packet.TheVariants.{Error};
-ghost use Rattle.packet_path.specs.Handled.{Handled};
+ghost use Rattle.packet_path.specs.Handled.{Handled, HandledInto};
 ghost use Rattle.packet_path.specs.Internal.Attempt.{IsClassified};
 ghost use Rattle.history_book.specs.Places.{HoldsNothing};
 ghost use Rattle.packet_path.specs.Packet.{bytes_in, cause_of, flow_packet, given_by, given_of, Given, IsFlow, packet_in};
@@ -18,12 +18,15 @@ ghost use Rattle.packet_path.specs.Taken.{taken_by};
 ghost use Rattle.packet_path.specs.Verdict.{FitsFrame};
 
 use crate::attempt::{Attempt, try_packet};
+use crate::fast::fast_frame;
+use crate::laws::lower_marks_fit;
 use crate::packet::FlowView;
 use crate::setup::Setup;
 use history_book::desk::Desk;
 use history_book::laws::{events_stay, states_stay};
 use history_book::outcome::FindOutcome;
 use history_book::places::give_up;
+use history_book::report::Verdicts;
 use history_book::sight_laws::{going_on_adds_up, seeing_adds_up};
 use history_book::verdict::{Class, UntrackedWhy, Verdict};
 use packet_headers::classify::classify;
@@ -116,7 +119,7 @@ fn untracked_why(cause: Untracked) -> UntrackedWhy
 
 /// The bytes of a file in a span.
 #[inline(always)]
-fn bytes_in(bytes: &[u8], span: Span) -> &[u8]
+pub fn bytes_in(bytes: &[u8], span: Span) -> &[u8]
     requires { IsSpanIn bytes.now span }
     ensures { result.now ≡ bytes_in bytes.now span }
 {
@@ -206,4 +209,75 @@ pub fn handle<R: Wait, D: Desk>(
     desk.ready(8)?;
     let packet = classify(bytes, frame);
     Ok(handle_packet(rt, desk, bytes, &packet, frame.moment, zone, setup))
+}
+
+/// Handles one frame the general way, and appends its verdict, with its events counted from `base` on.
+#[cold]
+#[inline(never)]
+fn slow_frame<R: Wait, D: Desk>(
+    rt: &R,
+    desk: &mut D,
+    bytes: &[u8],
+    frame: &Frame,
+    zone: u16,
+    setup: &Setup,
+    base: u64,
+    verdicts: &mut Verdicts,
+)
+    requires lawful { AllByRecursion IsLawfulRule setup.now.rules.items }
+    requires inside { frame.now.start + frame.now.captured ≤ length bytes.now }
+    requires timely { frame.now.moment ≤ 10 ^ 16 }
+    requires empty { HoldsNothing (D.sight desk.old) }
+    requires spare { 7 ≤ (D.sight desk.old).spare }
+    requires knows { IsKnown (D.sight desk.old) }
+    requires base { base ≤ length (D.sight desk.old).own }
+    requires room { length verdicts.old.items < verdicts.old.room }
+    ensures handled { HandledInto base setup.now (given_of zone bytes.now frame.now)
+        (D.sight desk.old) (D.sight desk.new) verdicts.old verdicts.new }
+    ensures knows { IsKnown (D.sight desk.new) }
+{
+    let packet = classify(bytes, frame);
+    let verdict = handle_packet(rt, desk, bytes, &packet, frame.moment, zone, setup);
+    verdicts.push(Verdict {
+        first: verdict.first - base,
+        ..verdict
+    });
+}
+
+/// Handles one frame as `handle` does, and appends its verdict to a list that has room for it, with its events counted
+/// from the desk's own event of index `base` on. After `NoMemory` the list is as it was.
+#[inline(always)]
+pub fn handle_into<R: Wait, D: Desk>(
+    rt: &R,
+    desk: &mut D,
+    bytes: &[u8],
+    frame: &Frame,
+    zone: u16,
+    setup: &Setup,
+    base: u64,
+    verdicts: &mut Verdicts,
+) -> Result<(), NoMemory>
+    requires lawful { AllByRecursion IsLawfulRule setup.now.rules.items }
+    requires inside { frame.now.start + frame.now.captured ≤ length bytes.now }
+    requires timely { frame.now.moment ≤ 10 ^ 16 }
+    requires few { length (D.sight desk.old).own + 8 ≤ 2 ^ 30 }
+    requires nothing_held { (D.sight desk.old).held ≡ [] }
+    requires nothing_owed { (D.sight desk.old).owed ≡ [] }
+    requires base { base ≤ length (D.sight desk.old).own }
+    requires room { length verdicts.old.items < verdicts.old.room }
+    ensures handled { OnOk result (HandledInto base setup.now (given_of zone bytes.now frame.now)
+        (D.sight desk.old) (D.sight desk.new) verdicts.old verdicts.new) }
+    ensures short { OnErr result ((D.sight desk.old).spare < 8) }
+    ensures same { OnErr result (D.sight desk.new ≡ D.sight desk.old) }
+    ensures kept { OnErr result (verdicts.new ≡ verdicts.old) }
+    ensures knows { IsKnown (D.sight desk.new) }
+{
+    going_on_adds_up();
+    lower_marks_fit();
+    desk.ready(8)?;
+    if fast_frame(rt, desk, bytes, frame, zone, setup, base, verdicts) {
+        return Ok(());
+    }
+    slow_frame(rt, desk, bytes, frame, zone, setup, base, verdicts);
+    Ok(())
 }

@@ -3,6 +3,7 @@
 
 mod attempt;
 mod begin;
+mod fast;
 pub mod handle;
 pub mod laws;
 pub mod packet;

@@ -46,7 +46,7 @@ fn is_established(label: Label) -> bool
 
 /// Whether the payload of a packet is read, which found its entry so and in this direction.
 #[inline(always)]
-fn is_read(packet: &FlowView, before: &Record, direction: Direction) -> bool
+pub fn is_read(packet: &FlowView, before: &Record, direction: Direction) -> bool
     ensures { result ≡ is_read (flow_packet packet.now) (record { subject = before.now; direction = direction }) }
 {
     packet.tuple.proto == Proto::Tcp && before.helper && is_established(label(before, direction))

@@ -14,7 +14,7 @@ use Rattle.history_book.specs.SightLaws.{GoingOnAddsUp}
 use Rattle.history_book.specs.WentOn.{WentOn}
 use Rattle.packet_headers.specs.declared.frame.Frame.{Frame}
 use Rattle.packet_path.specs.declared.setup.Setup.{Setup}
-use Rattle.packet_path.specs.Handled.{Handled}
+use Rattle.packet_path.specs.Handled.{counted_from, Handled}
 use Rattle.packet_path.specs.Laws.{LowerMarksFit, VerdictsStillFit}
 use Rattle.packet_path.specs.Packet.{Given, given_of}
 use Rattle.packet_path.specs.Verdict.{FitsFrame}
@@ -143,10 +143,6 @@ replayed_start going setup packets old verdicts known none room held owed = reco
   owed = owed;
   known = known;
 }
-
--- the verdict, with its events counted from this index of the desk's own on
-abbrev pub counted_from : ℕ → Verdict → Verdict
-counted_from base v = record v { first = v.first - base }
 
 module _ (going : GoingOnAddsUp) (still : VerdictsStillFit) (lower : LowerMarksFit) (setup : Setup) (packets : List Given) (d : Given) (index : ℕ)
     (old mid new : Sight) (verdicts more : Roomed Verdict) (v : Verdict) (so_far : IsReplayed setup packets index old mid verdicts)

@@ -17,9 +17,8 @@ use crate::telling::tell;
 use ct_io::{Crossing, Gate};
 use history_book::desk::Desk;
 use history_book::sight_laws::going_on_adds_up;
-use history_book::verdict::Verdict;
 use packet_headers::frame::{Capture, Frame};
-use packet_path::handle::handle;
+use packet_path::handle::handle_into;
 use packet_path::laws::{lower_marks_fit, verdicts_still_fit};
 use std::sync::Wait;
 use tuple_core::NoMemory;
@@ -60,14 +59,16 @@ fn replay_frames<R: Wait, G: Gate, D: Desk>(
     let base = job.desk.made();
     'frames: for frame in frames {
         shared.gate.at(number, Crossing::BeforePacket);
-        let verdict = match handle(rt, &mut job.desk, bytes, frame, zone, shared.setup) {
-            Ok(verdict) => verdict,
-            Err(error) => return Err(error),
-        };
-        job.verdicts.push(Verdict {
-            first: verdict.first - base,
-            ..verdict
-        });
+        handle_into(
+            rt,
+            &mut job.desk,
+            bytes,
+            frame,
+            zone,
+            shared.setup,
+            base,
+            &mut job.verdicts,
+        )?;
         tell(rt, shared.line, &mut job.sending, &job.desk);
     }
     Ok(())

@@ -1,0 +1,39 @@
+use Rattle.std.proofs.Common.{arith, length, ap, ◌∙◌}
+use Rattle.packet_path.proofs.Accepting.{accepted_or_not_along}
+use Rattle.packet_path.proofs.Attempts.{answers_after, answers_from}
+use Rattle.packet_path.proofs.Handling.{accepted_into, accepted_or_not}
+use Rattle.packet_path.specs.Packet.{flow_packet}
+use Rattle.packet_path.specs.Taken.{taken_by}
+use Rattle.packet_path.proofs.fast.fast_packet.Goals as goal
+
+pub returns-in-Absent-clause-says : goal.returns-in-Absent-clause-says
+returns-in-Absent-clause-says g c = λ given flow.
+    let s = g.D.Desk.sight c.args.desk.now in
+    let mid = g.D.Desk.sight c.find.new.self in
+    let new = g.D.Desk.sight c.begin_flow-class.new.desk in
+    let looked = c.in-Absent.ensures.says.0 in
+    accepted_into c.states_stay.ensures c.events_stay.ensures c.going_on_adds_up.ensures.all s (flow_packet c.args.packet.now) c.args.setup.now c.made-first.result c.args.base new
+    c.args.verdicts.now c.append.new.verdicts c.requires.knows c.requires.empty c.begin_flow-class.ensures.empty c.made-first.ensures.exact
+    (record {
+      class = c.begin_flow-class.result;
+      answers = answers_from c.states_stay.ensures c.events_stay.ensures c.going_on_adds_up.ensures.all c.seeing_adds_up.ensures.twice c.args.setup.now s new (flow_packet c.args.packet.now) 0 (length s.front) c.in-Absent.at
+          c.begin_flow-class.result looked.low
+          (answers_after c.states_stay.ensures c.events_stay.ensures c.going_on_adds_up.ensures.all c.seeing_adds_up.ensures.twice c.args.setup.now s mid new (flow_packet c.args.packet.now) 0 c.in-Absent.at
+          c.begin_flow-class.result looked.saw (c.begin_flow-class.ensures.answers 0 (omega arith)));
+      taken = c.begin_flow-class.ensures.taken ∙ ap (taken_by c.begin_flow-class.result) looked.saw.taken;
+      appended = c.append.ensures;
+    })
+    given flow
+
+pub returns-in-Found-clause-says : goal.returns-in-Found-clause-says
+returns-in-Found-clause-says g c = λ given flow.
+    let s = g.D.Desk.sight c.args.desk.now in
+    let mid = g.D.Desk.sight c.find.new.self in
+    let then = g.D.Desk.sight c.touch_entry-accepted.new.desk in
+    let new = g.D.Desk.sight c.give_up.new.desk in
+    accepted_or_not c.states_stay.ensures c.events_stay.ensures c.going_on_adds_up.ensures.all s (flow_packet c.args.packet.now) c.args.setup.now c.made-first.result c.args.base new
+    c.args.verdicts.now c.touch_entry-accepted.new.verdicts c.touch_entry-accepted.result c.requires.knows c.requires.empty c.give_up.ensures.empty c.made-first.ensures.exact
+    (accepted_or_not_along c.states_stay.ensures c.events_stay.ensures c.going_on_adds_up.ensures.all c.seeing_adds_up.ensures.twice c.args.setup.now s mid then new (flow_packet c.args.packet.now)
+    c.made-first.result c.args.base c.args.verdicts.now c.touch_entry-accepted.new.verdicts c.touch_entry-accepted.result c.in-Found.ensures.says.0.saw
+    (c.touch_entry-accepted.ensures.says c.args.setup.now) c.give_up.ensures.saw)
+    given flow

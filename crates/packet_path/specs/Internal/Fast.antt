@@ -1,0 +1,52 @@
+-- The common way of a packet of a flow.
+use Rattle.std.specs.Prelude.{◌≡◌, ℕ, ◌+◌, ◌-◌, Bool, true, false, List, [], ◌∷◌, ◌++◌, length}
+use Rattle.room_list.specs.Roomed.{Roomed}
+use Rattle.history_book.specs.declared.event.Note.{Note}
+use Rattle.history_book.specs.declared.verdict.Class.{Class}
+use Rattle.history_book.specs.declared.verdict.Class.TheVariants.{Passed}
+use Rattle.history_book.specs.declared.verdict.Ftp.{Ftp}
+use Rattle.history_book.specs.declared.verdict.Verdict.{Verdict}
+use Rattle.history_book.specs.Label.{label_of}
+use Rattle.history_book.specs.Sight.{Sight}
+use Rattle.history_book.specs.State.{Found}
+use Rattle.history_book.specs.WentOn.{Saw}
+use Rattle.packet_path.specs.declared.setup.Setup.{Setup}
+use Rattle.packet_path.specs.Handled.{HandledInto}
+use Rattle.packet_path.specs.Internal.Attempt.{Answers, Follows}
+use Rattle.packet_path.specs.Packet.{FlowPacket, Given}
+use Rattle.packet_path.specs.Taken.{taken_by}
+
+-- a verdict of this class is now the last of a list: it has all of the desk's own events from the one of index `first` on, and counts
+-- from `base`
+pub record Appended (class : Class) (first base : ℕ) (own : List Note) (before after : Roomed Verdict) : Type 0 where
+  pub items : after.items ≡ before.items ++ record { class = class; first = first - base; made = length own - first } ∷ []
+  pub room : after.room ≡ before.room
+
+-- what a packet's entry was before it, and the direction in which the packet found it, are those that its verdict names, with
+-- what came of its payload behind its Touch
+pub record ReadInto (packet : FlowPacket) (found : Found) (touched first base : ℕ) (old new : Sight) (before after : Roomed Verdict) : Type 0 where
+  pub ftp : Ftp
+  pub follows : Follows packet found touched old new ftp
+  pub appended : Appended (Passed (label_of found.subject found.direction) found.subject.id (touched + 1) ftp) first base new.own before after
+
+-- a packet was answered, and its verdict appended
+pub record Accepted (setup : Setup) (packet : FlowPacket) (first base : ℕ) (old new : Sight) (before after : Roomed Verdict) : Type 0 where
+  pub class : Class
+  pub answers : Answers setup old new packet 0 (length old.front) class
+  pub taken : new.taken ≡ taken_by class old.taken
+  pub appended : Appended class first base new.own before after
+
+-- nothing was done, and the list is as it was
+pub record LeftIt (old new : Sight) (before after : Roomed Verdict) : Type 0 where
+  pub saw : Saw old new
+  pub kept : after ≡ before
+
+-- the one or the other
+abbrev pub AcceptedOrNot : Setup → FlowPacket → ℕ → ℕ → Sight → Sight → Roomed Verdict → Roomed Verdict → Bool → Type 0
+AcceptedOrNot setup packet first base old new before after true = Accepted setup packet first base old new before after
+AcceptedOrNot setup packet first base old new before after false = LeftIt old new before after
+
+-- the frame was handled, or nothing was done
+abbrev pub HandledOrNot : ℕ → Setup → Given → Sight → Sight → Roomed Verdict → Roomed Verdict → Bool → Type 0
+HandledOrNot base setup given old new before after true = HandledInto base setup given old new before after
+HandledOrNot base setup given old new before after false = LeftIt old new before after

@@ -1,0 +1,257 @@
+//! The common way of a packet of a flow: its entry accepts it, or it begins a flow. Its verdict is appended where its class
+//! is known, so that no class is carried through layers. What is not common is left to the general way.
+
+ghost use Rattle.std.specs.Prelude.{◌≡◌, ◌+◌, ◌<◌, ◌≤◌, ◌^◌, true, length};
+ghost use Rattle.std.specs.List.{AllByRecursion};
+ghost use Rattle.history_book.specs.Desk.{SamePlaces};
+ghost use Rattle.history_book.specs.Entry.{is_helped_entry, zone_of_entry};
+ghost use Rattle.history_book.specs.Held.{held_id, is_held_for_entry};
+ghost use Rattle.history_book.specs.Places.{HoldsNothing};
+ghost use Rattle.history_book.specs.Sight.{IsKnown};
+ghost use Rattle.nat_setup.specs.Rule.{IsLawfulRule};
+ghost use Rattle.packet_headers.specs.Span.{IsSpanIn};
+ghost use Rattle.packet_path.specs.Internal.Attempt.{IsClassified, IsMet};
+ghost use Rattle.packet_path.specs.Internal.Fast.{AcceptedOrNot, Appended, HandledOrNot, ReadInto};
+ghost use Rattle.packet_path.specs.Packet.{flow_packet, Given, given_of, IsFlow};
+
+use crate::attempt::{Met, passed};
+use crate::begin::begin_flow;
+use crate::handle::bytes_in;
+use crate::laws::same_protocol_is_equality;
+use crate::packet::FlowView;
+use crate::payload::{follow_payload, is_read};
+use crate::setup::Setup;
+use history_book::desk::Desk;
+use history_book::laws::{
+    entries_keep_their_helper, entries_keep_their_zone, events_stay, found_are_found_again,
+    found_keep_their_protocol, live_records_have_the_protocol, records_are_of_one_flow,
+    states_stay,
+};
+use history_book::outcome::{FindOutcome, TouchOutcome};
+use history_book::places::{give_up, one_hold_has_its_id};
+use history_book::record::Record;
+use history_book::report::Verdicts;
+use history_book::sight_laws::{going_on_adds_up, seeing_adds_up};
+use history_book::verdict::{Class, Ftp, Verdict};
+use packet_headers::classify::classify;
+use packet_headers::frame::Frame;
+use packet_headers::packet::Packet;
+use std::sync::Wait;
+use tuple_core::Direction;
+
+/// Appends the verdict of a packet of this class: it has all of the desk's own events from the one of index `first` on, and
+/// counts from `base`.
+#[inline(always)]
+fn append<D: Desk>(desk: &D, class: Class, first: u64, base: u64, verdicts: &mut Verdicts)
+    requires base { base ≤ first }
+    requires first { first ≤ length (D.sight desk.now).own }
+    requires few { length (D.sight desk.now).own ≤ first + 7 }
+    requires room { length verdicts.old.items < verdicts.old.room }
+    ensures { Appended class first base (D.sight desk.now).own verdicts.old verdicts.new }
+{
+    let made = (desk.made() - first) as u8;
+    verdicts.push(Verdict {
+        class,
+        first: first - base,
+        made,
+    });
+}
+
+/// Does what the payload asks for of a packet that an entry accepted, which was so before, by the Touch of this number, and
+/// appends its verdict.
+#[inline(always)]
+fn read_payload<R: Wait, D: Desk>(
+    rt: &R,
+    desk: &mut D,
+    packet: &FlowView,
+    place: u32,
+    before: &Record,
+    direction: Direction,
+    number: u64,
+    first: u64,
+    base: u64,
+    verdicts: &mut Verdicts,
+)
+    requires held { is_held_for_entry place (D.sight desk.old).held ≡ true }
+    requires named { held_id place (D.sight desk.old).held ≡ before.now.id }
+    requires helper { before.now.helper ≡ true → is_helped_entry before.now.id (D.sight desk.old).front ≡ true }
+    requires zone { zone_of_entry before.now.id (D.sight desk.old).front ≡ before.now.original.zone }
+    requires timely { packet.now.moment ≤ 10 ^ 16 }
+    requires spare { 1 ≤ (D.sight desk.old).spare }
+    requires knows { IsKnown (D.sight desk.old) }
+    requires happened { number < length (D.sight desk.old).front }
+    requires number { number < 2 ^ 40 }
+    requires base { base ≤ first }
+    requires first { first ≤ length (D.sight desk.old).own }
+    requires few { length (D.sight desk.old).own ≤ first + 1 }
+    requires room { length verdicts.old.items < verdicts.old.room }
+    ensures reads { ReadInto (flow_packet packet.now) (record { subject = before.now; direction = direction }) number first base
+        (D.sight desk.old) (D.sight desk.new) verdicts.old verdicts.new }
+    ensures places { SamePlaces (D.sight desk.old) (D.sight desk.new) }
+    ensures taken { (D.sight desk.new).taken ≡ (D.sight desk.old).taken }
+    ensures knows { IsKnown (D.sight desk.new) }
+{
+    let ftp = follow_payload(rt, desk, packet, place, before, direction);
+    let class = passed(before, direction, number, ftp);
+    append(desk, class, first, base, verdicts);
+}
+
+/// Gives a packet to the entry that it met, and appends its verdict. False is that the entry did not accept it, and that nothing
+/// was done.
+#[inline(always)]
+fn touch_entry<R: Wait, D: Desk>(
+    rt: &R,
+    desk: &mut D,
+    packet: &FlowView,
+    met: &Met,
+    first: u64,
+    base: u64,
+    verdicts: &mut Verdicts,
+) -> bool
+    requires classified { IsClassified (flow_packet packet.now) }
+    requires met { IsMet (flow_packet packet.now) met.now (D.sight desk.old) }
+    requires spare { 7 ≤ (D.sight desk.old).spare }
+    requires knows { IsKnown (D.sight desk.old) }
+    requires base { base ≤ first }
+    requires first { first ≡ length (D.sight desk.old).own }
+    requires room { length verdicts.old.items < verdicts.old.room }
+    ensures says { (setup : Setup) → AcceptedOrNot setup (flow_packet packet.now) first base
+        (D.sight desk.old) (D.sight desk.new) verdicts.old verdicts.new result }
+    ensures places { SamePlaces (D.sight desk.old) (D.sight desk.new) }
+    ensures knows { IsKnown (D.sight desk.new) }
+{
+    entries_keep_their_helper();
+    entries_keep_their_zone();
+    events_stay();
+    found_are_found_again();
+    going_on_adds_up();
+    found_keep_their_protocol();
+    live_records_have_the_protocol();
+    one_hold_has_its_id();
+    records_are_of_one_flow();
+    same_protocol_is_equality();
+    seeing_adds_up();
+    states_stay();
+    let Met {
+        place,
+        direction,
+        ..
+    } = *met;
+    match desk.touch(rt, place, direction, packet.segment, packet.moment) {
+        TouchOutcome::Touched { number, before } => {
+            let reads = is_read(packet, &before, direction);
+            if reads {
+                read_payload(
+                    rt, desk, packet, place, &before, direction, number, first, base, verdicts,
+                );
+                return true;
+            }
+            let class = passed(&before, direction, number, Ftp::Nothing);
+            append(desk, class, first, base, verdicts);
+            true
+        }
+        TouchOutcome::Ignored { .. } => false,
+        TouchOutcome::Invalid { .. } => false,
+        TouchOutcome::Reset { .. } => false,
+        TouchOutcome::Expired { .. } => false,
+        TouchOutcome::Reopen { .. } => false,
+        TouchOutcome::Gone { .. } => false,
+    }
+}
+
+/// Handles a packet of a flow, if its entry accepts it or there is none, and appends its verdict, with its events
+/// counted from `base` on. False is that nothing was done.
+#[inline(always)]
+fn fast_packet<R: Wait, D: Desk>(
+    rt: &R,
+    desk: &mut D,
+    packet: &FlowView,
+    setup: &Setup,
+    base: u64,
+    verdicts: &mut Verdicts,
+) -> bool
+    requires lawful { AllByRecursion IsLawfulRule setup.now.rules.items }
+    requires classified { IsClassified (flow_packet packet.now) }
+    requires empty { HoldsNothing (D.sight desk.old) }
+    requires spare { 7 ≤ (D.sight desk.old).spare }
+    requires knows { IsKnown (D.sight desk.old) }
+    requires base { base ≤ length (D.sight desk.old).own }
+    requires room { length verdicts.old.items < verdicts.old.room }
+    ensures says { (given : Given) → IsFlow given (flow_packet packet.now) →
+        HandledOrNot base setup.now given (D.sight desk.old) (D.sight desk.new) verdicts.old verdicts.new result }
+    ensures empty { HoldsNothing (D.sight desk.new) }
+    ensures knows { IsKnown (D.sight desk.new) }
+{
+    events_stay();
+    going_on_adds_up();
+    seeing_adds_up();
+    states_stay();
+    let first = desk.made();
+    match desk.find(rt, &packet.tuple) {
+        FindOutcome::Absent { at } => {
+            let class = begin_flow(rt, desk, packet, setup, at);
+            append(desk, class, first, base, verdicts);
+            true
+        }
+        FindOutcome::Found {
+            place,
+            id,
+            direction,
+            at,
+        } => {
+            let met = Met {
+                place,
+                id,
+                direction,
+                at,
+            };
+            let accepted = touch_entry(rt, desk, packet, &met, first, base, verdicts);
+            give_up(rt, desk, place);
+            accepted
+        }
+    }
+}
+
+/// Handles a frame of a file with these bytes, in a zone, if it has a packet of a flow that takes the common way, and appends
+/// its verdict, with its events counted from `base` on. False is that nothing was done.
+#[inline(always)]
+pub fn fast_frame<R: Wait, D: Desk>(
+    rt: &R,
+    desk: &mut D,
+    bytes: &[u8],
+    frame: &Frame,
+    zone: u16,
+    setup: &Setup,
+    base: u64,
+    verdicts: &mut Verdicts,
+) -> bool
+    requires lawful { AllByRecursion IsLawfulRule setup.now.rules.items }
+    requires inside { frame.now.start + frame.now.captured ≤ length bytes.now }
+    requires timely { frame.now.moment ≤ 10 ^ 16 }
+    requires empty { HoldsNothing (D.sight desk.old) }
+    requires spare { 7 ≤ (D.sight desk.old).spare }
+    requires knows { IsKnown (D.sight desk.old) }
+    requires base { base ≤ length (D.sight desk.old).own }
+    requires room { length verdicts.old.items < verdicts.old.room }
+    ensures says { HandledOrNot base setup.now (given_of zone bytes.now frame.now)
+        (D.sight desk.old) (D.sight desk.new) verdicts.old verdicts.new result }
+    ensures empty { HoldsNothing (D.sight desk.new) }
+    ensures knows { IsKnown (D.sight desk.new) }
+{
+    seeing_adds_up();
+    let Packet::Flow {
+        tuple,
+        segment,
+        payload,
+    } = classify(bytes, frame)
+    else {
+        return false;
+    };
+    let packet = FlowView {
+        tuple: tuple.in_zone(zone),
+        segment,
+        moment: frame.moment,
+        payload: bytes_in(bytes, payload),
+    };
+    fast_packet(rt, desk, &packet, setup, base, verdicts)
+}
