@@ -1,5 +1,5 @@
 -- A packet that takes the common way, over what the desk knew.
-use Rattle.std.proofs.Common.{◌≡◌, ℕ, ◌-◌, ◌≤◌, Bool, true, false, [], ◌∷◌, ◌++◌, length, sym, ap, subst, ◌∙◌, arith, length-append}
+use Rattle.std.proofs.Common.{◌≡◌, ℕ, ◌-◌, ◌≤◌, [], ◌∷◌, ◌++◌, length, sym, ap, subst, ◌∙◌, arith, length-append}
 use Rattle.room_list.specs.Roomed.{Roomed}
 use Rattle.history_book.specs.declared.verdict.Class.{Class}
 use Rattle.history_book.specs.declared.verdict.Verdict.{Verdict}
@@ -7,12 +7,15 @@ use Rattle.history_book.specs.Laws.{EventsStay, StatesStay}
 use Rattle.history_book.specs.Sight.{Sight}
 use Rattle.history_book.specs.SightLaws.{GoingOnAddsUp, SeeingAddsUp}
 use Rattle.history_book.specs.WentOn.{Saw}
+use Rattle.packet_path.specs.declared.fast.Tried.{Tried}
+use Rattle.packet_path.specs.declared.fast.Tried.TheVariants.{Done, Killed, Left}
 use Rattle.packet_path.specs.declared.setup.Setup.{Setup}
-use Rattle.packet_path.specs.Internal.Attempt.{Answers}
-use Rattle.packet_path.specs.Internal.Fast.{Accepted, AcceptedOrNot, Appended, LeftIt}
+use Rattle.packet_path.specs.Internal.Attempt.{KilledOne}
+use Rattle.packet_path.specs.Internal.Fast.{Accepted, Appended, TriedSays}
 use Rattle.packet_path.specs.Packet.{FlowPacket}
 use Rattle.packet_path.specs.Taken.{taken_by}
-use Rattle.packet_path.proofs.Attempts.{answers_after, answers_before, answers_from, starts_longer}
+use Rattle.packet_path.proofs.Attempts.{answers_after, answers_before, answers_from, killed_after, killed_before, starts_longer}
+use Rattle.packet_path.proofs.Marks.{happened_lower}
 
 -- a verdict that was appended is so when the desk has seen more
 appended_stays : (class : Class) (first base : ℕ) (c d : Sight) (before after : Roomed Verdict) → Saw c d → Appended class first base c.own before after
@@ -21,6 +24,21 @@ appended_stays class first base c d before after saw appended = record {
   items = subst (λ n. after.items ≡ before.items ++ record { class = class; first = first - base; made = n - first } ∷ [])
       (omega (arith, ap length saw.went.own, length-append c.own [])) appended.items;
   room = appended.room;
+}
+
+-- an entry that was killed past a point was so past each earlier one
+lower_kill : (a b : Sight) (packet : FlowPacket) (lower from : ℕ) → lower ≤ from → KilledOne a b packet 0 from → KilledOne a b packet 0 lower
+lower_kill a b packet lower from le one = record {
+  few = one.few;
+  note = one.note;
+  went = one.went;
+  high = one.high;
+  kill = record {
+    happened = happened_lower b.front lower from one.note le one.kill.happened;
+    found = one.kill.found;
+    live = one.kill.live;
+    kill = one.kill.kill;
+  };
 }
 
 module _ (states : StatesStay) (events : EventsStay) (going : GoingOnAddsUp) (twice : SeeingAddsUp) where
@@ -38,11 +56,19 @@ module _ (states : StatesStay) (events : EventsStay) (going : GoingOnAddsUp) (tw
     appended = appended_stays accepted.class first base c d before after more accepted.appended;
   }
 
-  pub accepted_or_not_along : (setup : Setup) (a b c d : Sight) (packet : FlowPacket) (first base : ℕ) (before after : Roomed Verdict) (done : Bool) → Saw a b
-      → AcceptedOrNot setup packet first base b c before after done → Saw c d → AcceptedOrNot setup packet first base a d before after done
-  accepted_or_not_along setup a b c d packet first base before after true saw accepted more =
+  pub tried_along : (setup : Setup) (a b c d : Sight) (packet : FlowPacket) (first base : ℕ) (before after : Roomed Verdict) (tried : Tried) → Saw a b
+      → TriedSays setup packet first base b c before after tried → Saw c d → TriedSays setup packet first base a d before after tried
+  tried_along setup a b c d packet first base before after Done saw accepted more =
       accepted_along setup a b c d packet first base before after saw accepted more
-  accepted_or_not_along setup a b c d packet first base before after false saw left more = record {
+  tried_along setup a b c d packet first base before after Killed saw expired more = record {
+    killed = killed_before states events going twice a c d packet 0 (length a.front)
+        (lower_kill a c packet (length a.front) (length b.front) (starts_longer b.front a.front saw.went.front)
+        (killed_after states events going twice a b c packet 0 (length b.front) saw expired.killed))
+        more;
+    taken = more.taken ∙ expired.taken ∙ saw.taken;
+    kept = expired.kept;
+  }
+  tried_along setup a b c d packet first base before after Left saw left more = record {
     saw = twice a c d (twice a b c saw left.saw) more;
     kept = left.kept;
   }

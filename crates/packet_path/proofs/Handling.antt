@@ -1,6 +1,7 @@
 -- One kill after another, and what is left when a frame is handled.
 use Rattle.std.proofs.Common.{◌≡◌, ℕ, ◌+◌, ◌-◌, max, ◌≤◌, Bool, true, false, List, [], ◌∷◌, ◌++◌, length, Some, refl, sym, ap, subst, ◌∙◌, arith, length-append}
 use Rattle.std.specs.List.{AllByRecursion}
+use Rattle.std.proofs.lemmas.Bool.{true≢false}
 use Rattle.std.specs.Prelude.{◌≢◌}
 use Rattle.tuple_core.specs.Inverse.{inverse}
 use Rattle.tuple_core.specs.declared.Direction.{Direction}
@@ -23,11 +24,16 @@ use Rattle.history_book.specs.Sight.{IsKnown, Sight}
 use Rattle.history_book.specs.State.{live_under}
 use Rattle.packet_path.specs.Packet.{FlowPacket}
 use Rattle.packet_path.specs.Error.{AnswersError, IsMisdirected, IsRelated, LooksUp}
+use Rattle.packet_headers.specs.declared.frame.Span.{Span}
+use Rattle.packet_headers.specs.declared.packet.Packet.{Packet}
 use Rattle.packet_headers.specs.declared.packet.Packet.TheVariants as packet
-use Rattle.packet_path.specs.Internal.Attempt.{Answers, IsKilling, KilledOne}
-use Rattle.packet_path.specs.Internal.Fast.{Accepted, AcceptedOrNot, HandledOrNot}
+use Rattle.tuple_core.specs.declared.Segment.{Segment}
+use Rattle.packet_path.specs.Internal.Attempt.{Answers, GoesOnKilling, IsKilling, KilledOne}
+use Rattle.packet_path.specs.Internal.Fast.{Accepted, FrameSays, TriedSays}
 use Rattle.packet_path.specs.Handled.{Handled, HandledInto}
-use Rattle.packet_path.specs.Packet.{Given, IsFlow}
+use Rattle.packet_path.specs.Packet.{Given, IsFlow, packet_in}
+use Rattle.packet_path.specs.declared.fast.Tried.{Tried}
+use Rattle.packet_path.specs.declared.fast.Tried.TheVariants as tried
 use Rattle.packet_path.specs.declared.setup.Setup.{Setup}
 use Rattle.history_book.specs.Mark.{points_of}
 use Rattle.packet_path.specs.Laws.{LowerMarksFit}
@@ -54,6 +60,21 @@ kills_push log m from packet (k ∷ ks) note (one, all) le kill =
 mark_push : (m : ℕ) (kills : List Note) (note : Note) → mark_past m (kills ++ note ∷ []) ≡ max (mark_past m kills) (note.number + 1)
 mark_push m [] note = refl
 mark_push m (k ∷ ks) note = mark_push (max m (k.number + 1)) ks note
+
+-- nothing was done yet
+pub killing_none : GoingOnAddsUp → (old : Sight) (packet : FlowPacket) → IsKnown old → HoldsNothing old → IsKilling old old packet 0
+killing_none going old packet known empty = record {
+  kills = [];
+  went = (going.resting old).went;
+  count = refl;
+  few = omega arith;
+  all = tt;
+  mark = omega arith;
+  spare = omega arith;
+  taken = refl;
+  empty = empty;
+  known = known;
+}
 
 module _ (states : StatesStay) (events : EventsStay) (going : GoingOnAddsUp) (old : Sight) (packet : FlowPacket) where
   -- one kill more
@@ -111,21 +132,6 @@ module _ (states : StatesStay) (events : EventsStay) (going : GoingOnAddsUp) (ol
         taken = taken ∙ ap (taken_by verdict.class) k.taken;
       }
 
-  -- nothing was done yet
-  killing_none : IsKnown old → HoldsNothing old → IsKilling old old packet 0
-  killing_none known empty = record {
-    kills = [];
-    went = (going.resting old).went;
-    count = refl;
-    few = omega arith;
-    all = tt;
-    mark = omega arith;
-    spare = omega arith;
-    taken = refl;
-    empty = empty;
-    known = known;
-  }
-
   -- a packet was answered before any kill, and its verdict is appended
   pub accepted_into : (setup : Setup) (first base : ℕ) (new : Sight) (before after : Roomed Verdict) → IsKnown old → HoldsNothing old
       → HoldsNothing new → first ≡ length old.own → Accepted setup packet first base old new before after
@@ -134,19 +140,54 @@ module _ (states : StatesStay) (events : EventsStay) (going : GoingOnAddsUp) (ol
       let verdict : Verdict = record { class = a.class; first = first; made = length new.own - first } in
       record {
         verdict = verdict;
-        handled = killing_done setup old new 0 verdict given flow (killing_none known nothing) a.answers a.taken empty starts
+        handled = killing_done setup old new 0 verdict given flow (killing_none going old packet known nothing) a.answers a.taken empty starts
             (ap (λ n. length new.own - n) starts);
         items = a.appended.items;
         room = a.appended.room;
       }
 
-  -- the same, or nothing was done
-  pub accepted_or_not : (setup : Setup) (first base : ℕ) (new : Sight) (before after : Roomed Verdict) (done : Bool) → IsKnown old → HoldsNothing old
-      → HoldsNothing new → first ≡ length old.own → AcceptedOrNot setup packet first base old new before after done
-      → (given : Given) → IsFlow given packet → HandledOrNot base setup given old new before after done
-  accepted_or_not setup first base new before after true known nothing empty starts a given flow =
+  -- what came of a packet that met an entry is what came of its frame
+  pub frame_says : (setup : Setup) (first base : ℕ) (new : Sight) (before after : Roomed Verdict) (tried : Tried) → IsKnown old → HoldsNothing old
+      → HoldsNothing new → IsKnown new → first ≡ length old.own → TriedSays setup packet first base old new before after tried
+      → (given : Given) → IsFlow given packet → FrameSays base setup given old new before after tried
+  frame_says setup first base new before after tried.Done known nothing empty knows starts a given flow =
       accepted_into setup first base new before after known nothing empty starts a given flow
-  accepted_or_not setup first base new before after false known nothing empty starts left given flow = left
+  frame_says setup first base new before after tried.Killed known nothing empty knows starts a given flow = record {
+    packet = packet;
+    flow = flow;
+    killing = killing_more old new 0 (killing_none going old packet known nothing) a.killed a.taken empty knows;
+    kept = a.kept;
+  }
+  frame_says setup first base new before after tried.Left known nothing empty knows starts left given flow = left
+
+  -- from the desk's first sight of a packet, after so many kills: one more, or none
+  pub goes_on_more : (now new : Sight) (before killed first : ℕ) → GoesOnKilling old now packet before killed first
+      → KilledOne now new packet killed (length now.front) → new.taken ≡ now.taken → HoldsNothing new → IsKnown new
+      → ((begun : Sight) → IsKilling begun now packet killed → IsKilling begun new packet (killed + 1))
+      → GoesOnKilling old new packet before (killed + 1) first
+  goes_on_more now new before killed first goes one taken empty known more = record {
+    killing = λ begun k. more begun (goes.killing begun k);
+    few = omega (arith, one.few);
+    spare = omega (arith, goes.spare, one.went.spare);
+    low = omega (arith, goes.low, ap length one.went.own, length-append now.own (one.note ∷ []));
+    high = omega (arith, goes.high, ap length one.went.own, length-append now.own (one.note ∷ []));
+    empty = empty;
+    known = known;
+  }
+
+  pub goes_on_again : (now new : Sight) (before killed first : ℕ) → GoesOnKilling old now packet before killed first
+      → Saw now new → HoldsNothing new → IsKnown new
+      → ((begun : Sight) → IsKilling begun now packet killed → IsKilling begun new packet killed)
+      → GoesOnKilling old new packet before killed first
+  goes_on_again now new before killed first goes saw empty known again = record {
+    killing = λ begun k. again begun (goes.killing begun k);
+    few = goes.few;
+    spare = omega (arith, goes.spare, saw.spare);
+    low = omega (arith, goes.low, ap length saw.went.own, length-append now.own []);
+    high = omega (arith, goes.high, ap length saw.went.own, length-append now.own []);
+    empty = empty;
+    known = known;
+  }
 
 -- what is handled after making room is handled
 pub handled_ready : (setup : Setup) (k : ℕ) (old mid new : Sight) (given : Given) (verdict : Verdict) → IsReady k old mid → Handled setup given mid new verdict
@@ -285,3 +326,39 @@ appended_ready base setup k old mid new given before after ready h = record {
   items = h.items;
   room = h.room;
 }
+
+-- a frame has one packet of a flow
+abbrev tuple_in : Packet → Tuple → Tuple
+tuple_in (packet.Flow t segment span) d = t
+tuple_in (packet.Untracked why) d = d
+tuple_in packet.Invalid d = d
+tuple_in (packet.Error inner outer) d = d
+
+abbrev segment_in : Packet → Segment → Segment
+segment_in (packet.Flow t segment span) d = segment
+segment_in (packet.Untracked why) d = d
+segment_in packet.Invalid d = d
+segment_in (packet.Error inner outer) d = d
+
+pub same_flow : (given : Given) (p q : FlowPacket) → IsFlow given p → IsFlow given q → p ≡ q
+same_flow given p q f g =
+    let e : packet.Flow p.tuple p.segment f.span ≡ packet.Flow q.tuple q.segment g.span = sym f.headers ∙ g.headers in
+    let tuple : p.tuple ≡ q.tuple = ap (λ (x : Packet). tuple_in x p.tuple) e in
+    let segment : p.segment ≡ q.segment = ap (λ (x : Packet). segment_in x p.segment) e in
+    let moment : p.moment ≡ q.moment = f.moment ∙ sym g.moment in
+    let payload : p.payload ≡ q.payload = f.payload ∙ sym g.payload in
+    λ i. record { tuple = tuple i; segment = segment i; moment = moment i; payload = payload i }
+
+abbrev is_flow : Packet → Bool
+is_flow (packet.Flow t segment span) = true
+is_flow (packet.Untracked why) = false
+is_flow packet.Invalid = false
+is_flow (packet.Error inner outer) = false
+
+-- what is a packet of a flow in a zone is one by its headers
+pub flow_in_zone : (zone : ℕ) (p : Packet) (t : Tuple) (segment : Segment) (span : Span) → packet_in zone p ≡ packet.Flow t segment span
+    → ((u : Tuple) (s : Segment) (x : Span) → p ≡ packet.Flow u s x → ⊥) → ⊥
+flow_in_zone zone (packet.Flow u s x) t segment span e never = never u s x refl
+flow_in_zone zone (packet.Untracked why) t segment span e never = true≢false (sym (ap is_flow e))
+flow_in_zone zone packet.Invalid t segment span e never = true≢false (sym (ap is_flow e))
+flow_in_zone zone (packet.Error inner outer) t segment span e never = true≢false (sym (ap is_flow e))

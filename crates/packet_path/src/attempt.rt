@@ -10,7 +10,7 @@ ghost use Rattle.history_book.specs.Label.{label_of};
 ghost use Rattle.history_book.specs.Sight.{IsKnown};
 ghost use Rattle.nat_setup.specs.Rule.{IsLawfulRule};
 ghost use Rattle.packet_path.specs.Internal.Attempt.{Answers, AttemptSays, EndsEntry, IsFoundFor, IsReplyOf};
-ghost use Rattle.packet_path.specs.Internal.Attempt.{IsClassified, IsMet, taken_in};
+ghost use Rattle.packet_path.specs.Internal.Attempt.{IsClassified, IsMet, KillsOrNot, taken_in};
 ghost use Rattle.history_book.specs.Places.{HoldsNothing, HoldsOne};
 ghost use Rattle.packet_path.specs.Packet.{flow_packet};
 
@@ -107,6 +107,45 @@ fn reset_entry<R: Wait, D: Desk>(rt: &R, desk: &mut D, packet: &FlowView, met: &
     }
 }
 
+/// Destroys the entry that a packet met, which is expired or is reopened, for that reason. The entry was so at the point `at`.
+/// False is that it is so no longer, and that nothing was done.
+#[inline(always)]
+pub fn kill_entry<R: Wait, D: Desk>(
+    rt: &R,
+    desk: &mut D,
+    packet: &FlowView,
+    met: &Met,
+    at: u64,
+    why: Why,
+) -> bool
+    requires classified { IsClassified (flow_packet packet.now) }
+    requires met { IsMet (flow_packet packet.now) met.now (D.sight desk.old) }
+    requires ends { EndsEntry (flow_packet packet.now) met.now at why (D.sight desk.old) }
+    requires spare { 1 ≤ (D.sight desk.old).spare }
+    requires knows { IsKnown (D.sight desk.old) }
+    ensures says { (kills from : ℕ) → kills < 4 → from ≤ length (D.sight desk.old).front →
+        KillsOrNot (D.sight desk.old) (D.sight desk.new) (flow_packet packet.now) kills from result }
+    ensures places { SamePlaces (D.sight desk.old) (D.sight desk.new) }
+    ensures taken { (D.sight desk.new).taken ≡ (D.sight desk.old).taken }
+    ensures knows { IsKnown (D.sight desk.new) }
+{
+    events_stay();
+    found_are_found_again();
+    going_on_adds_up();
+    found_keep_their_protocol();
+    live_records_have_the_protocol();
+    one_hold_has_its_id();
+    records_are_of_one_flow();
+    same_protocol_is_equality();
+    seeing_adds_up();
+    states_stay();
+    match desk.kill(rt, met.place, why) {
+        KillOutcome::Killed { .. } => true,
+        KillOutcome::Gone { .. } => false,
+        KillOutcome::Not { .. } => false,
+    }
+}
+
 /// Destroys the entry that a packet met, which is expired or is reopened, for that reason; after four
 /// such ends no further one is made. The entry was so at the point `at`.
 #[inline(always)]
@@ -133,22 +172,16 @@ fn end_entry<R: Wait, D: Desk>(
 {
     events_stay();
     found_are_found_again();
-    going_on_adds_up();
-    found_keep_their_protocol();
-    live_records_have_the_protocol();
-    one_hold_has_its_id();
-    records_are_of_one_flow();
-    same_protocol_is_equality();
     seeing_adds_up();
     states_stay();
     let is_last = kills == 4;
     if is_last {
         return Attempt::Done(Class::Contended { id: met.id, at });
     }
-    match desk.kill(rt, met.place, why) {
-        KillOutcome::Killed { .. } => Attempt::Killed,
-        KillOutcome::Gone { .. } => Attempt::Again,
-        KillOutcome::Not { .. } => Attempt::Again,
+    if kill_entry(rt, desk, packet, met, at, why) {
+        Attempt::Killed
+    } else {
+        Attempt::Again
     }
 }
 

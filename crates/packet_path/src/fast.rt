@@ -11,10 +11,10 @@ ghost use Rattle.history_book.specs.Sight.{IsKnown};
 ghost use Rattle.nat_setup.specs.Rule.{IsLawfulRule};
 ghost use Rattle.packet_headers.specs.Span.{IsSpanIn};
 ghost use Rattle.packet_path.specs.Internal.Attempt.{IsClassified, IsMet};
-ghost use Rattle.packet_path.specs.Internal.Fast.{AcceptedOrNot, Appended, HandledOrNot, ReadInto};
+ghost use Rattle.packet_path.specs.Internal.Fast.{Appended, FrameSays, ReadInto, TriedSays};
 ghost use Rattle.packet_path.specs.Packet.{flow_packet, Given, given_of, IsFlow};
 
-use crate::attempt::{Met, passed};
+use crate::attempt::{Met, kill_entry, passed};
 use crate::begin::begin_flow;
 use crate::handle::bytes_in;
 use crate::laws::same_protocol_is_equality;
@@ -22,6 +22,7 @@ use crate::packet::FlowView;
 use crate::payload::{follow_payload, is_read};
 use crate::setup::Setup;
 use history_book::desk::Desk;
+use history_book::event::Why;
 use history_book::laws::{
     entries_keep_their_helper, entries_keep_their_zone, events_stay, found_are_found_again,
     found_keep_their_protocol, live_records_have_the_protocol, records_are_of_one_flow,
@@ -38,6 +39,17 @@ use packet_headers::frame::Frame;
 use packet_headers::packet::Packet;
 use std::sync::Wait;
 use tuple_core::Direction;
+
+/// What came of the common way.
+#[derive(Clone, Copy)]
+pub enum Tried {
+    /// The packet was handled, and its verdict appended.
+    Done,
+    /// The packet destroyed the entry that it found expired, and is to be looked at again.
+    Killed,
+    /// Nothing was done.
+    Left,
+}
 
 /// Appends the verdict of a packet of this class: it has all of the desk's own events from the one of index `first` on, and
 /// counts from `base`.
@@ -96,8 +108,7 @@ fn read_payload<R: Wait, D: Desk>(
     append(desk, class, first, base, verdicts);
 }
 
-/// Gives a packet to the entry that it met, and appends its verdict. False is that the entry did not accept it, and that nothing
-/// was done.
+/// Gives a packet to the entry that it met, and appends its verdict where the entry accepts it. An expired entry is destroyed.
 #[inline(always)]
 fn touch_entry<R: Wait, D: Desk>(
     rt: &R,
@@ -107,7 +118,7 @@ fn touch_entry<R: Wait, D: Desk>(
     first: u64,
     base: u64,
     verdicts: &mut Verdicts,
-) -> bool
+) -> Tried
     requires classified { IsClassified (flow_packet packet.now) }
     requires met { IsMet (flow_packet packet.now) met.now (D.sight desk.old) }
     requires spare { 7 ≤ (D.sight desk.old).spare }
@@ -115,7 +126,7 @@ fn touch_entry<R: Wait, D: Desk>(
     requires base { base ≤ first }
     requires first { first ≡ length (D.sight desk.old).own }
     requires room { length verdicts.old.items < verdicts.old.room }
-    ensures says { (setup : Setup) → AcceptedOrNot setup (flow_packet packet.now) first base
+    ensures says { (setup : Setup) → TriedSays setup (flow_packet packet.now) first base
         (D.sight desk.old) (D.sight desk.new) verdicts.old verdicts.new result }
     ensures places { SamePlaces (D.sight desk.old) (D.sight desk.new) }
     ensures knows { IsKnown (D.sight desk.new) }
@@ -144,23 +155,29 @@ fn touch_entry<R: Wait, D: Desk>(
                 read_payload(
                     rt, desk, packet, place, &before, direction, number, first, base, verdicts,
                 );
-                return true;
+                return Tried::Done;
             }
             let class = passed(&before, direction, number, Ftp::Nothing);
             append(desk, class, first, base, verdicts);
-            true
+            Tried::Done
         }
-        TouchOutcome::Ignored { .. } => false,
-        TouchOutcome::Invalid { .. } => false,
-        TouchOutcome::Reset { .. } => false,
-        TouchOutcome::Expired { .. } => false,
-        TouchOutcome::Reopen { .. } => false,
-        TouchOutcome::Gone { .. } => false,
+        TouchOutcome::Ignored { .. } => Tried::Left,
+        TouchOutcome::Invalid { .. } => Tried::Left,
+        TouchOutcome::Reset { .. } => Tried::Left,
+        TouchOutcome::Expired { at } => {
+            let why = Why::Expired {
+                moment: packet.moment,
+            };
+            let killed = kill_entry(rt, desk, packet, met, at, why);
+            if killed { Tried::Killed } else { Tried::Left }
+        }
+        TouchOutcome::Reopen { .. } => Tried::Left,
+        TouchOutcome::Gone { .. } => Tried::Left,
     }
 }
 
-/// Handles a packet of a flow, if its entry accepts it or there is none, and appends its verdict, with its events
-/// counted from `base` on. False is that nothing was done.
+/// Handles a packet of a flow, if its entry accepts it or there is none, and appends its verdict, with its events counted
+/// from `base` on. An expired entry is destroyed.
 #[inline(always)]
 fn fast_packet<R: Wait, D: Desk>(
     rt: &R,
@@ -169,7 +186,7 @@ fn fast_packet<R: Wait, D: Desk>(
     setup: &Setup,
     base: u64,
     verdicts: &mut Verdicts,
-) -> bool
+) -> Tried
     requires lawful { AllByRecursion IsLawfulRule setup.now.rules.items }
     requires classified { IsClassified (flow_packet packet.now) }
     requires empty { HoldsNothing (D.sight desk.old) }
@@ -178,7 +195,7 @@ fn fast_packet<R: Wait, D: Desk>(
     requires base { base ≤ length (D.sight desk.old).own }
     requires room { length verdicts.old.items < verdicts.old.room }
     ensures says { (given : Given) → IsFlow given (flow_packet packet.now) →
-        HandledOrNot base setup.now given (D.sight desk.old) (D.sight desk.new) verdicts.old verdicts.new result }
+        FrameSays base setup.now given (D.sight desk.old) (D.sight desk.new) verdicts.old verdicts.new result }
     ensures empty { HoldsNothing (D.sight desk.new) }
     ensures knows { IsKnown (D.sight desk.new) }
 {
@@ -191,7 +208,7 @@ fn fast_packet<R: Wait, D: Desk>(
         FindOutcome::Absent { at } => {
             let class = begin_flow(rt, desk, packet, setup, at);
             append(desk, class, first, base, verdicts);
-            true
+            Tried::Done
         }
         FindOutcome::Found {
             place,
@@ -205,15 +222,15 @@ fn fast_packet<R: Wait, D: Desk>(
                 direction,
                 at,
             };
-            let accepted = touch_entry(rt, desk, packet, &met, first, base, verdicts);
+            let tried = touch_entry(rt, desk, packet, &met, first, base, verdicts);
             give_up(rt, desk, place);
-            accepted
+            tried
         }
     }
 }
 
 /// Handles a frame of a file with these bytes, in a zone, if it has a packet of a flow that takes the common way, and appends
-/// its verdict, with its events counted from `base` on. False is that nothing was done.
+/// its verdict, with its events counted from `base` on.
 #[inline(always)]
 pub fn fast_frame<R: Wait, D: Desk>(
     rt: &R,
@@ -224,7 +241,7 @@ pub fn fast_frame<R: Wait, D: Desk>(
     setup: &Setup,
     base: u64,
     verdicts: &mut Verdicts,
-) -> bool
+) -> Tried
     requires lawful { AllByRecursion IsLawfulRule setup.now.rules.items }
     requires inside { frame.now.start + frame.now.captured ≤ length bytes.now }
     requires timely { frame.now.moment ≤ 10 ^ 16 }
@@ -233,7 +250,7 @@ pub fn fast_frame<R: Wait, D: Desk>(
     requires knows { IsKnown (D.sight desk.old) }
     requires base { base ≤ length (D.sight desk.old).own }
     requires room { length verdicts.old.items < verdicts.old.room }
-    ensures says { HandledOrNot base setup.now (given_of zone bytes.now frame.now)
+    ensures says { FrameSays base setup.now (given_of zone bytes.now frame.now)
         (D.sight desk.old) (D.sight desk.new) verdicts.old verdicts.new result }
     ensures empty { HoldsNothing (D.sight desk.new) }
     ensures knows { IsKnown (D.sight desk.new) }
@@ -245,7 +262,7 @@ pub fn fast_frame<R: Wait, D: Desk>(
         payload,
     } = classify(bytes, frame)
     else {
-        return false;
+        return Tried::Left;
     };
     let packet = FlowView {
         tuple: tuple.in_zone(zone),

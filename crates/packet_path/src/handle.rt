@@ -1,16 +1,16 @@
 //! What becomes of one packet, over any desk.
 
-ghost use Rattle.std.specs.Prelude.{◌≡◌, ℕ, ◌+◌, ◌<◌, ◌≤◌, ◌^◌, true, [], length, IfOk, OnErr, OnOk};
+ghost use Rattle.std.specs.Prelude.{◌≡◌, ℕ, ◌+◌, ◌<◌, ◌≤◌, ◌^◌, true, [], length, IfOk, OnErr};
 ghost use Rattle.std.specs.List.{AllByRecursion};
 ghost use Rattle.tuple_core.specs.Tuple.{is_valid};
 ghost use Rattle.history_book.specs.WentOn.{Saw};
-ghost use Rattle.history_book.specs.Sight.{IsKnown};
+ghost use Rattle.history_book.specs.Sight.{IsKnown, Sight};
 ghost use Rattle.nat_setup.specs.Rule.{IsLawfulRule};
 ghost use Rattle.packet_headers.specs.ClassifySound.{has_valid_tuple, HasItsProtocol, HasPayloadIn};
 ghost use Rattle.packet_headers.specs.Span.{IsSpanIn};
 ghost use Rattle.packet_headers.specs.declared.packet.Packet.TheVariants.{Error};
-ghost use Rattle.packet_path.specs.Handled.{Handled, HandledInto};
-ghost use Rattle.packet_path.specs.Internal.Attempt.{IsClassified};
+ghost use Rattle.packet_path.specs.Handled.{Handled};
+ghost use Rattle.packet_path.specs.Internal.Attempt.{IsClassified, IsKilling};
 ghost use Rattle.history_book.specs.Places.{HoldsNothing};
 ghost use Rattle.packet_path.specs.Packet.{bytes_in, cause_of, flow_packet, given_by, given_of, Given, IsFlow, packet_in};
 ghost use Rattle.history_book.specs.Mark.{points_of};
@@ -18,15 +18,12 @@ ghost use Rattle.packet_path.specs.Taken.{taken_by};
 ghost use Rattle.packet_path.specs.Verdict.{FitsFrame};
 
 use crate::attempt::{Attempt, try_packet};
-use crate::fast::fast_frame;
-use crate::laws::lower_marks_fit;
 use crate::packet::FlowView;
 use crate::setup::Setup;
 use history_book::desk::Desk;
 use history_book::laws::{events_stay, states_stay};
 use history_book::outcome::FindOutcome;
 use history_book::places::give_up;
-use history_book::report::Verdicts;
 use history_book::sight_laws::{going_on_adds_up, seeing_adds_up};
 use history_book::verdict::{Class, UntrackedWhy, Verdict};
 use packet_headers::classify::classify;
@@ -35,23 +32,35 @@ use packet_headers::packet::{Packet, Untracked};
 use std::sync::Wait;
 use tuple_core::{NoMemory, Tuple, invert};
 
-/// Handles a packet of a flow: attempts are made until one says what became of it.
+/// Handles a packet of a flow, for which so many entries were destroyed before: attempts are made until one says what became of
+/// it. Its own events begin with the desk's own event of index `first`.
 #[inline(always)]
-fn handle_flow<R: Wait, D: Desk>(rt: &R, desk: &mut D, packet: &FlowView, setup: &Setup) -> Verdict
+pub fn handle_flow<R: Wait, D: Desk>(
+    rt: &R,
+    desk: &mut D,
+    packet: &FlowView,
+    setup: &Setup,
+    killed: u8,
+    first: u64,
+) -> Verdict
     requires lawful { AllByRecursion IsLawfulRule setup.now.rules.items }
     requires classified { IsClassified (flow_packet packet.now) }
     requires empty { HoldsNothing (D.sight desk.old) }
-    requires spare { 7 ≤ (D.sight desk.old).spare }
+    requires few { killed ≤ 4 }
+    requires spare { 7 ≤ (D.sight desk.old).spare + killed }
+    requires low { first ≤ length (D.sight desk.old).own }
+    requires high { length (D.sight desk.old).own ≤ first + killed }
     requires knows { IsKnown (D.sight desk.old) }
-    ensures handled { (given : Given) → IsFlow given (flow_packet packet.now) →
-        Handled setup.now given (D.sight desk.old) (D.sight desk.new) result }
+    ensures handled { (given : Given) (begun : Sight) → IsFlow given (flow_packet packet.now) →
+        IsKilling begun (D.sight desk.old) (flow_packet packet.now) killed → first ≡ length begun.own →
+        Handled setup.now given begun (D.sight desk.new) result }
+    ensures first { result.first ≡ first }
     ensures knows { IsKnown (D.sight desk.new) }
 {
     events_stay();
     going_on_adds_up();
     states_stay();
-    let first = desk.made();
-    let mut kills = 0;
+    let mut kills = killed;
     'attempts: for _ in rt.forever() {
         match try_packet(rt, desk, packet, setup, kills) {
             Attempt::Done(class) => {
@@ -130,7 +139,7 @@ pub fn bytes_in(bytes: &[u8], span: Span) -> &[u8]
 
 /// Handles one packet of a file with these bytes in a zone, by what its headers say. Only a packet of a flow makes events.
 #[inline(always)]
-fn handle_packet<R: Wait, D: Desk>(
+pub fn handle_packet<R: Wait, D: Desk>(
     rt: &R,
     desk: &mut D,
     bytes: &[u8],
@@ -151,6 +160,7 @@ fn handle_packet<R: Wait, D: Desk>(
         (D.sight desk.old) (D.sight desk.new) result }
     ensures knows { IsKnown (D.sight desk.new) }
 {
+    going_on_adds_up();
     seeing_adds_up();
     let first = desk.made();
     let class = match packet {
@@ -165,7 +175,7 @@ fn handle_packet<R: Wait, D: Desk>(
                 moment,
                 payload: bytes_in(bytes, *payload),
             };
-            return handle_flow(rt, desk, &packet, setup);
+            return handle_flow(rt, desk, &packet, setup, 0, first);
         }
         Packet::Untracked(cause) => Class::Untracked(untracked_why(*cause)),
         Packet::Invalid => Class::BadHeader,
@@ -209,75 +219,4 @@ pub fn handle<R: Wait, D: Desk>(
     desk.ready(8)?;
     let packet = classify(bytes, frame);
     Ok(handle_packet(rt, desk, bytes, &packet, frame.moment, zone, setup))
-}
-
-/// Handles one frame the general way, and appends its verdict, with its events counted from `base` on.
-#[cold]
-#[inline(never)]
-fn slow_frame<R: Wait, D: Desk>(
-    rt: &R,
-    desk: &mut D,
-    bytes: &[u8],
-    frame: &Frame,
-    zone: u16,
-    setup: &Setup,
-    base: u64,
-    verdicts: &mut Verdicts,
-)
-    requires lawful { AllByRecursion IsLawfulRule setup.now.rules.items }
-    requires inside { frame.now.start + frame.now.captured ≤ length bytes.now }
-    requires timely { frame.now.moment ≤ 10 ^ 16 }
-    requires empty { HoldsNothing (D.sight desk.old) }
-    requires spare { 7 ≤ (D.sight desk.old).spare }
-    requires knows { IsKnown (D.sight desk.old) }
-    requires base { base ≤ length (D.sight desk.old).own }
-    requires room { length verdicts.old.items < verdicts.old.room }
-    ensures handled { HandledInto base setup.now (given_of zone bytes.now frame.now)
-        (D.sight desk.old) (D.sight desk.new) verdicts.old verdicts.new }
-    ensures knows { IsKnown (D.sight desk.new) }
-{
-    let packet = classify(bytes, frame);
-    let verdict = handle_packet(rt, desk, bytes, &packet, frame.moment, zone, setup);
-    verdicts.push(Verdict {
-        first: verdict.first - base,
-        ..verdict
-    });
-}
-
-/// Handles one frame as `handle` does, and appends its verdict to a list that has room for it, with its events counted
-/// from the desk's own event of index `base` on. After `NoMemory` the list is as it was.
-#[inline(always)]
-pub fn handle_into<R: Wait, D: Desk>(
-    rt: &R,
-    desk: &mut D,
-    bytes: &[u8],
-    frame: &Frame,
-    zone: u16,
-    setup: &Setup,
-    base: u64,
-    verdicts: &mut Verdicts,
-) -> Result<(), NoMemory>
-    requires lawful { AllByRecursion IsLawfulRule setup.now.rules.items }
-    requires inside { frame.now.start + frame.now.captured ≤ length bytes.now }
-    requires timely { frame.now.moment ≤ 10 ^ 16 }
-    requires few { length (D.sight desk.old).own + 8 ≤ 2 ^ 30 }
-    requires nothing_held { (D.sight desk.old).held ≡ [] }
-    requires nothing_owed { (D.sight desk.old).owed ≡ [] }
-    requires base { base ≤ length (D.sight desk.old).own }
-    requires room { length verdicts.old.items < verdicts.old.room }
-    ensures handled { OnOk result (HandledInto base setup.now (given_of zone bytes.now frame.now)
-        (D.sight desk.old) (D.sight desk.new) verdicts.old verdicts.new) }
-    ensures short { OnErr result ((D.sight desk.old).spare < 8) }
-    ensures same { OnErr result (D.sight desk.new ≡ D.sight desk.old) }
-    ensures kept { OnErr result (verdicts.new ≡ verdicts.old) }
-    ensures knows { IsKnown (D.sight desk.new) }
-{
-    going_on_adds_up();
-    lower_marks_fit();
-    desk.ready(8)?;
-    if fast_frame(rt, desk, bytes, frame, zone, setup, base, verdicts) {
-        return Ok(());
-    }
-    slow_frame(rt, desk, bytes, frame, zone, setup, base, verdicts);
-    Ok(())
 }

@@ -5,6 +5,7 @@ mod attempt;
 mod begin;
 mod fast;
 pub mod handle;
+pub mod handle_into;
 pub mod laws;
 pub mod packet;
 mod payload;

@@ -18,7 +18,7 @@ use ct_io::{Crossing, Gate};
 use history_book::desk::Desk;
 use history_book::sight_laws::going_on_adds_up;
 use packet_headers::frame::{Capture, Frame};
-use packet_path::handle::handle_into;
+use packet_path::handle_into::handle_into;
 use packet_path::laws::{lower_marks_fit, verdicts_still_fit};
 use std::sync::Wait;
 use tuple_core::NoMemory;

@@ -1,5 +1,5 @@
 -- One attempt to handle a packet of a flow with a desk.
-use Rattle.std.specs.Prelude.{◌≡◌, ℕ, ◌+◌, ◌<◌, ◌≤◌, ◌^◌, true, Option, None, Some, List, [], ◌∷◌, ◌++◌, length}
+use Rattle.std.specs.Prelude.{◌≡◌, ℕ, ◌+◌, ◌<◌, ◌≤◌, ◌^◌, Bool, true, false, Option, None, Some, List, [], ◌∷◌, ◌++◌, length}
 use Rattle.std.specs.List.{AllByRecursion}
 use Rattle.tuple_core.specs.Tuple.{is_valid}
 use Rattle.tuple_core.specs.declared.Tuple.{Tuple}
@@ -126,6 +126,11 @@ pub record KilledOne (old new : Sight) (packet : FlowPacket) (killed from : ℕ)
   pub high : note.number < length new.front
   pub kill : Kills new.front from packet note
 
+-- the one or nothing
+abbrev pub KillsOrNot : Sight → Sight → FlowPacket → ℕ → ℕ → Bool → Type 0
+KillsOrNot old new packet killed from true = KilledOne old new packet killed from
+KillsOrNot old new packet killed from false = Saw old new
+
 -- what an attempt says, after so many kills
 abbrev pub AttemptSays : Setup → Sight → Sight → FlowPacket → ℕ → ℕ → Attempt → Type 0
 AttemptSays setup old new packet killed from (Done answer) = Answers setup old new packet killed from answer
@@ -152,5 +157,15 @@ pub record IsKilling (old now : Sight) (packet : FlowPacket) (killed : ℕ) : Ty
   pub mark : mark_past (length old.front) kills ≤ length now.front
   pub spare : old.spare ≤ now.spare + killed
   pub taken : now.taken ≡ old.taken
+  pub empty : HoldsNothing now
+  pub known : IsKnown now
+
+-- after so many kills, whatever they were for: from what the desk knew to what it knows, they are now so many
+pub record GoesOnKilling (old now : Sight) (packet : FlowPacket) (before killed first : ℕ) : Type 0 where
+  pub killing : (begun : Sight) → IsKilling begun old packet before → IsKilling begun now packet killed
+  pub few : killed ≤ 4
+  pub spare : 7 ≤ now.spare + killed
+  pub low : first ≤ length now.own
+  pub high : length now.own ≤ first + killed
   pub empty : HoldsNothing now
   pub known : IsKnown now

@@ -1,5 +1,5 @@
 -- The common way of a packet of a flow.
-use Rattle.std.specs.Prelude.{◌≡◌, ℕ, ◌+◌, ◌-◌, Bool, true, false, List, [], ◌∷◌, ◌++◌, length}
+use Rattle.std.specs.Prelude.{◌≡◌, ℕ, ◌+◌, ◌-◌, List, [], ◌∷◌, ◌++◌, length}
 use Rattle.room_list.specs.Roomed.{Roomed}
 use Rattle.history_book.specs.declared.event.Note.{Note}
 use Rattle.history_book.specs.declared.verdict.Class.{Class}
@@ -10,10 +10,12 @@ use Rattle.history_book.specs.Label.{label_of}
 use Rattle.history_book.specs.Sight.{Sight}
 use Rattle.history_book.specs.State.{Found}
 use Rattle.history_book.specs.WentOn.{Saw}
+use Rattle.packet_path.specs.declared.fast.Tried.{Tried}
+use Rattle.packet_path.specs.declared.fast.Tried.TheVariants.{Done, Killed, Left}
 use Rattle.packet_path.specs.declared.setup.Setup.{Setup}
 use Rattle.packet_path.specs.Handled.{HandledInto}
-use Rattle.packet_path.specs.Internal.Attempt.{Answers, Follows}
-use Rattle.packet_path.specs.Packet.{FlowPacket, Given}
+use Rattle.packet_path.specs.Internal.Attempt.{Answers, Follows, IsKilling, KilledOne}
+use Rattle.packet_path.specs.Packet.{FlowPacket, Given, IsFlow}
 use Rattle.packet_path.specs.Taken.{taken_by}
 
 -- a verdict of this class is now the last of a list: it has all of the desk's own events from the one of index `first` on, and counts
@@ -41,12 +43,27 @@ pub record LeftIt (old new : Sight) (before after : Roomed Verdict) : Type 0 whe
   pub saw : Saw old new
   pub kept : after ≡ before
 
--- the one or the other
-abbrev pub AcceptedOrNot : Setup → FlowPacket → ℕ → ℕ → Sight → Sight → Roomed Verdict → Roomed Verdict → Bool → Type 0
-AcceptedOrNot setup packet first base old new before after true = Accepted setup packet first base old new before after
-AcceptedOrNot setup packet first base old new before after false = LeftIt old new before after
+-- the packet destroyed the entry that it met, and the list is as it was
+pub record Expired (packet : FlowPacket) (old new : Sight) (before after : Roomed Verdict) : Type 0 where
+  pub killed : KilledOne old new packet 0 (length old.front)
+  pub taken : new.taken ≡ old.taken
+  pub kept : after ≡ before
 
--- the frame was handled, or nothing was done
-abbrev pub HandledOrNot : ℕ → Setup → Given → Sight → Sight → Roomed Verdict → Roomed Verdict → Bool → Type 0
-HandledOrNot base setup given old new before after true = HandledInto base setup given old new before after
-HandledOrNot base setup given old new before after false = LeftIt old new before after
+-- what came of a packet that met an entry
+abbrev pub TriedSays : Setup → FlowPacket → ℕ → ℕ → Sight → Sight → Roomed Verdict → Roomed Verdict → Tried → Type 0
+TriedSays setup packet first base old new before after Done = Accepted setup packet first base old new before after
+TriedSays setup packet first base old new before after Killed = Expired packet old new before after
+TriedSays setup packet first base old new before after Left = LeftIt old new before after
+
+-- the frame has a packet of a flow that destroyed one entry, and the list is as it was
+pub record Renews (given : Given) (old new : Sight) (before after : Roomed Verdict) : Type 0 where
+  pub packet : FlowPacket
+  pub flow : IsFlow given packet
+  pub killing : IsKilling old new packet 1
+  pub kept : after ≡ before
+
+-- what came of a frame
+abbrev pub FrameSays : ℕ → Setup → Given → Sight → Sight → Roomed Verdict → Roomed Verdict → Tried → Type 0
+FrameSays base setup given old new before after Done = HandledInto base setup given old new before after
+FrameSays base setup given old new before after Killed = Renews given old new before after
+FrameSays base setup given old new before after Left = LeftIt old new before after

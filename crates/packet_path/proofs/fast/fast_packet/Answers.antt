@@ -1,7 +1,7 @@
 use Rattle.std.proofs.Common.{arith, length, ap, ◌∙◌}
-use Rattle.packet_path.proofs.Accepting.{accepted_or_not_along}
+use Rattle.packet_path.proofs.Accepting.{tried_along}
 use Rattle.packet_path.proofs.Attempts.{answers_after, answers_from}
-use Rattle.packet_path.proofs.Handling.{accepted_into, accepted_or_not}
+use Rattle.packet_path.proofs.Handling.{accepted_into, frame_says}
 use Rattle.packet_path.specs.Packet.{flow_packet}
 use Rattle.packet_path.specs.Taken.{taken_by}
 use Rattle.packet_path.proofs.fast.fast_packet.Goals as goal
@@ -29,11 +29,11 @@ pub returns-in-Found-clause-says : goal.returns-in-Found-clause-says
 returns-in-Found-clause-says g c = λ given flow.
     let s = g.D.Desk.sight c.args.desk.now in
     let mid = g.D.Desk.sight c.find.new.self in
-    let then = g.D.Desk.sight c.touch_entry-accepted.new.desk in
+    let then = g.D.Desk.sight c.touch_entry-tried.new.desk in
     let new = g.D.Desk.sight c.give_up.new.desk in
-    accepted_or_not c.states_stay.ensures c.events_stay.ensures c.going_on_adds_up.ensures.all s (flow_packet c.args.packet.now) c.args.setup.now c.made-first.result c.args.base new
-    c.args.verdicts.now c.touch_entry-accepted.new.verdicts c.touch_entry-accepted.result c.requires.knows c.requires.empty c.give_up.ensures.empty c.made-first.ensures.exact
-    (accepted_or_not_along c.states_stay.ensures c.events_stay.ensures c.going_on_adds_up.ensures.all c.seeing_adds_up.ensures.twice c.args.setup.now s mid then new (flow_packet c.args.packet.now)
-    c.made-first.result c.args.base c.args.verdicts.now c.touch_entry-accepted.new.verdicts c.touch_entry-accepted.result c.in-Found.ensures.says.0.saw
-    (c.touch_entry-accepted.ensures.says c.args.setup.now) c.give_up.ensures.saw)
+    frame_says c.states_stay.ensures c.events_stay.ensures c.going_on_adds_up.ensures.all s (flow_packet c.args.packet.now) c.args.setup.now c.made-first.result c.args.base new
+    c.args.verdicts.now c.touch_entry-tried.new.verdicts c.touch_entry-tried.result c.requires.knows c.requires.empty c.give_up.ensures.empty c.give_up.ensures.knows c.made-first.ensures.exact
+    (tried_along c.states_stay.ensures c.events_stay.ensures c.going_on_adds_up.ensures.all c.seeing_adds_up.ensures.twice c.args.setup.now s mid then new (flow_packet c.args.packet.now)
+    c.made-first.result c.args.base c.args.verdicts.now c.touch_entry-tried.new.verdicts c.touch_entry-tried.result c.in-Found.ensures.says.0.saw
+    (c.touch_entry-tried.ensures.says c.args.setup.now) c.give_up.ensures.saw)
     given flow

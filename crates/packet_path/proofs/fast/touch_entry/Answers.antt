@@ -9,6 +9,7 @@ use Rattle.history_book.specs.History.{after}
 use Rattle.history_book.specs.Label.{label_of}
 use Rattle.history_book.specs.State.{record_of}
 use Rattle.packet_path.specs.Internal.Fast.{Appended}
+use Rattle.packet_path.proofs.Attempts.{killed_after, starts_longer}
 use Rattle.packet_path.proofs.Meetings.{has_id_of, helped_entry, met_protocol, touched, zone_entry}
 use Rattle.packet_path.proofs.Payloads.{follows_nothing}
 use Rattle.packet_path.specs.Packet.{flow_packet}
@@ -80,4 +81,28 @@ returns-else-reads-clause-says g c = λ setup.
           c.seeing_adds_up.ensures.resting mid (inl (sym c.is_read-reads.ensures ∙ c.if-reads.false)));
       taken = c.in-Touched.ensures.says.made.taken;
       appended = subst (λ (k : Class). Appended k c.args.first c.args.base mid.own c.args.verdicts.now c.append.new.verdicts) c.passed-class.ensures c.append.ensures;
+    }
+
+pub returns-then-killed-clause-says : goal.returns-then-killed-clause-says
+returns-then-killed-clause-says g c = λ setup.
+    let s = g.D.Desk.sight c.args.desk.now in
+    let mid = g.D.Desk.sight c.touch.new.self in
+    let new = g.D.Desk.sight c.kill_entry-killed.new.desk in
+    let saw = c.in-Expired.ensures.says.0.saw in
+    record {
+      killed = killed_after c.states_stay.ensures c.events_stay.ensures c.going_on_adds_up.ensures.all c.seeing_adds_up.ensures.twice s mid new (flow_packet c.args.packet.now)
+          0 (length s.front) saw
+          (c.if-killed.ensures.says 0 (length s.front) (omega arith) (starts_longer mid.front s.front saw.went.front));
+      taken = c.kill_entry-killed.ensures.taken ∙ saw.taken;
+      kept = refl;
+    }
+
+pub returns-else-killed-clause-says : goal.returns-else-killed-clause-says
+returns-else-killed-clause-says g c = λ setup.
+    let s = g.D.Desk.sight c.args.desk.now in
+    let mid = g.D.Desk.sight c.touch.new.self in
+    let new = g.D.Desk.sight c.kill_entry-killed.new.desk in
+    record {
+      saw = c.seeing_adds_up.ensures.twice s mid new c.in-Expired.ensures.says.0.saw (c.if-killed.ensures.says 0 0 (omega arith) (omega arith));
+      kept = refl;
     }

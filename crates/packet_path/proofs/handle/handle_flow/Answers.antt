@@ -1,29 +1,51 @@
 use Rattle.std.proofs.Common.{arith}
-use Rattle.packet_path.proofs.Handling.{killing_again, killing_done, killing_more}
+use Rattle.packet_path.proofs.Handling.{goes_on_again, goes_on_more, killing_again, killing_done, killing_more}
 use Rattle.packet_path.specs.Packet.{flow_packet}
 use Rattle.packet_path.proofs.handle.handle_flow.Goals as goal
 
+pub attempts-init : goal.attempts-init
+attempts-init g c = (
+  tt,
+  tt,
+  record {
+    killing = λ begun k. k;
+    few = c.requires.few;
+    spare = c.requires.spare;
+    low = c.requires.low;
+    high = c.requires.high;
+    empty = c.requires.empty;
+    known = c.requires.knows;
+  },
+)
+
 pub returns-in-Done-clause-handled : goal.returns-in-Done-clause-handled
-returns-in-Done-clause-handled g c = λ given flow.
-    let s = g.D.Desk.sight c.args.desk.now in
-    killing_done c.states_stay.ensures c.events_stay.ensures c.going_on_adds_up.ensures.all s (flow_packet c.args.packet.now) c.args.setup.now (g.D.Desk.sight c.attempts.desk)
-    (g.D.Desk.sight c.try_packet.new.desk) c.attempts.kills _ given flow c.attempts.invariant.2 c.in-Done.ensures.says
-    c.in-Done.ensures.taken c.in-Done.ensures.empty c.made-first.ensures.exact (omega (arith, c.made-first.ensures.exact, c.made.ensures.exact))
+returns-in-Done-clause-handled g c = λ given begun flow killing starts.
+    killing_done c.states_stay.ensures c.events_stay.ensures c.going_on_adds_up.ensures.all begun (flow_packet c.args.packet.now) c.args.setup.now (g.D.Desk.sight c.attempts.desk)
+    (g.D.Desk.sight c.try_packet.new.desk) c.attempts.kills _ given flow (c.attempts.invariant.2.killing begun killing) c.in-Done.ensures.says
+    c.in-Done.ensures.taken c.in-Done.ensures.empty starts (omega (arith, starts, c.made.ensures.exact))
 
 pub attempts-preserved-in-Killed : goal.attempts-preserved-in-Killed
-attempts-preserved-in-Killed g c = (
-  tt,
-  tt,
-  killing_more c.states_stay.ensures c.events_stay.ensures c.going_on_adds_up.ensures.all (g.D.Desk.sight c.args.desk.now) (flow_packet c.args.packet.now)
-      (g.D.Desk.sight c.attempts.desk) (g.D.Desk.sight c.try_packet.new.desk) c.attempts.kills c.attempts.invariant.2
-      c.in-Killed.ensures.says c.in-Killed.ensures.taken c.in-Killed.ensures.empty c.in-Killed.ensures.knows,
-)
+attempts-preserved-in-Killed g c =
+    let now = g.D.Desk.sight c.attempts.desk in
+    let new = g.D.Desk.sight c.try_packet.new.desk in
+    let packet = flow_packet c.args.packet.now in (
+      tt,
+      tt,
+      goes_on_more c.states_stay.ensures c.events_stay.ensures c.going_on_adds_up.ensures.all (g.D.Desk.sight c.args.desk.now) packet now new c.args.killed
+          c.attempts.kills c.args.first c.attempts.invariant.2 c.in-Killed.ensures.says c.in-Killed.ensures.taken c.in-Killed.ensures.empty c.in-Killed.ensures.knows
+          (λ begun k. killing_more c.states_stay.ensures c.events_stay.ensures c.going_on_adds_up.ensures.all begun packet now new c.attempts.kills k
+          c.in-Killed.ensures.says c.in-Killed.ensures.taken c.in-Killed.ensures.empty c.in-Killed.ensures.knows),
+    )
 
 pub attempts-preserved : goal.attempts-preserved
-attempts-preserved g c = (
-  tt,
-  tt,
-  killing_again c.states_stay.ensures c.events_stay.ensures c.going_on_adds_up.ensures.all (g.D.Desk.sight c.args.desk.now) (flow_packet c.args.packet.now)
-      (g.D.Desk.sight c.attempts.desk) (g.D.Desk.sight c.try_packet.new.desk) c.attempts.kills c.attempts.invariant.2
-      c.in-Again.ensures.says c.in-Again.ensures.empty c.in-Again.ensures.knows,
-)
+attempts-preserved g c =
+    let now = g.D.Desk.sight c.attempts.desk in
+    let new = g.D.Desk.sight c.try_packet.new.desk in
+    let packet = flow_packet c.args.packet.now in (
+      tt,
+      tt,
+      goes_on_again c.states_stay.ensures c.events_stay.ensures c.going_on_adds_up.ensures.all (g.D.Desk.sight c.args.desk.now) packet now new c.args.killed
+          c.attempts.kills c.args.first c.attempts.invariant.2 c.in-Again.ensures.says c.in-Again.ensures.empty c.in-Again.ensures.knows
+          (λ begun k. killing_again c.states_stay.ensures c.events_stay.ensures c.going_on_adds_up.ensures.all begun packet now new c.attempts.kills k
+          c.in-Again.ensures.says c.in-Again.ensures.empty c.in-Again.ensures.knows),
+    )

@@ -2,7 +2,7 @@ use Rattle.std.proofs.Common.{subst}
 use Rattle.packet_headers.specs.declared.packet.Packet.{Packet}
 use Rattle.packet_path.specs.Handled.{Handled}
 use Rattle.packet_path.specs.Packet.{given_by, given_of, packet_in}
-use Rattle.packet_path.proofs.handle.slow_frame.Goals as goal
+use Rattle.packet_path.proofs.handle_into.slow_frame.Goals as goal
 
 pub returns-clause-handled : goal.returns-clause-handled
 unfolding given_of

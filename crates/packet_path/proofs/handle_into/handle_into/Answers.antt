@@ -4,16 +4,27 @@ use Rattle.history_book.specs.declared.verdict.Verdict.{Verdict}
 use Rattle.packet_path.specs.Handled.{HandledInto}
 use Rattle.packet_path.specs.Packet.{given_of}
 use Rattle.packet_path.proofs.Handling.{appended_after, appended_ready}
-use Rattle.packet_path.proofs.handle.handle_into.Goals as goal
+use Rattle.packet_path.proofs.handle_into.handle_into.Goals as goal
 
-pub returns-clause-handled : goal.returns-clause-handled
-returns-clause-handled g c =
+pub returns-in-Killed-clause-handled : goal.returns-in-Killed-clause-handled
+returns-in-Killed-clause-handled g c =
+    let s = g.D.Desk.sight c.args.desk.now in
+    let ready = g.D.Desk.sight c.ready.new.self in
+    let new = g.D.Desk.sight c.renew_frame.new.desk in
+    let given = given_of c.args.zone c.args.bytes.now c.args.frame.now in
+    let renews = c.in-Killed.ensures.says in
+    appended_ready c.args.base c.args.setup.now 8 s ready new given c.args.verdicts.now c.renew_frame.new.verdicts c.in_ok-ready.ensures.ready
+    (subst (λ (v : Roomed Verdict). HandledInto c.args.base c.args.setup.now given ready new v c.renew_frame.new.verdicts) renews.kept
+    (c.renew_frame.ensures.handled ready renews.packet renews.flow renews.killing))
+
+pub returns-in-Left-clause-handled : goal.returns-in-Left-clause-handled
+returns-in-Left-clause-handled g c =
     let s = g.D.Desk.sight c.args.desk.now in
     let ready = g.D.Desk.sight c.ready.new.self in
     let mid = g.D.Desk.sight c.fast_frame.new.desk in
     let new = g.D.Desk.sight c.slow_frame.new.desk in
     let given = given_of c.args.zone c.args.bytes.now c.args.frame.now in
-    let left = c.if-fast_frame.ensures.says in
+    let left = c.in-Left.ensures.says in
     appended_ready c.args.base c.args.setup.now 8 s ready new given c.args.verdicts.now c.slow_frame.new.verdicts c.in_ok-ready.ensures.ready
     (appended_after c.lower_marks_fit.ensures c.going_on_adds_up.ensures.all c.args.base c.args.setup.now ready mid new given c.args.verdicts.now
     c.slow_frame.new.verdicts left.saw
