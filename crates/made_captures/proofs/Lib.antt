@@ -1,3 +1,4 @@
+pub mod FlowRecords
 pub mod Flows
 pub mod Lengths
 pub mod Reading

@@ -5,10 +5,7 @@ use Rattle.std.proofs.lemmas.List.FromFn.{map-range_with_len_more}
 use Rattle.std.proofs.lemmas.List.Folds.{concat-append}
 use Rattle.std.specs.List.{concat, range_with_len}
 use Rattle.room_list.specs.Roomed.{Roomed}
-use Rattle.tuple_core.specs.declared.Proto.{Proto}
-use Rattle.tuple_core.specs.declared.Tuple.{Tuple}
-use Rattle.made_captures.specs.MadePacket.{laid_out, made_tuple, packet_proto, step_of}
-use Rattle.made_captures.specs.MadeCapture.{contents, file_header, made_capture, made_captures, made_record, record_of}
+use Rattle.made_captures.specs.MadeCapture.{contents, file_header, made_capture, made_captures, made_record}
 
 -- one record more
 pub capture_more : (seed index thread next : ℕ) → index + 1 ≡ next
@@ -26,12 +23,6 @@ capture_more seed index thread next e =
 pub capture_begins : (seed thread : ℕ) → made_capture seed 0 thread ≡ file_header
 unfolding made_capture
 capture_begins seed thread = append-nil file_header
-
--- the record of a packet that is laid out as its protocol says
-pub record_is : (seed thread index : ℕ) (proto : Proto) (t : Tuple) → proto ≡ packet_proto seed index → t ≡ made_tuple seed thread index
-    → record_of index (laid_out proto t (step_of index)) ≡ made_record seed thread index
-unfolding made_record
-record_is seed thread index proto t e f = λ i. record_of index (laid_out (e i) (f i) (step_of index))
 
 -- one capture more
 pub captures_more : (seed packets thread : ℕ) (files : List (Roomed ℕ)) (file : Roomed ℕ)

@@ -2,3 +2,4 @@ pub mod MadePacket
 pub mod MadeCapture
 pub mod MadeFrames
 pub mod Laws
+pub mod Internal

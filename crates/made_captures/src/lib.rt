@@ -9,7 +9,7 @@ mod packet;
 mod record;
 
 use packet_headers::Bytes;
-use record::{FILE_HEADER, append_packet, capture_length};
+use record::{FILE_HEADER, append_flow, capture_length, first_moment};
 use room_list::RoomList;
 use std::alloc::Global;
 use tuple_core::NoMemory;
@@ -24,8 +24,9 @@ fn make_capture(alloc: Global, seed: u32, packets: u32, thread: u8) -> Result<By
 {
     let mut bytes = Bytes::new(alloc, capture_length(seed, packets))?;
     bytes.append(&FILE_HEADER)?;
-    'records: for index in 0..packets {
-        append_packet(&mut bytes, seed, thread, index)?;
+    'flows: for flow in 0..packets.div_ceil(4) {
+        let count = (packets - flow * 4).min(4);
+        append_flow(&mut bytes, seed, thread, flow, first_moment(flow), count)?;
     }
     Ok(bytes)
 }
