@@ -7,10 +7,11 @@ ghost use Rattle.nat_setup.specs.Rule.{IsLawfulRule};
 use super::super::BusyDesk;
 use super::super::stage::{Script, Turn};
 use history_book::desk::Desk;
+use history_book::report::Verdicts;
 use history_book::verdict::{Class, Ftp, Label, Translated, Verdict};
 use nat_setup::read::read_rules;
 use packet_headers::frame::{Frame, Link};
-use packet_path::handle::handle;
+use packet_path::handle_into::handle_into;
 use packet_path::setup::{Ports, Setup};
 use std::alloc::Global;
 use std::process::Abort;
@@ -262,7 +263,7 @@ fn set_up<R: Abort + AllocGlobal>(rt: &R, rules: &str, helped: bool) -> Result<S
 }
 
 /// What becomes of a packet at this moment.
-fn handled<R: Wait + Abort>(
+fn handled<R: Wait + Abort + AllocGlobal>(
     rt: &R,
     desk: &mut BusyDesk,
     packet: &[u8],
@@ -286,11 +287,13 @@ fn handled<R: Wait + Abort>(
         original: length,
         link: Link::Raw,
     };
-    handle(rt, desk, packet, &frame, 0, setup)
+    let mut verdicts = Verdicts::new(rt.alloc(), 1)?;
+    handle_into(rt, desk, packet, &frame, 0, setup, 0, &mut verdicts)?;
+    Ok(verdicts.at(0))
 }
 
 /// Asserts that a packet's verdict is as told.
-fn step_holds<R: Wait + Abort>(
+fn step_holds<R: Wait + Abort + AllocGlobal>(
     rt: &R,
     desk: &mut BusyDesk,
     setup: &Setup,
@@ -309,7 +312,7 @@ fn step_holds<R: Wait + Abort>(
 }
 
 /// Asserts that the verdicts of packets are as told.
-fn all_hold<R: Wait + Abort>(
+fn all_hold<R: Wait + Abort + AllocGlobal>(
     rt: &R,
     desk: &mut BusyDesk,
     setup: &Setup,
