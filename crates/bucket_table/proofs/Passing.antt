@@ -2,6 +2,7 @@
 use Rattle.std.proofs.Common.{◌≡◌, ◌≢◌, ℕ, suc, ◌+◌, ◌-◌, ◌<◌, Bool, true, List, [], ◌∷◌, length, refl, sym, ap, subst, ◌∙◌, inr, arith}
 use Rattle.std.specs.Prelude.{◌||◌, not}
 use Rattle.std.proofs.lemmas.Bool.{false≢true, ne_eqb}
+use Rattle.std.proofs.lemmas.List.{append-nil}
 use Rattle.history_book.specs.declared.sizes.Sizes.{Sizes}
 use Rattle.track_rule.specs.BucketSteps.{IsChainOf, IsEntryOf, IsShutAt, LoadsLink, MayString, Strings, end_word, first_of, has_link, strung, taken_from}
 use Rattle.track_rule.specs.Chains.{chain_in, shuts_of}
@@ -42,6 +43,16 @@ loads_join u v w a b = record {
   own = more_own (λ word. true) u.view.readings w.view.readings (more_loads u v w a b);
 }
 
+-- no load
+pub no_loads : (v : PassSight) → OnlyLoads v v
+no_loads v =
+    let none : More (λ k. true) v.view.readings v.view.readings = record { more = []; all = sym (append-nil v.view.readings); own = refl } in
+    record {
+      same = refl;
+      stand = more_stand (λ k. true) v.view.readings v.view.readings none;
+      own = more_own (λ k. true) v.view.readings v.view.readings none;
+    }
+
 -- one load
 pub load_only : (v w : PassSight) (word n : ℕ) → w ≡ record v { view = w.view } → LoadsLink word v.view n w.view → OnlyLoads v w
 load_only v w word n kept loads =
@@ -81,6 +92,20 @@ changes_join b c d o u v w loads first second same = record {
         (more_join (λ word. not (is_link_word (sizes_of o) word)) u.view.readings v.view.readings w.view.readings
         (subst (λ (z : Sizes). More (λ word. not (is_link_word z word)) u.view.readings v.view.readings) sizes (links_more b u v first))
         (subst (λ (z : Sizes). More (λ word. not (is_link_word z word)) v.view.readings w.view.readings) sizes' (links_more c v w second)))
+
+-- first loads, and then a change
+pub changes_after : (b d : HeldBuckets) (o u w : PassSight) → OnlyLoads o u → ChangesBuckets b u w → b ≡ d → ChangesBuckets d o w
+changes_after b d o u w loads change same =
+    let more : More (λ word. not (is_link_word (sizes_of o) word)) o.view.readings w.view.readings =
+    more_join (λ word. not (is_link_word (sizes_of o) word)) o.view.readings u.view.readings w.view.readings (loads_links (sizes_of o) o u loads)
+    (subst (λ (z : Sizes). More (λ word. not (is_link_word z word)) u.view.readings w.view.readings) (ap sizes_of loads.same) (links_more b u w change)) in
+    record {
+      same = change.same
+          ∙ ap (λ (x : PassSight). record x { view = record x.view { buckets = b; walk = w.view.walk; readings = w.view.readings } }) loads.same
+          ∙ ap (λ (s : HeldBuckets). record o { view = record o.view { buckets = s; walk = w.view.walk; readings = w.view.readings } }) same;
+      stand = more_stand (λ word. not (is_link_word (sizes_of o) word)) o.view.readings w.view.readings more;
+      own = more_own (λ word. not (is_link_word (sizes_of o) word)) o.view.readings w.view.readings more;
+    }
 
 -- the load of the head
 pub passing_start : (b n : ℕ) (v w : PassSight) → b < (sizes_of v).buckets → 0 < shuts_of b v.view → LoadsLink (head_word (sizes_of v) b) v.view n w.view

@@ -104,14 +104,39 @@ pub fn link(pass: &mut Pass, locked: &Locked, place: u32)
         (link_words (hook_bucket (sizes_of pass.old) (original_link place) pass.old.view.buckets.hooks) (hook_bucket (sizes_of pass.old) (reply_link place) pass.old.view.buckets.hooks) place)
         pass.old.view pass.new.view }
 {
-    let _ = locked;
     let sizes = pass.sizes();
     let original = 1 + 2 * place as u64;
     let reply = 2 + 2 * place as u64;
     let first = bucket_of_link(pass, &sizes, original);
     let second = bucket_of_link(pass, &sizes, reply);
-    put_link(pass, &sizes, second, reply);
-    put_link(pass, &sizes, first, original);
+    link_in(pass, locked, &sizes, place, first, second);
+}
+
+/// The same, where the buckets of both tuples are at hand.
+#[inline(always)]
+pub fn link_in(pass: &mut Pass, locked: &Locked, sizes: &Sizes, place: u32, first: u32, second: u32)
+    requires limits { AreWithinLimits sizes.now }
+    requires sizes { sizes.now ≡ sizes_of pass.old }
+    requires place { place < (sizes_of pass.old).entries }
+    requires shut { AreShut locked.now pass.old.view }
+    requires original { is_down (original_link place) pass.old.view.buckets.hooks ≡ true }
+    requires reply { is_down (reply_link place) pass.old.view.buckets.hooks ≡ true }
+    requires owned { is_among place pass.old.view.places.owned ≡ true }
+    requires alone { (p : ℕ) → is_up p pass.old.view.buckets.hooks ≡ true → p ≡ place }
+    requires original_ready { IsReady (sizes_of pass.old) locked.now (original_link place) pass.old.view.buckets.hooks }
+    requires reply_ready { IsReady (sizes_of pass.old) locked.now (reply_link place) pass.old.view.buckets.hooks }
+    requires first { first ≡ hook_bucket (sizes_of pass.old) (original_link place) pass.old.view.buckets.hooks }
+    requires first_below { first < (sizes_of pass.old).buckets }
+    requires second { second ≡ hook_bucket (sizes_of pass.old) (reply_link place) pass.old.view.buckets.hooks }
+    requires second_below { second < (sizes_of pass.old).buckets }
+    ensures links { ChangesBuckets (linked_buckets (sizes_of pass.old) place pass.old.view.buckets) pass.old pass.new }
+    ensures words { ChangesWords
+        (link_words (hook_bucket (sizes_of pass.old) (original_link place) pass.old.view.buckets.hooks) (hook_bucket (sizes_of pass.old) (reply_link place) pass.old.view.buckets.hooks) place)
+        pass.old.view pass.new.view }
+{
+    let _ = locked;
+    put_link(pass, sizes, second, 2 + 2 * place as u64);
+    put_link(pass, sizes, first, 1 + 2 * place as u64);
 }
 
 /// Takes both tuples of a place out of their chains.
@@ -181,26 +206,45 @@ pub fn walk(pass: &mut Pass, locked: &Locked, t: &Tuple) -> Option<(u32, Directi
     ensures words { ChangesWords no_word pass.old.view pass.new.view }
     ensures finds { result ≡ found_in (address_word t.now) (flow_word t.now) (chain_in (bucket_in (sizes_of pass.old) t.now) pass.old.view.buckets.shut) }
 {
-    let _ = locked;
     let sizes = pass.sizes();
+    walk_sized(pass, locked, &sizes, t)
+}
+
+/// The same, where the sizes of the table are at hand: what is reckoned from them is reckoned once in calls that have the same ones.
+#[inline(always)]
+pub fn walk_sized(
+    pass: &mut Pass,
+    locked: &Locked,
+    sizes: &Sizes,
+    t: &Tuple,
+) -> Option<(u32, Direction)>
+    requires limits { AreWithinLimits sizes.now }
+    requires sizes { sizes.now ≡ sizes_of pass.old }
+    requires shut { AreShut locked.now pass.old.view }
+    requires bucket { has_bucket locked.now (bucket_in (sizes_of pass.old) t.now) ≡ true }
+    ensures loads { OnlyLoads pass.old pass.new }
+    ensures words { ChangesWords no_word pass.old.view pass.new.view }
+    ensures finds { result ≡ found_in (address_word t.now) (flow_word t.now) (chain_in (bucket_in (sizes_of pass.old) t.now) pass.old.view.buckets.shut) }
+{
+    let _ = locked;
     let bucket = bucket_of(t, sizes.seed, sizes.buckets);
     let goal = words(t);
-    let mut link = pass.link_load(head_word(&sizes, bucket));
+    let mut link = pass.link_load(head_word(sizes, bucket));
     let mut reply = 0;
     let mut left = 2 * sizes.entries;
     'links: while link != 0 {
-        let has = has_words(pass, &sizes, link, goal);
+        let has = has_words(pass, sizes, link, goal);
         if is_answer(link, has) {
-            return Some((place_of(&sizes, link), Direction::Original));
+            return Some((place_of(sizes, link), Direction::Original));
         }
         reply = first_reply(reply, link, has);
-        link = pass.link_load(next_word(&sizes, link));
+        link = pass.link_load(next_word(sizes, link));
         left -= 1;
     }
     if reply == 0 {
         return None;
     }
-    Some((place_of(&sizes, reply), Direction::Reply))
+    Some((place_of(sizes, reply), Direction::Reply))
 }
 
 /// Whether a link has the tuple and is of the reply direction.
@@ -214,7 +258,7 @@ fn is_reply(link: u64, has: bool) -> bool
 
 /// Finds the place of the reply link of a locked chain that has the tuple. None is that there is none. `walk` gives an original
 /// link in its stead, where both are there.
-#[cold]
+#[inline(always)]
 pub fn walk_reply(pass: &mut Pass, locked: &Locked, t: &Tuple) -> Option<u32>
     requires shut { AreShut locked.now pass.old.view }
     requires bucket { has_bucket locked.now (bucket_in (sizes_of pass.old) t.now) ≡ true }

@@ -14,17 +14,17 @@ use Rattle.track_rule.proofs.Changing.{joined}
 use Rattle.bucket_table.proofs.Chaining.{only_words}
 use Rattle.bucket_table.proofs.Pairs.{bucket_shut, walk_end, walk_finds, walk_found, walk_on, walk_some, walk_start}
 use Rattle.bucket_table.proofs.Passing.{load_only, loads_join}
-use Rattle.bucket_table.proofs.locked_chain.walk.Goals as goal
+use Rattle.bucket_table.proofs.locked_chain.walk_sized.Goals as goal
 
 pub links-init : goal.links-init
 links-init c =
     let bucket : c.bucket_of-bucket.result ≡ bucket_in (sizes_of c.args.pass.now) c.args.t.now =
-    c.bucket_of-bucket.ensures.exact ∙ ap (λ (z : Sizes). bucket_in z c.args.t.now) c.sizes-sizes.ensures.sizes in
+    c.bucket_of-bucket.ensures.exact ∙ ap (λ (z : Sizes). bucket_in z c.args.t.now) c.requires.sizes in
     record {
       loads = load_only c.args.pass.now c.link_load-link.new.self c.head_word.result c.link_load-link.result c.link_load-link.ensures.kept c.link_load-link.ensures.loads;
-      walks = walk_start c.sizes-sizes.result c.bucket_of-bucket.result c.link_load-link.result c.head_word.result (get_or c.words-goal.result 0 0)
-          (get_or c.words-goal.result 1 0) c.args.pass.now c.link_load-link.new.self c.sizes-sizes.ensures.sizes c.head_word.ensures.word
-          (subst (λ (z : Sizes). c.bucket_of-bucket.result < z.buckets) c.sizes-sizes.ensures.sizes c.bucket_of-bucket.ensures.below)
+      walks = walk_start c.args.sizes.now c.bucket_of-bucket.result c.link_load-link.result c.head_word.result (get_or c.words-goal.result 0 0)
+          (get_or c.words-goal.result 1 0) c.args.pass.now c.link_load-link.new.self c.requires.sizes c.head_word.ensures.word
+          (subst (λ (z : Sizes). c.bucket_of-bucket.result < z.buckets) c.requires.sizes c.bucket_of-bucket.ensures.below)
           (subst (λ (b : ℕ). 0 < shuts_of b c.args.pass.now.view) (sym bucket) (bucket_shut c.args.locked.now (bucket_in (sizes_of c.args.pass.now) c.args.t.now) c.args.pass.now.view c.requires.shut c.requires.bucket))
           c.link_load-link.ensures.loads c.link_load-link.ensures.kept;
     }
@@ -36,7 +36,7 @@ pub links-preserved : goal.links-preserved
 links-preserved c =
     let same : sizes_of c.links.pass ≡ sizes_of c.args.pass.now = ap sizes_of c.links.invariant.loads.same in
     let below : c.bucket_of-bucket.result < (sizes_of c.links.pass).buckets =
-    subst (λ (z : Sizes). c.bucket_of-bucket.result < z.buckets) (c.sizes-sizes.ensures.sizes ∙ sym same) c.bucket_of-bucket.ensures.below in
+    subst (λ (z : Sizes). c.bucket_of-bucket.result < z.buckets) (c.requires.sizes ∙ sym same) c.bucket_of-bucket.ensures.below in
     record {
       loads = loads_join c.args.pass.now c.has_words-has.new.pass c.link_load-link-in-links.new.self
           (loads_join c.args.pass.now c.links.pass c.has_words-has.new.pass c.links.invariant.loads c.has_words-has.ensures.loads)
@@ -49,7 +49,7 @@ links-preserved c =
           c.links.invariant.walks c.links-test.true c.has_words-has.ensures.loads
           (λ passed e rest there is. c.has_words-has.ensures.exact c.bucket_of-bucket.result passed e rest below there is)
           (not_first c.has_words-has.result c.links.link (sym c.is_answer.ensures ∙ c.if-is_answer.false))
-          (c.next_word.ensures.word ∙ ap (λ (z : Sizes). next_word z c.links.link) (c.sizes-sizes.ensures.sizes ∙ sym same))
+          (c.next_word.ensures.word ∙ ap (λ (z : Sizes). next_word z c.links.link) (c.requires.sizes ∙ sym same))
           c.link_load-link-in-links.ensures.loads c.link_load-link-in-links.ensures.kept);
     }
 
@@ -69,7 +69,7 @@ links-smaller c =
 pub returns-then-is_answer-clause-finds : goal.returns-then-is_answer-clause-finds
 returns-then-is_answer-clause-finds c =
     let bucket : c.bucket_of-bucket.result ≡ bucket_in (sizes_of c.args.pass.now) c.args.t.now =
-    c.bucket_of-bucket.ensures.exact ∙ ap (λ (z : Sizes). bucket_in z c.args.t.now) c.sizes-sizes.ensures.sizes in
+    c.bucket_of-bucket.ensures.exact ∙ ap (λ (z : Sizes). bucket_in z c.args.t.now) c.requires.sizes in
     let first : get_or c.words-goal.result 0 0 ≡ address_word c.args.t.now = ap (λ (xs : List ℕ). get_or xs 0 0) c.words-goal.ensures in
     let second : get_or c.words-goal.result 1 0 ≡ flow_word c.args.t.now = ap (λ (xs : List ℕ). get_or xs 1 0) c.words-goal.ensures in
     let finds = walk_finds c.bucket_of-bucket.result (get_or c.words-goal.result 0 0) (get_or c.words-goal.result 1 0) c.links.link c.links.left c.links.reply
@@ -81,7 +81,7 @@ returns-then-is_answer-clause-finds c =
     c.links.pass c.links.invariant.walks c.links-test.true
     (λ passed e rest there is.
     sym parts.0 ∙ c.has_words-has.ensures.exact c.bucket_of-bucket.result passed e rest
-    (subst (λ (z : Sizes). c.bucket_of-bucket.result < z.buckets) (c.sizes-sizes.ensures.sizes ∙ sym (ap sizes_of c.links.invariant.loads.same)) c.bucket_of-bucket.ensures.below)
+    (subst (λ (z : Sizes). c.bucket_of-bucket.result < z.buckets) (c.requires.sizes ∙ sym (ap sizes_of c.links.invariant.loads.same)) c.bucket_of-bucket.ensures.below)
     there is)
     (eqb-true (side_of c.links.link) 0 parts.1))
     ∙ finds
@@ -89,7 +89,7 @@ returns-then-is_answer-clause-finds c =
 pub returns-then-reply-eq0-clause-finds : goal.returns-then-reply-eq0-clause-finds
 returns-then-reply-eq0-clause-finds c =
     let bucket : c.bucket_of-bucket.result ≡ bucket_in (sizes_of c.args.pass.now) c.args.t.now =
-    c.bucket_of-bucket.ensures.exact ∙ ap (λ (z : Sizes). bucket_in z c.args.t.now) c.sizes-sizes.ensures.sizes in
+    c.bucket_of-bucket.ensures.exact ∙ ap (λ (z : Sizes). bucket_in z c.args.t.now) c.requires.sizes in
     let first : get_or c.words-goal.result 0 0 ≡ address_word c.args.t.now = ap (λ (xs : List ℕ). get_or xs 0 0) c.words-goal.ensures in
     let second : get_or c.words-goal.result 1 0 ≡ flow_word c.args.t.now = ap (λ (xs : List ℕ). get_or xs 1 0) c.words-goal.ensures in
     let finds = walk_finds c.bucket_of-bucket.result (get_or c.words-goal.result 0 0) (get_or c.words-goal.result 1 0) c.links.link c.links.left c.links.reply
@@ -103,7 +103,7 @@ returns-then-reply-eq0-clause-finds c =
 pub returns-clause-finds : goal.returns-clause-finds
 returns-clause-finds c =
     let bucket : c.bucket_of-bucket.result ≡ bucket_in (sizes_of c.args.pass.now) c.args.t.now =
-    c.bucket_of-bucket.ensures.exact ∙ ap (λ (z : Sizes). bucket_in z c.args.t.now) c.sizes-sizes.ensures.sizes in
+    c.bucket_of-bucket.ensures.exact ∙ ap (λ (z : Sizes). bucket_in z c.args.t.now) c.requires.sizes in
     let first : get_or c.words-goal.result 0 0 ≡ address_word c.args.t.now = ap (λ (xs : List ℕ). get_or xs 0 0) c.words-goal.ensures in
     let second : get_or c.words-goal.result 1 0 ≡ flow_word c.args.t.now = ap (λ (xs : List ℕ). get_or xs 1 0) c.words-goal.ensures in
     let finds = walk_finds c.bucket_of-bucket.result (get_or c.words-goal.result 0 0) (get_or c.words-goal.result 1 0) c.links.link c.links.left c.links.reply

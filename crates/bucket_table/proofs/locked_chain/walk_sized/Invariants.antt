@@ -1,6 +1,6 @@
 use Rattle.std.proofs.Common.{get_or}
 use Rattle.bucket_table.specs.LockedChain.{IsWalking, OnlyLoads}
-use Rattle.bucket_table.proofs.locked_chain.walk.Given as goal
+use Rattle.bucket_table.proofs.locked_chain.walk_sized.Given as goal
 
 abbrev pub invariant-links : goal.invariant-links
 invariant-links l = record {
