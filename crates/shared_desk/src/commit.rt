@@ -2,6 +2,7 @@
 
 ghost use Rattle.std.specs.Prelude.{◌≡◌, ◌<◌, true, None, []};
 ghost use Rattle.history_book.specs.Entry.{record_for};
+ghost use Rattle.history_book.specs.Sizes.{AreWithinLimits};
 ghost use Rattle.track_rule.specs.ChangesOnly.{ChangesWords, is_refs_of, is_turn_of};
 ghost use Rattle.shared_desk.specs.Changed.{commit_words};
 ghost use Rattle.shared_desk.specs.Commit.{AddsReference, CanCommit, Commits, HasRecordTurn};
@@ -9,12 +10,14 @@ ghost use Rattle.track_rule.specs.Sights.{sizes_of};
 ghost use Rattle.track_rule.specs.Steps.{is_second};
 
 use bucket_table::lock::Locked;
-use bucket_table::locked_chain::link;
+use bucket_table::locked_chain::link_in;
 use history_book::event::Event;
 use history_book::record::{Flow, Record};
+use history_book::sizes::Sizes;
 use std::sync::Wait;
 use std::thread;
 use track_rule::pass::Pass;
+use tuple_core::bucket_of;
 
 /// The record that a flow becomes.
 #[inline(always)]
@@ -79,12 +82,23 @@ fn add_reference<R: Wait>(rt: &R, pass: &mut Pass, place: u32)
 
 /// Makes the flow an entry, in a place whose two links are in no chain, while both buckets are locked. Gives its id.
 #[inline(always)]
-pub fn commit<R: Wait>(rt: &R, pass: &mut Pass, locked: &Locked, place: u32, flow: &Flow) -> u64
-    requires { CanCommit place flow.now locked.now pass.old }
+pub fn commit<R: Wait>(
+    rt: &R,
+    pass: &mut Pass,
+    locked: &Locked,
+    sizes: &Sizes,
+    place: u32,
+    flow: &Flow,
+) -> u64
+    requires limits { AreWithinLimits sizes.now }
+    requires sizes { sizes.now ≡ sizes_of pass.old }
+    requires can { CanCommit place flow.now locked.now pass.old }
     ensures commits { Commits place flow.now result pass.old pass.new }
     ensures words { ChangesWords (commit_words place flow.now) pass.old.view pass.new.view }
 {
-    link(pass, locked, place);
+    let first = bucket_of(&flow.original, sizes.seed, sizes.buckets);
+    let second = bucket_of(&flow.reply, sizes.seed, sizes.buckets);
+    link_in(pass, locked, sizes, place, first, second);
     add_reference(rt, pass, place);
     let id = pass.confirm_add(Event::Confirm {
         subject: record_for(flow, 0, place),

@@ -35,12 +35,13 @@ fn store_tuple(pass: &mut Pass, sizes: &Sizes, link: u64, t: &Tuple)
 
 /// Stores both tuples of a flow in the place that was taken for it.
 #[inline(always)]
-pub fn store_tuples(pass: &mut Pass, place: u32, flow: &Flow)
-    requires { IsFresh place pass.old }
+pub fn store_tuples(pass: &mut Pass, sizes: &Sizes, place: u32, flow: &Flow)
+    requires limits { AreWithinLimits sizes.now }
+    requires sizes { sizes.now ≡ sizes_of pass.old }
+    requires fresh { IsFresh place pass.old }
     ensures stores { StoresTuples place flow.now pass.old pass.new }
     ensures words { ChangesWords (is_tuple_of place) pass.old.view pass.new.view }
 {
-    let sizes = pass.sizes();
-    store_tuple(pass, &sizes, 1 + 2 * place as u64, &flow.original);
-    store_tuple(pass, &sizes, 2 + 2 * place as u64, &flow.reply);
+    store_tuple(pass, sizes, 1 + 2 * place as u64, &flow.original);
+    store_tuple(pass, sizes, 2 + 2 * place as u64, &flow.reply);
 }

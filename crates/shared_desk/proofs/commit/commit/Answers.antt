@@ -18,48 +18,48 @@ use Rattle.shared_desk.proofs.Entering.{can_confirm, committed, has_second, held
 use Rattle.shared_desk.proofs.Linking.{down_from, none_up}
 use Rattle.shared_desk.proofs.commit.commit.Goals as goal
 
-pub link-requires-clause-original : goal.link-requires-clause-original
-link-requires-clause-original g c = down_from (original_link c.args.place) c.args.pass.now.view.buckets.hooks (omega (arith, c.requires.original)) c.requires.down
+pub link_in-requires-clause-original : goal.link_in-requires-clause-original
+link_in-requires-clause-original g c = down_from (original_link c.args.place) c.args.pass.now.view.buckets.hooks (omega (arith, c.requires.can.original)) c.requires.can.down
 
-pub link-requires-clause-reply : goal.link-requires-clause-reply
-link-requires-clause-reply g c = down_from (reply_link c.args.place) c.args.pass.now.view.buckets.hooks (omega (arith, c.requires.reply)) c.requires.down
+pub link_in-requires-clause-reply : goal.link_in-requires-clause-reply
+link_in-requires-clause-reply g c = down_from (reply_link c.args.place) c.args.pass.now.view.buckets.hooks (omega (arith, c.requires.can.reply)) c.requires.can.down
 
-pub link-requires-clause-alone : goal.link-requires-clause-alone
-link-requires-clause-alone g c = λ q up. absurd (false≢true (sym (none_up q c.args.pass.now.view.buckets.hooks c.requires.down) ∙ up))
+pub link_in-requires-clause-alone : goal.link_in-requires-clause-alone
+link_in-requires-clause-alone g c = λ q up. absurd (false≢true (sym (none_up q c.args.pass.now.view.buckets.hooks c.requires.can.down) ∙ up))
 
-pub link-requires-clause-reply_ready : goal.link-requires-clause-reply_ready
-link-requires-clause-reply_ready g c =
+pub link_in-requires-clause-reply_ready : goal.link_in-requires-clause-reply_ready
+link_in-requires-clause-reply_ready g c =
     let z = sizes_of c.args.pass.now in
     is_ready (sizes_of c.args.pass.now) c.args.locked.now (reply_link c.args.place) c.args.flow.now.reply c.args.pass.now.view.buckets.hooks
-    (valid_reply c.args.flow.now c.requires.protocol) c.requires.reply_pair
-    (ap (λ (l : Buckets). has_bucket l (bucket_in (sizes_of c.args.pass.now) c.args.flow.now.reply)) c.requires.locked_are
+    (valid_reply c.args.flow.now c.requires.can.protocol) c.requires.can.reply_pair
+    (ap (λ (l : Buckets). has_bucket l (bucket_in (sizes_of c.args.pass.now) c.args.flow.now.reply)) c.requires.can.locked_are
     ∙ has_second (bucket_in (sizes_of c.args.pass.now) c.args.flow.now.original) (bucket_in (sizes_of c.args.pass.now) c.args.flow.now.reply))
 
 pub confirm_add-id-requires : goal.confirm_add-id-requires
 confirm_add-id-requires g c = record {
-  can = can_confirm c.args.place c.args.flow.now c.args.locked.now c.record_for.result c.args.pass.now c.link.new.pass c.add_reference.new.pass c.record_for.ensures c.requires c.link.ensures.links c.add_reference.ensures.adds;
+  can = can_confirm c.args.place c.args.flow.now c.args.locked.now c.record_for.result c.args.pass.now c.link_in.new.pass c.add_reference.new.pass c.record_for.ensures c.requires.can c.link_in.ensures.links c.add_reference.ensures.adds;
 }
 
 pub phase_live-requires-clause-held : goal.phase_live-requires-clause-held
 phase_live-requires-clause-held g c =
-    held_after c.args.place c.args.flow.now c.args.locked.now c.confirm_add-id.result c.record_for.result c.args.pass.now c.link.new.pass c.add_reference.new.pass c.confirm_add-id.new.self
-    c.record_for.ensures c.requires c.link.ensures.links c.add_reference.ensures.adds c.confirm_add-id.ensures.adds
+    held_after c.args.place c.args.flow.now c.args.locked.now c.confirm_add-id.result c.record_for.result c.args.pass.now c.link_in.new.pass c.add_reference.new.pass c.confirm_add-id.new.self
+    c.record_for.ensures c.requires.can c.link_in.ensures.links c.add_reference.ensures.adds c.confirm_add-id.ensures.adds
 
 pub returns-clause-commits : goal.returns-clause-commits
 returns-clause-commits g c =
-    committed c.args.place c.args.flow.now c.args.locked.now c.confirm_add-id.result c.record_for.result c.args.pass.now c.link.new.pass c.add_reference.new.pass c.confirm_add-id.new.self c.phase_live.new.self
-    c.record_for.ensures c.requires c.link.ensures.links c.add_reference.ensures.adds c.confirm_add-id.ensures.adds c.confirm_add-id.ensures.kept c.phase_live.ensures
+    committed c.args.place c.args.flow.now c.args.locked.now c.confirm_add-id.result c.record_for.result c.args.pass.now c.link_in.new.pass c.add_reference.new.pass c.confirm_add-id.new.self c.phase_live.new.self
+    c.record_for.ensures c.requires.can c.link_in.ensures.links c.add_reference.ensures.adds c.confirm_add-id.ensures.adds c.confirm_add-id.ensures.kept c.phase_live.ensures
 
 pub returns-clause-words : goal.returns-clause-words
 returns-clause-words g c =
     let f = commit_words c.args.place c.args.flow.now in
-    joined f c.args.pass.now.view c.link.new.pass.view c.phase_live.new.self.view
-    (weaker _ f c.args.pass.now.view c.link.new.pass.view (in_one (either (flow_heads c.args.flow.now) (is_next_of c.args.place)) (either (is_refs_of c.args.place) (either is_history (is_live_of c.args.place))))
-    (link_flow c.args.place c.args.flow.now _ _ c.args.pass.now.view c.link.new.pass.view (ap (bucket_of (sizes_of c.args.pass.now)) c.requires.original_pair)
-    (ap (bucket_of (sizes_of c.args.pass.now)) c.requires.reply_pair) c.link.ensures.words))
-    (weaker _ f c.link.new.pass.view c.phase_live.new.self.view (in_other (either (flow_heads c.args.flow.now) (is_next_of c.args.place)) (either (is_refs_of c.args.place) (either is_history (is_live_of c.args.place))))
-    (joined (either (is_refs_of c.args.place) (either is_history (is_live_of c.args.place))) c.link.new.pass.view c.add_reference.new.pass.view c.phase_live.new.self.view
-    (weaker _ _ c.link.new.pass.view c.add_reference.new.pass.view (in_one (is_refs_of c.args.place) (either is_history (is_live_of c.args.place))) c.add_reference.ensures.words)
+    joined f c.args.pass.now.view c.link_in.new.pass.view c.phase_live.new.self.view
+    (weaker _ f c.args.pass.now.view c.link_in.new.pass.view (in_one (either (flow_heads c.args.flow.now) (is_next_of c.args.place)) (either (is_refs_of c.args.place) (either is_history (is_live_of c.args.place))))
+    (link_flow c.args.place c.args.flow.now _ _ c.args.pass.now.view c.link_in.new.pass.view (ap (bucket_of (sizes_of c.args.pass.now)) c.requires.can.original_pair)
+    (ap (bucket_of (sizes_of c.args.pass.now)) c.requires.can.reply_pair) c.link_in.ensures.words))
+    (weaker _ f c.link_in.new.pass.view c.phase_live.new.self.view (in_other (either (flow_heads c.args.flow.now) (is_next_of c.args.place)) (either (is_refs_of c.args.place) (either is_history (is_live_of c.args.place))))
+    (joined (either (is_refs_of c.args.place) (either is_history (is_live_of c.args.place))) c.link_in.new.pass.view c.add_reference.new.pass.view c.phase_live.new.self.view
+    (weaker _ _ c.link_in.new.pass.view c.add_reference.new.pass.view (in_one (is_refs_of c.args.place) (either is_history (is_live_of c.args.place))) c.add_reference.ensures.words)
     (weaker _ _ c.add_reference.new.pass.view c.phase_live.new.self.view (in_other (is_refs_of c.args.place) (either is_history (is_live_of c.args.place)))
     (joined (either is_history (is_live_of c.args.place)) c.add_reference.new.pass.view c.confirm_add-id.new.self.view c.phase_live.new.self.view
     (weaker _ _ c.add_reference.new.pass.view c.confirm_add-id.new.self.view (in_one is_history (is_live_of c.args.place))

@@ -5,8 +5,8 @@ use Rattle.shared_desk.proofs.Wording.{around, gave_words}
 use Rattle.shared_desk.proofs.Confirmed.{answered, can_enter}
 use Rattle.shared_desk.proofs.confirm.confirm.Goals as goal
 
-pub confirm_locked-outcome-requires : goal.confirm_locked-outcome-requires
-confirm_locked-outcome-requires g c =
+pub confirm_locked-outcome-requires-clause-can : goal.confirm_locked-outcome-requires-clause-can
+confirm_locked-outcome-requires-clause-can g c =
     can_enter c.args.place c.args.flow.now c.args.pass.now c.store_tuples.new.pass c.take_turn.new.pass c.requires c.store_tuples.ensures.stores c.take_turn.ensures.has
 
 pub returns-clause-confirms : goal.returns-clause-confirms

@@ -11,7 +11,7 @@ pub store_tuple-requires-2-clause-there : goal.store_tuple-requires-2-clause-the
 store_tuple-requires-2-clause-there c =
     omega (
       arith,
-      c.requires.reply,
+      c.requires.fresh.reply,
       same_count (2 + 2 * c.args.place) c.store_tuple.new.pass.view.buckets.hooks c.args.pass.now.view.buckets.hooks c.store_tuple.ensures.stores.stands,
     )
 
@@ -21,7 +21,7 @@ of_reply p = omega arith
 pub store_tuple-requires-2-clause-low : goal.store_tuple-requires-2-clause-low
 store_tuple-requires-2-clause-low c =
     ap (λ (p : ℕ). is_up p c.store_tuple.new.pass.view.buckets.hooks) (of_reply c.args.place)
-    ∙ same_up c.args.place c.store_tuple.new.pass.view.buckets.hooks c.args.pass.now.view.buckets.hooks c.store_tuple.ensures.stores.stands ∙ c.requires.low
+    ∙ same_up c.args.place c.store_tuple.new.pass.view.buckets.hooks c.args.pass.now.view.buckets.hooks c.store_tuple.ensures.stores.stands ∙ c.requires.fresh.low
 
 of_original : (p : ℕ) → place_of (1 + 2 * p) ≡ p
 of_original p = omega arith
