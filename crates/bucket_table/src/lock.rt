@@ -54,11 +54,14 @@ fn lock<R: Wait>(rt: &R, pass: &mut Pass, bucket: u32)
     requires open { shuts_of bucket pass.old.view ≡ 0 }
     ensures { Locks bucket pass.old pass.new }
 {
+    if try_lock(pass, bucket) {
+        return;
+    }
     'tries: for _ in rt.forever() {
+        thread::yield_now();
         if try_lock(pass, bucket) {
             return;
         }
-        thread::yield_now();
     }
     unreachable!()
 }

@@ -13,11 +13,14 @@ pub fn take_turn<R: Wait>(rt: &R, pass: &mut Pass)
     requires { pass.old.view.free ≡ None }
     ensures { HasFreeTurn pass.old pass.new }
 {
+    if pass.free_take() {
+        return;
+    }
     'turns: for _ in rt.forever() {
+        thread::yield_now();
         if pass.free_take() {
             return;
         }
-        thread::yield_now();
     }
     unreachable!()
 }

@@ -53,11 +53,14 @@ pub fn take_turn<R: Wait>(rt: &R, pass: &mut Pass, place: u32)
     ensures has { HasRecordTurn place pass.old pass.new }
     ensures words { ChangesWords (is_turn_of place) pass.old.view pass.new.view }
 {
+    if pass.turn_take(place) {
+        return;
+    }
     'turns: for _ in rt.forever() {
+        thread::yield_now();
         if pass.turn_take(place) {
             return;
         }
-        thread::yield_now();
     }
     unreachable!()
 }

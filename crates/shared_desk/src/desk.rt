@@ -73,6 +73,24 @@ impl<'t, G: Gate> Clerk<'t, G> {
             }
         }
     }
+
+    /// Looks again and again, until no other pass moves what it looks at.
+    #[inline(never)]
+    fn look_on<R: Wait>(&mut self, rt: &R, t: &Tuple) -> FindOutcome
+        requires { length (sight_of self.old).held + length (sight_of self.old).owed ≤ 3 }
+        ensures says { FindSays t.now (sight_of self.old) (sight_of self.new) result }
+        ensures own { ChangesAndFrees find_words self.old.pass.view self.new.pass.view }
+        ensures knows { IsKnown (sight_of self.new) }
+    {
+        seeing_adds_up();
+        'looks: for _ in rt.forever() {
+            thread::yield_now();
+            if let Some(outcome) = self.look(rt, t) {
+                return outcome;
+            }
+        }
+        unreachable!()
+    }
 }
 
 impl<'t, G: Gate> Desk for Clerk<'t, G> {
@@ -124,13 +142,10 @@ impl<'t, G: Gate> Desk for Clerk<'t, G> {
         ensures knows { IsKnown (sight_of self.new) }
     {
         seeing_adds_up();
-        'looks: for _ in rt.forever() {
-            if let Some(outcome) = self.look(rt, t) {
-                return outcome;
-            }
-            thread::yield_now();
+        match self.look(rt, t) {
+            Some(outcome) => outcome,
+            None => self.look_on(rt, t),
         }
-        unreachable!()
     }
 
     /// Counts the live entries, without waiting.

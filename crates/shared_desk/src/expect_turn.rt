@@ -18,11 +18,14 @@ pub fn take_turn<R: Wait>(rt: &R, pass: &mut Pass)
     ensures has { HasExpectTurn pass.old pass.new }
     ensures words { ChangesWords is_expect_turn pass.old.view pass.new.view }
 {
+    if pass.expects_take() {
+        return;
+    }
     'turns: for _ in rt.forever() {
+        thread::yield_now();
         if pass.expects_take() {
             return;
         }
-        thread::yield_now();
     }
     unreachable!()
 }

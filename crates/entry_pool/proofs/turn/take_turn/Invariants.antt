@@ -6,6 +6,6 @@ abbrev pub invariant-turns : goal.invariant-turns
 invariant-turns g l = record {
   next : (goal.iterator-turns g).can_next l.iterator';
   finite : (goal.iterator-turns g).is_finite l.iterator';
-  same : l.pass ≡ record l.initial.pass { view = record l.initial.pass.view { readings = l.pass.view.readings } };
-  waits : Waits l.initial.pass.view.readings l.pass.view.readings;
+  same : l.pass ≡ record l.fn.pass { view = record l.fn.pass.view { readings = l.pass.view.readings } };
+  waits : Waits l.fn.pass.view.readings l.pass.view.readings;
 }

@@ -6,6 +6,6 @@ abbrev pub invariant-turns : goal.invariant-turns
 invariant-turns g l = record {
   next : (goal.iterator-turns g).can_next l.iterator';
   finite : (goal.iterator-turns g).is_finite l.iterator';
-  same : l.pass ≡ record l.initial.pass { view = record l.initial.pass.view { readings = l.pass.view.readings } };
-  words : ChangesWords no_word l.initial.pass.view l.pass.view;
+  same : l.pass ≡ record l.fn.pass { view = record l.fn.pass.view { readings = l.pass.view.readings } };
+  words : ChangesWords no_word l.fn.pass.view l.pass.view;
 }

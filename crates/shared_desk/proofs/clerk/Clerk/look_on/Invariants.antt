@@ -3,7 +3,7 @@ use Rattle.history_book.specs.WentOn.{Saw}
 use Rattle.track_rule.specs.ChangesOnly.{ChangesAndFrees}
 use Rattle.shared_desk.specs.Changed.{find_words}
 use Rattle.shared_desk.specs.Sights.{sight_of}
-use Rattle.shared_desk.proofs.desk.ClerkDesk.find.Given as goal
+use Rattle.shared_desk.proofs.clerk.Clerk.look_on.Given as goal
 
 abbrev pub invariant-looks : goal.invariant-looks
 invariant-looks g l = record {
