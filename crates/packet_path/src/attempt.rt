@@ -15,22 +15,17 @@ ghost use Rattle.history_book.specs.Places.{HoldsNothing, HoldsOne};
 ghost use Rattle.packet_path.specs.Packet.{flow_packet};
 
 use crate::begin::begin_flow;
-use crate::laws::same_protocol_is_equality;
+use crate::bundles::{desks_go_on, met_entries_stay};
 use crate::packet::FlowView;
 use crate::payload::follow_payload;
 use crate::setup::Setup;
 use history_book::desk::Desk;
 use history_book::event::Why;
 use history_book::find::label;
-use history_book::laws::{
-    entries_keep_their_helper, entries_keep_their_zone, events_stay, found_are_found_again,
-    found_keep_their_protocol, live_records_have_the_protocol, records_are_of_one_flow,
-    states_stay,
-};
+use history_book::laws::{entries_keep_their_helper, entries_keep_their_zone};
 use history_book::outcome::{FindOutcome, KillOutcome, TouchOutcome};
-use history_book::places::{give_up, one_hold_has_its_id};
+use history_book::places::give_up;
 use history_book::record::Record;
-use history_book::sight_laws::{going_on_adds_up, seeing_adds_up};
 use history_book::verdict::{Class, Ftp};
 use std::sync::Wait;
 use tuple_core::Direction;
@@ -84,16 +79,8 @@ fn reset_entry<R: Wait, D: Desk>(rt: &R, desk: &mut D, packet: &FlowView, met: &
     ensures taken { (D.sight desk.new).taken ≡ taken_in result (D.sight desk.old).taken }
     ensures knows { IsKnown (D.sight desk.new) }
 {
-    events_stay();
-    found_are_found_again();
-    going_on_adds_up();
-    found_keep_their_protocol();
-    live_records_have_the_protocol();
-    one_hold_has_its_id();
-    records_are_of_one_flow();
-    same_protocol_is_equality();
-    seeing_adds_up();
-    states_stay();
+    desks_go_on();
+    met_entries_stay();
     let why = Why::Reset {
         segment: packet.segment,
         moment: packet.moment,
@@ -129,16 +116,8 @@ pub fn kill_entry<R: Wait, D: Desk>(
     ensures taken { (D.sight desk.new).taken ≡ (D.sight desk.old).taken }
     ensures knows { IsKnown (D.sight desk.new) }
 {
-    events_stay();
-    found_are_found_again();
-    going_on_adds_up();
-    found_keep_their_protocol();
-    live_records_have_the_protocol();
-    one_hold_has_its_id();
-    records_are_of_one_flow();
-    same_protocol_is_equality();
-    seeing_adds_up();
-    states_stay();
+    desks_go_on();
+    met_entries_stay();
     match desk.kill(rt, met.place, why) {
         KillOutcome::Killed { .. } => true,
         KillOutcome::Gone { .. } => false,
@@ -170,10 +149,8 @@ fn end_entry<R: Wait, D: Desk>(
     ensures taken { (D.sight desk.new).taken ≡ taken_in result (D.sight desk.old).taken }
     ensures knows { IsKnown (D.sight desk.new) }
 {
-    events_stay();
-    found_are_found_again();
-    seeing_adds_up();
-    states_stay();
+    desks_go_on();
+    met_entries_stay();
     let is_last = kills == 4;
     if is_last {
         return Attempt::Done(Class::Contended { id: met.id, at });
@@ -205,18 +182,10 @@ fn meet_entry<R: Wait, D: Desk>(
     ensures taken { (D.sight desk.new).taken ≡ taken_in result (D.sight desk.old).taken }
     ensures knows { IsKnown (D.sight desk.new) }
 {
+    desks_go_on();
+    met_entries_stay();
     entries_keep_their_helper();
     entries_keep_their_zone();
-    events_stay();
-    found_are_found_again();
-    going_on_adds_up();
-    found_keep_their_protocol();
-    live_records_have_the_protocol();
-    one_hold_has_its_id();
-    records_are_of_one_flow();
-    same_protocol_is_equality();
-    seeing_adds_up();
-    states_stay();
     let (segment, moment) = (packet.segment, packet.moment);
     let (id, direction) = (met.id, met.direction);
     match desk.touch(rt, met.place, direction, segment, moment) {
@@ -264,10 +233,7 @@ pub fn try_packet<R: Wait, D: Desk>(
     ensures taken { (D.sight desk.new).taken ≡ taken_in result (D.sight desk.old).taken }
     ensures knows { IsKnown (D.sight desk.new) }
 {
-    events_stay();
-    going_on_adds_up();
-    seeing_adds_up();
-    states_stay();
+    desks_go_on();
     match desk.find(rt, &packet.tuple) {
         FindOutcome::Absent { at } => Attempt::Done(begin_flow(rt, desk, packet, setup, at)),
         FindOutcome::Found {

@@ -19,19 +19,19 @@ ghost use Rattle.packet_path.specs.Made.{is_helped};
 ghost use Rattle.packet_path.specs.Taken.{taken_by};
 ghost use Rattle.proto_rules.specs.Start.{start_of};
 
+use crate::bundles::desks_go_on;
 use crate::laws::same_protocol_is_equality;
 use crate::packet::FlowView;
 use crate::scan::{Scan, drop_one};
 use crate::setup::Setup;
 use history_book::desk::Desk;
 use history_book::laws::{
-    absent_tuples_are_nobodys, events_may_happen, events_stay, free_is_absent,
-    late_entries_are_new, states_stay, unused_places_are_room,
+    absent_tuples_are_nobodys, events_may_happen, free_is_absent, late_entries_are_new,
+    unused_places_are_room,
 };
 use history_book::outcome::{ClaimOutcome, ConfirmOutcome, TakeOutcome};
 use history_book::places::give_up;
 use history_book::record::Flow;
-use history_book::sight_laws::{going_on_adds_up, seeing_adds_up};
 use history_book::verdict::{Class, Translated};
 use nat_setup::translate::{TranslateOutcome, translate};
 use proto_rules::laws::entries_begin_fresh;
@@ -102,16 +102,13 @@ fn confirm_flow<R: Wait, D: Desk>(
     ensures taken { (D.sight desk.new).taken ≡ (D.sight desk.old).taken }
     ensures knows { IsKnown (D.sight desk.new) }
 {
+    desks_go_on();
     absent_tuples_are_nobodys();
     entries_begin_fresh();
     events_may_happen();
-    events_stay();
     free_is_absent();
-    going_on_adds_up();
     late_entries_are_new();
     same_protocol_is_equality();
-    seeing_adds_up();
-    states_stay();
     unused_places_are_room();
     let claim = desk.claim(rt, &packet.tuple, packet.moment);
     let flow = Flow {
@@ -203,10 +200,7 @@ fn place_flow<R: Wait, D: Desk>(
     ensures taken { (D.sight desk.new).taken ≡ taken_by result (D.sight desk.old).taken }
     ensures knows { IsKnown (D.sight desk.new) }
 {
-    events_stay();
-    going_on_adds_up();
-    seeing_adds_up();
-    states_stay();
+    desks_go_on();
     let place = match desk.take(rt) {
         TakeOutcome::Taken { place } => place,
         TakeOutcome::Full { at: full_at } => match make_room(rt, desk, packet.moment, full_at) {
@@ -240,10 +234,7 @@ pub fn begin_flow<R: Wait, D: Desk>(
     ensures taken { (D.sight desk.new).taken ≡ taken_by result (D.sight desk.old).taken }
     ensures knows { IsKnown (D.sight desk.new) }
 {
-    events_stay();
-    going_on_adds_up();
-    seeing_adds_up();
-    states_stay();
+    desks_go_on();
     let Some(part) = start(packet.segment, packet.moment) else {
         return Class::NoEntry { at: absent_at };
     };

@@ -16,23 +16,19 @@ ghost use Rattle.packet_path.specs.Packet.{flow_packet, Given, given_of, IsFlow}
 
 use crate::attempt::{Met, kill_entry, passed};
 use crate::begin::begin_flow;
+use crate::bundles::{desks_go_on, met_entries_stay};
 use crate::handle::bytes_in;
-use crate::laws::same_protocol_is_equality;
 use crate::packet::FlowView;
 use crate::payload::{follow_payload, is_read};
 use crate::setup::Setup;
 use history_book::desk::Desk;
 use history_book::event::Why;
-use history_book::laws::{
-    entries_keep_their_helper, entries_keep_their_zone, events_stay, found_are_found_again,
-    found_keep_their_protocol, live_records_have_the_protocol, records_are_of_one_flow,
-    states_stay,
-};
+use history_book::laws::{entries_keep_their_helper, entries_keep_their_zone};
 use history_book::outcome::{FindOutcome, TouchOutcome};
-use history_book::places::{give_up, one_hold_has_its_id};
+use history_book::places::give_up;
 use history_book::record::Record;
 use history_book::report::Verdicts;
-use history_book::sight_laws::{going_on_adds_up, seeing_adds_up};
+use history_book::sight_laws::seeing_adds_up;
 use history_book::verdict::{Class, Ftp, Verdict};
 use packet_headers::classify::classify;
 use packet_headers::frame::Frame;
@@ -131,18 +127,10 @@ fn touch_entry<R: Wait, D: Desk>(
     ensures places { SamePlaces (D.sight desk.old) (D.sight desk.new) }
     ensures knows { IsKnown (D.sight desk.new) }
 {
+    desks_go_on();
+    met_entries_stay();
     entries_keep_their_helper();
     entries_keep_their_zone();
-    events_stay();
-    found_are_found_again();
-    going_on_adds_up();
-    found_keep_their_protocol();
-    live_records_have_the_protocol();
-    one_hold_has_its_id();
-    records_are_of_one_flow();
-    same_protocol_is_equality();
-    seeing_adds_up();
-    states_stay();
     let Met {
         place,
         direction,
@@ -199,10 +187,7 @@ fn fast_packet<R: Wait, D: Desk>(
     ensures empty { HoldsNothing (D.sight desk.new) }
     ensures knows { IsKnown (D.sight desk.new) }
 {
-    events_stay();
-    going_on_adds_up();
-    seeing_adds_up();
-    states_stay();
+    desks_go_on();
     let first = desk.made();
     match desk.find(rt, &packet.tuple) {
         FindOutcome::Absent { at } => {

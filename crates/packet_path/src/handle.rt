@@ -18,10 +18,11 @@ ghost use Rattle.packet_path.specs.Taken.{taken_by};
 ghost use Rattle.packet_path.specs.Verdict.{FitsFrame};
 
 use crate::attempt::{Attempt, try_packet};
+use crate::bundles::desks_go_on;
 use crate::packet::FlowView;
 use crate::setup::Setup;
 use history_book::desk::Desk;
-use history_book::laws::{events_stay, states_stay};
+use history_book::laws::states_stay;
 use history_book::outcome::FindOutcome;
 use history_book::places::give_up;
 use history_book::sight_laws::{going_on_adds_up, seeing_adds_up};
@@ -57,9 +58,7 @@ pub fn handle_flow<R: Wait, D: Desk>(
     ensures first { result.first ≡ first }
     ensures knows { IsKnown (D.sight desk.new) }
 {
-    events_stay();
-    going_on_adds_up();
-    states_stay();
+    desks_go_on();
     let mut kills = killed;
     'attempts: for _ in rt.forever() {
         match try_packet(rt, desk, packet, setup, kills) {

@@ -3,6 +3,7 @@
 
 mod attempt;
 mod begin;
+mod bundles;
 mod fast;
 pub mod handle;
 pub mod handle_into;

@@ -11,7 +11,7 @@ returns-then-is_last-clause-says g c = λ setup from low within.
     let s = g.D.Desk.sight c.args.desk.now in
     let four : 4 ≡ c.args.kills = omega arith in
     subst (λ n. AttemptSays setup s s (flow_packet c.args.packet.now) n from (Done (Contended c.args.met.now.id c.args.at))) four
-    (contended c.states_stay.ensures c.events_stay.ensures c.found_are_found_again.ensures c.seeing_adds_up.ensures.resting setup c.args.why s (flow_packet c.args.packet.now)
+    (contended c.desks_go_on.ensures.states c.desks_go_on.ensures.events c.met_entries_stay.ensures.again c.desks_go_on.ensures.resting setup c.args.why s (flow_packet c.args.packet.now)
     c.args.met.now c.args.at from c.requires.knows c.requires.met c.requires.ends low)
 
 pub returns-then-kill_entry-clause-says : goal.returns-then-kill_entry-clause-says

@@ -16,9 +16,9 @@ use Rattle.packet_path.proofs.attempt.meet_entry.Goals as goal
 pub touch-requires-clause-protocol : goal.touch-requires-clause-protocol
 touch-requires-clause-protocol g c =
     let s = g.D.Desk.sight c.args.desk.now in
-    ap (λ id. is_of_entry c.args.packet.now.segment id s.front) (c.one_hold_has_its_id.ensures c.args.met.now.place c.args.met.now.id s c.requires.met.holds)
-    ∙ met_protocol c.found_keep_their_protocol.ensures c.live_records_have_the_protocol.ensures
-    c.records_are_of_one_flow.ensures c.same_protocol_is_equality.ensures s (flow_packet c.args.packet.now) c.args.met.now c.requires.knows
+    ap (λ id. is_of_entry c.args.packet.now.segment id s.front) (c.met_entries_stay.ensures.hold c.args.met.now.place c.args.met.now.id s c.requires.met.holds)
+    ∙ met_protocol c.met_entries_stay.ensures.keep c.met_entries_stay.ensures.live
+    c.met_entries_stay.ensures.flow c.met_entries_stay.ensures.same s (flow_packet c.args.packet.now) c.args.met.now c.requires.knows
     c.requires.classified c.requires.met
 
 pub follow_payload-ftp-requires-clause-named : goal.follow_payload-ftp-requires-clause-named
@@ -26,7 +26,7 @@ follow_payload-ftp-requires-clause-named g c =
     let s = g.D.Desk.sight c.args.desk.now in
     let mid = g.D.Desk.sight c.touch.new.self in
     let id : held_id c.args.met.now.place s.held ≡ c.args.met.now.id =
-    c.one_hold_has_its_id.ensures c.args.met.now.place c.args.met.now.id s c.requires.met.holds in
+    c.met_entries_stay.ensures.hold c.args.met.now.place c.args.met.now.id s c.requires.met.holds in
     ap (held_id c.args.met.now.place) c.in-Touched.ensures.says.same.held ∙ id
     ∙ sym (has_id_of c.args.met.now.id (after mid.front c.in-Touched.number) c.in-Touched.before
     (subst (λ i. record_of i (after mid.front c.in-Touched.number) ≡ Some c.in-Touched.before) id c.in-Touched.ensures.says.found.fact))
@@ -49,34 +49,34 @@ returns-in-Touched-clause-says g c = λ setup.
     let mid = g.D.Desk.sight c.touch.new.self in
     let new = g.D.Desk.sight c.follow_payload-ftp.new.desk in
     subst (λ (k : Class). Answers setup s new (flow_packet c.args.packet.now) c.args.kills (length s.front) k) (sym c.passed.ensures)
-    (touched c.states_stay.ensures c.events_stay.ensures c.found_are_found_again.ensures c.going_on_adds_up.ensures.all setup s mid new (flow_packet c.args.packet.now) c.args.met.now
+    (touched c.desks_go_on.ensures.states c.desks_go_on.ensures.events c.met_entries_stay.ensures.again c.desks_go_on.ensures.all setup s mid new (flow_packet c.args.packet.now) c.args.met.now
     c.args.kills c.in-Touched.number c.in-Touched.before c.follow_payload-ftp.result c.requires.few c.follow_payload-ftp.ensures.knows
     c.requires.met
     (subst (λ id. Touches id c.args.met.now.direction c.args.packet.now.segment c.args.packet.now.moment s mid c.in-Touched.number
     c.in-Touched.before)
-    (c.one_hold_has_its_id.ensures c.args.met.now.place c.args.met.now.id s c.requires.met.holds) c.in-Touched.ensures.says)
+    (c.met_entries_stay.ensures.hold c.args.met.now.place c.args.met.now.id s c.requires.met.holds) c.in-Touched.ensures.says)
     (c.follow_payload-ftp.ensures.follows c.in-Touched.number c.in-Touched.ensures.says.made.high))
 
 pub returns-in-Ignored-clause-says : goal.returns-in-Ignored-clause-says
 returns-in-Ignored-clause-says g c = λ setup.
     let s = g.D.Desk.sight c.args.desk.now in
     let new = g.D.Desk.sight c.touch.new.self in
-    left_as_it_is c.states_stay.ensures c.events_stay.ensures c.found_are_found_again.ensures setup outcome.Ignore
+    left_as_it_is c.desks_go_on.ensures.states c.desks_go_on.ensures.events c.met_entries_stay.ensures.again setup outcome.Ignore
     (class.Ignored c.args.met.now.id c.in-Ignored.at) s new (flow_packet c.args.packet.now) c.args.met.now
     c.args.kills c.in-Ignored.at c.requires.few c.touch.ensures.knows c.requires.met
     (subst (λ id. Leaves id c.args.met.now.direction c.args.packet.now.segment c.args.packet.now.moment outcome.Ignore s new c.in-Ignored.at)
-    (c.one_hold_has_its_id.ensures c.args.met.now.place c.args.met.now.id s c.requires.met.holds) c.in-Ignored.ensures.says)
+    (c.met_entries_stay.ensures.hold c.args.met.now.place c.args.met.now.id s c.requires.met.holds) c.in-Ignored.ensures.says)
     refl (λ given mark own h. h)
 
 pub returns-in-Invalid-clause-says : goal.returns-in-Invalid-clause-says
 returns-in-Invalid-clause-says g c = λ setup.
     let s = g.D.Desk.sight c.args.desk.now in
     let new = g.D.Desk.sight c.touch.new.self in
-    left_as_it_is c.states_stay.ensures c.events_stay.ensures c.found_are_found_again.ensures setup outcome.Invalid
+    left_as_it_is c.desks_go_on.ensures.states c.desks_go_on.ensures.events c.met_entries_stay.ensures.again setup outcome.Invalid
     (class.BadState c.args.met.now.id c.in-Invalid.at) s new (flow_packet c.args.packet.now) c.args.met.now
     c.args.kills c.in-Invalid.at c.requires.few c.touch.ensures.knows c.requires.met
     (subst (λ id. Leaves id c.args.met.now.direction c.args.packet.now.segment c.args.packet.now.moment outcome.Invalid s new c.in-Invalid.at)
-    (c.one_hold_has_its_id.ensures c.args.met.now.place c.args.met.now.id s c.requires.met.holds) c.in-Invalid.ensures.says)
+    (c.met_entries_stay.ensures.hold c.args.met.now.place c.args.met.now.id s c.requires.met.holds) c.in-Invalid.ensures.says)
     refl (λ given mark own h. h)
 
 pub returns-in-Reset-clause-says : goal.returns-in-Reset-clause-says
@@ -84,7 +84,7 @@ returns-in-Reset-clause-says g c = λ setup.
     let s = g.D.Desk.sight c.args.desk.now in
     let mid = g.D.Desk.sight c.touch.new.self in
     let saw = c.in-Reset.ensures.says.0.saw in
-    attempt_after c.states_stay.ensures c.events_stay.ensures c.going_on_adds_up.ensures.all c.seeing_adds_up.ensures.twice setup s mid (g.D.Desk.sight c.reset_entry.new.desk) (flow_packet c.args.packet.now)
+    attempt_after c.desks_go_on.ensures.states c.desks_go_on.ensures.events c.desks_go_on.ensures.all c.desks_go_on.ensures.twice setup s mid (g.D.Desk.sight c.reset_entry.new.desk) (flow_packet c.args.packet.now)
     c.args.kills (length s.front) c.reset_entry.result saw
     (c.reset_entry.ensures.says setup c.args.kills (length s.front) c.requires.few (starts_longer mid.front s.front saw.went.front))
 
@@ -93,7 +93,7 @@ returns-in-Expired-clause-says g c = λ setup.
     let s = g.D.Desk.sight c.args.desk.now in
     let mid = g.D.Desk.sight c.touch.new.self in
     let looked = c.in-Expired.ensures.says.0 in
-    attempt_after c.states_stay.ensures c.events_stay.ensures c.going_on_adds_up.ensures.all c.seeing_adds_up.ensures.twice setup s mid (g.D.Desk.sight c.end_entry.new.desk) (flow_packet c.args.packet.now)
+    attempt_after c.desks_go_on.ensures.states c.desks_go_on.ensures.events c.desks_go_on.ensures.all c.desks_go_on.ensures.twice setup s mid (g.D.Desk.sight c.end_entry.new.desk) (flow_packet c.args.packet.now)
     c.args.kills (length s.front) c.end_entry.result looked.saw
     (c.end_entry.ensures.says setup (length s.front) looked.low (starts_longer mid.front s.front looked.saw.went.front))
 
@@ -102,6 +102,6 @@ returns-in-Reopen-clause-says g c = λ setup.
     let s = g.D.Desk.sight c.args.desk.now in
     let mid = g.D.Desk.sight c.touch.new.self in
     let looked = c.in-Reopen.ensures.says.0 in
-    attempt_after c.states_stay.ensures c.events_stay.ensures c.going_on_adds_up.ensures.all c.seeing_adds_up.ensures.twice setup s mid (g.D.Desk.sight c.end_entry-in-Reopen.new.desk) (flow_packet c.args.packet.now)
+    attempt_after c.desks_go_on.ensures.states c.desks_go_on.ensures.events c.desks_go_on.ensures.all c.desks_go_on.ensures.twice setup s mid (g.D.Desk.sight c.end_entry-in-Reopen.new.desk) (flow_packet c.args.packet.now)
     c.args.kills (length s.front) c.end_entry-in-Reopen.result looked.saw
     (c.end_entry-in-Reopen.ensures.says setup (length s.front) looked.low (starts_longer mid.front s.front looked.saw.went.front))

@@ -11,9 +11,9 @@ use Rattle.packet_path.proofs.attempt.reset_entry.Goals as goal
 pub kill-requires-clause-protocol : goal.kill-requires-clause-protocol
 kill-requires-clause-protocol g c =
     let s = g.D.Desk.sight c.args.desk.now in
-    ap (λ id. is_of_entry c.args.packet.now.segment id s.front) (c.one_hold_has_its_id.ensures c.args.met.now.place c.args.met.now.id s c.requires.met.holds)
-    ∙ met_protocol c.found_keep_their_protocol.ensures c.live_records_have_the_protocol.ensures
-    c.records_are_of_one_flow.ensures c.same_protocol_is_equality.ensures s (flow_packet c.args.packet.now) c.args.met.now c.requires.knows
+    ap (λ id. is_of_entry c.args.packet.now.segment id s.front) (c.met_entries_stay.ensures.hold c.args.met.now.place c.args.met.now.id s c.requires.met.holds)
+    ∙ met_protocol c.met_entries_stay.ensures.keep c.met_entries_stay.ensures.live
+    c.met_entries_stay.ensures.flow c.met_entries_stay.ensures.same s (flow_packet c.args.packet.now) c.args.met.now c.requires.knows
     c.requires.classified c.requires.met
 
 pub returns-in-Killed-clause-says : goal.returns-in-Killed-clause-says
@@ -21,7 +21,7 @@ returns-in-Killed-clause-says g c = λ setup killed from few low.
     let s = g.D.Desk.sight c.args.desk.now in
     let new = g.D.Desk.sight c.kill.new.self in
     subst (λ (k : Class). Answers setup s new (flow_packet c.args.packet.now) killed from k) (sym c.passed.ensures)
-    (was_reset c.states_stay.ensures c.events_stay.ensures c.found_are_found_again.ensures setup s new (flow_packet c.args.packet.now) c.args.met.now
+    (was_reset c.desks_go_on.ensures.states c.desks_go_on.ensures.events c.met_entries_stay.ensures.again setup s new (flow_packet c.args.packet.now) c.args.met.now
     killed from c.in-Killed.number c.in-Killed.subject few low c.kill.ensures.knows c.requires.met
     (subst (λ id. Destroys id (Reset c.args.packet.now.segment c.args.packet.now.moment) s new c.in-Killed.number c.in-Killed.subject)
-    (c.one_hold_has_its_id.ensures c.args.met.now.place c.args.met.now.id s c.requires.met.holds) c.in-Killed.ensures.says))
+    (c.met_entries_stay.ensures.hold c.args.met.now.place c.args.met.now.id s c.requires.met.holds) c.in-Killed.ensures.says))

@@ -9,9 +9,9 @@ returns-in-Absent-clause-says g c =
     let mid = g.D.Desk.sight c.find.new.self in
     let new = g.D.Desk.sight c.begin_flow.new.desk in
     let looked = c.in-Absent.ensures.says.0 in
-    answers_from c.states_stay.ensures c.events_stay.ensures c.going_on_adds_up.ensures.all c.seeing_adds_up.ensures.twice c.args.setup.now s new (flow_packet c.args.packet.now) c.args.kills (length s.front) c.in-Absent.at
+    answers_from c.desks_go_on.ensures.states c.desks_go_on.ensures.events c.desks_go_on.ensures.all c.desks_go_on.ensures.twice c.args.setup.now s new (flow_packet c.args.packet.now) c.args.kills (length s.front) c.in-Absent.at
     c.begin_flow.result looked.low
-    (answers_after c.states_stay.ensures c.events_stay.ensures c.going_on_adds_up.ensures.all c.seeing_adds_up.ensures.twice c.args.setup.now s mid new (flow_packet c.args.packet.now) c.args.kills c.in-Absent.at
+    (answers_after c.desks_go_on.ensures.states c.desks_go_on.ensures.events c.desks_go_on.ensures.all c.desks_go_on.ensures.twice c.args.setup.now s mid new (flow_packet c.args.packet.now) c.args.kills c.in-Absent.at
     c.begin_flow.result looked.saw (c.begin_flow.ensures.answers c.args.kills c.requires.few))
 
 pub returns-in-Found-clause-says : goal.returns-in-Found-clause-says
@@ -21,10 +21,10 @@ returns-in-Found-clause-says g c =
     let met = g.D.Desk.sight c.meet_entry-attempt.new.desk in
     let new = g.D.Desk.sight c.give_up.new.desk in
     let saw = c.in-Found.ensures.says.0.saw in
-    attempt_before c.states_stay.ensures c.events_stay.ensures c.going_on_adds_up.ensures.all c.seeing_adds_up.ensures.twice c.args.setup.now s met new (flow_packet c.args.packet.now) c.args.kills (length s.front)
+    attempt_before c.desks_go_on.ensures.states c.desks_go_on.ensures.events c.desks_go_on.ensures.all c.desks_go_on.ensures.twice c.args.setup.now s met new (flow_packet c.args.packet.now) c.args.kills (length s.front)
     c.meet_entry-attempt.result
-    (attempt_after c.states_stay.ensures c.events_stay.ensures c.going_on_adds_up.ensures.all c.seeing_adds_up.ensures.twice c.args.setup.now s mid met (flow_packet c.args.packet.now) c.args.kills (length s.front)
+    (attempt_after c.desks_go_on.ensures.states c.desks_go_on.ensures.events c.desks_go_on.ensures.all c.desks_go_on.ensures.twice c.args.setup.now s mid met (flow_packet c.args.packet.now) c.args.kills (length s.front)
     c.meet_entry-attempt.result saw
-    (attempt_from c.states_stay.ensures c.events_stay.ensures c.going_on_adds_up.ensures.all c.seeing_adds_up.ensures.twice c.args.setup.now mid met (flow_packet c.args.packet.now) c.args.kills (length s.front)
+    (attempt_from c.desks_go_on.ensures.states c.desks_go_on.ensures.events c.desks_go_on.ensures.all c.desks_go_on.ensures.twice c.args.setup.now mid met (flow_packet c.args.packet.now) c.args.kills (length s.front)
     (length mid.front) c.meet_entry-attempt.result (starts_longer mid.front s.front saw.went.front) (c.meet_entry-attempt.ensures.says c.args.setup.now)))
     c.give_up.ensures.saw

@@ -26,8 +26,8 @@ returns-in-Confirmed-clause-answers g c = λ first killed few had.
     (λ (o : Option ℕ). Answers c.args.setup.now first new (flow_packet c.args.packet.now) killed c.args.absent_at
     (class.Made c.in-Confirmed.id (c.in-Confirmed.id + 1) c.args.found.now.translated o))
     (sym c.unclaimed_at.ensures)
-    (answers_before c.states_stay.ensures c.events_stay.ensures c.going_on_adds_up.ensures.all c.seeing_adds_up.ensures.twice c.args.setup.now first after new (flow_packet c.args.packet.now) killed c.args.absent_at _
-    (made_answer c.states_stay.ensures c.events_stay.ensures c.going_on_adds_up.ensures.all c.args.setup.now first s mid after (flow_packet c.args.packet.now) c.args.part c.args.found.now
+    (answers_before c.desks_go_on.ensures.states c.desks_go_on.ensures.events c.desks_go_on.ensures.all c.desks_go_on.ensures.twice c.args.setup.now first after new (flow_packet c.args.packet.now) killed c.args.absent_at _
+    (made_answer c.desks_go_on.ensures.states c.desks_go_on.ensures.events c.desks_go_on.ensures.all c.args.setup.now first s mid after (flow_packet c.args.packet.now) c.args.part c.args.found.now
     killed c.args.absent_at c.args.place c.in-Confirmed.id c.claim-claim.result few c.requires.starts had
     (looked_for c.events_may_happen.ensures (flow_packet c.args.packet.now) s mid c.claim-claim.result c.claim-claim.ensures.knows c.claim-claim.ensures.says)
     (subst
@@ -45,8 +45,8 @@ returns-in-Clash-clause-answers g c = λ first killed few had.
     let after = g.D.Desk.sight c.confirm.new.self in
     let new = g.D.Desk.sight c.give_up-in-Clash.new.desk in
     subst (λ (k : Class). Answers c.args.setup.now first new (flow_packet c.args.packet.now) killed c.args.absent_at k) (sym c.met_winner.ensures)
-    (answers_before c.states_stay.ensures c.events_stay.ensures c.going_on_adds_up.ensures.all c.seeing_adds_up.ensures.twice c.args.setup.now first after new (flow_packet c.args.packet.now) killed c.args.absent_at _
-    (winner_answer c.states_stay.ensures c.events_stay.ensures c.going_on_adds_up.ensures.all c.absent_tuples_are_nobodys.ensures c.free_is_absent.ensures c.late_entries_are_new.ensures
+    (answers_before c.desks_go_on.ensures.states c.desks_go_on.ensures.events c.desks_go_on.ensures.all c.desks_go_on.ensures.twice c.args.setup.now first after new (flow_packet c.args.packet.now) killed c.args.absent_at _
+    (winner_answer c.desks_go_on.ensures.states c.desks_go_on.ensures.events c.desks_go_on.ensures.all c.absent_tuples_are_nobodys.ensures c.free_is_absent.ensures c.late_entries_are_new.ensures
     c.args.setup.now first s mid after (flow_packet c.args.packet.now) _ c.args.found.now c.claim-claim.result killed c.args.absent_at c.in-Clash.id c.in-Clash.at
     c.in-Clash.direction c.in-Clash.both few c.confirm.ensures.knows (subst (λ (o : Option Part). IsSome o) (sym c.requires.starts) refl) had
     (looked_for c.events_may_happen.ensures (flow_packet c.args.packet.now) s mid c.claim-claim.result c.claim-claim.ensures.knows c.claim-claim.ensures.says)

@@ -18,9 +18,9 @@ use Rattle.packet_path.proofs.fast.touch_entry.Goals as goal
 pub touch-requires-clause-protocol : goal.touch-requires-clause-protocol
 touch-requires-clause-protocol g c =
     let s = g.D.Desk.sight c.args.desk.now in
-    ap (λ id. is_of_entry c.args.packet.now.segment id s.front) (c.one_hold_has_its_id.ensures c.args.met.now.place c.args.met.now.id s c.requires.met.holds)
-    ∙ met_protocol c.found_keep_their_protocol.ensures c.live_records_have_the_protocol.ensures
-    c.records_are_of_one_flow.ensures c.same_protocol_is_equality.ensures s (flow_packet c.args.packet.now) c.args.met.now c.requires.knows
+    ap (λ id. is_of_entry c.args.packet.now.segment id s.front) (c.met_entries_stay.ensures.hold c.args.met.now.place c.args.met.now.id s c.requires.met.holds)
+    ∙ met_protocol c.met_entries_stay.ensures.keep c.met_entries_stay.ensures.live
+    c.met_entries_stay.ensures.flow c.met_entries_stay.ensures.same s (flow_packet c.args.packet.now) c.args.met.now c.requires.knows
     c.requires.classified c.requires.met
 
 pub read_payload-requires-clause-named : goal.read_payload-requires-clause-named
@@ -28,7 +28,7 @@ read_payload-requires-clause-named g c =
     let s = g.D.Desk.sight c.args.desk.now in
     let mid = g.D.Desk.sight c.touch.new.self in
     let id : held_id c.args.met.now.place s.held ≡ c.args.met.now.id =
-    c.one_hold_has_its_id.ensures c.args.met.now.place c.args.met.now.id s c.requires.met.holds in
+    c.met_entries_stay.ensures.hold c.args.met.now.place c.args.met.now.id s c.requires.met.holds in
     ap (held_id c.args.met.now.place) c.in-Touched.ensures.says.same.held ∙ id
     ∙ sym (has_id_of c.args.met.now.id (after mid.front c.in-Touched.number) c.in-Touched.before
     (subst (λ i. record_of i (after mid.front c.in-Touched.number) ≡ Some c.in-Touched.before) id c.in-Touched.ensures.says.found.fact))
@@ -53,12 +53,12 @@ returns-then-reads-clause-says g c = λ setup.
     let r = c.read_payload.ensures.reads in
     record {
       class = Passed (label_of c.in-Touched.before c.args.met.now.direction) c.in-Touched.before.id (c.in-Touched.number + 1) r.ftp;
-      answers = touched c.states_stay.ensures c.events_stay.ensures c.found_are_found_again.ensures c.going_on_adds_up.ensures.all setup s mid new (flow_packet c.args.packet.now) c.args.met.now
+      answers = touched c.desks_go_on.ensures.states c.desks_go_on.ensures.events c.met_entries_stay.ensures.again c.desks_go_on.ensures.all setup s mid new (flow_packet c.args.packet.now) c.args.met.now
           0 c.in-Touched.number c.in-Touched.before r.ftp (omega arith) c.read_payload.ensures.knows
           c.requires.met
           (subst (λ id. Touches id c.args.met.now.direction c.args.packet.now.segment c.args.packet.now.moment s mid c.in-Touched.number
           c.in-Touched.before)
-          (c.one_hold_has_its_id.ensures c.args.met.now.place c.args.met.now.id s c.requires.met.holds) c.in-Touched.ensures.says)
+          (c.met_entries_stay.ensures.hold c.args.met.now.place c.args.met.now.id s c.requires.met.holds) c.in-Touched.ensures.says)
           r.follows;
       taken = c.read_payload.ensures.taken ∙ c.in-Touched.ensures.says.made.taken;
       appended = r.appended;
@@ -71,14 +71,14 @@ returns-else-reads-clause-says g c = λ setup.
     let class = Passed (label_of c.in-Touched.before c.args.met.now.direction) c.in-Touched.before.id (c.in-Touched.number + 1) Nothing in
     record {
       class = class;
-      answers = touched c.states_stay.ensures c.events_stay.ensures c.found_are_found_again.ensures c.going_on_adds_up.ensures.all setup s mid mid (flow_packet c.args.packet.now) c.args.met.now
+      answers = touched c.desks_go_on.ensures.states c.desks_go_on.ensures.events c.met_entries_stay.ensures.again c.desks_go_on.ensures.all setup s mid mid (flow_packet c.args.packet.now) c.args.met.now
           0 c.in-Touched.number c.in-Touched.before Nothing (omega arith) c.touch.ensures.knows
           c.requires.met
           (subst (λ id. Touches id c.args.met.now.direction c.args.packet.now.segment c.args.packet.now.moment s mid c.in-Touched.number
           c.in-Touched.before)
-          (c.one_hold_has_its_id.ensures c.args.met.now.place c.args.met.now.id s c.requires.met.holds) c.in-Touched.ensures.says)
+          (c.met_entries_stay.ensures.hold c.args.met.now.place c.args.met.now.id s c.requires.met.holds) c.in-Touched.ensures.says)
           (follows_nothing (flow_packet c.args.packet.now) (record { subject = c.in-Touched.before; direction = c.args.met.now.direction }) c.in-Touched.number
-          c.seeing_adds_up.ensures.resting mid (inl (sym c.is_read-reads.ensures ∙ c.if-reads.false)));
+          c.desks_go_on.ensures.resting mid (inl (sym c.is_read-reads.ensures ∙ c.if-reads.false)));
       taken = c.in-Touched.ensures.says.made.taken;
       appended = subst (λ (k : Class). Appended k c.args.first c.args.base mid.own c.args.verdicts.now c.append.new.verdicts) c.passed-class.ensures c.append.ensures;
     }
@@ -90,7 +90,7 @@ returns-then-killed-clause-says g c = λ setup.
     let new = g.D.Desk.sight c.kill_entry-killed.new.desk in
     let saw = c.in-Expired.ensures.says.0.saw in
     record {
-      killed = killed_after c.states_stay.ensures c.events_stay.ensures c.going_on_adds_up.ensures.all c.seeing_adds_up.ensures.twice s mid new (flow_packet c.args.packet.now)
+      killed = killed_after c.desks_go_on.ensures.states c.desks_go_on.ensures.events c.desks_go_on.ensures.all c.desks_go_on.ensures.twice s mid new (flow_packet c.args.packet.now)
           0 (length s.front) saw
           (c.if-killed.ensures.says 0 (length s.front) (omega arith) (starts_longer mid.front s.front saw.went.front));
       taken = c.kill_entry-killed.ensures.taken ∙ saw.taken;
@@ -103,6 +103,6 @@ returns-else-killed-clause-says g c = λ setup.
     let mid = g.D.Desk.sight c.touch.new.self in
     let new = g.D.Desk.sight c.kill_entry-killed.new.desk in
     record {
-      saw = c.seeing_adds_up.ensures.twice s mid new c.in-Expired.ensures.says.0.saw (c.if-killed.ensures.says 0 0 (omega arith) (omega arith));
+      saw = c.desks_go_on.ensures.twice s mid new c.in-Expired.ensures.says.0.saw (c.if-killed.ensures.says 0 0 (omega arith) (omega arith));
       kept = refl;
     }

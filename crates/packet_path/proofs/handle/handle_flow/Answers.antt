@@ -20,7 +20,7 @@ attempts-init g c = (
 
 pub returns-in-Done-clause-handled : goal.returns-in-Done-clause-handled
 returns-in-Done-clause-handled g c = λ given begun flow killing starts.
-    killing_done c.states_stay.ensures c.events_stay.ensures c.going_on_adds_up.ensures.all begun (flow_packet c.args.packet.now) c.args.setup.now (g.D.Desk.sight c.attempts.desk)
+    killing_done c.desks_go_on.ensures.states c.desks_go_on.ensures.events c.desks_go_on.ensures.all begun (flow_packet c.args.packet.now) c.args.setup.now (g.D.Desk.sight c.attempts.desk)
     (g.D.Desk.sight c.try_packet.new.desk) c.attempts.kills _ given flow (c.attempts.invariant.2.killing begun killing) c.in-Done.ensures.says
     c.in-Done.ensures.taken c.in-Done.ensures.empty starts (omega (arith, starts, c.made.ensures.exact))
 
@@ -31,9 +31,9 @@ attempts-preserved-in-Killed g c =
     let packet = flow_packet c.args.packet.now in (
       tt,
       tt,
-      goes_on_more c.states_stay.ensures c.events_stay.ensures c.going_on_adds_up.ensures.all (g.D.Desk.sight c.args.desk.now) packet now new c.args.killed
+      goes_on_more c.desks_go_on.ensures.states c.desks_go_on.ensures.events c.desks_go_on.ensures.all (g.D.Desk.sight c.args.desk.now) packet now new c.args.killed
           c.attempts.kills c.args.first c.attempts.invariant.2 c.in-Killed.ensures.says c.in-Killed.ensures.taken c.in-Killed.ensures.empty c.in-Killed.ensures.knows
-          (λ begun k. killing_more c.states_stay.ensures c.events_stay.ensures c.going_on_adds_up.ensures.all begun packet now new c.attempts.kills k
+          (λ begun k. killing_more c.desks_go_on.ensures.states c.desks_go_on.ensures.events c.desks_go_on.ensures.all begun packet now new c.attempts.kills k
           c.in-Killed.ensures.says c.in-Killed.ensures.taken c.in-Killed.ensures.empty c.in-Killed.ensures.knows),
     )
 
@@ -44,8 +44,8 @@ attempts-preserved g c =
     let packet = flow_packet c.args.packet.now in (
       tt,
       tt,
-      goes_on_again c.states_stay.ensures c.events_stay.ensures c.going_on_adds_up.ensures.all (g.D.Desk.sight c.args.desk.now) packet now new c.args.killed
+      goes_on_again c.desks_go_on.ensures.states c.desks_go_on.ensures.events c.desks_go_on.ensures.all (g.D.Desk.sight c.args.desk.now) packet now new c.args.killed
           c.attempts.kills c.args.first c.attempts.invariant.2 c.in-Again.ensures.says c.in-Again.ensures.empty c.in-Again.ensures.knows
-          (λ begun k. killing_again c.states_stay.ensures c.events_stay.ensures c.going_on_adds_up.ensures.all begun packet now new c.attempts.kills k
+          (λ begun k. killing_again c.desks_go_on.ensures.states c.desks_go_on.ensures.events c.desks_go_on.ensures.all begun packet now new c.attempts.kills k
           c.in-Again.ensures.says c.in-Again.ensures.empty c.in-Again.ensures.knows),
     )
