@@ -5,11 +5,10 @@ ghost use Rattle.history_book.specs.Places.{HoldsNothing};
 ghost use Rattle.history_book.specs.Sight.{IsKnown};
 
 use history_book::desk::Desk;
-use history_book::report::Verdicts;
 use history_book::verdict::Verdict;
 use nat_setup::rule::Rules;
 use packet_headers::frame::{Frame, Link};
-use packet_path::handle_into::handle_into;
+use packet_path::handle::handle;
 use packet_path::setup::{Ports, Setup};
 use std::process::Abort;
 use std::sync::Wait;
@@ -86,7 +85,5 @@ pub fn handled_in<R: Wait + Abort + AllocGlobal, D: Desk>(
         ftp: Ports::new(rt.alloc(), 0)?,
     };
     let frame = frame(moment, packet.len() as u8);
-    let mut verdicts = Verdicts::new(rt.alloc(), 1)?;
-    handle_into(rt, desk, packet, &frame, zone, &setup, 0, &mut verdicts)?;
-    Ok(verdicts.at(0))
+    handle(rt, desk, packet, &frame, zone, &setup)
 }

@@ -1,7 +1,6 @@
 -- One kill after another, and what is left when a frame is handled.
-use Rattle.std.proofs.Common.{◌≡◌, ℕ, ◌+◌, ◌-◌, max, ◌≤◌, Bool, true, false, List, [], ◌∷◌, ◌++◌, length, Some, refl, sym, ap, subst, ◌∙◌, arith, length-append}
+use Rattle.std.proofs.Common.{◌≡◌, ℕ, ◌+◌, ◌-◌, max, ◌≤◌, true, List, [], ◌∷◌, ◌++◌, length, Some, refl, sym, ap, subst, ◌∙◌, arith, length-append}
 use Rattle.std.specs.List.{AllByRecursion}
-use Rattle.std.proofs.lemmas.Bool.{true≢false}
 use Rattle.std.specs.Prelude.{◌≢◌}
 use Rattle.tuple_core.specs.Inverse.{inverse}
 use Rattle.tuple_core.specs.declared.Direction.{Direction}
@@ -29,7 +28,7 @@ use Rattle.packet_headers.specs.declared.packet.Packet.{Packet}
 use Rattle.packet_headers.specs.declared.packet.Packet.TheVariants as packet
 use Rattle.tuple_core.specs.declared.Segment.{Segment}
 use Rattle.packet_path.specs.Internal.Attempt.{Answers, GoesOnKilling, IsKilling, KilledOne}
-use Rattle.packet_path.specs.Internal.Fast.{Accepted, FrameSays, TriedSays}
+use Rattle.packet_path.specs.Internal.Fast.{Accepted, FrameSays, TriedSays, is_flow}
 use Rattle.packet_path.specs.Handled.{Handled, HandledInto}
 use Rattle.packet_path.specs.Packet.{Given, IsFlow, packet_in}
 use Rattle.packet_path.specs.declared.fast.Tried.{Tried}
@@ -349,16 +348,10 @@ same_flow given p q f g =
     let payload : p.payload ≡ q.payload = f.payload ∙ sym g.payload in
     λ i. record { tuple = tuple i; segment = segment i; moment = moment i; payload = payload i }
 
-abbrev is_flow : Packet → Bool
-is_flow (packet.Flow t segment span) = true
-is_flow (packet.Untracked why) = false
-is_flow packet.Invalid = false
-is_flow (packet.Error inner outer) = false
-
 -- what is a packet of a flow in a zone is one by its headers
 pub flow_in_zone : (zone : ℕ) (p : Packet) (t : Tuple) (segment : Segment) (span : Span) → packet_in zone p ≡ packet.Flow t segment span
-    → ((u : Tuple) (s : Segment) (x : Span) → p ≡ packet.Flow u s x → ⊥) → ⊥
-flow_in_zone zone (packet.Flow u s x) t segment span e never = never u s x refl
-flow_in_zone zone (packet.Untracked why) t segment span e never = true≢false (sym (ap is_flow e))
-flow_in_zone zone packet.Invalid t segment span e never = true≢false (sym (ap is_flow e))
-flow_in_zone zone (packet.Error inner outer) t segment span e never = true≢false (sym (ap is_flow e))
+    → is_flow p ≡ true
+flow_in_zone zone (packet.Flow u s x) t segment span e = refl
+flow_in_zone zone (packet.Untracked why) t segment span e = ap is_flow e
+flow_in_zone zone packet.Invalid t segment span e = ap is_flow e
+flow_in_zone zone (packet.Error inner outer) t segment span e = ap is_flow e

@@ -31,7 +31,7 @@ pub record Handled (setup : Setup) (given : Given) (old new : Sight) (verdict : 
 abbrev pub counted_from : ℕ → Verdict → Verdict
 counted_from base verdict = record verdict { first = verdict.first - base }
 
--- A frame was handled so, and its verdict, counted so, is now the last of a list, for which there was room.
+-- A frame was handled so, and its verdict, counted so, is now the last of a list, whose room stays.
 pub record HandledInto (base : ℕ) (setup : Setup) (given : Given) (old new : Sight) (before after : Roomed Verdict) : Type 0 where
   pub verdict : Verdict
   pub handled : Handled setup given old new verdict

@@ -36,7 +36,7 @@ use tuple_core::{NoMemory, Tuple, invert};
 /// Handles a packet of a flow, for which so many entries were destroyed before: attempts are made until one says what became of
 /// it. Its own events begin with the desk's own event of index `first`.
 #[inline(always)]
-pub fn handle_flow<R: Wait, D: Desk>(
+pub(crate) fn handle_flow<R: Wait, D: Desk>(
     rt: &R,
     desk: &mut D,
     packet: &FlowView,
@@ -127,7 +127,7 @@ fn untracked_why(cause: Untracked) -> UntrackedWhy
 
 /// The bytes of a file in a span.
 #[inline(always)]
-pub fn bytes_in(bytes: &[u8], span: Span) -> &[u8]
+pub(crate) fn bytes_in(bytes: &[u8], span: Span) -> &[u8]
     requires { IsSpanIn bytes.now span }
     ensures { result.now ≡ bytes_in bytes.now span }
 {
@@ -138,7 +138,7 @@ pub fn bytes_in(bytes: &[u8], span: Span) -> &[u8]
 
 /// Handles one packet of a file with these bytes in a zone, by what its headers say. Only a packet of a flow makes events.
 #[inline(always)]
-pub fn handle_packet<R: Wait, D: Desk>(
+pub(crate) fn handle_packet<R: Wait, D: Desk>(
     rt: &R,
     desk: &mut D,
     bytes: &[u8],

@@ -1,13 +1,15 @@
 //! Handling a frame with its verdict appended to a list: the common way first, and else the general one.
 
-ghost use Rattle.std.specs.Prelude.{◌≡◌, ◌+◌, ◌<◌, ◌≤◌, ◌^◌, [], length, OnErr, OnOk};
+ghost use Rattle.std.specs.Prelude.{◌≡◌, ◌+◌, ◌<◌, ◌≤◌, ◌^◌, true, [], ◌∷◌, ◌++◌, length, OnErr, OnOk};
 ghost use Rattle.std.specs.List.{AllByRecursion};
 ghost use Rattle.history_book.specs.Places.{HoldsNothing};
 ghost use Rattle.history_book.specs.Sight.{IsKnown, Sight};
 ghost use Rattle.nat_setup.specs.Rule.{IsLawfulRule};
 ghost use Rattle.packet_headers.specs.Span.{IsSpanIn};
-ghost use Rattle.packet_path.specs.Handled.{HandledInto};
+ghost use Rattle.packet_path.specs.Handled.{counted_from, HandledInto};
+ghost use Rattle.packet_headers.specs.Classify.{packet_of};
 ghost use Rattle.packet_path.specs.Internal.Attempt.{IsClassified, IsKilling};
+ghost use Rattle.packet_path.specs.Internal.Fast.{is_flow};
 ghost use Rattle.packet_path.specs.Packet.{flow_packet, FlowPacket, given_of, IsFlow};
 
 use crate::fast::{Tried, fast_frame};
@@ -24,6 +26,20 @@ use packet_headers::frame::Frame;
 use packet_headers::packet::Packet;
 use std::sync::Wait;
 use tuple_core::NoMemory;
+
+/// Appends a verdict with its events counted from `base` on.
+#[inline(always)]
+fn push_counted(verdict: Verdict, base: u64, verdicts: &mut Verdicts)
+    requires base { base ≤ verdict.first }
+    requires room { length verdicts.old.items < verdicts.old.room }
+    ensures items { verdicts.new.items ≡ verdicts.old.items ++ counted_from base verdict ∷ [] }
+    ensures room { verdicts.new.room ≡ verdicts.old.room }
+{
+    verdicts.push(Verdict {
+        first: verdict.first - base,
+        ..verdict
+    });
+}
 
 /// Handles one frame the general way, and appends its verdict, with its events counted from `base` on.
 #[cold]
@@ -52,14 +68,11 @@ fn slow_frame<R: Wait, D: Desk>(
 {
     let packet = classify(bytes, frame);
     let verdict = handle_packet(rt, desk, bytes, &packet, frame.moment, zone, setup);
-    verdicts.push(Verdict {
-        first: verdict.first - base,
-        ..verdict
-    });
+    push_counted(verdict, base, verdicts);
 }
 
-/// Handles one frame for whose packet an expired entry was destroyed, the general way, and appends its verdict, with its events
-/// counted from `base` on.
+/// Handles one frame, whose packet is of a flow and destroyed an expired entry, the general way, and appends its verdict, with
+/// its events counted from `base` on.
 #[cold]
 #[inline(never)]
 fn renew_frame<R: Wait, D: Desk>(
@@ -80,6 +93,7 @@ fn renew_frame<R: Wait, D: Desk>(
     requires knows { IsKnown (D.sight desk.old) }
     requires base { base + 1 ≤ length (D.sight desk.old).own }
     requires room { length verdicts.old.items < verdicts.old.room }
+    requires flow { is_flow (packet_of bytes.now frame.now) ≡ true }
     ensures handled { (begun : Sight) (packet : FlowPacket) → IsFlow (given_of zone bytes.now frame.now) packet →
         IsKilling begun (D.sight desk.old) packet 1 → HandledInto base setup.now (given_of zone bytes.now frame.now)
         begun (D.sight desk.new) verdicts.old verdicts.new }
@@ -91,7 +105,7 @@ fn renew_frame<R: Wait, D: Desk>(
         payload,
     } = classify(bytes, frame)
     else {
-        return;
+        unreachable!()
     };
     let packet = FlowView {
         tuple: tuple.in_zone(zone),
@@ -101,10 +115,7 @@ fn renew_frame<R: Wait, D: Desk>(
     };
     let first = desk.made() - 1;
     let verdict = handle_flow(rt, desk, &packet, setup, 1, first);
-    verdicts.push(Verdict {
-        first: verdict.first - base,
-        ..verdict
-    });
+    push_counted(verdict, base, verdicts);
 }
 
 /// Handles one frame as `handle` does, and appends its verdict to a list that has room for it, with its events counted

@@ -126,7 +126,7 @@ pub record KilledOne (old new : Sight) (packet : FlowPacket) (killed from : ℕ)
   pub high : note.number < length new.front
   pub kill : Kills new.front from packet note
 
--- the one or nothing
+-- the packet killed the entry that it met, or nothing was done
 abbrev pub KillsOrNot : Sight → Sight → FlowPacket → ℕ → ℕ → Bool → Type 0
 KillsOrNot old new packet killed from true = KilledOne old new packet killed from
 KillsOrNot old new packet killed from false = Saw old new
@@ -160,7 +160,8 @@ pub record IsKilling (old now : Sight) (packet : FlowPacket) (killed : ℕ) : Ty
   pub empty : HoldsNothing now
   pub known : IsKnown now
 
--- after so many kills, whatever they were for: from what the desk knew to what it knows, they are now so many
+-- Whatever the packet's first sight of the desk was: it had made so many kills when the desk was `old`, and has made `killed` now.
+-- Its own events begin with the desk's own event of index `first`.
 pub record GoesOnKilling (old now : Sight) (packet : FlowPacket) (before killed first : ℕ) : Type 0 where
   pub killing : (begun : Sight) → IsKilling begun old packet before → IsKilling begun now packet killed
   pub few : killed ≤ 4

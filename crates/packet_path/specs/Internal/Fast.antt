@@ -1,6 +1,8 @@
 -- The common way of a packet of a flow.
-use Rattle.std.specs.Prelude.{◌≡◌, ℕ, ◌+◌, ◌-◌, List, [], ◌∷◌, ◌++◌, length}
+use Rattle.std.specs.Prelude.{◌≡◌, ℕ, ◌+◌, ◌-◌, Bool, true, false, List, [], ◌∷◌, ◌++◌, length}
 use Rattle.room_list.specs.Roomed.{Roomed}
+use Rattle.packet_headers.specs.declared.packet.Packet.{Packet}
+use Rattle.packet_headers.specs.declared.packet.Packet.TheVariants as packet
 use Rattle.history_book.specs.declared.event.Note.{Note}
 use Rattle.history_book.specs.declared.verdict.Class.{Class}
 use Rattle.history_book.specs.declared.verdict.Class.TheVariants.{Passed}
@@ -43,7 +45,7 @@ pub record LeftIt (old new : Sight) (before after : Roomed Verdict) : Type 0 whe
   pub saw : Saw old new
   pub kept : after ≡ before
 
--- the packet destroyed the entry that it met, and the list is as it was
+-- the packet destroyed the entry that it met, for a reason that a packet kills for, and the list is as it was
 pub record Expired (packet : FlowPacket) (old new : Sight) (before after : Roomed Verdict) : Type 0 where
   pub killed : KilledOne old new packet 0 (length old.front)
   pub taken : new.taken ≡ old.taken
@@ -67,3 +69,10 @@ abbrev pub FrameSays : ℕ → Setup → Given → Sight → Sight → Roomed Ve
 FrameSays base setup given old new before after Done = HandledInto base setup given old new before after
 FrameSays base setup given old new before after Killed = Renews given old new before after
 FrameSays base setup given old new before after Left = LeftIt old new before after
+
+-- by its headers a frame has a packet of a flow
+abbrev pub is_flow : Packet → Bool
+is_flow (packet.Untracked why) = false
+is_flow packet.Invalid = false
+is_flow (packet.Flow tuple segment span) = true
+is_flow (packet.Error inner outer) = false

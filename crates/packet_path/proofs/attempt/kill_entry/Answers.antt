@@ -1,4 +1,4 @@
-use Rattle.std.proofs.Common.{◌≡◌, ◌∙◌, ap, subst}
+use Rattle.std.proofs.Common.{◌∙◌, ap, subst}
 use Rattle.history_book.specs.Desk.{Destroys}
 use Rattle.history_book.specs.Entry.{suits_entry}
 use Rattle.packet_path.proofs.Meetings.{met_protocol, suits, was_killed}

@@ -1,10 +1,17 @@
 use Rattle.std.proofs.Common.{subst}
 use Rattle.room_list.specs.Roomed.{Roomed}
 use Rattle.history_book.specs.declared.verdict.Verdict.{Verdict}
+use Rattle.packet_headers.specs.Classify.{packet_of}
 use Rattle.packet_path.specs.Handled.{HandledInto}
 use Rattle.packet_path.specs.Packet.{given_of}
-use Rattle.packet_path.proofs.Handling.{appended_after, appended_ready}
+use Rattle.packet_path.proofs.Handling.{appended_after, appended_ready, flow_in_zone}
 use Rattle.packet_path.proofs.handle_into.handle_into.Goals as goal
+
+pub renew_frame-requires-clause-flow : goal.renew_frame-requires-clause-flow
+unfolding given_of
+renew_frame-requires-clause-flow g c =
+    let renews = c.in-Killed.ensures.says in
+    flow_in_zone c.args.zone (packet_of c.args.bytes.now c.args.frame.now) renews.packet.tuple renews.packet.segment renews.flow.span renews.flow.headers
 
 pub returns-in-Killed-clause-handled : goal.returns-in-Killed-clause-handled
 returns-in-Killed-clause-handled g c =

@@ -1,11 +1,11 @@
-use Rattle.std.proofs.Common.{◌≡◌, ap, arith, length, length-append, refl, subst, sym, ◌∙◌}
+use Rattle.std.proofs.Common.{ap, arith, length, length-append, refl, subst, sym}
 use Rattle.packet_headers.specs.declared.packet.Packet.{Packet}
 use Rattle.packet_headers.specs.declared.packet.Packet.TheVariants.{Flow}
 use Rattle.tuple_core.specs.declared.Tuple.{Tuple}
 use Rattle.packet_path.specs.Handled.{Handled}
 use Rattle.packet_path.specs.Internal.Attempt.{IsKilling}
 use Rattle.packet_path.specs.Packet.{FlowPacket, Given, given_by, given_of, IsFlow, packet_in}
-use Rattle.packet_path.proofs.Handling.{flow_in_zone, same_flow}
+use Rattle.packet_path.proofs.Handling.{same_flow}
 use Rattle.packet_path.proofs.handle_into.renew_frame.Goals as goal
 
 pub returns-clause-handled : goal.returns-clause-handled
@@ -30,18 +30,9 @@ returns-clause-handled g c = λ begun packet flow killing.
           c.in-Flow.ensures.exact
           (c.handle_flow-verdict.ensures.handled there begun is (subst (λ (p : FlowPacket). IsKilling begun s p 1) (same_flow there packet mine known is) killing)
           (omega (arith, ap length killing.went.own, length-append begun.own killing.kills, killing.count, c.made-first.ensures.exact)));
-      items = c.push.ensures.items;
-      room = c.push.ensures.room;
+      items = c.push_counted.ensures.items;
+      room = c.push_counted.ensures.room;
     }
 
-pub returns-in_default : goal.returns-in_default
-unfolding given_of
-returns-in_default g c = record {
-  handled = λ begun packet flow killing.
-      absurd (flow_in_zone c.args.zone c.classify.result packet.tuple packet.segment flow.span
-      (ap (packet_in c.args.zone) c.classify.ensures.exact ∙ flow.headers) (λ u s x e. c.in_default.not-Flow u s x e));
-  knows = c.requires.knows;
-}
-
-pub overflow_sub-verdict : goal.overflow_sub-verdict
-overflow_sub-verdict g c = omega (arith, c.handle_flow-verdict.ensures.first, c.made-first.ensures.exact, c.requires.base)
+pub push_counted-requires-clause-base : goal.push_counted-requires-clause-base
+push_counted-requires-clause-base g c = omega (arith, c.handle_flow-verdict.ensures.first, c.made-first.ensures.exact, c.requires.base)

@@ -12,6 +12,6 @@ returns-clause-handled g c = record {
       (λ (p : Packet). Handled c.args.setup.now (given_by c.args.bytes.now (packet_in c.args.zone p) c.args.frame.now.moment)
       (g.D.Desk.sight c.args.desk.now) (g.D.Desk.sight c.handle_packet-verdict.new.desk) c.handle_packet-verdict.result)
       c.classify-packet.ensures.exact c.handle_packet-verdict.ensures.handled;
-  items = c.push.ensures.items;
-  room = c.push.ensures.room;
+  items = c.push_counted.ensures.items;
+  room = c.push_counted.ensures.room;
 }
