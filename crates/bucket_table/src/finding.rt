@@ -237,7 +237,7 @@ pub fn find_once(pass: &mut Pass, t: &Tuple) -> FindOnce
     ensures says { FindOnceSays result t.now pass.old pass.new }
     ensures words { ChangesWords (once_words result) pass.old.view pass.new.view }
 {
-    // Before the walk, which reckons the same, so that it is reckoned once.
+    // Before `follow`, which reckons the same values: behind its atomic steps they would be reckoned again.
     let sizes = pass.sizes();
     let [first, second] = words(t);
     let bucket = bucket_of(t, sizes.seed, sizes.buckets);

@@ -112,7 +112,8 @@ pub fn link(pass: &mut Pass, locked: &Locked, place: u32)
     link_in(pass, locked, &sizes, place, first, second);
 }
 
-/// The same, where the buckets of both tuples are at hand.
+/// Puts both tuples of a place that the pass owns into the chains of these buckets, which are theirs, in a table of these sizes. The
+/// reply link comes behind the original one.
 #[inline(always)]
 pub fn link_in(pass: &mut Pass, locked: &Locked, sizes: &Sizes, place: u32, first: u32, second: u32)
     requires limits { AreWithinLimits sizes.now }
@@ -210,7 +211,8 @@ pub fn walk(pass: &mut Pass, locked: &Locked, t: &Tuple) -> Option<(u32, Directi
     walk_sized(pass, locked, &sizes, t)
 }
 
-/// The same, where the sizes of the table are at hand: what is reckoned from them is reckoned once in calls that have the same ones.
+/// Finds the link of a locked chain that has the tuple, the original one first, in a table of these sizes. None is that there is
+/// none.
 #[inline(always)]
 pub fn walk_sized(
     pass: &mut Pass,

@@ -33,7 +33,7 @@ pub fn lock_flow<R: Wait>(rt: &R, pass: &mut Pass, flow: &Flow) -> Locked
     lock_sized(rt, pass, &sizes, flow)
 }
 
-/// The same, where the sizes of the table are at hand.
+/// Waits for the buckets of both tuples of a flow, and locks them, in a table of these sizes.
 #[inline(always)]
 fn lock_sized<R: Wait>(rt: &R, pass: &mut Pass, sizes: &Sizes, flow: &Flow) -> Locked
     requires limits { AreWithinLimits sizes.now }

@@ -20,7 +20,7 @@ use track_rule::history_word::events_in;
 use track_rule::pass::Pass;
 use track_rule::place_phase::LIVE;
 
-/// The record that is out of its slot, or none. It stays there.
+/// The record in the slot that is out, or none. It stays there.
 #[inline(always)]
 pub fn record_out(pass: &mut Pass, place: u32) -> Option<Record>
     requires { HasRecord place pass.old }

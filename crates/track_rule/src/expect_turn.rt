@@ -1,6 +1,6 @@
 //! The turn of the expectations. A pass that takes it has the slot of their table out, and the table in it. It looks at the
-//! table and changes it there, or moves it away and puts it back, and gives the slot back with the turn. Taking and giving back are each one atomic step; what is done with the table is
-//! none. A pass may have the turn of a record at the same time. Then the slot of the record stands before that of the
+//! table and changes it there, or moves it away and puts it back, and gives the slot back with the turn. Taking and giving
+//! back are each one atomic step; what is done with the table is none. A pass may have the turn of a record at the same time. Then the slot of the record stands before that of the
 //! expectations, which is brought to the front to be lent, exchanged or given back.
 
 ghost use Rattle.std.specs.Prelude.{◌≡◌, None, Some, is_some, true, unwrap_or};

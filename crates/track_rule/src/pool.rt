@@ -31,7 +31,7 @@ impl<'b> Pass<'b> {
             .load::<LoadHistory>(&mut self.seat, HISTORY_WORD)
     }
 
-    /// Takes the turn of the free list, if no pass has it, and the list out of its slot.
+    /// Takes the turn of the free list, if no pass has it, and with it the slot of the list.
     #[inline(always)]
     pub fn free_take(&mut self) -> bool
         requires free { self.old.view.free ≡ None }

@@ -1,5 +1,6 @@
-//! The turn of the record of a place. A pass takes it, has the record of the entry that is live there out of its slot, changes
-//! it, puts it back, and gives the turn back. Taking and giving back are each one atomic step; moving the record is none.
+//! The turn of the record of a place. A pass that takes it has the slot of the record out, and the record in it where an entry is
+//! live there. It looks at the record, changes it or puts another there, and gives the slot back with the turn. Taking and giving
+//! back are each one atomic step; what is done with the record is none.
 
 ghost use Rattle.std.specs.Prelude.{◌≡◌, ◌<◌, None, Some};
 ghost use Rattle.atomic_table.specs.Table.{rest};
@@ -61,8 +62,8 @@ fn record_slot(place: u32) -> usize
 }
 
 impl<'b> Pass<'b> {
-    /// Takes the turn of the record of a place, if no pass has it, and the record out of its slot. The pass has no other
-    /// record, and not the free list.
+    /// Takes the turn of the record of a place, if no pass has it, and with it the slot of the record. The pass has the slot of no
+    /// other record, and not the free list.
     #[inline(always)]
     pub fn turn_take(&mut self, place: u32) -> bool
         requires place { place < (sizes_of self.old).entries }
@@ -77,7 +78,7 @@ impl<'b> Pass<'b> {
             == 0
     }
 
-    /// Puts this record, or none, in the place of the one that is out.
+    /// Puts this record, or none, in the slot that is out, and answers what was in it.
     #[inline(always)]
     pub fn record_swap(&mut self, place: u32, subject: Option<Record>) -> Option<Record>
         requires turn { has_hand place self.old.view ≡ 1 }
@@ -92,7 +93,7 @@ impl<'b> Pass<'b> {
         )
     }
 
-    /// The record that is out, or none. It stays there.
+    /// The record in the slot that is out, or none. It stays there.
     #[inline(always)]
     pub fn record_load(&mut self, place: u32) -> Option<Record>
         requires turn { has_hand place self.old.view ≡ 1 }
@@ -106,7 +107,7 @@ impl<'b> Pass<'b> {
         }
     }
 
-    /// Puts a part into the record that is out, where there is one.
+    /// Puts a part into the record in the slot that is out, where there is one.
     #[inline(always)]
     pub fn part_store(&mut self, place: u32, part: Part)
         requires turn { has_hand place self.old.view ≡ 1 }
