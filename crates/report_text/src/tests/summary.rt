@@ -89,7 +89,8 @@ fn a_sink_that_fails(rt: HostRuntime) -> Result<(), Fail> {
         let mut sink = MemSink::new(rt.alloc(), room, &[fails])?;
         let mut page = [0; LONGEST_LINE];
         assert!(rt; write_summary(&report, &mut page, &mut sink).is_err());
-        assert_eq!(rt; sink.bytes(), &EVERY_WORD.as_bytes()[..written]);
+        assert_eq!(rt; sink.bytes().len(), written);
+        assert!(rt; EVERY_WORD.as_bytes().starts_with(sink.bytes()));
     }
     Ok(())
 }
