@@ -44,7 +44,7 @@ lower_kill a b packet lower from le one = record {
 module _ (states : StatesStay) (events : EventsStay) (going : GoingOnAddsUp) (twice : SeeingAddsUp) where
   -- the desk had seen more before, and sees more behind it
   accepted_along : (setup : Setup) (a b c d : Sight) (packet : FlowPacket) (first base : ℕ) (before after : Roomed Verdict) → Saw a b
-      → Accepted setup packet first base b c before after → Saw c d → Accepted setup packet first base a d before after
+      → Accepted setup packet (record { first = first; base = base }) b c before after → Saw c d → Accepted setup packet (record { first = first; base = base }) a d before after
   accepted_along setup a b c d packet first base before after saw accepted more = record {
     class = accepted.class;
     answers = answers_before states events going twice setup a c d packet 0 (length a.front) accepted.class
@@ -57,7 +57,7 @@ module _ (states : StatesStay) (events : EventsStay) (going : GoingOnAddsUp) (tw
   }
 
   pub tried_along : (setup : Setup) (a b c d : Sight) (packet : FlowPacket) (first base : ℕ) (before after : Roomed Verdict) (tried : Tried) → Saw a b
-      → TriedSays setup packet first base b c before after tried → Saw c d → TriedSays setup packet first base a d before after tried
+      → TriedSays setup packet (record { first = first; base = base }) b c before after tried → Saw c d → TriedSays setup packet (record { first = first; base = base }) a d before after tried
   tried_along setup a b c d packet first base before after Done saw accepted more =
       accepted_along setup a b c d packet first base before after saw accepted more
   tried_along setup a b c d packet first base before after Killed saw expired more = record {

@@ -133,7 +133,7 @@ module _ (states : StatesStay) (events : EventsStay) (going : GoingOnAddsUp) (ol
 
   -- a packet was answered before any kill, and its verdict is appended
   pub accepted_into : (setup : Setup) (first base : ℕ) (new : Sight) (before after : Roomed Verdict) → IsKnown old → HoldsNothing old
-      → HoldsNothing new → first ≡ length old.own → Accepted setup packet first base old new before after
+      → HoldsNothing new → first ≡ length old.own → Accepted setup packet (record { first = first; base = base }) old new before after
       → (given : Given) → IsFlow given packet → HandledInto base setup given old new before after
   accepted_into setup first base new before after known nothing empty starts a given flow =
       let verdict : Verdict = record { class = a.class; first = first; made = length new.own - first } in
@@ -147,7 +147,7 @@ module _ (states : StatesStay) (events : EventsStay) (going : GoingOnAddsUp) (ol
 
   -- what came of a packet that met an entry is what came of its frame
   pub frame_says : (setup : Setup) (first base : ℕ) (new : Sight) (before after : Roomed Verdict) (tried : Tried) → IsKnown old → HoldsNothing old
-      → HoldsNothing new → IsKnown new → first ≡ length old.own → TriedSays setup packet first base old new before after tried
+      → HoldsNothing new → IsKnown new → first ≡ length old.own → TriedSays setup packet (record { first = first; base = base }) old new before after tried
       → (given : Given) → IsFlow given packet → FrameSays base setup given old new before after tried
   frame_says setup first base new before after tried.Done known nothing empty knows starts a given flow =
       accepted_into setup first base new before after known nothing empty starts a given flow

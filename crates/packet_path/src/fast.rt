@@ -93,7 +93,7 @@ fn read_payload<R: Wait, D: Desk>(
     requires first { first ≤ length (D.sight desk.old).own }
     requires few { length (D.sight desk.old).own ≤ first + 1 }
     requires room { length verdicts.old.items < verdicts.old.room }
-    ensures reads { ReadInto (flow_packet packet.now) (record { subject = before.now; direction = direction }) number first base
+    ensures reads { ReadInto (flow_packet packet.now) (record { subject = before.now; direction = direction }) number (record { first = first; base = base })
         (D.sight desk.old) (D.sight desk.new) verdicts.old verdicts.new }
     ensures places { SamePlaces (D.sight desk.old) (D.sight desk.new) }
     ensures taken { (D.sight desk.new).taken ≡ (D.sight desk.old).taken }
@@ -122,7 +122,7 @@ fn touch_entry<R: Wait, D: Desk>(
     requires base { base ≤ first }
     requires first { first ≡ length (D.sight desk.old).own }
     requires room { length verdicts.old.items < verdicts.old.room }
-    ensures says { (setup : Setup) → TriedSays setup (flow_packet packet.now) first base
+    ensures says { (setup : Setup) → TriedSays setup (flow_packet packet.now) (record { first = first; base = base })
         (D.sight desk.old) (D.sight desk.new) verdicts.old verdicts.new result }
     ensures places { SamePlaces (D.sight desk.old) (D.sight desk.new) }
     ensures knows { IsKnown (D.sight desk.new) }

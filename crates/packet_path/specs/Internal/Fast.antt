@@ -20,6 +20,11 @@ use Rattle.packet_path.specs.Internal.Attempt.{Answers, Follows, IsKilling, Kill
 use Rattle.packet_path.specs.Packet.{FlowPacket, Given, IsFlow}
 use Rattle.packet_path.specs.Taken.{taken_by}
 
+-- a packet's own events begin with the desk's own event of index `first`, and its verdict counts them from `base` on
+pub record Counting : Type 0 where
+  pub first : ℕ
+  pub base : ℕ
+
 -- a verdict of this class is now the last of a list: it has all of the desk's own events from the one of index `first` on, and counts
 -- from `base`
 pub record Appended (class : Class) (first base : ℕ) (own : List Note) (before after : Roomed Verdict) : Type 0 where
@@ -28,17 +33,17 @@ pub record Appended (class : Class) (first base : ℕ) (own : List Note) (before
 
 -- what a packet's entry was before it, and the direction in which the packet found it, are those that its verdict names, with
 -- what came of its payload behind its Touch
-pub record ReadInto (packet : FlowPacket) (found : Found) (touched first base : ℕ) (old new : Sight) (before after : Roomed Verdict) : Type 0 where
+pub record ReadInto (packet : FlowPacket) (found : Found) (touched : ℕ) (n : Counting) (old new : Sight) (before after : Roomed Verdict) : Type 0 where
   pub ftp : Ftp
   pub follows : Follows packet found touched old new ftp
-  pub appended : Appended (Passed (label_of found.subject found.direction) found.subject.id (touched + 1) ftp) first base new.own before after
+  pub appended : Appended (Passed (label_of found.subject found.direction) found.subject.id (touched + 1) ftp) n.first n.base new.own before after
 
 -- a packet was answered, and its verdict appended
-pub record Accepted (setup : Setup) (packet : FlowPacket) (first base : ℕ) (old new : Sight) (before after : Roomed Verdict) : Type 0 where
+pub record Accepted (setup : Setup) (packet : FlowPacket) (n : Counting) (old new : Sight) (before after : Roomed Verdict) : Type 0 where
   pub class : Class
   pub answers : Answers setup old new packet 0 (length old.front) class
   pub taken : new.taken ≡ taken_by class old.taken
-  pub appended : Appended class first base new.own before after
+  pub appended : Appended class n.first n.base new.own before after
 
 -- nothing was done, and the list is as it was
 pub record LeftIt (old new : Sight) (before after : Roomed Verdict) : Type 0 where
@@ -52,10 +57,10 @@ pub record Expired (packet : FlowPacket) (old new : Sight) (before after : Roome
   pub kept : after ≡ before
 
 -- what came of a packet that met an entry
-abbrev pub TriedSays : Setup → FlowPacket → ℕ → ℕ → Sight → Sight → Roomed Verdict → Roomed Verdict → Tried → Type 0
-TriedSays setup packet first base old new before after Done = Accepted setup packet first base old new before after
-TriedSays setup packet first base old new before after Killed = Expired packet old new before after
-TriedSays setup packet first base old new before after Left = LeftIt old new before after
+abbrev pub TriedSays : Setup → FlowPacket → Counting → Sight → Sight → Roomed Verdict → Roomed Verdict → Tried → Type 0
+TriedSays setup packet n old new before after Done = Accepted setup packet n old new before after
+TriedSays setup packet n old new before after Killed = Expired packet old new before after
+TriedSays setup packet n old new before after Left = LeftIt old new before after
 
 -- the frame has a packet of a flow that destroyed one entry, and the list is as it was
 pub record Renews (given : Given) (old new : Sight) (before after : Roomed Verdict) : Type 0 where
