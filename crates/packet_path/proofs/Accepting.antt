@@ -27,8 +27,8 @@ appended_stays class first base c d before after saw appended = record {
 }
 
 -- an entry that was killed past a point was so past each earlier one
-lower_kill : (a b : Sight) (packet : FlowPacket) (lower from : ℕ) → lower ≤ from → KilledOne a b packet 0 from → KilledOne a b packet 0 lower
-lower_kill a b packet lower from le one = record {
+lower_kill : (a b : Sight) (packet : FlowPacket) (kills lower from : ℕ) → lower ≤ from → KilledOne a b packet kills from → KilledOne a b packet kills lower
+lower_kill a b packet kills lower from le one = record {
   few = one.few;
   note = one.note;
   went = one.went;
@@ -43,32 +43,32 @@ lower_kill a b packet lower from le one = record {
 
 module _ (states : StatesStay) (events : EventsStay) (going : GoingOnAddsUp) (twice : SeeingAddsUp) where
   -- the desk had seen more before, and sees more behind it
-  accepted_along : (setup : Setup) (a b c d : Sight) (packet : FlowPacket) (first base : ℕ) (before after : Roomed Verdict) → Saw a b
-      → Accepted setup packet (record { first = first; base = base }) b c before after → Saw c d → Accepted setup packet (record { first = first; base = base }) a d before after
-  accepted_along setup a b c d packet first base before after saw accepted more = record {
+  accepted_along : (setup : Setup) (a b c d : Sight) (packet : FlowPacket) (kills first base : ℕ) (before after : Roomed Verdict) → Saw a b
+      → Accepted setup packet kills (record { first = first; base = base }) b c before after → Saw c d → Accepted setup packet kills (record { first = first; base = base }) a d before after
+  accepted_along setup a b c d packet kills first base before after saw accepted more = record {
     class = accepted.class;
-    answers = answers_before states events going twice setup a c d packet 0 (length a.front) accepted.class
-        (answers_from states events going twice setup a c packet 0 (length a.front) (length b.front) accepted.class
+    answers = answers_before states events going twice setup a c d packet kills (length a.front) accepted.class
+        (answers_from states events going twice setup a c packet kills (length a.front) (length b.front) accepted.class
         (starts_longer b.front a.front saw.went.front)
-        (answers_after states events going twice setup a b c packet 0 (length b.front) accepted.class saw accepted.answers))
+        (answers_after states events going twice setup a b c packet kills (length b.front) accepted.class saw accepted.answers))
         more;
     taken = more.taken ∙ accepted.taken ∙ ap (taken_by accepted.class) saw.taken;
     appended = appended_stays accepted.class first base c d before after more accepted.appended;
   }
 
-  pub tried_along : (setup : Setup) (a b c d : Sight) (packet : FlowPacket) (first base : ℕ) (before after : Roomed Verdict) (tried : Tried) → Saw a b
-      → TriedSays setup packet (record { first = first; base = base }) b c before after tried → Saw c d → TriedSays setup packet (record { first = first; base = base }) a d before after tried
-  tried_along setup a b c d packet first base before after Done saw accepted more =
-      accepted_along setup a b c d packet first base before after saw accepted more
-  tried_along setup a b c d packet first base before after Killed saw expired more = record {
-    killed = killed_before states events going twice a c d packet 0 (length a.front)
-        (lower_kill a c packet (length a.front) (length b.front) (starts_longer b.front a.front saw.went.front)
-        (killed_after states events going twice a b c packet 0 (length b.front) saw expired.killed))
+  pub tried_along : (setup : Setup) (a b c d : Sight) (packet : FlowPacket) (kills first base : ℕ) (before after : Roomed Verdict) (tried : Tried) → Saw a b
+      → TriedSays setup packet kills (record { first = first; base = base }) b c before after tried → Saw c d → TriedSays setup packet kills (record { first = first; base = base }) a d before after tried
+  tried_along setup a b c d packet kills first base before after Done saw accepted more =
+      accepted_along setup a b c d packet kills first base before after saw accepted more
+  tried_along setup a b c d packet kills first base before after Killed saw ended more = record {
+    killed = killed_before states events going twice a c d packet kills (length a.front)
+        (lower_kill a c packet kills (length a.front) (length b.front) (starts_longer b.front a.front saw.went.front)
+        (killed_after states events going twice a b c packet kills (length b.front) saw ended.killed))
         more;
-    taken = more.taken ∙ expired.taken ∙ saw.taken;
-    kept = expired.kept;
+    taken = more.taken ∙ ended.taken ∙ saw.taken;
+    kept = ended.kept;
   }
-  tried_along setup a b c d packet first base before after Left saw left more = record {
+  tried_along setup a b c d packet kills first base before after Left saw left more = record {
     saw = twice a c d (twice a b c saw left.saw) more;
     kept = left.kept;
   }

@@ -10,6 +10,7 @@ use Rattle.history_book.specs.declared.event.Event.{Event}
 use Rattle.history_book.specs.declared.event.Note.{Note}
 use Rattle.history_book.specs.declared.record.Record.{Record}
 use Rattle.history_book.specs.declared.sizes.Sizes.{Sizes}
+use Rattle.history_book.specs.declared.verdict.Class.{Class}
 use Rattle.history_book.specs.declared.verdict.Verdict.{Verdict}
 use Rattle.history_book.specs.Desk.{IsLiveUnder, IsReady}
 use Rattle.history_book.specs.SightLaws.{GoingOnAddsUp}
@@ -28,14 +29,11 @@ use Rattle.packet_headers.specs.declared.packet.Packet.{Packet}
 use Rattle.packet_headers.specs.declared.packet.Packet.TheVariants as packet
 use Rattle.tuple_core.specs.declared.Segment.{Segment}
 use Rattle.packet_path.specs.Internal.Attempt.{Answers, GoesOnKilling, IsKilling, KilledOne}
-use Rattle.packet_path.specs.Internal.Fast.{Accepted, FrameSays, TriedSays, is_flow}
+use Rattle.packet_path.specs.Internal.Fast.{Accepted, Appended, is_flow}
 use Rattle.packet_path.specs.Handled.{Handled, HandledInto}
 use Rattle.packet_path.specs.Packet.{Given, IsFlow, packet_in}
-use Rattle.packet_path.specs.declared.fast.Tried.{Tried}
-use Rattle.packet_path.specs.declared.fast.Tried.TheVariants as tried
 use Rattle.packet_path.specs.declared.setup.Setup.{Setup}
 use Rattle.history_book.specs.Mark.{points_of}
-use Rattle.packet_path.specs.Laws.{LowerMarksFit}
 use Rattle.packet_path.specs.Taken.{taken_by}
 use Rattle.packet_path.specs.Verdict.{FitsFrame, Kills, KillsAll}
 use Rattle.packet_path.proofs.Growth.{at_grows, kills_all_grows}
@@ -131,61 +129,38 @@ module _ (states : StatesStay) (events : EventsStay) (going : GoingOnAddsUp) (ol
         taken = taken ∙ ap (taken_by verdict.class) k.taken;
       }
 
-  -- a packet was answered before any kill, and its verdict is appended
-  pub accepted_into : (setup : Setup) (first base : ℕ) (new : Sight) (before after : Roomed Verdict) → IsKnown old → HoldsNothing old
-      → HoldsNothing new → first ≡ length old.own → Accepted setup packet (record { first = first; base = base }) old new before after
+  -- a packet was answered after so many kills, and its verdict is appended
+  pub accepted_into : (setup : Setup) (n first base : ℕ) (now new : Sight) (before after : Roomed Verdict) → IsKilling old now packet n
+      → HoldsNothing new → first ≡ length old.own → Accepted setup packet n (record { first = first; base = base }) now new before after
       → (given : Given) → IsFlow given packet → HandledInto base setup given old new before after
-  accepted_into setup first base new before after known nothing empty starts a given flow =
+  accepted_into setup n first base now new before after killing empty starts a given flow =
       let verdict : Verdict = record { class = a.class; first = first; made = length new.own - first } in
       record {
         verdict = verdict;
-        handled = killing_done setup old new 0 verdict given flow (killing_none going old packet known nothing) a.answers a.taken empty starts
+        handled = killing_done setup now new n verdict given flow killing a.answers a.taken empty starts
             (ap (λ n. length new.own - n) starts);
         items = a.appended.items;
         room = a.appended.room;
       }
 
-  -- what came of a packet that met an entry is what came of its frame
-  pub frame_says : (setup : Setup) (first base : ℕ) (new : Sight) (before after : Roomed Verdict) (tried : Tried) → IsKnown old → HoldsNothing old
-      → HoldsNothing new → IsKnown new → first ≡ length old.own → TriedSays setup packet (record { first = first; base = base }) old new before after tried
-      → (given : Given) → IsFlow given packet → FrameSays base setup given old new before after tried
-  frame_says setup first base new before after tried.Done known nothing empty knows starts a given flow =
-      accepted_into setup first base new before after known nothing empty starts a given flow
-  frame_says setup first base new before after tried.Killed known nothing empty knows starts a given flow = record {
-    packet = packet;
-    flow = flow;
-    killing = killing_more old new 0 (killing_none going old packet known nothing) a.killed a.taken empty knows;
-    kept = a.kept;
-  }
-  frame_says setup first base new before after tried.Left known nothing empty knows starts left given flow = left
-
   -- from the desk's first sight of a packet, after so many kills: one more, or none
-  pub goes_on_more : (now new : Sight) (before killed first : ℕ) → GoesOnKilling old now packet before killed first
+  pub goes_on_more : (now new : Sight) (killed first : ℕ) → GoesOnKilling old now packet killed first
       → KilledOne now new packet killed (length now.front) → new.taken ≡ now.taken → HoldsNothing new → IsKnown new
-      → ((begun : Sight) → IsKilling begun now packet killed → IsKilling begun new packet (killed + 1))
-      → GoesOnKilling old new packet before (killed + 1) first
-  goes_on_more now new before killed first goes one taken empty known more = record {
-    killing = λ begun k. more begun (goes.killing begun k);
-    few = omega (arith, one.few);
+      → GoesOnKilling old new packet (killed + 1) first
+  goes_on_more now new killed first goes one taken empty known = record {
+    killing = killing_more now new killed goes.killing one taken empty known;
     spare = omega (arith, goes.spare, one.went.spare);
     low = omega (arith, goes.low, ap length one.went.own, length-append now.own (one.note ∷ []));
     high = omega (arith, goes.high, ap length one.went.own, length-append now.own (one.note ∷ []));
-    empty = empty;
-    known = known;
   }
 
-  pub goes_on_again : (now new : Sight) (before killed first : ℕ) → GoesOnKilling old now packet before killed first
-      → Saw now new → HoldsNothing new → IsKnown new
-      → ((begun : Sight) → IsKilling begun now packet killed → IsKilling begun new packet killed)
-      → GoesOnKilling old new packet before killed first
-  goes_on_again now new before killed first goes saw empty known again = record {
-    killing = λ begun k. again begun (goes.killing begun k);
-    few = goes.few;
+  pub goes_on_again : (now new : Sight) (killed first : ℕ) → GoesOnKilling old now packet killed first
+      → Saw now new → HoldsNothing new → IsKnown new → GoesOnKilling old new packet killed first
+  goes_on_again now new killed first goes saw empty known = record {
+    killing = killing_again now new killed goes.killing saw empty known;
     spare = omega (arith, goes.spare, saw.spare);
     low = omega (arith, goes.low, ap length saw.went.own, length-append now.own []);
     high = omega (arith, goes.high, ap length saw.went.own, length-append now.own []);
-    empty = empty;
-    known = known;
   }
 
 -- what is handled after making room is handled
@@ -238,6 +213,21 @@ handled_silent setup old new given verdict saw empty taken first made fits point
   taken = taken;
 }
 
+-- the same, with its verdict appended
+pub silent_into : (setup : Setup) (base first : ℕ) (old new : Sight) (given : Given) (class : Class) (before after : Roomed Verdict) → Saw old new → HoldsNothing new
+    → new.taken ≡ taken_by class old.taken → first ≡ length old.own → FitsFrame setup old.sizes new.front (length old.front) given [] class
+    → AllByRecursion (λ p. p ≤ length new.front) (points_of class) → Appended class first base new.own before after
+    → HandledInto base setup given old new before after
+silent_into setup base first old new given class before after saw empty taken starts fits points appended =
+    let verdict : Verdict = record { class = class; first = first; made = length new.own - first } in
+    record {
+      verdict = verdict;
+      handled = handled_silent setup old new given verdict saw empty taken starts
+          (omega (arith, starts, ap length saw.went.own, length-append old.own [])) fits points;
+      items = appended.items;
+      room = appended.room;
+    }
+
 -- what an error is about was looked up at a point that stays when the desk sees more
 pub error_found : StatesStay → (old mid new : Sight) (inner looked_up : Tuple) (place id at : ℕ) (d : Direction)
     → looked_up ≡ inverse inner → (looked : Looked old mid at (IsLiveUnder looked_up place id d)) → Saw mid new
@@ -289,34 +279,7 @@ error_misdirected states old mid new inner looked_up outer place id at moment d 
   };
 }
 
--- what is handled after the desk had seen more is handled
-handled_after : LowerMarksFit → GoingOnAddsUp → (setup : Setup) (old mid new : Sight) (given : Given) (verdict : Verdict) → Saw old mid
-    → Handled setup given mid new verdict → Handled setup given old new verdict
-handled_after lower going setup old mid new given verdict saw h = record {
-  own = h.own;
-  went = going.after old mid new h.own saw h.went;
-  first = omega (arith, h.first, ap length saw.went.own, length-append old.own []);
-  made = h.made;
-  few = h.few;
-  fits = lower setup old.sizes new.front (length old.front) (length mid.front) given h.own verdict.class
-      (starts_longer mid.front old.front saw.went.front)
-      (subst (λ (z : Sizes). FitsFrame setup z new.front (length mid.front) given h.own verdict.class) saw.went.pass.sizes h.fits);
-  points = h.points;
-  held = h.held;
-  owed = h.owed;
-  taken = h.taken ∙ ap (taken_by verdict.class) saw.taken;
-}
-
--- the same of a verdict that is appended
-pub appended_after : LowerMarksFit → GoingOnAddsUp → (base : ℕ) (setup : Setup) (old mid new : Sight) (given : Given) (before after : Roomed Verdict)
-    → Saw old mid → HandledInto base setup given mid new before after → HandledInto base setup given old new before after
-appended_after lower going base setup old mid new given before after saw h = record {
-  verdict = h.verdict;
-  handled = handled_after lower going setup old mid new given h.verdict saw h.handled;
-  items = h.items;
-  room = h.room;
-}
-
+-- what is appended after making room is appended
 pub appended_ready : (base : ℕ) (setup : Setup) (k : ℕ) (old mid new : Sight) (given : Given) (before after : Roomed Verdict) → IsReady k old mid
     → HandledInto base setup given mid new before after → HandledInto base setup given old new before after
 appended_ready base setup k old mid new given before after ready h = record {

@@ -212,6 +212,32 @@ fn meet_entry<R: Wait, D: Desk>(
     }
 }
 
+/// Gives a packet to the entry that it met, and gives up the entry's place.
+#[inline(always)]
+fn answer_and_leave<R: Wait, D: Desk>(
+    rt: &R,
+    desk: &mut D,
+    packet: &FlowView,
+    met: &Met,
+    kills: u8,
+) -> Attempt
+    requires classified { IsClassified (flow_packet packet.now) }
+    requires met { IsMet (flow_packet packet.now) met.now (D.sight desk.old) }
+    requires few { kills ≤ 4 }
+    requires spare { 7 ≤ (D.sight desk.old).spare + kills }
+    requires knows { IsKnown (D.sight desk.old) }
+    ensures says { (setup : Setup) → AttemptSays setup (D.sight desk.old) (D.sight desk.new)
+        (flow_packet packet.now) kills (length (D.sight desk.old).front) result }
+    ensures empty { HoldsNothing (D.sight desk.new) }
+    ensures taken { (D.sight desk.new).taken ≡ taken_in result (D.sight desk.old).taken }
+    ensures knows { IsKnown (D.sight desk.new) }
+{
+    desks_go_on();
+    let attempt = meet_entry(rt, desk, packet, met, kills);
+    give_up(rt, desk, met.place);
+    attempt
+}
+
 /// Looks up what is live under a packet's tuple, and gives the packet to it or begins a flow; so many
 /// entries were destroyed for the packet before.
 #[inline(always)]
@@ -248,9 +274,40 @@ pub fn try_packet<R: Wait, D: Desk>(
                 direction,
                 at,
             };
-            let attempt = meet_entry(rt, desk, packet, &met, kills);
-            give_up(rt, desk, place);
-            attempt
+            answer_and_leave(rt, desk, packet, &met, kills)
+        }
+    }
+}
+
+/// Gives a packet to the entry that is live under its tuple, if one is; so many entries were destroyed for the packet before.
+#[inline(always)]
+pub fn meet_packet<R: Wait, D: Desk>(rt: &R, desk: &mut D, packet: &FlowView, kills: u8) -> Attempt
+    requires classified { IsClassified (flow_packet packet.now) }
+    requires empty { HoldsNothing (D.sight desk.old) }
+    requires few { kills ≤ 4 }
+    requires spare { 7 ≤ (D.sight desk.old).spare + kills }
+    ensures says { (setup : Setup) → AttemptSays setup (D.sight desk.old) (D.sight desk.new)
+        (flow_packet packet.now) kills (length (D.sight desk.old).front) result }
+    ensures empty { HoldsNothing (D.sight desk.new) }
+    ensures taken { (D.sight desk.new).taken ≡ taken_in result (D.sight desk.old).taken }
+    ensures knows { IsKnown (D.sight desk.new) }
+{
+    desks_go_on();
+    match desk.find(rt, &packet.tuple) {
+        FindOutcome::Absent { .. } => Attempt::Again,
+        FindOutcome::Found {
+            place,
+            id,
+            direction,
+            at,
+        } => {
+            let met = Met {
+                place,
+                id,
+                direction,
+                at,
+            };
+            answer_and_leave(rt, desk, packet, &met, kills)
         }
     }
 }

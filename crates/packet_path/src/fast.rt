@@ -1,5 +1,5 @@
-//! The common way of a packet of a flow: its entry accepts it, or it begins a flow. Its verdict is appended where its class
-//! is known, so that no class is carried through layers. What is not common is left to the general way.
+//! The common way of a packet of a flow: its entry accepts it, or is expired and destroyed, or the packet begins a flow. Its
+//! verdict is appended where its class is known, so that no class is carried through layers.
 
 ghost use Rattle.std.specs.Prelude.{◌≡◌, ◌+◌, ◌<◌, ◌≤◌, ◌^◌, true, length};
 ghost use Rattle.std.specs.List.{AllByRecursion};
@@ -9,15 +9,13 @@ ghost use Rattle.history_book.specs.Held.{held_id, is_held_for_entry};
 ghost use Rattle.history_book.specs.Places.{HoldsNothing};
 ghost use Rattle.history_book.specs.Sight.{IsKnown};
 ghost use Rattle.nat_setup.specs.Rule.{IsLawfulRule};
-ghost use Rattle.packet_headers.specs.Span.{IsSpanIn};
 ghost use Rattle.packet_path.specs.Internal.Attempt.{IsClassified, IsMet};
-ghost use Rattle.packet_path.specs.Internal.Fast.{Appended, FrameSays, ReadInto, TriedSays};
-ghost use Rattle.packet_path.specs.Packet.{flow_packet, Given, given_of, IsFlow};
+ghost use Rattle.packet_path.specs.Internal.Fast.{Appended, ReadInto, TriedSays};
+ghost use Rattle.packet_path.specs.Packet.{flow_packet};
 
 use crate::attempt::{Met, kill_entry, passed};
 use crate::begin::begin_flow;
 use crate::bundles::{desks_go_on, met_entries_stay};
-use crate::handle::bytes_in;
 use crate::packet::FlowView;
 use crate::payload::{follow_payload, is_read};
 use crate::setup::Setup;
@@ -28,11 +26,7 @@ use history_book::outcome::{FindOutcome, TouchOutcome};
 use history_book::places::give_up;
 use history_book::record::Record;
 use history_book::report::Verdicts;
-use history_book::sight_laws::seeing_adds_up;
 use history_book::verdict::{Class, Ftp, Verdict};
-use packet_headers::classify::classify;
-use packet_headers::frame::Frame;
-use packet_headers::packet::Packet;
 use std::sync::Wait;
 use tuple_core::Direction;
 
@@ -41,7 +35,7 @@ use tuple_core::Direction;
 pub enum Tried {
     /// The packet was handled, and its verdict appended.
     Done,
-    /// The packet destroyed the entry that it found expired, and is to be looked at again.
+    /// The packet destroyed the entry that was live under its tuple, and is to be looked at again.
     Killed,
     /// Nothing was done.
     Left,
@@ -50,7 +44,7 @@ pub enum Tried {
 /// Appends the verdict of a packet of this class: it has all of the desk's own events from the one of index `first` on, and
 /// counts from `base`.
 #[inline(always)]
-fn append<D: Desk>(desk: &D, class: Class, first: u64, base: u64, verdicts: &mut Verdicts)
+pub fn append<D: Desk>(desk: &D, class: Class, first: u64, base: u64, verdicts: &mut Verdicts)
     requires base { base ≤ first }
     requires first { first ≤ length (D.sight desk.now).own }
     requires few { length (D.sight desk.now).own ≤ first + 7 }
@@ -91,7 +85,7 @@ fn read_payload<R: Wait, D: Desk>(
     requires number { number < 2 ^ 40 }
     requires base { base ≤ first }
     requires first { first ≤ length (D.sight desk.old).own }
-    requires few { length (D.sight desk.old).own ≤ first + 1 }
+    requires few { length (D.sight desk.old).own ≤ first + 6 }
     requires room { length verdicts.old.items < verdicts.old.room }
     ensures reads { ReadInto (flow_packet packet.now) (record { subject = before.now; direction = direction }) number (record { first = first; base = base })
         (D.sight desk.old) (D.sight desk.new) verdicts.old verdicts.new }
@@ -111,18 +105,21 @@ fn touch_entry<R: Wait, D: Desk>(
     desk: &mut D,
     packet: &FlowView,
     met: &Met,
+    kills: u8,
     first: u64,
     base: u64,
     verdicts: &mut Verdicts,
 ) -> Tried
     requires classified { IsClassified (flow_packet packet.now) }
     requires met { IsMet (flow_packet packet.now) met.now (D.sight desk.old) }
-    requires spare { 7 ≤ (D.sight desk.old).spare }
+    requires few { kills ≤ 4 }
+    requires spare { 7 ≤ (D.sight desk.old).spare + kills }
     requires knows { IsKnown (D.sight desk.old) }
     requires base { base ≤ first }
-    requires first { first ≡ length (D.sight desk.old).own }
+    requires low { first ≤ length (D.sight desk.old).own }
+    requires high { length (D.sight desk.old).own ≤ first + kills }
     requires room { length verdicts.old.items < verdicts.old.room }
-    ensures says { (setup : Setup) → TriedSays setup (flow_packet packet.now) (record { first = first; base = base })
+    ensures says { (setup : Setup) → TriedSays setup (flow_packet packet.now) kills (record { first = first; base = base })
         (D.sight desk.old) (D.sight desk.new) verdicts.old verdicts.new result }
     ensures places { SamePlaces (D.sight desk.old) (D.sight desk.new) }
     ensures knows { IsKnown (D.sight desk.new) }
@@ -153,6 +150,10 @@ fn touch_entry<R: Wait, D: Desk>(
         TouchOutcome::Invalid { .. } => Tried::Left,
         TouchOutcome::Reset { .. } => Tried::Left,
         TouchOutcome::Expired { at } => {
+            let is_last = kills == 4;
+            if is_last {
+                return Tried::Left;
+            }
             let why = Why::Expired {
                 moment: packet.moment,
             };
@@ -164,31 +165,35 @@ fn touch_entry<R: Wait, D: Desk>(
     }
 }
 
-/// Handles a packet of a flow, if its entry accepts it or there is none, and appends its verdict, with its events counted
-/// from `base` on. An expired entry is destroyed.
+/// Looks up what is live under a packet's tuple. The packet is handled, and its verdict appended, if its entry accepts it or it
+/// begins a flow; an expired entry is destroyed. So many entries were destroyed for the packet before.
 #[inline(always)]
-fn fast_packet<R: Wait, D: Desk>(
+pub fn fast_packet<R: Wait, D: Desk>(
     rt: &R,
     desk: &mut D,
     packet: &FlowView,
     setup: &Setup,
+    kills: u8,
+    first: u64,
     base: u64,
     verdicts: &mut Verdicts,
 ) -> Tried
     requires lawful { AllByRecursion IsLawfulRule setup.now.rules.items }
     requires classified { IsClassified (flow_packet packet.now) }
     requires empty { HoldsNothing (D.sight desk.old) }
-    requires spare { 7 ≤ (D.sight desk.old).spare }
+    requires few { kills ≤ 4 }
+    requires spare { 7 ≤ (D.sight desk.old).spare + kills }
     requires knows { IsKnown (D.sight desk.old) }
-    requires base { base ≤ length (D.sight desk.old).own }
+    requires base { base ≤ first }
+    requires low { first ≤ length (D.sight desk.old).own }
+    requires high { length (D.sight desk.old).own ≤ first + kills }
     requires room { length verdicts.old.items < verdicts.old.room }
-    ensures says { (given : Given) → IsFlow given (flow_packet packet.now) →
-        FrameSays base setup.now given (D.sight desk.old) (D.sight desk.new) verdicts.old verdicts.new result }
+    ensures says { TriedSays setup.now (flow_packet packet.now) kills (record { first = first; base = base })
+        (D.sight desk.old) (D.sight desk.new) verdicts.old verdicts.new result }
     ensures empty { HoldsNothing (D.sight desk.new) }
     ensures knows { IsKnown (D.sight desk.new) }
 {
     desks_go_on();
-    let first = desk.made();
     match desk.find(rt, &packet.tuple) {
         FindOutcome::Absent { at } => {
             let class = begin_flow(rt, desk, packet, setup, at);
@@ -207,53 +212,9 @@ fn fast_packet<R: Wait, D: Desk>(
                 direction,
                 at,
             };
-            let tried = touch_entry(rt, desk, packet, &met, first, base, verdicts);
+            let tried = touch_entry(rt, desk, packet, &met, kills, first, base, verdicts);
             give_up(rt, desk, place);
             tried
         }
     }
-}
-
-/// Handles a frame of a file with these bytes, in a zone, if it has a packet of a flow that takes the common way, and appends
-/// its verdict, with its events counted from `base` on.
-#[inline(always)]
-pub fn fast_frame<R: Wait, D: Desk>(
-    rt: &R,
-    desk: &mut D,
-    bytes: &[u8],
-    frame: &Frame,
-    zone: u16,
-    setup: &Setup,
-    base: u64,
-    verdicts: &mut Verdicts,
-) -> Tried
-    requires lawful { AllByRecursion IsLawfulRule setup.now.rules.items }
-    requires inside { frame.now.start + frame.now.captured ≤ length bytes.now }
-    requires timely { frame.now.moment ≤ 10 ^ 16 }
-    requires empty { HoldsNothing (D.sight desk.old) }
-    requires spare { 7 ≤ (D.sight desk.old).spare }
-    requires knows { IsKnown (D.sight desk.old) }
-    requires base { base ≤ length (D.sight desk.old).own }
-    requires room { length verdicts.old.items < verdicts.old.room }
-    ensures says { FrameSays base setup.now (given_of zone bytes.now frame.now)
-        (D.sight desk.old) (D.sight desk.new) verdicts.old verdicts.new result }
-    ensures empty { HoldsNothing (D.sight desk.new) }
-    ensures knows { IsKnown (D.sight desk.new) }
-{
-    seeing_adds_up();
-    let Packet::Flow {
-        tuple,
-        segment,
-        payload,
-    } = classify(bytes, frame)
-    else {
-        return Tried::Left;
-    };
-    let packet = FlowView {
-        tuple: tuple.in_zone(zone),
-        segment,
-        moment: frame.moment,
-        payload: bytes_in(bytes, payload),
-    };
-    fast_packet(rt, desk, &packet, setup, base, verdicts)
 }

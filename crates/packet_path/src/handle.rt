@@ -1,25 +1,25 @@
 //! What becomes of one packet, over any desk.
 
-ghost use Rattle.std.specs.Prelude.{◌≡◌, ℕ, ◌+◌, ◌<◌, ◌≤◌, ◌^◌, true, [], length, IfOk, OnErr};
+ghost use Rattle.std.specs.Prelude.{◌≡◌, ℕ, ◌+◌, ◌<◌, ◌≤◌, ◌^◌, true, false, List, [], length, IfOk, OnErr};
 ghost use Rattle.std.specs.List.{AllByRecursion};
 ghost use Rattle.tuple_core.specs.Tuple.{is_valid};
 ghost use Rattle.history_book.specs.WentOn.{Saw};
-ghost use Rattle.history_book.specs.Sight.{IsKnown, Sight};
+ghost use Rattle.history_book.specs.Sight.{IsKnown};
 ghost use Rattle.nat_setup.specs.Rule.{IsLawfulRule};
 ghost use Rattle.packet_headers.specs.ClassifySound.{has_valid_tuple, HasItsProtocol, HasPayloadIn};
-ghost use Rattle.packet_headers.specs.Span.{IsSpanIn};
 ghost use Rattle.packet_headers.specs.declared.packet.Packet.TheVariants.{Error};
 ghost use Rattle.packet_path.specs.Handled.{Handled};
-ghost use Rattle.packet_path.specs.Internal.Attempt.{IsClassified, IsKilling};
+ghost use Rattle.packet_path.specs.Internal.Attempt.{IsClassified};
+ghost use Rattle.packet_path.specs.Internal.Fast.{is_flow};
 ghost use Rattle.history_book.specs.Places.{HoldsNothing};
-ghost use Rattle.packet_path.specs.Packet.{bytes_in, cause_of, flow_packet, given_by, given_of, Given, IsFlow, packet_in};
+ghost use Rattle.packet_path.specs.Packet.{cause_of, flow_packet, given_by, given_of, Given, IsFlow, packet_in};
 ghost use Rattle.history_book.specs.Mark.{points_of};
 ghost use Rattle.packet_path.specs.Taken.{taken_by};
 ghost use Rattle.packet_path.specs.Verdict.{FitsFrame};
 
 use crate::attempt::{Attempt, try_packet};
 use crate::bundles::desks_go_on;
-use crate::packet::FlowView;
+use crate::packet::{FlowView, flow_in};
 use crate::setup::Setup;
 use history_book::desk::Desk;
 use history_book::laws::states_stay;
@@ -28,38 +28,26 @@ use history_book::places::give_up;
 use history_book::sight_laws::{going_on_adds_up, seeing_adds_up};
 use history_book::verdict::{Class, UntrackedWhy, Verdict};
 use packet_headers::classify::classify;
-use packet_headers::frame::{Frame, Span};
+use packet_headers::frame::Frame;
 use packet_headers::packet::{Packet, Untracked};
 use std::sync::Wait;
 use tuple_core::{NoMemory, Tuple, invert};
 
-/// Handles a packet of a flow, for which so many entries were destroyed before: attempts are made until one says what became of
-/// it. Its own events begin with the desk's own event of index `first`.
+/// Handles a packet of a flow: attempts are made until one says what became of it.
 #[inline(always)]
-pub(crate) fn handle_flow<R: Wait, D: Desk>(
-    rt: &R,
-    desk: &mut D,
-    packet: &FlowView,
-    setup: &Setup,
-    killed: u8,
-    first: u64,
-) -> Verdict
+fn handle_flow<R: Wait, D: Desk>(rt: &R, desk: &mut D, packet: &FlowView, setup: &Setup) -> Verdict
     requires lawful { AllByRecursion IsLawfulRule setup.now.rules.items }
     requires classified { IsClassified (flow_packet packet.now) }
     requires empty { HoldsNothing (D.sight desk.old) }
-    requires few { killed ≤ 4 }
-    requires spare { 7 ≤ (D.sight desk.old).spare + killed }
-    requires low { first ≤ length (D.sight desk.old).own }
-    requires high { length (D.sight desk.old).own ≤ first + killed }
+    requires spare { 7 ≤ (D.sight desk.old).spare }
     requires knows { IsKnown (D.sight desk.old) }
-    ensures handled { (given : Given) (begun : Sight) → IsFlow given (flow_packet packet.now) →
-        IsKilling begun (D.sight desk.old) (flow_packet packet.now) killed → first ≡ length begun.own →
-        Handled setup.now given begun (D.sight desk.new) result }
-    ensures first { result.first ≡ first }
+    ensures handled { (given : Given) → IsFlow given (flow_packet packet.now) →
+        Handled setup.now given (D.sight desk.old) (D.sight desk.new) result }
     ensures knows { IsKnown (D.sight desk.new) }
 {
     desks_go_on();
-    let mut kills = killed;
+    let first = desk.made();
+    let mut kills = 0;
     'attempts: for _ in rt.forever() {
         match try_packet(rt, desk, packet, setup, kills) {
             Attempt::Done(class) => {
@@ -125,20 +113,41 @@ fn untracked_why(cause: Untracked) -> UntrackedWhy
     }
 }
 
-/// The bytes of a file in a span.
+/// The class of a packet in a zone that is of no flow. It makes no event.
 #[inline(always)]
-pub(crate) fn bytes_in(bytes: &[u8], span: Span) -> &[u8]
-    requires { IsSpanIn bytes.now span }
-    ensures { result.now ≡ bytes_in bytes.now span }
+pub(crate) fn other_class<R: Wait, D: Desk>(
+    rt: &R,
+    desk: &mut D,
+    packet: &Packet,
+    zone: u16,
+) -> Class
+    requires other { is_flow packet.now ≡ false }
+    requires valid { has_valid_tuple packet.now ≡ true }
+    requires empty { HoldsNothing (D.sight desk.old) }
+    requires knows { IsKnown (D.sight desk.old) }
+    ensures saw { Saw (D.sight desk.old) (D.sight desk.new) }
+    ensures fits { (setup : Setup) (bytes : List ℕ) (moment : ℕ) → FitsFrame setup (D.sight desk.old).sizes (D.sight desk.new).front
+        (length (D.sight desk.old).front) (given_by bytes (packet_in zone packet.now) moment) [] result }
+    ensures points { AllByRecursion (λ p. p ≤ length (D.sight desk.new).front) (points_of result) }
+    ensures empty { HoldsNothing (D.sight desk.new) }
+    ensures taken { (D.sight desk.new).taken ≡ taken_by result (D.sight desk.old).taken }
+    ensures knows { IsKnown (D.sight desk.new) }
 {
-    let (front, _) = bytes.split_at(span.end);
-    let (_, inside) = front.split_at(span.start);
-    inside
+    going_on_adds_up();
+    match packet {
+        Packet::Flow { .. } => unreachable!(),
+        Packet::Untracked(cause) => Class::Untracked(untracked_why(*cause)),
+        Packet::Invalid => Class::BadHeader,
+        Packet::Error {
+            inner,
+            outer_destination,
+        } => error_class(rt, desk, &inner.in_zone(zone), *outer_destination),
+    }
 }
 
 /// Handles one packet of a file with these bytes in a zone, by what its headers say. Only a packet of a flow makes events.
 #[inline(always)]
-pub(crate) fn handle_packet<R: Wait, D: Desk>(
+fn handle_packet<R: Wait, D: Desk>(
     rt: &R,
     desk: &mut D,
     bytes: &[u8],
@@ -159,30 +168,17 @@ pub(crate) fn handle_packet<R: Wait, D: Desk>(
         (D.sight desk.old) (D.sight desk.new) result }
     ensures knows { IsKnown (D.sight desk.new) }
 {
-    going_on_adds_up();
-    seeing_adds_up();
     let first = desk.made();
-    let class = match packet {
-        Packet::Flow {
-            tuple,
-            segment,
-            payload,
-        } => {
-            let packet = FlowView {
-                tuple: tuple.in_zone(zone),
-                segment: *segment,
-                moment,
-                payload: bytes_in(bytes, *payload),
-            };
-            return handle_flow(rt, desk, &packet, setup, 0, first);
-        }
-        Packet::Untracked(cause) => Class::Untracked(untracked_why(*cause)),
-        Packet::Invalid => Class::BadHeader,
-        Packet::Error {
-            inner,
-            outer_destination,
-        } => error_class(rt, desk, &inner.in_zone(zone), *outer_destination),
-    };
+    if let Packet::Flow {
+        tuple,
+        segment,
+        payload,
+    } = packet
+    {
+        let packet = flow_in(bytes, tuple, *segment, *payload, moment, zone);
+        return handle_flow(rt, desk, &packet, setup);
+    }
+    let class = other_class(rt, desk, packet, zone);
     Verdict {
         class,
         first,

@@ -160,13 +160,9 @@ pub record IsKilling (old now : Sight) (packet : FlowPacket) (killed : ℕ) : Ty
   pub empty : HoldsNothing now
   pub known : IsKnown now
 
--- Whatever the packet's first sight of the desk was: it had made so many kills when the desk was `old`, and has made `killed` now.
--- Its own events begin with the desk's own event of index `first`.
-pub record GoesOnKilling (old now : Sight) (packet : FlowPacket) (before killed first : ℕ) : Type 0 where
-  pub killing : (begun : Sight) → IsKilling begun old packet before → IsKilling begun now packet killed
-  pub few : killed ≤ 4
+-- between two tries after so many kills: what they need. The packet's own events begin with the desk's own event of index `first`.
+pub record GoesOnKilling (old now : Sight) (packet : FlowPacket) (killed first : ℕ) : Type 0 where
+  pub killing : IsKilling old now packet killed
   pub spare : 7 ≤ now.spare + killed
   pub low : first ≤ length now.own
   pub high : length now.own ≤ first + killed
-  pub empty : HoldsNothing now
-  pub known : IsKnown now

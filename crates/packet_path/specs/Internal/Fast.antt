@@ -15,9 +15,8 @@ use Rattle.history_book.specs.WentOn.{Saw}
 use Rattle.packet_path.specs.declared.fast.Tried.{Tried}
 use Rattle.packet_path.specs.declared.fast.Tried.TheVariants.{Done, Killed, Left}
 use Rattle.packet_path.specs.declared.setup.Setup.{Setup}
-use Rattle.packet_path.specs.Handled.{HandledInto}
-use Rattle.packet_path.specs.Internal.Attempt.{Answers, Follows, IsKilling, KilledOne}
-use Rattle.packet_path.specs.Packet.{FlowPacket, Given, IsFlow}
+use Rattle.packet_path.specs.Internal.Attempt.{Answers, Follows, KilledOne}
+use Rattle.packet_path.specs.Packet.{FlowPacket}
 use Rattle.packet_path.specs.Taken.{taken_by}
 
 -- a packet's own events begin with the desk's own event of index `first`, and its verdict counts them from `base` on
@@ -38,10 +37,10 @@ pub record ReadInto (packet : FlowPacket) (found : Found) (touched : ℕ) (n : C
   pub follows : Follows packet found touched old new ftp
   pub appended : Appended (Passed (label_of found.subject found.direction) found.subject.id (touched + 1) ftp) n.first n.base new.own before after
 
--- a packet was answered, and its verdict appended
-pub record Accepted (setup : Setup) (packet : FlowPacket) (n : Counting) (old new : Sight) (before after : Roomed Verdict) : Type 0 where
+-- a packet was answered after so many kills, and its verdict appended
+pub record Accepted (setup : Setup) (packet : FlowPacket) (kills : ℕ) (n : Counting) (old new : Sight) (before after : Roomed Verdict) : Type 0 where
   pub class : Class
-  pub answers : Answers setup old new packet 0 (length old.front) class
+  pub answers : Answers setup old new packet kills (length old.front) class
   pub taken : new.taken ≡ taken_by class old.taken
   pub appended : Appended class n.first n.base new.own before after
 
@@ -50,30 +49,17 @@ pub record LeftIt (old new : Sight) (before after : Roomed Verdict) : Type 0 whe
   pub saw : Saw old new
   pub kept : after ≡ before
 
--- the packet destroyed the entry that it met, for a reason that a packet kills for, and the list is as it was
-pub record Expired (packet : FlowPacket) (old new : Sight) (before after : Roomed Verdict) : Type 0 where
-  pub killed : KilledOne old new packet 0 (length old.front)
+-- after so many kills the packet destroyed the entry that it met, for a reason that a packet kills for, and the list is as it was
+pub record Ended (packet : FlowPacket) (kills : ℕ) (old new : Sight) (before after : Roomed Verdict) : Type 0 where
+  pub killed : KilledOne old new packet kills (length old.front)
   pub taken : new.taken ≡ old.taken
   pub kept : after ≡ before
 
--- what came of a packet that met an entry
-abbrev pub TriedSays : Setup → FlowPacket → Counting → Sight → Sight → Roomed Verdict → Roomed Verdict → Tried → Type 0
-TriedSays setup packet n old new before after Done = Accepted setup packet n old new before after
-TriedSays setup packet n old new before after Killed = Expired packet old new before after
-TriedSays setup packet n old new before after Left = LeftIt old new before after
-
--- the frame has a packet of a flow that destroyed one entry, and the list is as it was
-pub record Renews (given : Given) (old new : Sight) (before after : Roomed Verdict) : Type 0 where
-  pub packet : FlowPacket
-  pub flow : IsFlow given packet
-  pub killing : IsKilling old new packet 1
-  pub kept : after ≡ before
-
--- what came of a frame
-abbrev pub FrameSays : ℕ → Setup → Given → Sight → Sight → Roomed Verdict → Roomed Verdict → Tried → Type 0
-FrameSays base setup given old new before after Done = HandledInto base setup given old new before after
-FrameSays base setup given old new before after Killed = Renews given old new before after
-FrameSays base setup given old new before after Left = LeftIt old new before after
+-- what came of a try after so many kills
+abbrev pub TriedSays : Setup → FlowPacket → ℕ → Counting → Sight → Sight → Roomed Verdict → Roomed Verdict → Tried → Type 0
+TriedSays setup packet kills n old new before after Done = Accepted setup packet kills n old new before after
+TriedSays setup packet kills n old new before after Killed = Ended packet kills old new before after
+TriedSays setup packet kills n old new before after Left = LeftIt old new before after
 
 -- by its headers a frame has a packet of a flow
 abbrev pub is_flow : Packet → Bool

@@ -1,5 +1,5 @@
 use Rattle.std.proofs.Common.{length}
-use Rattle.packet_path.proofs.Attempts.{answers_after, answers_from, attempt_after, attempt_before, attempt_from, starts_longer}
+use Rattle.packet_path.proofs.Attempts.{answers_after, answers_from, attempt_after, attempt_from, starts_longer}
 use Rattle.packet_path.specs.Packet.{flow_packet}
 use Rattle.packet_path.proofs.attempt.try_packet.Goals as goal
 
@@ -18,13 +18,9 @@ pub returns-in-Found-clause-says : goal.returns-in-Found-clause-says
 returns-in-Found-clause-says g c =
     let s = g.D.Desk.sight c.args.desk.now in
     let mid = g.D.Desk.sight c.find.new.self in
-    let met = g.D.Desk.sight c.meet_entry-attempt.new.desk in
-    let new = g.D.Desk.sight c.give_up.new.desk in
+    let new = g.D.Desk.sight c.answer_and_leave.new.desk in
     let saw = c.in-Found.ensures.says.0.saw in
-    attempt_before c.desks_go_on.ensures.states c.desks_go_on.ensures.events c.desks_go_on.ensures.all c.desks_go_on.ensures.twice c.args.setup.now s met new (flow_packet c.args.packet.now) c.args.kills (length s.front)
-    c.meet_entry-attempt.result
-    (attempt_after c.desks_go_on.ensures.states c.desks_go_on.ensures.events c.desks_go_on.ensures.all c.desks_go_on.ensures.twice c.args.setup.now s mid met (flow_packet c.args.packet.now) c.args.kills (length s.front)
-    c.meet_entry-attempt.result saw
-    (attempt_from c.desks_go_on.ensures.states c.desks_go_on.ensures.events c.desks_go_on.ensures.all c.desks_go_on.ensures.twice c.args.setup.now mid met (flow_packet c.args.packet.now) c.args.kills (length s.front)
-    (length mid.front) c.meet_entry-attempt.result (starts_longer mid.front s.front saw.went.front) (c.meet_entry-attempt.ensures.says c.args.setup.now)))
-    c.give_up.ensures.saw
+    attempt_after c.desks_go_on.ensures.states c.desks_go_on.ensures.events c.desks_go_on.ensures.all c.desks_go_on.ensures.twice c.args.setup.now s mid new (flow_packet c.args.packet.now) c.args.kills (length s.front)
+    c.answer_and_leave.result saw
+    (attempt_from c.desks_go_on.ensures.states c.desks_go_on.ensures.events c.desks_go_on.ensures.all c.desks_go_on.ensures.twice c.args.setup.now mid new (flow_packet c.args.packet.now) c.args.kills (length s.front)
+    (length mid.front) c.answer_and_leave.result (starts_longer mid.front s.front saw.went.front) (c.answer_and_leave.ensures.says c.args.setup.now))

@@ -54,7 +54,7 @@ returns-then-reads-clause-says g c = λ setup.
     record {
       class = Passed (label_of c.in-Touched.before c.args.met.now.direction) c.in-Touched.before.id (c.in-Touched.number + 1) r.ftp;
       answers = touched c.desks_go_on.ensures.states c.desks_go_on.ensures.events c.met_entries_stay.ensures.again c.desks_go_on.ensures.all setup s mid new (flow_packet c.args.packet.now) c.args.met.now
-          0 c.in-Touched.number c.in-Touched.before r.ftp (omega arith) c.read_payload.ensures.knows
+          c.args.kills c.in-Touched.number c.in-Touched.before r.ftp c.requires.few c.read_payload.ensures.knows
           c.requires.met
           (subst (λ id. Touches id c.args.met.now.direction c.args.packet.now.segment c.args.packet.now.moment s mid c.in-Touched.number
           c.in-Touched.before)
@@ -72,7 +72,7 @@ returns-else-reads-clause-says g c = λ setup.
     record {
       class = class;
       answers = touched c.desks_go_on.ensures.states c.desks_go_on.ensures.events c.met_entries_stay.ensures.again c.desks_go_on.ensures.all setup s mid mid (flow_packet c.args.packet.now) c.args.met.now
-          0 c.in-Touched.number c.in-Touched.before Nothing (omega arith) c.touch.ensures.knows
+          c.args.kills c.in-Touched.number c.in-Touched.before Nothing c.requires.few c.touch.ensures.knows
           c.requires.met
           (subst (λ id. Touches id c.args.met.now.direction c.args.packet.now.segment c.args.packet.now.moment s mid c.in-Touched.number
           c.in-Touched.before)
@@ -91,8 +91,8 @@ returns-then-killed-clause-says g c = λ setup.
     let saw = c.in-Expired.ensures.says.0.saw in
     record {
       killed = killed_after c.desks_go_on.ensures.states c.desks_go_on.ensures.events c.desks_go_on.ensures.all c.desks_go_on.ensures.twice s mid new (flow_packet c.args.packet.now)
-          0 (length s.front) saw
-          (c.if-killed.ensures.says 0 (length s.front) (omega arith) (starts_longer mid.front s.front saw.went.front));
+          c.args.kills (length s.front) saw
+          (c.if-killed.ensures.says c.args.kills (length s.front) (omega (arith, c.requires.few, c.if-is_last.false)) (starts_longer mid.front s.front saw.went.front));
       taken = c.kill_entry-killed.ensures.taken ∙ saw.taken;
       kept = refl;
     }

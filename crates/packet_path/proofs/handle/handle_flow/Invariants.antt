@@ -6,4 +6,4 @@ abbrev pub invariant-attempts : goal.invariant-attempts
 invariant-attempts g l =
     (goal.iterator-attempts g).can_next l.iterator' ×
     (goal.iterator-attempts g).is_finite l.iterator' ×
-    GoesOnKilling (g.D.Desk.sight l.fn.desk) (g.D.Desk.sight l.desk) (flow_packet l.packet) l.killed l.kills l.first
+    GoesOnKilling (g.D.Desk.sight l.fn.desk) (g.D.Desk.sight l.desk) (flow_packet l.packet) l.kills l.first
