@@ -29,9 +29,9 @@ use Rattle.packet_headers.specs.declared.packet.Packet.{Packet}
 use Rattle.packet_headers.specs.declared.packet.Packet.TheVariants as packet
 use Rattle.tuple_core.specs.declared.Segment.{Segment}
 use Rattle.packet_path.specs.Internal.Attempt.{Answers, GoesOnKilling, IsKilling, KilledOne}
-use Rattle.packet_path.specs.Internal.Fast.{Accepted, Appended, is_flow}
+use Rattle.packet_path.specs.Internal.Fast.{Answered, Appended}
 use Rattle.packet_path.specs.Handled.{Handled, HandledInto}
-use Rattle.packet_path.specs.Packet.{Given, IsFlow, packet_in}
+use Rattle.packet_path.specs.Packet.{Given, IsFlow, is_flow, packet_in}
 use Rattle.packet_path.specs.declared.setup.Setup.{Setup}
 use Rattle.history_book.specs.Mark.{points_of}
 use Rattle.packet_path.specs.Taken.{taken_by}
@@ -130,10 +130,10 @@ module _ (states : StatesStay) (events : EventsStay) (going : GoingOnAddsUp) (ol
       }
 
   -- a packet was answered after so many kills, and its verdict is appended
-  pub accepted_into : (setup : Setup) (n first base : ℕ) (now new : Sight) (before after : Roomed Verdict) → IsKilling old now packet n
-      → HoldsNothing new → first ≡ length old.own → Accepted setup packet n (record { first = first; base = base }) now new before after
+  pub answered_into : (setup : Setup) (n first base : ℕ) (now new : Sight) (before after : Roomed Verdict) → IsKilling old now packet n
+      → HoldsNothing new → first ≡ length old.own → Answered setup packet n (record { first = first; base = base }) now new before after
       → (given : Given) → IsFlow given packet → HandledInto base setup given old new before after
-  accepted_into setup n first base now new before after killing empty starts a given flow =
+  answered_into setup n first base now new before after killing empty starts a given flow =
       let verdict : Verdict = record { class = a.class; first = first; made = length new.own - first } in
       record {
         verdict = verdict;

@@ -1,5 +1,5 @@
 -- What the tracker is given of a frame.
-use Rattle.std.specs.Prelude.{◌≡◌, ℕ, List, [], drop, take}
+use Rattle.std.specs.Prelude.{◌≡◌, ℕ, Bool, true, false, List, [], drop, take}
 use Rattle.packet_headers.specs.declared.frame.Frame.{Frame}
 use Rattle.packet_headers.specs.declared.packet.Packet.{Packet}
 use Rattle.packet_headers.specs.declared.packet.Packet.TheVariants as packet
@@ -56,6 +56,13 @@ pub record FlowPacket : Type 0 where
 -- the packet that the code reads, which has its payload on loan
 abbrev pub flow_packet : FlowView → FlowPacket
 flow_packet view = record { tuple = view.tuple; segment = view.segment; moment = view.moment; payload = view.payload.now }
+
+-- by its headers a frame has a packet of a flow
+abbrev pub is_flow : Packet → Bool
+is_flow (packet.Untracked why) = false
+is_flow packet.Invalid = false
+is_flow (packet.Flow tuple segment span) = true
+is_flow (packet.Error inner outer) = false
 
 -- the frame is this packet of a flow
 pub record IsFlow (given : Given) (p : FlowPacket) : Type 0 where

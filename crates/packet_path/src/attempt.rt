@@ -1,17 +1,16 @@
 //! One attempt to handle a packet of a flow: what is live under its tuple is looked up, and the packet is
 //! given to it, or begins a flow. Where another thread came between, the attempt is made again.
 
-ghost use Rattle.std.specs.Prelude.{◌≡◌, ℕ, ◌+◌, ◌<◌, ◌≤◌, ◌^◌, ◌&&◌, if◌then◌else◌, true, None, Some, [], length};
+ghost use Rattle.std.specs.Prelude.{◌≡◌, ℕ, ◌+◌, ◌<◌, ◌≤◌, ◌^◌, true, length};
 ghost use Rattle.std.specs.List.{AllByRecursion};
 ghost use Rattle.history_book.specs.declared.verdict.Class.TheVariants.{Passed};
 ghost use Rattle.history_book.specs.Desk.{SamePlaces};
-ghost use Rattle.history_book.specs.WentOn.{Saw};
 ghost use Rattle.history_book.specs.Label.{label_of};
 ghost use Rattle.history_book.specs.Sight.{IsKnown};
 ghost use Rattle.nat_setup.specs.Rule.{IsLawfulRule};
-ghost use Rattle.packet_path.specs.Internal.Attempt.{Answers, AttemptSays, EndsEntry, IsFoundFor, IsReplyOf};
+ghost use Rattle.packet_path.specs.Internal.Attempt.{AttemptSays, EndsEntry};
 ghost use Rattle.packet_path.specs.Internal.Attempt.{IsClassified, IsMet, KillsOrNot, taken_in};
-ghost use Rattle.history_book.specs.Places.{HoldsNothing, HoldsOne};
+ghost use Rattle.history_book.specs.Places.{HoldsNothing};
 ghost use Rattle.packet_path.specs.Packet.{flow_packet};
 
 use crate::begin::begin_flow;
@@ -37,7 +36,7 @@ pub enum Attempt {
     Done(Class),
     /// The packet destroyed the entry that was live under its tuple, and is to be looked at again.
     Killed,
-    /// The entry that was found is no longer live.
+    /// Nothing was done: nothing is live any more where an entry was, or the entry is not as it was found.
     Again,
 }
 

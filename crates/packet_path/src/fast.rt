@@ -1,5 +1,5 @@
-//! The common way of a packet of a flow: its entry accepts it, or is expired and destroyed, or the packet begins a flow. Its
-//! verdict is appended where its class is known, so that no class is carried through layers.
+//! The common way of a packet of a flow: its entry accepts it, or is expired and destroyed, the fifth alone is not, or the packet
+//! begins a flow. Its verdict is appended where its class is known, so that no class is carried through layers.
 
 ghost use Rattle.std.specs.Prelude.{◌≡◌, ◌+◌, ◌<◌, ◌≤◌, ◌^◌, true, length};
 ghost use Rattle.std.specs.List.{AllByRecursion};
@@ -30,10 +30,10 @@ use history_book::verdict::{Class, Ftp, Verdict};
 use std::sync::Wait;
 use tuple_core::Direction;
 
-/// What came of the common way.
+/// What came of a try.
 #[derive(Clone, Copy)]
 pub enum Tried {
-    /// The packet was handled, and its verdict appended.
+    /// The packet was answered, and its verdict appended.
     Done,
     /// The packet destroyed the entry that was live under its tuple, and is to be looked at again.
     Killed,
@@ -98,7 +98,8 @@ fn read_payload<R: Wait, D: Desk>(
     append(desk, class, first, base, verdicts);
 }
 
-/// Gives a packet to the entry that it met, and appends its verdict where the entry accepts it. An expired entry is destroyed.
+/// Gives a packet to the entry that it met, and appends its verdict where the entry accepts it. An expired entry is destroyed,
+/// unless four were.
 #[inline(always)]
 fn touch_entry<R: Wait, D: Desk>(
     rt: &R,
@@ -165,8 +166,8 @@ fn touch_entry<R: Wait, D: Desk>(
     }
 }
 
-/// Looks up what is live under a packet's tuple. The packet is handled, and its verdict appended, if its entry accepts it or it
-/// begins a flow; an expired entry is destroyed. So many entries were destroyed for the packet before.
+/// Looks up what is live under a packet's tuple. The packet is answered, and its verdict appended, if its entry accepts it or it
+/// begins a flow; an expired entry is destroyed, unless four were. So many were destroyed for the packet before.
 #[inline(always)]
 pub fn fast_packet<R: Wait, D: Desk>(
     rt: &R,
@@ -183,7 +184,6 @@ pub fn fast_packet<R: Wait, D: Desk>(
     requires empty { HoldsNothing (D.sight desk.old) }
     requires few { kills ≤ 4 }
     requires spare { 7 ≤ (D.sight desk.old).spare + kills }
-    requires knows { IsKnown (D.sight desk.old) }
     requires base { base ≤ first }
     requires low { first ≤ length (D.sight desk.old).own }
     requires high { length (D.sight desk.old).own ≤ first + kills }

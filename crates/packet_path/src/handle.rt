@@ -10,9 +10,8 @@ ghost use Rattle.packet_headers.specs.ClassifySound.{has_valid_tuple, HasItsProt
 ghost use Rattle.packet_headers.specs.declared.packet.Packet.TheVariants.{Error};
 ghost use Rattle.packet_path.specs.Handled.{Handled};
 ghost use Rattle.packet_path.specs.Internal.Attempt.{IsClassified};
-ghost use Rattle.packet_path.specs.Internal.Fast.{is_flow};
 ghost use Rattle.history_book.specs.Places.{HoldsNothing};
-ghost use Rattle.packet_path.specs.Packet.{cause_of, flow_packet, given_by, given_of, Given, IsFlow, packet_in};
+ghost use Rattle.packet_path.specs.Packet.{cause_of, flow_packet, given_by, given_of, Given, IsFlow, is_flow, packet_in};
 ghost use Rattle.history_book.specs.Mark.{points_of};
 ghost use Rattle.packet_path.specs.Taken.{taken_by};
 ghost use Rattle.packet_path.specs.Verdict.{FitsFrame};
@@ -40,7 +39,6 @@ fn handle_flow<R: Wait, D: Desk>(rt: &R, desk: &mut D, packet: &FlowView, setup:
     requires classified { IsClassified (flow_packet packet.now) }
     requires empty { HoldsNothing (D.sight desk.old) }
     requires spare { 7 ≤ (D.sight desk.old).spare }
-    requires knows { IsKnown (D.sight desk.old) }
     ensures handled { (given : Given) → IsFlow given (flow_packet packet.now) →
         Handled setup.now given (D.sight desk.old) (D.sight desk.new) result }
     ensures knows { IsKnown (D.sight desk.new) }
@@ -163,7 +161,6 @@ fn handle_packet<R: Wait, D: Desk>(
     requires timely { moment ≤ 10 ^ 16 }
     requires empty { HoldsNothing (D.sight desk.old) }
     requires spare { 7 ≤ (D.sight desk.old).spare }
-    requires knows { IsKnown (D.sight desk.old) }
     ensures handled { Handled setup.now (given_by bytes.now (packet_in zone packet.now) moment)
         (D.sight desk.old) (D.sight desk.new) result }
     ensures knows { IsKnown (D.sight desk.new) }

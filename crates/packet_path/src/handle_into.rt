@@ -9,8 +9,8 @@ ghost use Rattle.nat_setup.specs.Rule.{IsLawfulRule};
 ghost use Rattle.packet_headers.specs.Classify.{packet_of};
 ghost use Rattle.packet_path.specs.Handled.{HandledInto};
 ghost use Rattle.packet_path.specs.Internal.Attempt.{IsClassified};
-ghost use Rattle.packet_path.specs.Internal.Fast.{is_flow, TriedSays};
-ghost use Rattle.packet_path.specs.Packet.{flow_packet, FlowPacket, given_of, IsFlow};
+ghost use Rattle.packet_path.specs.Internal.Fast.{TriedSays};
+ghost use Rattle.packet_path.specs.Packet.{flow_packet, FlowPacket, given_of, IsFlow, is_flow};
 
 use crate::attempt::{Attempt, meet_packet};
 use crate::bundles::desks_go_on;
@@ -40,7 +40,6 @@ fn other_frame<R: Wait, D: Desk>(
 )
     requires inside { frame.now.start + frame.now.captured ≤ length bytes.now }
     requires empty { HoldsNothing (D.sight desk.old) }
-    requires knows { IsKnown (D.sight desk.old) }
     requires base { base ≤ length (D.sight desk.old).own }
     requires room { length verdicts.old.items < verdicts.old.room }
     requires other { is_flow (packet_of bytes.now frame.now) ≡ false }
@@ -74,7 +73,6 @@ fn meet_frame<R: Wait, D: Desk>(
     requires empty { HoldsNothing (D.sight desk.old) }
     requires few { kills ≤ 4 }
     requires spare { 7 ≤ (D.sight desk.old).spare + kills }
-    requires knows { IsKnown (D.sight desk.old) }
     requires base { base ≤ first }
     requires low { first ≤ length (D.sight desk.old).own }
     requires high { length (D.sight desk.old).own ≤ first + kills }
@@ -124,7 +122,6 @@ fn flow_into<R: Wait, D: Desk>(
     requires classified { IsClassified (flow_packet packet.now) }
     requires empty { HoldsNothing (D.sight desk.old) }
     requires spare { 7 ≤ (D.sight desk.old).spare }
-    requires knows { IsKnown (D.sight desk.old) }
     requires base { base ≤ length (D.sight desk.old).own }
     requires room { length verdicts.old.items < verdicts.old.room }
     requires flow { IsFlow (given_of zone bytes.now frame.now) (flow_packet packet.now) }

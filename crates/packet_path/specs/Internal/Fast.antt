@@ -1,8 +1,6 @@
--- The common way of a packet of a flow.
-use Rattle.std.specs.Prelude.{◌≡◌, ℕ, ◌+◌, ◌-◌, Bool, true, false, List, [], ◌∷◌, ◌++◌, length}
+-- A try of a packet of a flow, whose verdict is appended where it is answered.
+use Rattle.std.specs.Prelude.{◌≡◌, ℕ, ◌+◌, ◌-◌, List, [], ◌∷◌, ◌++◌, length}
 use Rattle.room_list.specs.Roomed.{Roomed}
-use Rattle.packet_headers.specs.declared.packet.Packet.{Packet}
-use Rattle.packet_headers.specs.declared.packet.Packet.TheVariants as packet
 use Rattle.history_book.specs.declared.event.Note.{Note}
 use Rattle.history_book.specs.declared.verdict.Class.{Class}
 use Rattle.history_book.specs.declared.verdict.Class.TheVariants.{Passed}
@@ -38,7 +36,7 @@ pub record ReadInto (packet : FlowPacket) (found : Found) (touched : ℕ) (n : C
   pub appended : Appended (Passed (label_of found.subject found.direction) found.subject.id (touched + 1) ftp) n.first n.base new.own before after
 
 -- a packet was answered after so many kills, and its verdict appended
-pub record Accepted (setup : Setup) (packet : FlowPacket) (kills : ℕ) (n : Counting) (old new : Sight) (before after : Roomed Verdict) : Type 0 where
+pub record Answered (setup : Setup) (packet : FlowPacket) (kills : ℕ) (n : Counting) (old new : Sight) (before after : Roomed Verdict) : Type 0 where
   pub class : Class
   pub answers : Answers setup old new packet kills (length old.front) class
   pub taken : new.taken ≡ taken_by class old.taken
@@ -57,13 +55,6 @@ pub record Ended (packet : FlowPacket) (kills : ℕ) (old new : Sight) (before a
 
 -- what came of a try after so many kills
 abbrev pub TriedSays : Setup → FlowPacket → ℕ → Counting → Sight → Sight → Roomed Verdict → Roomed Verdict → Tried → Type 0
-TriedSays setup packet kills n old new before after Done = Accepted setup packet kills n old new before after
+TriedSays setup packet kills n old new before after Done = Answered setup packet kills n old new before after
 TriedSays setup packet kills n old new before after Killed = Ended packet kills old new before after
 TriedSays setup packet kills n old new before after Left = LeftIt old new before after
-
--- by its headers a frame has a packet of a flow
-abbrev pub is_flow : Packet → Bool
-is_flow (packet.Untracked why) = false
-is_flow packet.Invalid = false
-is_flow (packet.Flow tuple segment span) = true
-is_flow (packet.Error inner outer) = false

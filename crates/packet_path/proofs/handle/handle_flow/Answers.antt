@@ -8,7 +8,7 @@ attempts-init g c = (
   tt,
   tt,
   record {
-    killing = killing_none c.desks_go_on.ensures.all (g.D.Desk.sight c.args.desk.now) (flow_packet c.args.packet.now) c.requires.knows c.requires.empty;
+    killing = killing_none c.desks_go_on.ensures.all (g.D.Desk.sight c.args.desk.now) (flow_packet c.args.packet.now) c.made-first.ensures.knows c.requires.empty;
     spare = omega (arith, c.requires.spare);
     low = omega (arith, c.made-first.ensures.exact);
     high = omega (arith, c.made-first.ensures.exact);
