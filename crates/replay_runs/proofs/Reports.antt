@@ -18,7 +18,7 @@ use Rattle.history_book.specs.History.{after, is_legal}
 use Rattle.history_book.specs.Merge.{all_notes, AreNumbers, CoverEach, CoverFrom, IsMerged, spans_of, spans_of_answers}
 use Rattle.history_book.specs.Numbered.{events_of, IsNumberedFrom, notes_of}
 use Rattle.packet_path.specs.Laws.{VerdictsStillFit}
-use Rattle.replay_runs.specs.declared.replay.Outcome.{Outcome}
+use Rattle.replay_runs.specs.declared.replay.RunOutcome.{RunOutcome}
 use Rattle.replay_runs.specs.Report.{AnswersFit, AreNamedInEach, at_start, captures_end, IsWellFormed, latest_of, made_by, run_of, ThreadsFit, TrackerSetup, Work}
 use Rattle.replay_runs.specs.Heard.{AreHeard, captures_made, made_before, made_before_join}
 use Rattle.replay_runs.specs.Run.{CanReport, HasEnded, IsRun, items_of, left_with, made_to_wait}
@@ -58,7 +58,7 @@ unnoted : (log : List Event) (names : List Numbered) → AllByRecursion (λ (n :
 unnoted log [] h = tt
 unnoted log (x ∷ names) (h, hs) = (h, unnoted log names hs)
 
-module _ (still : VerdictsStillFit) (answers_still : AnswersStillFit) (tracker : TrackerSetup) (work : Work) (outcome : Outcome)
+module _ (still : VerdictsStillFit) (answers_still : AnswersStillFit) (tracker : TrackerSetup) (work : Work) (outcome : RunOutcome)
     (closed : Closed) (lists : List (Roomed Note)) (has : HasEnded tracker work outcome closed)
     (pushed : lists ≡ outcome.joined.lists.items ++ closed.notes ∷ []) where
   threads : List (Roomed Verdict)

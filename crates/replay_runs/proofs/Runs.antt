@@ -4,13 +4,13 @@ use Rattle.std.specs.Prelude.{All}
 use Rattle.room_list.specs.Roomed.{Roomed}
 use Rattle.history_book.specs.declared.verdict.Verdict.{Verdict}
 use Rattle.history_book.specs.declared.report.Closed.{Closed}
-use Rattle.replay_runs.specs.declared.replay.Outcome.{Outcome}
+use Rattle.replay_runs.specs.declared.replay.RunOutcome.{RunOutcome}
 use Rattle.replay_runs.specs.Report.{at_start, latest_of}
 use Rattle.replay_runs.specs.Run.{CanReport, run_seen}
 use Rattle.replay_runs.proofs.Bounds.{one_thread_each, verdicts_few}
 use Rattle.replay_runs.proofs.Scripts.{one_answer_each}
 
-module _ (outcome : Outcome) (closed : Closed) (can : CanReport outcome closed) where
+module _ (outcome : RunOutcome) (closed : Closed) (can : CanReport outcome closed) where
   -- there are as many threads as captures
   pub threads_few : length outcome.joined.threads.items < 2 ^ 32
   threads_few =

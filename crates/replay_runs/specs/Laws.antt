@@ -7,7 +7,7 @@ use Rattle.history_book.specs.declared.sizes.Sizes.{Sizes}
 use Rattle.history_book.specs.Close.{Closes}
 use Rattle.history_book.specs.Sight.{Sight}
 use Rattle.packet_path.specs.declared.setup.Setup.{Setup}
-use Rattle.replay_runs.specs.declared.replay.Outcome.{Outcome}
+use Rattle.replay_runs.specs.declared.replay.RunOutcome.{RunOutcome}
 use Rattle.replay_runs.specs.Replaying.{work_of}
 use Rattle.replay_runs.specs.Run.{HasEnded, IsRun, left_with}
 
@@ -15,6 +15,6 @@ use Rattle.replay_runs.specs.Run.{HasEnded, IsRun, left_with}
 abbrev pub LeftRunsEnd : Type 0
 LeftRunsEnd =
     (setup : Setup) (given sizes : Sizes) (items captures : List Capture) (script : Script) (numbers : List ℕ) (desk left : Sight)
-    (outcome : Outcome) (closed : Closed) → given ≡ sizes → items ≡ captures → left ≡ desk
+    (outcome : RunOutcome) (closed : Closed) → given ≡ sizes → items ≡ captures → left ≡ desk
     → IsRun (record { setup = setup; sizes = given }) (work_of items script) numbers (left_with desk outcome) → Closes left closed
     → HasEnded (record { setup = setup; sizes = sizes }) (work_of captures script) outcome closed

@@ -12,7 +12,7 @@ use Rattle.history_book.specs.Places.{HoldsNothing}
 use Rattle.history_book.specs.Sight.{IsKnown, Sight}
 use Rattle.packet_path.specs.Packet.{Given}
 use Rattle.replay_runs.specs.declared.desks.Joined.{Joined}
-use Rattle.replay_runs.specs.declared.replay.Outcome.{Outcome}
+use Rattle.replay_runs.specs.declared.replay.RunOutcome.{RunOutcome}
 use Rattle.replay_runs.specs.declared.listened.Listened.{Listened}
 use Rattle.replay_runs.specs.Heard.{AreHeard, made_before}
 use Rattle.replay_runs.specs.Report.{AnswersFit, at_start, latest_of, past_verdicts, ScriptRun, TrackerSetup, VerdictsFit, Work}
@@ -45,7 +45,7 @@ pub record Remains : Type 0 where
   pub answers : Roomed Answer
   pub heard : Option Listened
 
-abbrev pub left_with : Sight → Outcome → Remains
+abbrev pub left_with : Sight → RunOutcome → Remains
 left_with desk o = record { desk = desk; joined = o.joined; answers = o.answers; heard = o.heard }
 
 -- these lists without their rooms
@@ -81,14 +81,14 @@ pub record IsRun (tracker : TrackerSetup) (work : Work) (numbers : List ℕ) (le
   pub heard : AreHeard (made_to_wait work.wait left) left.heard
 
 -- the work was done with a tracker that is set up so, which has ended
-pub record HasEnded (tracker : TrackerSetup) (work : Work) (outcome : Outcome) (closed : Closed) : Type 0 where
+pub record HasEnded (tracker : TrackerSetup) (work : Work) (outcome : RunOutcome) (closed : Closed) : Type 0 where
   pub numbers : List ℕ
   pub desk : Sight
   pub run : IsRun tracker work numbers (left_with desk outcome)
   pub closes : Closes desk closed
 
 -- some work was done with some tracker, which has ended
-pub record CanReport (outcome : Outcome) (closed : Closed) : Type 0 where
+pub record CanReport (outcome : RunOutcome) (closed : Closed) : Type 0 where
   pub tracker : TrackerSetup
   pub work : Work
   pub ended : HasEnded tracker work outcome closed

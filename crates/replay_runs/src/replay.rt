@@ -47,7 +47,7 @@ use tuple_core::NoMemory;
 /// What a run leaves beside the desk that did its work: what the threads of captures left, the answers to the script, and
 /// what was heard of each thread, where a listener was asked for.
 #[derive(Drop)]
-pub struct Outcome {
+pub struct RunOutcome {
     joined: Joined,
     answers: Answers,
     heard: Option<Listened>,
@@ -159,7 +159,7 @@ fn run_all<R: Threads + Wait + Sync, G: Gate + Sync, D: SharedDesk + Send>(
     captures: &[Capture],
     script: &Script,
     listen: bool,
-) -> Result<Outcome, NoMemory>
+) -> Result<RunOutcome, NoMemory>
     requires lawful { AllByRecursion IsLawfulRule shared.now.setup.now.rules.items }
     requires captures { All CanBeReplayed captures.now }
     requires few { length captures.now ≤ 63 }
@@ -188,7 +188,7 @@ fn run_all<R: Threads + Wait + Sync, G: Gate + Sync, D: SharedDesk + Send>(
     let made = desk.made();
     let number = captures.len() as u32;
     run_script(rt, shared, desk, &mut thread, behind, made, number)?;
-    Ok(Outcome {
+    Ok(RunOutcome {
         joined,
         answers: thread.answers,
         heard,
@@ -211,7 +211,7 @@ pub fn replay_on<R: Threads + Wait + Sync, G: Gate + Sync, D: SharedDesk + Send>
     setup: &Setup,
     gate: &G,
     listen: bool,
-) -> Result<Outcome, NoMemory>
+) -> Result<RunOutcome, NoMemory>
     requires limits { AreWithinLimits (D.sight desk.old).sizes }
     requires fresh { IsFresh (D.sight desk.old).tracker (D.sight desk.old).sizes (D.sight desk.old) }
     requires passes { (D.sight desk.old).sizes.passes ≡ length captures.now + 1 }
@@ -241,7 +241,7 @@ pub fn replay_on<R: Threads + Wait + Sync, G: Gate + Sync, D: SharedDesk + Send>
 /// done has ended; and gives what was heard of each thread, where a listener was asked for.
 pub fn report(
     alloc: Global,
-    outcome: Outcome,
+    outcome: RunOutcome,
     closed: Closed,
 ) -> Result<(Report, Option<Listened>), NoMemory>
     requires { CanReport outcome closed }
@@ -253,7 +253,7 @@ pub fn report(
 {
     verdicts_still_fit();
     answers_still_fit();
-    let Outcome {
+    let RunOutcome {
         joined,
         answers,
         heard,
