@@ -7,6 +7,7 @@ ghost use Rattle.history_book.specs.Sight.{IsKnown};
 ghost use Rattle.conntrack_cmd.specs.declared.command.Command.TheVariants.{Delete, Flush, List};
 ghost use Rattle.conntrack_cmd.specs.Internal.Spoken.{Speaks};
 
+use crate::bundles::{desks_go_on, entries_live_once, sweeps_see_each_entry};
 use crate::sort::sort_rows;
 use crate::spoken::Spoken;
 use crate::sweep::{count_destroyed, destroy_all, list_all};
@@ -14,12 +15,6 @@ use history_book::answer::{Rows, Said};
 use history_book::desk::Desk;
 use history_book::event::Why;
 use history_book::filter::Filter;
-use history_book::laws::{
-    entries_keep_their_place, events_stay, gone_entries_stay_gone, live_records_are_confirmed,
-    places_are_in_the_pool, states_stay,
-};
-use history_book::sight_laws::going_on_adds_up;
-use pool_visits::laws::{all_visits_stay, lived_have_rows};
 use std::sync::Wait;
 
 /// Lists the entries that pass the filter, in the list that it takes.
@@ -30,13 +25,8 @@ pub fn list_entries<R: Wait, D: Desk>(rt: &R, desk: &mut D, filter: &Filter, row
     ensures says { Speaks (List filter.now) (D.sight desk.old) (D.sight desk.new) result }
     ensures knows { IsKnown (D.sight desk.new) }
 {
-    all_visits_stay();
-    entries_keep_their_place();
-    events_stay();
-    going_on_adds_up();
-    lived_have_rows();
-    places_are_in_the_pool();
-    states_stay();
+    desks_go_on();
+    sweeps_see_each_entry();
     let mut rows = rows;
     let first = desk.count(rt);
     list_all(rt, desk, filter, &mut rows);
@@ -59,15 +49,9 @@ pub fn delete_entries<R: Wait, D: Desk>(rt: &R, desk: &mut D, filter: &Filter, r
     ensures says { Speaks (Delete filter.now) (D.sight desk.old) (D.sight desk.new) result }
     ensures knows { IsKnown (D.sight desk.new) }
 {
-    all_visits_stay();
-    entries_keep_their_place();
-    events_stay();
-    going_on_adds_up();
-    gone_entries_stay_gone();
-    live_records_are_confirmed();
-    lived_have_rows();
-    places_are_in_the_pool();
-    states_stay();
+    desks_go_on();
+    entries_live_once();
+    sweeps_see_each_entry();
     let mut rows = rows;
     let first = desk.count(rt);
     let why = Why::Deleted { filter: *filter };
@@ -89,15 +73,9 @@ pub fn flush_entries<R: Wait, D: Desk>(rt: &R, desk: &mut D) -> Spoken
     ensures says { Speaks Flush (D.sight desk.old) (D.sight desk.new) result }
     ensures knows { IsKnown (D.sight desk.new) }
 {
-    all_visits_stay();
-    entries_keep_their_place();
-    events_stay();
-    going_on_adds_up();
-    gone_entries_stay_gone();
-    live_records_are_confirmed();
-    lived_have_rows();
-    places_are_in_the_pool();
-    states_stay();
+    desks_go_on();
+    entries_live_once();
+    sweeps_see_each_entry();
     let first = desk.count(rt);
     count_destroyed(rt, desk, Why::Flushed);
     let last = desk.count(rt);

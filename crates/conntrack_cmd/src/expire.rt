@@ -6,19 +6,14 @@ ghost use Rattle.history_book.specs.Sight.{IsKnown};
 ghost use Rattle.conntrack_cmd.specs.declared.command.Command.TheVariants.{Expire};
 ghost use Rattle.conntrack_cmd.specs.Internal.Spoken.{Speaks};
 
+use crate::bundles::{desks_go_on, expectations_live_once, sweeps_see_each_entry};
 use crate::late::end_late;
 use crate::spoken::Spoken;
 use crate::sweep::count_destroyed;
 use history_book::answer::Said;
 use history_book::desk::Desk;
 use history_book::event::Why;
-use history_book::laws::{
-    entries_keep_their_place, events_stay, expectations_are_expected, expectations_are_few,
-    expectations_are_in_order, gone_expectations_stay_gone, places_are_in_the_pool, states_stay,
-};
 use history_book::report::Expectations;
-use history_book::sight_laws::going_on_adds_up;
-use pool_visits::laws::{all_visits_stay, lived_have_rows};
 use std::sync::Wait;
 
 /// Destroys the entries that are expired at the moment, and then ends the expectations that are due no longer; the
@@ -31,17 +26,9 @@ pub fn expire<R: Wait, D: Desk>(rt: &R, desk: &mut D, listed: Expectations, mome
     ensures says { Speaks (Expire moment) (D.sight desk.old) (D.sight desk.new) result }
     ensures knows { IsKnown (D.sight desk.new) }
 {
-    all_visits_stay();
-    entries_keep_their_place();
-    events_stay();
-    expectations_are_expected();
-    expectations_are_few();
-    expectations_are_in_order();
-    going_on_adds_up();
-    gone_expectations_stay_gone();
-    lived_have_rows();
-    places_are_in_the_pool();
-    states_stay();
+    desks_go_on();
+    expectations_live_once();
+    sweeps_see_each_entry();
     let mut listed = listed;
     let first = desk.count(rt);
     let entries = count_destroyed(rt, desk, Why::Expired { moment });

@@ -6,12 +6,12 @@ ghost use Rattle.history_book.specs.Places.{HoldsNothing};
 ghost use Rattle.history_book.specs.Sight.{IsKnown};
 ghost use Rattle.conntrack_cmd.specs.Internal.Late.{EndsOrSaw, IsEnding, IsOverWhereLate};
 
+use crate::bundles::desks_go_on;
 use expect_table::expectation::Expectation;
 use history_book::desk::Desk;
-use history_book::laws::{events_stay, expectations_are_expected, states_follow, states_stay};
+use history_book::laws::{expectations_are_expected, states_follow};
 use history_book::outcome::UnexpectOutcome;
 use history_book::report::Expectations;
-use history_book::sight_laws::going_on_adds_up;
 use std::sync::Wait;
 
 /// Ends an expectation that is due no longer at the moment, if it is still there; says whether it made an event.
@@ -26,11 +26,9 @@ fn end_one<R: Wait, D: Desk>(rt: &R, desk: &mut D, e: &Expectation, moment: u64)
     ensures empty { HoldsNothing (D.sight desk.new) }
     ensures knows { IsKnown (D.sight desk.new) }
 {
-    events_stay();
+    desks_go_on();
     expectations_are_expected();
-    going_on_adds_up();
     states_follow();
-    states_stay();
     let is_awaited = moment < e.deadline;
     if is_awaited {
         return false;
@@ -50,9 +48,7 @@ pub fn end_late<R: Wait, D: Desk>(rt: &R, desk: &mut D, listed: &Expectations, m
     requires spare { length listed.now.items ≤ (D.sight desk.old).spare }
     ensures { IsEnding moment (D.sight desk.old) (D.sight desk.new) listed.now.items (length listed.now.items) result }
 {
-    events_stay();
-    going_on_adds_up();
-    states_stay();
+    desks_go_on();
     let mut next = 0;
     let mut ended = 0;
     'each: while next < listed.len() {

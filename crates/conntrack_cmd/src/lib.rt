@@ -1,6 +1,7 @@
 //! The commands of a script: how its lines say them, and what the tracker answers to them.
 #![tactic(auto)]
 
+mod bundles;
 pub mod command;
 mod entries;
 mod expire;

@@ -6,12 +6,12 @@ ghost use Rattle.history_book.specs.Sight.{IsKnown};
 ghost use Rattle.conntrack_cmd.specs.declared.command.Command.TheVariants.{Count, Get, ListExpect};
 ghost use Rattle.conntrack_cmd.specs.Internal.Spoken.{GetsOrSaw, Speaks};
 
+use crate::bundles::{desks_go_on, found_entries_stay};
 use crate::spoken::Spoken;
 use history_book::answer::{Row, Said};
 use history_book::desk::Desk;
-use history_book::laws::{found_are_found_again, states_stay};
 use history_book::outcome::{FindOutcome, LiveCount, PeekOutcome};
-use history_book::places::{give_up, one_hold_has_its_id};
+use history_book::places::give_up;
 use history_book::report::Expectations;
 use history_book::sight_laws::{going_on_adds_up, seeing_adds_up};
 use std::sync::Wait;
@@ -55,11 +55,9 @@ fn look_once<R: Wait, D: Desk>(rt: &R, desk: &mut D, t: &Tuple) -> Option<Spoken
     ensures empty { HoldsNothing (D.sight desk.new) }
     ensures knows { IsKnown (D.sight desk.new) }
 {
-    found_are_found_again();
-    going_on_adds_up();
-    one_hold_has_its_id();
+    desks_go_on();
+    found_entries_stay();
     seeing_adds_up();
-    states_stay();
     match desk.find(rt, t) {
         FindOutcome::Absent { at } => Some(Spoken {
             said: Said::Got(None),

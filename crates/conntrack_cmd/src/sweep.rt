@@ -7,13 +7,11 @@ ghost use Rattle.history_book.specs.Sight.{IsKnown};
 ghost use Rattle.conntrack_cmd.specs.Internal.Loops.{IsCounting, IsDestroying, IsListing};
 ghost use Rattle.pool_visits.specs.Visit.{names_no_segment};
 
+use crate::bundles::{desks_go_on, sweeps_go_on};
 use history_book::answer::Rows;
 use history_book::desk::Desk;
 use history_book::event::Why;
 use history_book::filter::Filter;
-use history_book::laws::{entries_keep_their_place, events_stay, states_stay};
-use history_book::sight_laws::going_on_adds_up;
-use pool_visits::laws::visits_add_up;
 use pool_visits::place::{Visit, destroy_place, list_place};
 use std::sync::Wait;
 
@@ -27,11 +25,9 @@ pub fn list_all<R: Wait, D: Desk>(rt: &R, desk: &mut D, filter: &Filter, rows: &
         (D.sight desk.old).sizes.entries rows.new.items }
     ensures room { rows.new.room ≡ rows.old.room }
 {
-    entries_keep_their_place();
-    going_on_adds_up();
+    desks_go_on();
+    sweeps_go_on();
     let places = desk.places();
-    states_stay();
-    visits_add_up();
     let mut next = 0;
     'places: while next < places {
         let place = next;
@@ -55,12 +51,9 @@ pub fn destroy_all<R: Wait, D: Desk>(rt: &R, desk: &mut D, why: Why, rows: &mut 
         (D.sight desk.old).sizes.entries rows.new.items }
     ensures room { rows.new.room ≡ rows.old.room }
 {
-    entries_keep_their_place();
-    events_stay();
-    going_on_adds_up();
+    desks_go_on();
+    sweeps_go_on();
     let places = desk.places();
-    states_stay();
-    visits_add_up();
     let mut next = 0;
     'places: while next < places {
         let place = next;
@@ -81,12 +74,9 @@ pub fn count_destroyed<R: Wait, D: Desk>(rt: &R, desk: &mut D, why: Why) -> u32
     requires spare { (D.sight desk.old).sizes.entries ≤ (D.sight desk.old).spare }
     ensures { IsCounting why (D.sight desk.old) (D.sight desk.new) (D.sight desk.old).sizes.entries result }
 {
-    entries_keep_their_place();
-    events_stay();
-    going_on_adds_up();
+    desks_go_on();
+    sweeps_go_on();
     let places = desk.places();
-    states_stay();
-    visits_add_up();
     let mut next = 0;
     let mut ended = 0;
     'places: while next < places {

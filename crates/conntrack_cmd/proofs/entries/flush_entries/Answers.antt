@@ -9,9 +9,9 @@ returns-clause-says g c =
     let a = g.D.Desk.sight c.count-first.new.self in
     let b = g.D.Desk.sight c.count_destroyed.new.desk in
     let new = g.D.Desk.sight c.count-last.new.self in
-    flush_speaks c.going_on_adds_up.ensures.all c.states_stay.ensures old a b new c.count-first.result.at c.count-last.result.at
+    flush_speaks c.desks_go_on.ensures.all c.desks_go_on.ensures.states old a b new c.count-first.result.at c.count-last.result.at
     (λ s. c.count-first.result.live ≡ length s.records) (λ s. c.count-last.result.live ≡ length s.records)
-    c.count-first.ensures.says.0 c.count-last.ensures.says.0 c.events_stay.ensures c.all_visits_stay.ensures c.lived_have_rows.ensures c.entries_keep_their_place.ensures
-    c.places_are_in_the_pool.ensures c.live_records_are_confirmed.ensures
-    c.gone_entries_stay_gone.ensures c.count_destroyed.result c.count_destroyed.ensures
+    c.count-first.ensures.says.0 c.count-last.ensures.says.0 c.desks_go_on.ensures.events c.sweeps_see_each_entry.ensures.visits c.sweeps_see_each_entry.ensures.rows c.sweeps_see_each_entry.ensures.place
+    c.sweeps_see_each_entry.ensures.pool c.entries_live_once.ensures.confirmed
+    c.entries_live_once.ensures.gone c.count_destroyed.result c.count_destroyed.ensures
     (still_empty b new c.count-last.ensures.says.1 c.count_destroyed.ensures.destroying.empty) c.count-last.ensures.knows

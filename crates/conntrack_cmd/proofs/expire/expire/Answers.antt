@@ -5,7 +5,7 @@ use Rattle.conntrack_cmd.proofs.expire.expire.Goals as goal
 
 pub end_late-expectations-requires-clause-spare : goal.end_late-expectations-requires-clause-spare
 end_late-expectations-requires-clause-spare g c =
-    late_spare c.expectations_are_few.ensures (g.D.Desk.sight c.args.desk.now) (g.D.Desk.sight c.count-first.new.self) (g.D.Desk.sight c.count_destroyed-entries.new.desk)
+    late_spare c.expectations_live_once.ensures.few (g.D.Desk.sight c.args.desk.now) (g.D.Desk.sight c.count-first.new.self) (g.D.Desk.sight c.count_destroyed-entries.new.desk)
     (g.D.Desk.sight c.expects.new.self) c.args.moment c.count-first.result.at c.expects.result c.count_destroyed-entries.result
     c.expects.new.listed.items (λ s. c.count-first.result.live ≡ length s.records) c.requires.spare c.count-first.ensures.says.0
     c.count_destroyed-entries.ensures c.expects.ensures.says.0 c.expects.ensures.knows
@@ -14,8 +14,8 @@ pub returns-clause-says : goal.returns-clause-says
 returns-clause-says g c =
     let d = g.D.Desk.sight c.end_late-expectations.new.desk in
     let new = g.D.Desk.sight c.count-last.new.self in
-    expire_speaks c.going_on_adds_up.ensures.all c.states_stay.ensures c.events_stay.ensures c.all_visits_stay.ensures c.lived_have_rows.ensures c.expectations_are_few.ensures c.entries_keep_their_place.ensures c.places_are_in_the_pool.ensures
-    c.expectations_are_expected.ensures c.expectations_are_in_order.ensures c.gone_expectations_stay_gone.ensures
+    expire_speaks c.desks_go_on.ensures.all c.desks_go_on.ensures.states c.desks_go_on.ensures.events c.sweeps_see_each_entry.ensures.visits c.sweeps_see_each_entry.ensures.rows c.expectations_live_once.ensures.few c.sweeps_see_each_entry.ensures.place c.sweeps_see_each_entry.ensures.pool
+    c.expectations_live_once.ensures.expected c.expectations_live_once.ensures.order c.expectations_live_once.ensures.gone
     (g.D.Desk.sight c.args.desk.now) (g.D.Desk.sight c.count-first.new.self) (g.D.Desk.sight c.count_destroyed-entries.new.desk)
     (g.D.Desk.sight c.expects.new.self) d new c.args.moment c.count-first.result.at c.expects.result c.count-last.result.at
     c.count_destroyed-entries.result c.end_late-expectations.result c.expects.new.listed.items

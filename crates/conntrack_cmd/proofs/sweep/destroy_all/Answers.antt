@@ -8,8 +8,8 @@ places-preserved-in-Destroyed g c = record {
   within = omega (arith, c.places-test.true);
   all = c.places.invariant.all;
   room = omega (arith, c.push.ensures.room, c.places.invariant.room);
-  destroying = destroying_pushed c.states_stay.ensures c.entries_keep_their_place.ensures c.going_on_adds_up.ensures.all c.visits_add_up.ensures (g.D.Desk.sight c.args.desk.now)
-      (g.D.Desk.sight c.places.desk) (g.D.Desk.sight c.destroy_place.new.desk) c.places.next c.events_stay.ensures c.args.why
+  destroying = destroying_pushed c.desks_go_on.ensures.states c.sweeps_go_on.ensures.place c.desks_go_on.ensures.all c.sweeps_go_on.ensures.visits (g.D.Desk.sight c.args.desk.now)
+      (g.D.Desk.sight c.places.desk) (g.D.Desk.sight c.destroy_place.new.desk) c.places.next c.desks_go_on.ensures.events c.args.why
       c.places.rows.items c.push.new.self.items c.in-Destroyed.row c.push.ensures.items c.places.invariant.destroying c.in-Destroyed.ensures.says
       c.in-Destroyed.ensures.empty c.in-Destroyed.ensures.knows;
 }
@@ -19,8 +19,8 @@ places-preserved g c = record {
   within = omega (arith, c.places-test.true);
   all = c.places.invariant.all;
   room = c.places.invariant.room;
-  destroying = destroying_none c.states_stay.ensures c.entries_keep_their_place.ensures c.going_on_adds_up.ensures.all c.visits_add_up.ensures (g.D.Desk.sight c.args.desk.now)
-      (g.D.Desk.sight c.places.desk) (g.D.Desk.sight c.destroy_place.new.desk) c.places.next c.events_stay.ensures c.args.why
+  destroying = destroying_none c.desks_go_on.ensures.states c.sweeps_go_on.ensures.place c.desks_go_on.ensures.all c.sweeps_go_on.ensures.visits (g.D.Desk.sight c.args.desk.now)
+      (g.D.Desk.sight c.places.desk) (g.D.Desk.sight c.destroy_place.new.desk) c.places.next c.desks_go_on.ensures.events c.args.why
       c.places.rows.items c.places.invariant.destroying c.in-Left.at c.in-Left.ensures.says c.in-Left.ensures.empty c.in-Left.ensures.knows;
 }
 
@@ -31,5 +31,5 @@ places-init g c =
       within = omega arith;
       all = c.places-places.ensures.exact;
       room = refl;
-      destroying = subst (IsDestroying c.args.why s s 0) {y = c.args.rows.now.items} (sym c.requires.none) (destroying_start c.going_on_adds_up.ensures.all c.args.why s c.requires.empty c.requires.knows);
+      destroying = subst (IsDestroying c.args.why s s 0) {y = c.args.rows.now.items} (sym c.requires.none) (destroying_start c.desks_go_on.ensures.all c.args.why s c.requires.empty c.requires.knows);
     }

@@ -8,7 +8,7 @@ places-preserved-in-Some g c = record {
   within = omega (arith, c.places-test.true);
   all = c.places.invariant.all;
   room = omega (arith, c.push.ensures.room, c.places.invariant.room);
-  listing = listing_pushed c.states_stay.ensures c.entries_keep_their_place.ensures c.going_on_adds_up.ensures.all c.visits_add_up.ensures (g.D.Desk.sight c.args.desk.now) (g.D.Desk.sight c.places.desk)
+  listing = listing_pushed c.desks_go_on.ensures.states c.sweeps_go_on.ensures.place c.desks_go_on.ensures.all c.sweeps_go_on.ensures.visits (g.D.Desk.sight c.args.desk.now) (g.D.Desk.sight c.places.desk)
       (g.D.Desk.sight c.list_place.new.desk) c.places.next c.args.filter.now c.places.rows.items c.push.new.self.items c.in-Some.row
       c.push.ensures.items c.places.invariant.listing c.in-Some.ensures.saw c.in-Some.ensures.row c.in-Some.ensures.placed
       c.in-Some.ensures.visited c.in-Some.ensures.empty c.in-Some.ensures.knows;
@@ -19,7 +19,7 @@ places-preserved g c = record {
   within = omega (arith, c.places-test.true);
   all = c.places.invariant.all;
   room = c.places.invariant.room;
-  listing = listing_none c.states_stay.ensures c.entries_keep_their_place.ensures c.going_on_adds_up.ensures.all c.visits_add_up.ensures (g.D.Desk.sight c.args.desk.now) (g.D.Desk.sight c.places.desk)
+  listing = listing_none c.desks_go_on.ensures.states c.sweeps_go_on.ensures.place c.desks_go_on.ensures.all c.sweeps_go_on.ensures.visits (g.D.Desk.sight c.args.desk.now) (g.D.Desk.sight c.places.desk)
       (g.D.Desk.sight c.list_place.new.desk) c.places.next c.args.filter.now c.places.rows.items c.places.invariant.listing
       c.in_default.ensures.saw c.in_default.ensures.visited c.in_default.ensures.empty c.in_default.ensures.knows;
 }
