@@ -12,9 +12,9 @@ ghost use Rattle.history_book.specs.Sizes.{AreWithinLimits};
 ghost use Rattle.history_book.specs.Split.{CanSplit, Splits};
 
 use crate::book::Book;
-use crate::noting::{count_taken, note};
+use crate::noting::count_taken;
 use crate::turn::change::{
-    Ending, PlaceChange, confirmed_change, found_change, held_change, released_change, taken_change,
+    PlaceChange, confirmed_change, found_change, held_change, released_change, taken_change,
 };
 use crate::turn::pass::Pass;
 use crate::turn::rule::{TurnShared, TurnTable};
@@ -230,11 +230,8 @@ impl<'t, G: Gate> Desk for TurnDesk<'t, G> {
     fn find<R: Wait>(&mut self, rt: &R, t: &Tuple) -> FindOutcome {
         let mut book = steps::take_turn(rt, self.shared, &mut self.pass.seat);
         let outcome = book.find(t);
-        let ending = Ending {
-            places: found_change(&outcome),
-            made: None,
-        };
-        steps::end_turn(self.shared, &mut self.pass.seat, book, ending);
+        self.pass
+            .end_turn(self.shared, book, found_change(&outcome), None);
         outcome
     }
 
@@ -250,24 +247,16 @@ impl<'t, G: Gate> Desk for TurnDesk<'t, G> {
         let mut book = steps::take_turn(rt, self.shared, &mut self.pass.seat);
         let outcome = book.take();
         self.pass.taken = count_taken(self.pass.taken, &outcome);
-        let ending = Ending {
-            places: taken_change(&outcome),
-            made: None,
-        };
-        steps::end_turn(self.shared, &mut self.pass.seat, book, ending);
+        self.pass
+            .end_turn(self.shared, book, taken_change(&outcome), None);
         outcome
     }
 
     fn confirm<R: Wait>(&mut self, rt: &R, place: u32, flow: &Flow) -> ConfirmOutcome {
         let mut book = steps::take_turn(rt, self.shared, &mut self.pass.seat);
-        let number = book.events;
         let (outcome, made) = book.confirm(place, flow);
-        note(&mut self.pass.notes, &mut self.pass.spare, number, made);
-        let ending = Ending {
-            places: confirmed_change(place, &outcome),
-            made,
-        };
-        steps::end_turn(self.shared, &mut self.pass.seat, book, ending);
+        self.pass
+            .end_turn(self.shared, book, confirmed_change(place, &outcome), made);
         outcome
     }
 
@@ -280,121 +269,81 @@ impl<'t, G: Gate> Desk for TurnDesk<'t, G> {
         moment: u64,
     ) -> TouchOutcome {
         let mut book = steps::take_turn(rt, self.shared, &mut self.pass.seat);
-        let number = book.events;
         let (outcome, made) = book.touch(place, direction, segment, moment);
-        note(&mut self.pass.notes, &mut self.pass.spare, number, made);
-        let ending = Ending {
-            places: PlaceChange::Same,
-            made,
-        };
-        steps::end_turn(self.shared, &mut self.pass.seat, book, ending);
+        self.pass
+            .end_turn(self.shared, book, PlaceChange::Same, made);
         outcome
     }
 
     fn peek<R: Wait>(&mut self, rt: &R, place: u32) -> PeekOutcome {
         let book = steps::take_turn(rt, self.shared, &mut self.pass.seat);
         let outcome = book.peek(place);
-        let ending = Ending {
-            places: PlaceChange::Same,
-            made: None,
-        };
-        steps::end_turn(self.shared, &mut self.pass.seat, book, ending);
+        self.pass
+            .end_turn(self.shared, book, PlaceChange::Same, None);
         outcome
     }
 
     fn kill<R: Wait>(&mut self, rt: &R, place: u32, why: Why) -> KillOutcome {
         let mut book = steps::take_turn(rt, self.shared, &mut self.pass.seat);
-        let number = book.events;
         let (outcome, made) = book.kill(place, why);
-        note(&mut self.pass.notes, &mut self.pass.spare, number, made);
-        let ending = Ending {
-            places: PlaceChange::Same,
-            made,
-        };
-        steps::end_turn(self.shared, &mut self.pass.seat, book, ending);
+        self.pass
+            .end_turn(self.shared, book, PlaceChange::Same, made);
         outcome
     }
 
     fn expect<R: Wait>(&mut self, rt: &R, place: u32, want: Want, moment: u64) -> ExpectOutcome {
         let mut book = steps::take_turn(rt, self.shared, &mut self.pass.seat);
-        let number = book.events;
         let (outcome, made) = book.expect(place, want, moment);
-        note(&mut self.pass.notes, &mut self.pass.spare, number, made);
-        let ending = Ending {
-            places: PlaceChange::Same,
-            made,
-        };
-        steps::end_turn(self.shared, &mut self.pass.seat, book, ending);
+        self.pass
+            .end_turn(self.shared, book, PlaceChange::Same, made);
         outcome
     }
 
     fn claim<R: Wait>(&mut self, rt: &R, t: &Tuple, moment: u64) -> ClaimOutcome {
         let mut book = steps::take_turn(rt, self.shared, &mut self.pass.seat);
-        let number = book.events;
         let (outcome, made) = book.claim(t, moment);
-        note(&mut self.pass.notes, &mut self.pass.spare, number, made);
-        let ending = Ending {
-            places: PlaceChange::Same,
-            made,
-        };
-        steps::end_turn(self.shared, &mut self.pass.seat, book, ending);
+        self.pass
+            .end_turn(self.shared, book, PlaceChange::Same, made);
         outcome
     }
 
     fn unexpect<R: Wait>(&mut self, rt: &R, id: u64, moment: u64) -> UnexpectOutcome {
         let mut book = steps::take_turn(rt, self.shared, &mut self.pass.seat);
-        let number = book.events;
         let (outcome, made) = book.unexpect(id, moment);
-        note(&mut self.pass.notes, &mut self.pass.spare, number, made);
-        let ending = Ending {
-            places: PlaceChange::Same,
-            made,
-        };
-        steps::end_turn(self.shared, &mut self.pass.seat, book, ending);
+        self.pass
+            .end_turn(self.shared, book, PlaceChange::Same, made);
         outcome
     }
 
     fn expects<R: Wait>(&mut self, rt: &R, listed: &mut Expectations) -> u64 {
         let book = steps::take_turn(rt, self.shared, &mut self.pass.seat);
         let at = book.list_expected(listed);
-        let ending = Ending {
-            places: PlaceChange::Same,
-            made: None,
-        };
-        steps::end_turn(self.shared, &mut self.pass.seat, book, ending);
+        self.pass
+            .end_turn(self.shared, book, PlaceChange::Same, None);
         at
     }
 
     fn hold<R: Wait>(&mut self, rt: &R, place: u32) -> HoldOutcome {
         let mut book = steps::take_turn(rt, self.shared, &mut self.pass.seat);
         let outcome = book.hold(place);
-        let ending = Ending {
-            places: held_change(place, &outcome),
-            made: None,
-        };
-        steps::end_turn(self.shared, &mut self.pass.seat, book, ending);
+        self.pass
+            .end_turn(self.shared, book, held_change(place, &outcome), None);
         outcome
     }
 
     fn release<R: Wait>(&mut self, rt: &R, place: u32) -> ReleaseOutcome {
         let mut book = steps::take_turn(rt, self.shared, &mut self.pass.seat);
         let outcome = book.release(place);
-        let ending = Ending {
-            places: released_change(place, &outcome),
-            made: None,
-        };
-        steps::end_turn(self.shared, &mut self.pass.seat, book, ending);
+        self.pass
+            .end_turn(self.shared, book, released_change(place, &outcome), None);
         outcome
     }
 
     fn recycle<R: Wait>(&mut self, rt: &R, place: u32) {
         let mut book = steps::take_turn(rt, self.shared, &mut self.pass.seat);
         book.recycle(place);
-        let ending = Ending {
-            places: PlaceChange::Pays { place },
-            made: None,
-        };
-        steps::end_turn(self.shared, &mut self.pass.seat, book, ending);
+        self.pass
+            .end_turn(self.shared, book, PlaceChange::Pays { place }, None);
     }
 }
 

@@ -1,7 +1,7 @@
 -- A call in its turn, by the fields of its desk.
 use Rattle.std.proofs.Common.{◌≡◌, ℕ, ◌+◌, ◌^◌, ◌<◌, ◌≤◌, true, List, [], ◌∷◌, length, refl, sym, ap, subst, ◌∙◌, ⊎_elim, arith, Option, Some, None}
 use Rattle.std.specs.List.{slice_get}
-use Rattle.std.specs.Prelude.{◌&&◌, is_some}
+use Rattle.std.specs.Prelude.{◌&&◌, OnSome, is_some}
 use Rattle.std.proofs.lemmas.Bool.{and_parts, false≢true, or_cases, or_left, or_right}
 use Rattle.atomic_table.specs.Table.{Me}
 use Rattle.tuple_core.specs.declared.Segment.{Segment}
@@ -32,7 +32,7 @@ use Rattle.book_desk.specs.declared.turn.pass.Pass.{Pass}
 use Rattle.book_desk.specs.declared.turn.view.View.{View}
 use Rattle.book_desk.specs.Fields.{IsBook}
 use Rattle.book_desk.specs.Made.{with_made, noted}
-use Rattle.book_desk.specs.Internal.Book.{spare_before}
+use Rattle.book_desk.specs.Internal.Book.{spare_after, spare_before}
 use Rattle.book_desk.specs.Internal.Seated.{IsSeated, numbers_of, pass_sight, sight_at}
 use Rattle.book_desk.specs.Turn.Change.{IsRightChange, confirmed_change, found_change, held_after, held_change, owed_after, released_change, taken_change}
 use Rattle.book_desk.specs.Turn.Rule.{IsTable}
@@ -90,17 +90,17 @@ module _ (p : Pass) (me : Me (Option Book) View) (b b' : Book) (places : PlaceCh
       omega (arith, k.few, t.book.events)
 
 -- the desk after the turn
-pub record IsAfter (p : Pass) (me : Me (Option Book) View) (b : Book) (places q : PlaceChange) (made : Option Event) (less : ℕ) (new : Pass) : Type 0 where
+pub record IsAfter (p : Pass) (me : Me (Option Book) View) (places q : PlaceChange) (made : Option Event) (less : ℕ) (new : Pass) : Type 0 where
   pub change : q ≡ places
   pub table : new.seat.table_id ≡ p.seat.table_id
   pub ended : new.seat.me ≡ (ended (record { places = q; made = made }) me.0, [])
   pub sizes : new.sizes ≡ p.sizes
-  pub notes : new.notes.items ≡ noted p.notes.items b.events made
+  pub notes : new.notes.items ≡ noted p.notes.items (length me.0.front) made
   pub room : new.notes.room ≡ p.notes.room
   pub spare : new.spare ≡ less
 
 module _ (p : Pass) (me : Me (Option Book) View) (b b' : Book) (places q : PlaceChange) (made : Option Event) (less : ℕ) (new : Pass)
-    (t : IsTurn p me b b' places made less) (a : IsAfter p me b places q made less new) where
+    (t : IsTurn p me b b' places made less) (a : IsAfter p me places q made less new) where
   abbrev end_of : Ending
   end_of = record { places = places; made = made }
 
@@ -111,7 +111,7 @@ module _ (p : Pass) (me : Me (Option Book) View) (b b' : Book) (places q : Place
       a.ended ∙ ap (λ (x : PlaceChange). last (record { places = x; made = made }) me) a.change ∙ ap (last end_of) t.same
 
   notes_then : new.notes.items ≡ noted p.notes.items (length t.log) made
-  notes_then = a.notes ∙ ap (λ (n : ℕ). noted p.notes.items n made) t.has.book.events
+  notes_then = a.notes ∙ ap (λ (m : Me (Option Book) View). noted p.notes.items (length m.0.front) made) t.same
 
   pub sight_then : sight_at new ≡ behind (numbers_of p.seat.table_id) p.seat.me.0 t.log b b' made p.notes.items less t.has new.taken places
   sight_then =
@@ -139,7 +139,7 @@ module _ (p : Pass) (me : Me (Option Book) View) (b b' : Book) (places q : Place
           a.room,
           a.spare,
           ap length a.notes,
-          longer p.notes.items b.events made p.spare less t.room,
+          longer p.notes.items (length me.0.front) made p.spare less t.room,
         );
         knows = subst IsKnown (sym sight_then)
             (known_after (numbers_of p.seat.table_id) p.seat.me.0 t.log b b' end_of p.notes.items p.spare p.taken less
@@ -162,6 +162,15 @@ module _ (p : Pass) (me : Me (Option Book) View) (b b' : Book) (places q : Place
 
   pub owed_then : Among (owed_after places p.seat.me.0.owed) b'.owed.items
   owed_then = owed_among (numbers_of p.seat.table_id) p.seat.me.0 t.log b b' end_of p.notes.items p.spare p.taken less (call p me b b' places made less t) t.room
+
+-- where there is room for one event, there is for the one that a call made
+pub room_for : (spare : ℕ) (made : Option Event) → 1 ≤ spare → spare ≡ spare_before (spare_after spare made) made
+room_for spare None some = refl
+room_for spare (Some e) some = omega (arith, some)
+
+pub some_room : (spare : ℕ) (made : Option Event) → 1 ≤ spare → OnSome made (1 ≤ spare)
+some_room spare None some = tt
+some_room spare (Some e) some = some
 
 -- an answer that adds a reference has room for it
 pub can_find : (o : FindOutcome) (held : List Hold) (owed : List ℕ) → length held + length owed ≤ 3 → CanChange (found_change o) held owed

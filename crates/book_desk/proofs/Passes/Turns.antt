@@ -69,7 +69,7 @@ find_turn p me b b' t' o seated took stays sizes says ok =
     (find_right took.0 p.spare p.taken b b' took.1.book (stays took.0 took.1.book) t' o (says took.0 p.spare p.taken took.1.book)) refl
 
 pub find_told : (p : Pass) (me : Me (Option Book) View) (b b' : Book) (q : PlaceChange) (t' : Tuple) (o : FindOutcome) (new : Pass)
-    → (t : IsTurn p me b b' (found_change o) None p.spare) → IsAfter p me b (found_change o) q None p.spare new → new.taken ≡ p.taken
+    → (t : IsTurn p me b b' (found_change o) None p.spare) → IsAfter p me (found_change o) q None p.spare new → new.taken ≡ p.taken
     → Tells b b' None (λ (old new : Sight). FindSays t' old new o)
     → FindSays t' (sight_at p) (sight_at new) o
 find_told p me b b' q t' o new t a same says =
@@ -84,7 +84,7 @@ hold_turn p me b b' place o seated took stays sizes says ok =
     (hold_right took.0 p.spare p.taken b b' took.1.book (stays took.0 took.1.book) place o (says took.0 p.spare p.taken took.1.book)) refl
 
 pub hold_told : (p : Pass) (me : Me (Option Book) View) (b b' : Book) (q : PlaceChange) (place : ℕ) (o : HoldOutcome) (new : Pass)
-    → (t : IsTurn p me b b' (held_change place o) None p.spare) → IsAfter p me b (held_change place o) q None p.spare new → new.taken ≡ p.taken
+    → (t : IsTurn p me b b' (held_change place o) None p.spare) → IsAfter p me (held_change place o) q None p.spare new → new.taken ≡ p.taken
     → Tells b b' None (λ (old new : Sight). HoldSays place old new o)
     → HoldSays place (sight_at p) (sight_at new) o
 hold_told p me b b' q place o new t a same says =
@@ -99,7 +99,7 @@ take_turn p me b b' o seated took stays sizes says ok =
     (take_right took.0 p.spare p.taken b b' took.1.book (stays took.0 took.1.book) o (says took.0 p.spare p.taken took.1.book)) refl
 
 pub take_told : (p : Pass) (me : Me (Option Book) View) (b b' : Book) (q : PlaceChange) (o : TakeOutcome) (new : Pass)
-    → (t : IsTurn p me b b' (taken_change o) None p.spare) → IsAfter p me b (taken_change o) q None p.spare new → new.taken ≡ taken_then o p.taken
+    → (t : IsTurn p me b b' (taken_change o) None p.spare) → IsAfter p me (taken_change o) q None p.spare new → new.taken ≡ taken_then o p.taken
     → Tells b b' None (λ (old new : Sight). TakeSays old (counted o new) o)
     → TakeSays (sight_at p) (sight_at new) o
 take_told p me b b' q o new t a same says =
@@ -115,7 +115,7 @@ release_turn p me b b' place o seated took stays sizes says ok =
     (says took.0 p.spare p.taken took.1.book)) refl
 
 pub release_told : (p : Pass) (me : Me (Option Book) View) (b b' : Book) (q : PlaceChange) (place : ℕ) (o : ReleaseOutcome) (new : Pass)
-    → (t : IsTurn p me b b' (released_change place o) None p.spare) → IsAfter p me b (released_change place o) q None p.spare new → new.taken ≡ p.taken
+    → (t : IsTurn p me b b' (released_change place o) None p.spare) → IsAfter p me (released_change place o) q None p.spare new → new.taken ≡ p.taken
     → Tells b b' None (λ (old new : Sight). ReleaseSays place old new o) → is_held place p.seat.me.0.held ≡ true
     → ReleaseSays place (sight_at p) (sight_at new) o
 release_told p me b b' q place o new t a same says there =
@@ -139,7 +139,7 @@ recycle_turn p me b b' place seated took stays sizes says ok =
     (says took.0 p.spare p.taken took.1.book)) refl
 
 pub recycle_told : (p : Pass) (me : Me (Option Book) View) (b b' : Book) (q : PlaceChange) (place : ℕ) (new : Pass)
-    → (t : IsTurn p me b b' (Pays place) None p.spare) → IsAfter p me b (Pays place) q None p.spare new → new.taken ≡ p.taken
+    → (t : IsTurn p me b b' (Pays place) None p.spare) → IsAfter p me (Pays place) q None p.spare new → new.taken ≡ p.taken
     → Tells b b' None (λ (old new : Sight). RecycleSays place old new)
     → RecycleSays place (sight_at p) (sight_at new)
 recycle_told p me b b' q place new t a same says =
@@ -155,7 +155,7 @@ peek_turn p me b place o seated took says =
     refl refl tt tt refl
 
 pub peek_told : (p : Pass) (me : Me (Option Book) View) (b : Book) (q : PlaceChange) (place : ℕ) (o : PeekOutcome) (new : Pass)
-    → (t : IsTurn p me b b Same None p.spare) → IsAfter p me b Same q None p.spare new → new.taken ≡ p.taken
+    → (t : IsTurn p me b b Same None p.spare) → IsAfter p me Same q None p.spare new → new.taken ≡ p.taken
     → Tells b b None (λ (old new : Sight). PeekSays place old new o) → is_held place p.seat.me.0.held ≡ true
     → PeekSays place (sight_at p) (sight_at new) o
 peek_told p me b q place o new t a same says there =
@@ -169,7 +169,7 @@ lists_turn p me b listed at seated took says =
     refl refl tt tt refl
 
 pub lists_told : (p : Pass) (me : Me (Option Book) View) (b : Book) (q : PlaceChange) (listed : List Expectation) (at : ℕ) (new : Pass)
-    → (t : IsTurn p me b b Same None p.spare) → IsAfter p me b Same q None p.spare new → new.taken ≡ p.taken
+    → (t : IsTurn p me b b Same None p.spare) → IsAfter p me Same q None p.spare new → new.taken ≡ p.taken
     → Tells b b None (λ (old new : Sight). ListsExpected listed old new at)
     → ListsExpected listed (sight_at p) (sight_at new) at
 lists_told p me b q listed at new t a same says =
@@ -183,7 +183,7 @@ confirm_turn p me b b' made less place flow o seated took stays sizes says ok ro
     ((confirm_places (numbers_of p.seat.table_id) p.seat.me.0 took.0 b b' made p.notes.items less took.1 p.taken sizes place flow o (says took.0 less p.taken took.1.book)).0) ((confirm_places (numbers_of p.seat.table_id) p.seat.me.0 took.0 b b' made p.notes.items less took.1 p.taken sizes place flow o (says took.0 less p.taken took.1.book)).1) (can_confirm place o p.seat.me.0.held p.seat.me.0.owed ok) (confirm_right place o b.free.items b') room
 
 pub confirm_told : (p : Pass) (me : Me (Option Book) View) (b b' : Book) (q : PlaceChange) (made : Option Event) (less : ℕ) (place : ℕ) (flow : Flow) (o : ConfirmOutcome) (new : Pass)
-    → (t : IsTurn p me b b' (confirmed_change place o) made less) → IsAfter p me b (confirmed_change place o) q made less new → new.taken ≡ p.taken
+    → (t : IsTurn p me b b' (confirmed_change place o) made less) → IsAfter p me (confirmed_change place o) q made less new → new.taken ≡ p.taken
     → Tells b b' made (λ (old new : Sight). ConfirmSays place flow old new o)
     → ConfirmSays place flow (sight_at p) (sight_at new) o
 confirm_told p me b b' q made less place flow o new t a same says =
@@ -197,7 +197,7 @@ touch_turn p me b b' made less place direction segment moment o seated took stay
     ((touch_places (numbers_of p.seat.table_id) p.seat.me.0 took.0 b b' made p.notes.items less took.1 p.taken sizes place direction segment moment o (says took.0 less p.taken took.1.book)).held) ((touch_places (numbers_of p.seat.table_id) p.seat.me.0 took.0 b b' made p.notes.items less took.1 p.taken sizes place direction segment moment o (says took.0 less p.taken took.1.book)).owed) tt tt room
 
 pub touch_told : (p : Pass) (me : Me (Option Book) View) (b b' : Book) (q : PlaceChange) (made : Option Event) (less : ℕ) (place : ℕ) (direction : Direction) (segment : Segment) (moment : ℕ) (o : TouchOutcome) (new : Pass)
-    → (t : IsTurn p me b b' Same made less) → IsAfter p me b Same q made less new → new.taken ≡ p.taken
+    → (t : IsTurn p me b b' Same made less) → IsAfter p me Same q made less new → new.taken ≡ p.taken
     → Tells b b' made (λ (old new : Sight). TouchSays place direction segment moment old new o) → is_held place p.seat.me.0.held ≡ true
     → TouchSays place direction segment moment (sight_at p) (sight_at new) o
 touch_told p me b b' q made less place direction segment moment o new t a same says there =
@@ -211,7 +211,7 @@ kill_turn p me b b' made less place why o seated took stays sizes says room =
     ((kill_places (numbers_of p.seat.table_id) p.seat.me.0 took.0 b b' made p.notes.items less took.1 p.taken sizes place why o (says took.0 less p.taken took.1.book)).held) ((kill_places (numbers_of p.seat.table_id) p.seat.me.0 took.0 b b' made p.notes.items less took.1 p.taken sizes place why o (says took.0 less p.taken took.1.book)).owed) tt tt room
 
 pub kill_told : (p : Pass) (me : Me (Option Book) View) (b b' : Book) (q : PlaceChange) (made : Option Event) (less : ℕ) (place : ℕ) (why : Why) (o : KillOutcome) (new : Pass)
-    → (t : IsTurn p me b b' Same made less) → IsAfter p me b Same q made less new → new.taken ≡ p.taken
+    → (t : IsTurn p me b b' Same made less) → IsAfter p me Same q made less new → new.taken ≡ p.taken
     → Tells b b' made (λ (old new : Sight). KillSays place why old new o) → is_held place p.seat.me.0.held ≡ true
     → KillSays place why (sight_at p) (sight_at new) o
 kill_told p me b b' q made less place why o new t a same says there =
@@ -225,7 +225,7 @@ expect_turn p me b b' made less place want moment o seated took stays sizes says
     ((expect_places (numbers_of p.seat.table_id) p.seat.me.0 took.0 b b' made p.notes.items less took.1 p.taken sizes place want moment o (says took.0 less p.taken took.1.book)).held) ((expect_places (numbers_of p.seat.table_id) p.seat.me.0 took.0 b b' made p.notes.items less took.1 p.taken sizes place want moment o (says took.0 less p.taken took.1.book)).owed) tt tt room
 
 pub expect_told : (p : Pass) (me : Me (Option Book) View) (b b' : Book) (q : PlaceChange) (made : Option Event) (less : ℕ) (place : ℕ) (want : Want) (moment : ℕ) (o : ExpectOutcome) (new : Pass)
-    → (t : IsTurn p me b b' Same made less) → IsAfter p me b Same q made less new → new.taken ≡ p.taken
+    → (t : IsTurn p me b b' Same made less) → IsAfter p me Same q made less new → new.taken ≡ p.taken
     → Tells b b' made (λ (old new : Sight). ExpectSays place want moment old new o) → is_held place p.seat.me.0.held ≡ true
     → is_helped_entry (held_id place p.seat.me.0.held) p.seat.me.0.front ≡ true
     → ExpectSays place want moment (sight_at p) (sight_at new) o
@@ -240,7 +240,7 @@ claim_turn p me b b' made less t' moment o seated took stays sizes says room =
     ((claim_places (numbers_of p.seat.table_id) p.seat.me.0 took.0 b b' made p.notes.items less took.1 p.taken sizes t' moment o (says took.0 less p.taken took.1.book)).held) ((claim_places (numbers_of p.seat.table_id) p.seat.me.0 took.0 b b' made p.notes.items less took.1 p.taken sizes t' moment o (says took.0 less p.taken took.1.book)).owed) tt tt room
 
 pub claim_told : (p : Pass) (me : Me (Option Book) View) (b b' : Book) (q : PlaceChange) (made : Option Event) (less : ℕ) (t' : Tuple) (moment : ℕ) (o : ClaimOutcome) (new : Pass)
-    → (t : IsTurn p me b b' Same made less) → IsAfter p me b Same q made less new → new.taken ≡ p.taken
+    → (t : IsTurn p me b b' Same made less) → IsAfter p me Same q made less new → new.taken ≡ p.taken
     → Tells b b' made (λ (old new : Sight). ClaimSays t' moment old new o)
     → ClaimSays t' moment (sight_at p) (sight_at new) o
 claim_told p me b b' q made less t' moment o new t a same says =
@@ -254,7 +254,7 @@ unexpect_turn p me b b' made less id moment o seated took stays sizes says room 
     ((unexpect_places (numbers_of p.seat.table_id) p.seat.me.0 took.0 b b' made p.notes.items less took.1 p.taken sizes id moment o (says took.0 less p.taken took.1.book)).held) ((unexpect_places (numbers_of p.seat.table_id) p.seat.me.0 took.0 b b' made p.notes.items less took.1 p.taken sizes id moment o (says took.0 less p.taken took.1.book)).owed) tt tt room
 
 pub unexpect_told : (p : Pass) (me : Me (Option Book) View) (b b' : Book) (q : PlaceChange) (made : Option Event) (less : ℕ) (id moment : ℕ) (o : UnexpectOutcome) (new : Pass)
-    → (t : IsTurn p me b b' Same made less) → IsAfter p me b Same q made less new → new.taken ≡ p.taken
+    → (t : IsTurn p me b b' Same made less) → IsAfter p me Same q made less new → new.taken ≡ p.taken
     → Tells b b' made (λ (old new : Sight). UnexpectSays id moment old new o)
     → UnexpectSays id moment (sight_at p) (sight_at new) o
 unexpect_told p me b b' q made less id moment o new t a same says =

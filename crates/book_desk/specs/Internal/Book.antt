@@ -1,5 +1,5 @@
 -- What the calls of a book say of its fields.
-use Rattle.std.specs.Prelude.{◌≡◌, ℕ, ◌+◌, ◌<◌, ◌≤◌, Option, Some, None, List, [], slice_get}
+use Rattle.std.specs.Prelude.{◌≡◌, ℕ, ◌+◌, ◌-◌, ◌<◌, ◌≤◌, Option, Some, None, List, [], slice_get}
 use Rattle.history_book.specs.declared.event.Event.{Event}
 use Rattle.history_book.specs.declared.find.FoundAt.{FoundAt}
 use Rattle.history_book.specs.declared.outcome.TakeOutcome.{TakeOutcome}
@@ -63,6 +63,11 @@ IsSomeBook F b = (log : List Event) × IsBook log b × F log
 abbrev pub spare_before : ℕ → Option Event → ℕ
 spare_before spare None = spare
 spare_before spare (Some e) = spare + 1
+
+-- and after it
+abbrev pub spare_after : ℕ → Option Event → ℕ
+spare_after spare None = spare
+spare_after spare (Some e) = spare - 1
 
 -- whatever events led to the fields, a call that made this event, or none, leaves them right
 abbrev pub StaysBook : Book → Book → Option Event → Type 0

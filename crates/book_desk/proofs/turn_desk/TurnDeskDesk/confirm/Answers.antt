@@ -1,10 +1,11 @@
-use Rattle.std.proofs.Common.{ap, refl, ◌∙◌}
+use Rattle.std.proofs.Common.{◌≤◌, sym, subst, ap, ◌∙◌}
 use Rattle.history_book.specs.Sight.{Sight}
 use Rattle.history_book.specs.Held.{is_taken}
 use Rattle.book_desk.specs.Turn.Change.{confirmed_change}
 use Rattle.book_desk.proofs.Passes.Among.{taken_any}
+use Rattle.book_desk.specs.Internal.Book.{spare_after}
 use Rattle.book_desk.specs.declared.turn.pass.Pass.{Pass}
-use Rattle.book_desk.proofs.Passes.Turned.{IsAfter, IsTurn, seated_then, turn_ends, turn_few}
+use Rattle.book_desk.proofs.Passes.Turned.{IsAfter, IsTurn, room_for, some_room, seated_then, turn_ends, turn_few}
 use Rattle.book_desk.proofs.Passes.Turns.{confirm_told, confirm_turn}
 use Rattle.book_desk.proofs.turn_desk.TurnDeskDesk.confirm.Goals as goal
 
@@ -12,39 +13,42 @@ pub confirm-outcome-requires-clause-taken : goal.confirm-outcome-requires-clause
 confirm-outcome-requires-clause-taken g c =
     taken_any c.args.place c.self.inside.pass.seat.me.0.held c.take_turn-book.result.holds.items c.take_turn-book.ensures.turn.1.held (ap (λ (s : Sight). is_taken c.args.place s.held) c.self.view_is ∙ c.requires.taken)
 
+pub end_turn-requires-clause-some : goal.end_turn-requires-clause-some
+end_turn-requires-clause-some g c = some_room c.self.inside.pass.spare c.confirm-outcome.result.1 (subst (λ (s : Sight). 1 ≤ s.spare) (sym c.self.view_is) c.requires.spare)
+
 pub end_turn-requires-clause-ends : goal.end_turn-requires-clause-ends
 end_turn-requires-clause-ends g c =
     let p : Pass = c.self.inside.pass in
-    let t : IsTurn p c.take_turn-book.new.seat.me c.take_turn-book.result c.confirm-outcome.new.self (confirmed_change c.args.place c.confirm-outcome.result.0) c.confirm-outcome.result.1 c.note.new.spare =
-    confirm_turn p c.take_turn-book.new.seat.me c.take_turn-book.result c.confirm-outcome.new.self c.confirm-outcome.result.1 c.note.new.spare c.args.place c.args.flow.now c.confirm-outcome.result.0 c.self.invariant.1 c.take_turn-book.ensures.turn c.confirm-outcome.ensures.stays c.confirm-outcome.ensures.sizes c.confirm-outcome.ensures.says (ap (λ (s : Sight). is_taken c.args.place s.held) c.self.view_is ∙ c.requires.taken) c.note.ensures.spare in
-    turn_ends p c.take_turn-book.new.seat.me c.take_turn-book.result c.confirm-outcome.new.self (confirmed_change c.args.place c.confirm-outcome.result.0) c.confirm-outcome.result.1 c.note.new.spare t c.confirmed_change.result c.confirmed_change.ensures
+    let t : IsTurn p c.take_turn-book.new.seat.me c.take_turn-book.result c.confirm-outcome.new.self (confirmed_change c.args.place c.confirm-outcome.result.0) c.confirm-outcome.result.1 (spare_after p.spare c.confirm-outcome.result.1) =
+    confirm_turn p c.take_turn-book.new.seat.me c.take_turn-book.result c.confirm-outcome.new.self c.confirm-outcome.result.1 (spare_after p.spare c.confirm-outcome.result.1) c.args.place c.args.flow.now c.confirm-outcome.result.0 c.self.invariant.1 c.take_turn-book.ensures.turn c.confirm-outcome.ensures.stays c.confirm-outcome.ensures.sizes c.confirm-outcome.ensures.says (ap (λ (s : Sight). is_taken c.args.place s.held) c.self.view_is ∙ c.requires.taken) (room_for p.spare c.confirm-outcome.result.1 (subst (λ (s : Sight). 1 ≤ s.spare) (sym c.self.view_is) c.requires.spare)) in
+    turn_ends p c.take_turn-book.new.seat.me c.take_turn-book.result c.confirm-outcome.new.self (confirmed_change c.args.place c.confirm-outcome.result.0) c.confirm-outcome.result.1 (spare_after p.spare c.confirm-outcome.result.1) t c.confirmed_change.result c.confirmed_change.ensures
 
 pub end_turn-requires-clause-few : goal.end_turn-requires-clause-few
 end_turn-requires-clause-few g c =
     let p : Pass = c.self.inside.pass in
-    let t : IsTurn p c.take_turn-book.new.seat.me c.take_turn-book.result c.confirm-outcome.new.self (confirmed_change c.args.place c.confirm-outcome.result.0) c.confirm-outcome.result.1 c.note.new.spare =
-    confirm_turn p c.take_turn-book.new.seat.me c.take_turn-book.result c.confirm-outcome.new.self c.confirm-outcome.result.1 c.note.new.spare c.args.place c.args.flow.now c.confirm-outcome.result.0 c.self.invariant.1 c.take_turn-book.ensures.turn c.confirm-outcome.ensures.stays c.confirm-outcome.ensures.sizes c.confirm-outcome.ensures.says (ap (λ (s : Sight). is_taken c.args.place s.held) c.self.view_is ∙ c.requires.taken) c.note.ensures.spare in
-    turn_few p c.take_turn-book.new.seat.me c.take_turn-book.result c.confirm-outcome.new.self (confirmed_change c.args.place c.confirm-outcome.result.0) c.confirm-outcome.result.1 c.note.new.spare t
+    let t : IsTurn p c.take_turn-book.new.seat.me c.take_turn-book.result c.confirm-outcome.new.self (confirmed_change c.args.place c.confirm-outcome.result.0) c.confirm-outcome.result.1 (spare_after p.spare c.confirm-outcome.result.1) =
+    confirm_turn p c.take_turn-book.new.seat.me c.take_turn-book.result c.confirm-outcome.new.self c.confirm-outcome.result.1 (spare_after p.spare c.confirm-outcome.result.1) c.args.place c.args.flow.now c.confirm-outcome.result.0 c.self.invariant.1 c.take_turn-book.ensures.turn c.confirm-outcome.ensures.stays c.confirm-outcome.ensures.sizes c.confirm-outcome.ensures.says (ap (λ (s : Sight). is_taken c.args.place s.held) c.self.view_is ∙ c.requires.taken) (room_for p.spare c.confirm-outcome.result.1 (subst (λ (s : Sight). 1 ≤ s.spare) (sym c.self.view_is) c.requires.spare)) in
+    turn_few p c.take_turn-book.new.seat.me c.take_turn-book.result c.confirm-outcome.new.self (confirmed_change c.args.place c.confirm-outcome.result.0) c.confirm-outcome.result.1 (spare_after p.spare c.confirm-outcome.result.1) t
 
 pub invariant_of-self : goal.invariant_of-self
 invariant_of-self g c =
     let p : Pass = c.self.inside.pass in
-    let t : IsTurn p c.take_turn-book.new.seat.me c.take_turn-book.result c.confirm-outcome.new.self (confirmed_change c.args.place c.confirm-outcome.result.0) c.confirm-outcome.result.1 c.note.new.spare =
-    confirm_turn p c.take_turn-book.new.seat.me c.take_turn-book.result c.confirm-outcome.new.self c.confirm-outcome.result.1 c.note.new.spare c.args.place c.args.flow.now c.confirm-outcome.result.0 c.self.invariant.1 c.take_turn-book.ensures.turn c.confirm-outcome.ensures.stays c.confirm-outcome.ensures.sizes c.confirm-outcome.ensures.says (ap (λ (s : Sight). is_taken c.args.place s.held) c.self.view_is ∙ c.requires.taken) c.note.ensures.spare in
-    let new : Pass = record p { seat = c.end_turn.new.seat; notes = c.note.new.notes; spare = c.note.new.spare } in
-    let a : IsAfter p c.take_turn-book.new.seat.me c.take_turn-book.result (confirmed_change c.args.place c.confirm-outcome.result.0) c.confirmed_change.result c.confirm-outcome.result.1 c.note.new.spare new =
-    record { change = c.confirmed_change.ensures; table = c.end_turn.ensures.table ∙ c.take_turn-book.ensures.table; ended = c.end_turn.ensures.ended; sizes = refl; notes = c.note.ensures.items; room = c.note.ensures.room; spare = refl } in
-    (c.end_turn.ensures.table ∙ c.take_turn-book.ensures.table ∙ c.self.invariant.0, seated_then p c.take_turn-book.new.seat.me c.take_turn-book.result c.confirm-outcome.new.self (confirmed_change c.args.place c.confirm-outcome.result.0) c.confirmed_change.result c.confirm-outcome.result.1 c.note.new.spare new t a)
+    let t : IsTurn p c.take_turn-book.new.seat.me c.take_turn-book.result c.confirm-outcome.new.self (confirmed_change c.args.place c.confirm-outcome.result.0) c.confirm-outcome.result.1 (spare_after p.spare c.confirm-outcome.result.1) =
+    confirm_turn p c.take_turn-book.new.seat.me c.take_turn-book.result c.confirm-outcome.new.self c.confirm-outcome.result.1 (spare_after p.spare c.confirm-outcome.result.1) c.args.place c.args.flow.now c.confirm-outcome.result.0 c.self.invariant.1 c.take_turn-book.ensures.turn c.confirm-outcome.ensures.stays c.confirm-outcome.ensures.sizes c.confirm-outcome.ensures.says (ap (λ (s : Sight). is_taken c.args.place s.held) c.self.view_is ∙ c.requires.taken) (room_for p.spare c.confirm-outcome.result.1 (subst (λ (s : Sight). 1 ≤ s.spare) (sym c.self.view_is) c.requires.spare)) in
+    let new : Pass = c.end_turn.new.self in
+    let a : IsAfter p c.take_turn-book.new.seat.me (confirmed_change c.args.place c.confirm-outcome.result.0) c.confirmed_change.result c.confirm-outcome.result.1 (spare_after p.spare c.confirm-outcome.result.1) new =
+    record { change = c.confirmed_change.ensures; table = c.end_turn.ensures.table ∙ c.take_turn-book.ensures.table; ended = c.end_turn.ensures.ended; sizes = c.end_turn.ensures.sizes; notes = c.end_turn.ensures.items; room = c.end_turn.ensures.room; spare = c.end_turn.ensures.spare } in
+    (c.end_turn.ensures.table ∙ c.take_turn-book.ensures.table ∙ c.self.invariant.0, seated_then p c.take_turn-book.new.seat.me c.take_turn-book.result c.confirm-outcome.new.self (confirmed_change c.args.place c.confirm-outcome.result.0) c.confirmed_change.result c.confirm-outcome.result.1 (spare_after p.spare c.confirm-outcome.result.1) new t a)
 
 pub returns-clause-says : goal.returns-clause-says
 returns-clause-says g c =
     let p : Pass = c.self.inside.pass in
-    let t : IsTurn p c.take_turn-book.new.seat.me c.take_turn-book.result c.confirm-outcome.new.self (confirmed_change c.args.place c.confirm-outcome.result.0) c.confirm-outcome.result.1 c.note.new.spare =
-    confirm_turn p c.take_turn-book.new.seat.me c.take_turn-book.result c.confirm-outcome.new.self c.confirm-outcome.result.1 c.note.new.spare c.args.place c.args.flow.now c.confirm-outcome.result.0 c.self.invariant.1 c.take_turn-book.ensures.turn c.confirm-outcome.ensures.stays c.confirm-outcome.ensures.sizes c.confirm-outcome.ensures.says (ap (λ (s : Sight). is_taken c.args.place s.held) c.self.view_is ∙ c.requires.taken) c.note.ensures.spare in
-    let new : Pass = record p { seat = c.end_turn.new.seat; notes = c.note.new.notes; spare = c.note.new.spare } in
-    let a : IsAfter p c.take_turn-book.new.seat.me c.take_turn-book.result (confirmed_change c.args.place c.confirm-outcome.result.0) c.confirmed_change.result c.confirm-outcome.result.1 c.note.new.spare new =
-    record { change = c.confirmed_change.ensures; table = c.end_turn.ensures.table ∙ c.take_turn-book.ensures.table; ended = c.end_turn.ensures.ended; sizes = refl; notes = c.note.ensures.items; room = c.note.ensures.room; spare = refl } in
-    rw (← c.self.view_is) (confirm_told p c.take_turn-book.new.seat.me c.take_turn-book.result c.confirm-outcome.new.self c.confirmed_change.result c.confirm-outcome.result.1 c.note.new.spare c.args.place c.args.flow.now c.confirm-outcome.result.0 new t a refl c.confirm-outcome.ensures.says)
+    let t : IsTurn p c.take_turn-book.new.seat.me c.take_turn-book.result c.confirm-outcome.new.self (confirmed_change c.args.place c.confirm-outcome.result.0) c.confirm-outcome.result.1 (spare_after p.spare c.confirm-outcome.result.1) =
+    confirm_turn p c.take_turn-book.new.seat.me c.take_turn-book.result c.confirm-outcome.new.self c.confirm-outcome.result.1 (spare_after p.spare c.confirm-outcome.result.1) c.args.place c.args.flow.now c.confirm-outcome.result.0 c.self.invariant.1 c.take_turn-book.ensures.turn c.confirm-outcome.ensures.stays c.confirm-outcome.ensures.sizes c.confirm-outcome.ensures.says (ap (λ (s : Sight). is_taken c.args.place s.held) c.self.view_is ∙ c.requires.taken) (room_for p.spare c.confirm-outcome.result.1 (subst (λ (s : Sight). 1 ≤ s.spare) (sym c.self.view_is) c.requires.spare)) in
+    let new : Pass = c.end_turn.new.self in
+    let a : IsAfter p c.take_turn-book.new.seat.me (confirmed_change c.args.place c.confirm-outcome.result.0) c.confirmed_change.result c.confirm-outcome.result.1 (spare_after p.spare c.confirm-outcome.result.1) new =
+    record { change = c.confirmed_change.ensures; table = c.end_turn.ensures.table ∙ c.take_turn-book.ensures.table; ended = c.end_turn.ensures.ended; sizes = c.end_turn.ensures.sizes; notes = c.end_turn.ensures.items; room = c.end_turn.ensures.room; spare = c.end_turn.ensures.spare } in
+    rw (← c.self.view_is) (confirm_told p c.take_turn-book.new.seat.me c.take_turn-book.result c.confirm-outcome.new.self c.confirmed_change.result c.confirm-outcome.result.1 (spare_after p.spare c.confirm-outcome.result.1) c.args.place c.args.flow.now c.confirm-outcome.result.0 new t a c.end_turn.ensures.taken c.confirm-outcome.ensures.says)
 
 pub returns-clause-knows : goal.returns-clause-knows
 returns-clause-knows g c = (invariant_of-self g c).1.knows

@@ -24,9 +24,9 @@ invariant_of-self g c =
     let p : Pass = c.self.inside.pass in
     let t : IsTurn p c.take_turn-book.new.seat.me c.take_turn-book.result c.take_turn-book.result Same None p.spare =
     lists_turn p c.take_turn-book.new.seat.me c.take_turn-book.result c.list_expected-at.new.listed.items c.list_expected-at.result c.self.invariant.1 c.take_turn-book.ensures.turn c.list_expected-at.ensures.says in
-    let new : Pass = record p { seat = c.end_turn.new.seat } in
-    let a : IsAfter p c.take_turn-book.new.seat.me c.take_turn-book.result Same Same None p.spare new =
-    record { change = refl; table = c.end_turn.ensures.table ∙ c.take_turn-book.ensures.table; ended = c.end_turn.ensures.ended; sizes = refl; notes = refl; room = refl; spare = refl } in
+    let new : Pass = c.end_turn.new.self in
+    let a : IsAfter p c.take_turn-book.new.seat.me Same Same None p.spare new =
+    record { change = refl; table = c.end_turn.ensures.table ∙ c.take_turn-book.ensures.table; ended = c.end_turn.ensures.ended; sizes = c.end_turn.ensures.sizes; notes = c.end_turn.ensures.items; room = c.end_turn.ensures.room; spare = c.end_turn.ensures.spare } in
     (c.end_turn.ensures.table ∙ c.take_turn-book.ensures.table ∙ c.self.invariant.0, seated_then p c.take_turn-book.new.seat.me c.take_turn-book.result c.take_turn-book.result Same Same None p.spare new t a)
 
 pub returns-clause-says : goal.returns-clause-says
@@ -34,10 +34,10 @@ returns-clause-says g c =
     let p : Pass = c.self.inside.pass in
     let t : IsTurn p c.take_turn-book.new.seat.me c.take_turn-book.result c.take_turn-book.result Same None p.spare =
     lists_turn p c.take_turn-book.new.seat.me c.take_turn-book.result c.list_expected-at.new.listed.items c.list_expected-at.result c.self.invariant.1 c.take_turn-book.ensures.turn c.list_expected-at.ensures.says in
-    let new : Pass = record p { seat = c.end_turn.new.seat } in
-    let a : IsAfter p c.take_turn-book.new.seat.me c.take_turn-book.result Same Same None p.spare new =
-    record { change = refl; table = c.end_turn.ensures.table ∙ c.take_turn-book.ensures.table; ended = c.end_turn.ensures.ended; sizes = refl; notes = refl; room = refl; spare = refl } in
-    rw (← c.self.view_is) (lists_told p c.take_turn-book.new.seat.me c.take_turn-book.result Same c.list_expected-at.new.listed.items c.list_expected-at.result new t a refl c.list_expected-at.ensures.says)
+    let new : Pass = c.end_turn.new.self in
+    let a : IsAfter p c.take_turn-book.new.seat.me Same Same None p.spare new =
+    record { change = refl; table = c.end_turn.ensures.table ∙ c.take_turn-book.ensures.table; ended = c.end_turn.ensures.ended; sizes = c.end_turn.ensures.sizes; notes = c.end_turn.ensures.items; room = c.end_turn.ensures.room; spare = c.end_turn.ensures.spare } in
+    rw (← c.self.view_is) (lists_told p c.take_turn-book.new.seat.me c.take_turn-book.result Same c.list_expected-at.new.listed.items c.list_expected-at.result new t a c.end_turn.ensures.taken c.list_expected-at.ensures.says)
 
 pub returns-clause-knows : goal.returns-clause-knows
 returns-clause-knows g c = (invariant_of-self g c).1.knows

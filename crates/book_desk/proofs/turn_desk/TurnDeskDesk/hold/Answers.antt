@@ -1,4 +1,4 @@
-use Rattle.std.proofs.Common.{◌+◌, ◌≤◌, length, refl, subst, sym, None, ◌∙◌}
+use Rattle.std.proofs.Common.{◌+◌, ◌≤◌, length, subst, sym, None, ◌∙◌}
 use Rattle.history_book.specs.Sight.{Sight}
 use Rattle.book_desk.specs.Turn.Change.{held_change}
 use Rattle.book_desk.specs.declared.turn.pass.Pass.{Pass}
@@ -25,9 +25,9 @@ invariant_of-self g c =
     let p : Pass = c.self.inside.pass in
     let t : IsTurn p c.take_turn-book.new.seat.me c.take_turn-book.result c.hold-outcome.new.self (held_change c.args.place c.hold-outcome.result) None p.spare =
     hold_turn p c.take_turn-book.new.seat.me c.take_turn-book.result c.hold-outcome.new.self c.args.place c.hold-outcome.result c.self.invariant.1 c.take_turn-book.ensures.turn c.hold-outcome.ensures.stays c.hold-outcome.ensures.sizes c.hold-outcome.ensures.says (subst (λ (s : Sight). length s.held + length s.owed ≤ 3) (sym c.self.view_is) c.requires.room) in
-    let new : Pass = record p { seat = c.end_turn.new.seat } in
-    let a : IsAfter p c.take_turn-book.new.seat.me c.take_turn-book.result (held_change c.args.place c.hold-outcome.result) c.held_change.result None p.spare new =
-    record { change = c.held_change.ensures; table = c.end_turn.ensures.table ∙ c.take_turn-book.ensures.table; ended = c.end_turn.ensures.ended; sizes = refl; notes = refl; room = refl; spare = refl } in
+    let new : Pass = c.end_turn.new.self in
+    let a : IsAfter p c.take_turn-book.new.seat.me (held_change c.args.place c.hold-outcome.result) c.held_change.result None p.spare new =
+    record { change = c.held_change.ensures; table = c.end_turn.ensures.table ∙ c.take_turn-book.ensures.table; ended = c.end_turn.ensures.ended; sizes = c.end_turn.ensures.sizes; notes = c.end_turn.ensures.items; room = c.end_turn.ensures.room; spare = c.end_turn.ensures.spare } in
     (c.end_turn.ensures.table ∙ c.take_turn-book.ensures.table ∙ c.self.invariant.0, seated_then p c.take_turn-book.new.seat.me c.take_turn-book.result c.hold-outcome.new.self (held_change c.args.place c.hold-outcome.result) c.held_change.result None p.spare new t a)
 
 pub returns-clause-says : goal.returns-clause-says
@@ -35,10 +35,10 @@ returns-clause-says g c =
     let p : Pass = c.self.inside.pass in
     let t : IsTurn p c.take_turn-book.new.seat.me c.take_turn-book.result c.hold-outcome.new.self (held_change c.args.place c.hold-outcome.result) None p.spare =
     hold_turn p c.take_turn-book.new.seat.me c.take_turn-book.result c.hold-outcome.new.self c.args.place c.hold-outcome.result c.self.invariant.1 c.take_turn-book.ensures.turn c.hold-outcome.ensures.stays c.hold-outcome.ensures.sizes c.hold-outcome.ensures.says (subst (λ (s : Sight). length s.held + length s.owed ≤ 3) (sym c.self.view_is) c.requires.room) in
-    let new : Pass = record p { seat = c.end_turn.new.seat } in
-    let a : IsAfter p c.take_turn-book.new.seat.me c.take_turn-book.result (held_change c.args.place c.hold-outcome.result) c.held_change.result None p.spare new =
-    record { change = c.held_change.ensures; table = c.end_turn.ensures.table ∙ c.take_turn-book.ensures.table; ended = c.end_turn.ensures.ended; sizes = refl; notes = refl; room = refl; spare = refl } in
-    rw (← c.self.view_is) (hold_told p c.take_turn-book.new.seat.me c.take_turn-book.result c.hold-outcome.new.self c.held_change.result c.args.place c.hold-outcome.result new t a refl c.hold-outcome.ensures.says)
+    let new : Pass = c.end_turn.new.self in
+    let a : IsAfter p c.take_turn-book.new.seat.me (held_change c.args.place c.hold-outcome.result) c.held_change.result None p.spare new =
+    record { change = c.held_change.ensures; table = c.end_turn.ensures.table ∙ c.take_turn-book.ensures.table; ended = c.end_turn.ensures.ended; sizes = c.end_turn.ensures.sizes; notes = c.end_turn.ensures.items; room = c.end_turn.ensures.room; spare = c.end_turn.ensures.spare } in
+    rw (← c.self.view_is) (hold_told p c.take_turn-book.new.seat.me c.take_turn-book.result c.hold-outcome.new.self c.held_change.result c.args.place c.hold-outcome.result new t a c.end_turn.ensures.taken c.hold-outcome.ensures.says)
 
 pub returns-clause-knows : goal.returns-clause-knows
 returns-clause-knows g c = (invariant_of-self g c).1.knows

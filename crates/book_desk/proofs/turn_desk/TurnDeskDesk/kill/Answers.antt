@@ -1,4 +1,4 @@
-use Rattle.std.proofs.Common.{ℕ, ap, refl, sym, ◌∙◌}
+use Rattle.std.proofs.Common.{◌≤◌, subst, ℕ, ap, refl, sym, ◌∙◌}
 use Rattle.history_book.specs.Sight.{Sight}
 use Rattle.history_book.specs.Held.{held_id, is_at, is_held_for_entry}
 use Rattle.book_desk.specs.declared.turn.change.PlaceChange.TheVariants.{Same}
@@ -7,8 +7,9 @@ use Rattle.book_desk.proofs.Passes.Among.{any_among, held_id_among}
 use Rattle.book_desk.proofs.Passes.Turned.{suits_on, held_at_all}
 use Rattle.std.specs.Prelude.{◌&&◌, is_some}
 use Rattle.book_desk.specs.declared.book.Book.{Book}
+use Rattle.book_desk.specs.Internal.Book.{spare_after}
 use Rattle.book_desk.specs.declared.turn.pass.Pass.{Pass}
-use Rattle.book_desk.proofs.Passes.Turned.{IsAfter, IsTurn, seated_then, turn_ends, turn_few}
+use Rattle.book_desk.proofs.Passes.Turned.{IsAfter, IsTurn, room_for, some_room, seated_then, turn_ends, turn_few}
 use Rattle.book_desk.proofs.Passes.Turns.{kill_told, kill_turn}
 use Rattle.book_desk.proofs.turn_desk.TurnDeskDesk.kill.Goals as goal
 
@@ -28,39 +29,42 @@ pub kill-outcome-requires-clause-held : goal.kill-outcome-requires-clause-held
 kill-outcome-requires-clause-held g c =
     any_among (λ h. is_at c.args.place h && is_some h.id) c.self.inside.pass.seat.me.0.held c.take_turn-book.result.holds.items c.take_turn-book.ensures.turn.1.held (ap (λ (s : Sight). is_held_for_entry c.args.place s.held) c.self.view_is ∙ c.requires.held)
 
+pub end_turn-requires-clause-some : goal.end_turn-requires-clause-some
+end_turn-requires-clause-some g c = some_room c.self.inside.pass.spare c.kill-outcome.result.1 (subst (λ (s : Sight). 1 ≤ s.spare) (sym c.self.view_is) c.requires.spare)
+
 pub end_turn-requires-clause-ends : goal.end_turn-requires-clause-ends
 end_turn-requires-clause-ends g c =
     let p : Pass = c.self.inside.pass in
-    let t : IsTurn p c.take_turn-book.new.seat.me c.take_turn-book.result c.kill-outcome.new.self Same c.kill-outcome.result.1 c.note.new.spare =
-    kill_turn p c.take_turn-book.new.seat.me c.take_turn-book.result c.kill-outcome.new.self c.kill-outcome.result.1 c.note.new.spare c.args.place c.args.why c.kill-outcome.result.0 c.self.invariant.1 c.take_turn-book.ensures.turn c.kill-outcome.ensures.stays c.kill-outcome.ensures.sizes c.kill-outcome.ensures.says c.note.ensures.spare in
-    turn_ends p c.take_turn-book.new.seat.me c.take_turn-book.result c.kill-outcome.new.self Same c.kill-outcome.result.1 c.note.new.spare t Same refl
+    let t : IsTurn p c.take_turn-book.new.seat.me c.take_turn-book.result c.kill-outcome.new.self Same c.kill-outcome.result.1 (spare_after p.spare c.kill-outcome.result.1) =
+    kill_turn p c.take_turn-book.new.seat.me c.take_turn-book.result c.kill-outcome.new.self c.kill-outcome.result.1 (spare_after p.spare c.kill-outcome.result.1) c.args.place c.args.why c.kill-outcome.result.0 c.self.invariant.1 c.take_turn-book.ensures.turn c.kill-outcome.ensures.stays c.kill-outcome.ensures.sizes c.kill-outcome.ensures.says (room_for p.spare c.kill-outcome.result.1 (subst (λ (s : Sight). 1 ≤ s.spare) (sym c.self.view_is) c.requires.spare)) in
+    turn_ends p c.take_turn-book.new.seat.me c.take_turn-book.result c.kill-outcome.new.self Same c.kill-outcome.result.1 (spare_after p.spare c.kill-outcome.result.1) t Same refl
 
 pub end_turn-requires-clause-few : goal.end_turn-requires-clause-few
 end_turn-requires-clause-few g c =
     let p : Pass = c.self.inside.pass in
-    let t : IsTurn p c.take_turn-book.new.seat.me c.take_turn-book.result c.kill-outcome.new.self Same c.kill-outcome.result.1 c.note.new.spare =
-    kill_turn p c.take_turn-book.new.seat.me c.take_turn-book.result c.kill-outcome.new.self c.kill-outcome.result.1 c.note.new.spare c.args.place c.args.why c.kill-outcome.result.0 c.self.invariant.1 c.take_turn-book.ensures.turn c.kill-outcome.ensures.stays c.kill-outcome.ensures.sizes c.kill-outcome.ensures.says c.note.ensures.spare in
-    turn_few p c.take_turn-book.new.seat.me c.take_turn-book.result c.kill-outcome.new.self Same c.kill-outcome.result.1 c.note.new.spare t
+    let t : IsTurn p c.take_turn-book.new.seat.me c.take_turn-book.result c.kill-outcome.new.self Same c.kill-outcome.result.1 (spare_after p.spare c.kill-outcome.result.1) =
+    kill_turn p c.take_turn-book.new.seat.me c.take_turn-book.result c.kill-outcome.new.self c.kill-outcome.result.1 (spare_after p.spare c.kill-outcome.result.1) c.args.place c.args.why c.kill-outcome.result.0 c.self.invariant.1 c.take_turn-book.ensures.turn c.kill-outcome.ensures.stays c.kill-outcome.ensures.sizes c.kill-outcome.ensures.says (room_for p.spare c.kill-outcome.result.1 (subst (λ (s : Sight). 1 ≤ s.spare) (sym c.self.view_is) c.requires.spare)) in
+    turn_few p c.take_turn-book.new.seat.me c.take_turn-book.result c.kill-outcome.new.self Same c.kill-outcome.result.1 (spare_after p.spare c.kill-outcome.result.1) t
 
 pub invariant_of-self : goal.invariant_of-self
 invariant_of-self g c =
     let p : Pass = c.self.inside.pass in
-    let t : IsTurn p c.take_turn-book.new.seat.me c.take_turn-book.result c.kill-outcome.new.self Same c.kill-outcome.result.1 c.note.new.spare =
-    kill_turn p c.take_turn-book.new.seat.me c.take_turn-book.result c.kill-outcome.new.self c.kill-outcome.result.1 c.note.new.spare c.args.place c.args.why c.kill-outcome.result.0 c.self.invariant.1 c.take_turn-book.ensures.turn c.kill-outcome.ensures.stays c.kill-outcome.ensures.sizes c.kill-outcome.ensures.says c.note.ensures.spare in
-    let new : Pass = record p { seat = c.end_turn.new.seat; notes = c.note.new.notes; spare = c.note.new.spare } in
-    let a : IsAfter p c.take_turn-book.new.seat.me c.take_turn-book.result Same Same c.kill-outcome.result.1 c.note.new.spare new =
-    record { change = refl; table = c.end_turn.ensures.table ∙ c.take_turn-book.ensures.table; ended = c.end_turn.ensures.ended; sizes = refl; notes = c.note.ensures.items; room = c.note.ensures.room; spare = refl } in
-    (c.end_turn.ensures.table ∙ c.take_turn-book.ensures.table ∙ c.self.invariant.0, seated_then p c.take_turn-book.new.seat.me c.take_turn-book.result c.kill-outcome.new.self Same Same c.kill-outcome.result.1 c.note.new.spare new t a)
+    let t : IsTurn p c.take_turn-book.new.seat.me c.take_turn-book.result c.kill-outcome.new.self Same c.kill-outcome.result.1 (spare_after p.spare c.kill-outcome.result.1) =
+    kill_turn p c.take_turn-book.new.seat.me c.take_turn-book.result c.kill-outcome.new.self c.kill-outcome.result.1 (spare_after p.spare c.kill-outcome.result.1) c.args.place c.args.why c.kill-outcome.result.0 c.self.invariant.1 c.take_turn-book.ensures.turn c.kill-outcome.ensures.stays c.kill-outcome.ensures.sizes c.kill-outcome.ensures.says (room_for p.spare c.kill-outcome.result.1 (subst (λ (s : Sight). 1 ≤ s.spare) (sym c.self.view_is) c.requires.spare)) in
+    let new : Pass = c.end_turn.new.self in
+    let a : IsAfter p c.take_turn-book.new.seat.me Same Same c.kill-outcome.result.1 (spare_after p.spare c.kill-outcome.result.1) new =
+    record { change = refl; table = c.end_turn.ensures.table ∙ c.take_turn-book.ensures.table; ended = c.end_turn.ensures.ended; sizes = c.end_turn.ensures.sizes; notes = c.end_turn.ensures.items; room = c.end_turn.ensures.room; spare = c.end_turn.ensures.spare } in
+    (c.end_turn.ensures.table ∙ c.take_turn-book.ensures.table ∙ c.self.invariant.0, seated_then p c.take_turn-book.new.seat.me c.take_turn-book.result c.kill-outcome.new.self Same Same c.kill-outcome.result.1 (spare_after p.spare c.kill-outcome.result.1) new t a)
 
 pub returns-clause-says : goal.returns-clause-says
 returns-clause-says g c =
     let p : Pass = c.self.inside.pass in
-    let t : IsTurn p c.take_turn-book.new.seat.me c.take_turn-book.result c.kill-outcome.new.self Same c.kill-outcome.result.1 c.note.new.spare =
-    kill_turn p c.take_turn-book.new.seat.me c.take_turn-book.result c.kill-outcome.new.self c.kill-outcome.result.1 c.note.new.spare c.args.place c.args.why c.kill-outcome.result.0 c.self.invariant.1 c.take_turn-book.ensures.turn c.kill-outcome.ensures.stays c.kill-outcome.ensures.sizes c.kill-outcome.ensures.says c.note.ensures.spare in
-    let new : Pass = record p { seat = c.end_turn.new.seat; notes = c.note.new.notes; spare = c.note.new.spare } in
-    let a : IsAfter p c.take_turn-book.new.seat.me c.take_turn-book.result Same Same c.kill-outcome.result.1 c.note.new.spare new =
-    record { change = refl; table = c.end_turn.ensures.table ∙ c.take_turn-book.ensures.table; ended = c.end_turn.ensures.ended; sizes = refl; notes = c.note.ensures.items; room = c.note.ensures.room; spare = refl } in
-    rw (← c.self.view_is) (kill_told p c.take_turn-book.new.seat.me c.take_turn-book.result c.kill-outcome.new.self Same c.kill-outcome.result.1 c.note.new.spare c.args.place c.args.why c.kill-outcome.result.0 new t a refl c.kill-outcome.ensures.says (held_at_all c.args.place c.self.inside.pass.seat.me.0.held (ap (λ (s : Sight). is_held_for_entry c.args.place s.held) c.self.view_is ∙ c.requires.held)))
+    let t : IsTurn p c.take_turn-book.new.seat.me c.take_turn-book.result c.kill-outcome.new.self Same c.kill-outcome.result.1 (spare_after p.spare c.kill-outcome.result.1) =
+    kill_turn p c.take_turn-book.new.seat.me c.take_turn-book.result c.kill-outcome.new.self c.kill-outcome.result.1 (spare_after p.spare c.kill-outcome.result.1) c.args.place c.args.why c.kill-outcome.result.0 c.self.invariant.1 c.take_turn-book.ensures.turn c.kill-outcome.ensures.stays c.kill-outcome.ensures.sizes c.kill-outcome.ensures.says (room_for p.spare c.kill-outcome.result.1 (subst (λ (s : Sight). 1 ≤ s.spare) (sym c.self.view_is) c.requires.spare)) in
+    let new : Pass = c.end_turn.new.self in
+    let a : IsAfter p c.take_turn-book.new.seat.me Same Same c.kill-outcome.result.1 (spare_after p.spare c.kill-outcome.result.1) new =
+    record { change = refl; table = c.end_turn.ensures.table ∙ c.take_turn-book.ensures.table; ended = c.end_turn.ensures.ended; sizes = c.end_turn.ensures.sizes; notes = c.end_turn.ensures.items; room = c.end_turn.ensures.room; spare = c.end_turn.ensures.spare } in
+    rw (← c.self.view_is) (kill_told p c.take_turn-book.new.seat.me c.take_turn-book.result c.kill-outcome.new.self Same c.kill-outcome.result.1 (spare_after p.spare c.kill-outcome.result.1) c.args.place c.args.why c.kill-outcome.result.0 new t a c.end_turn.ensures.taken c.kill-outcome.ensures.says (held_at_all c.args.place c.self.inside.pass.seat.me.0.held (ap (λ (s : Sight). is_held_for_entry c.args.place s.held) c.self.view_is ∙ c.requires.held)))
 
 pub returns-clause-knows : goal.returns-clause-knows
 returns-clause-knows g c = (invariant_of-self g c).1.knows

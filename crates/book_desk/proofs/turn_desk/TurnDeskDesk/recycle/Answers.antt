@@ -32,9 +32,9 @@ invariant_of-self g c =
     let p : Pass = c.self.inside.pass in
     let t : IsTurn p c.take_turn-book.new.seat.me c.take_turn-book.result c.recycle.new.self (Pays c.args.place) None p.spare =
     recycle_turn p c.take_turn-book.new.seat.me c.take_turn-book.result c.recycle.new.self c.args.place c.self.invariant.1 c.take_turn-book.ensures.turn c.recycle.ensures.stays c.recycle.ensures.sizes c.recycle.ensures.says (ap (λ (s : Sight). is_owed c.args.place s.owed) c.self.view_is ∙ c.requires) in
-    let new : Pass = record p { seat = c.end_turn.new.seat } in
-    let a : IsAfter p c.take_turn-book.new.seat.me c.take_turn-book.result (Pays c.args.place) (Pays c.args.place) None p.spare new =
-    record { change = refl; table = c.end_turn.ensures.table ∙ c.take_turn-book.ensures.table; ended = c.end_turn.ensures.ended; sizes = refl; notes = refl; room = refl; spare = refl } in
+    let new : Pass = c.end_turn.new.self in
+    let a : IsAfter p c.take_turn-book.new.seat.me (Pays c.args.place) (Pays c.args.place) None p.spare new =
+    record { change = refl; table = c.end_turn.ensures.table ∙ c.take_turn-book.ensures.table; ended = c.end_turn.ensures.ended; sizes = c.end_turn.ensures.sizes; notes = c.end_turn.ensures.items; room = c.end_turn.ensures.room; spare = c.end_turn.ensures.spare } in
     (c.end_turn.ensures.table ∙ c.take_turn-book.ensures.table ∙ c.self.invariant.0, seated_then p c.take_turn-book.new.seat.me c.take_turn-book.result c.recycle.new.self (Pays c.args.place) (Pays c.args.place) None p.spare new t a)
 
 pub returns-clause-says : goal.returns-clause-says
@@ -42,10 +42,10 @@ returns-clause-says g c =
     let p : Pass = c.self.inside.pass in
     let t : IsTurn p c.take_turn-book.new.seat.me c.take_turn-book.result c.recycle.new.self (Pays c.args.place) None p.spare =
     recycle_turn p c.take_turn-book.new.seat.me c.take_turn-book.result c.recycle.new.self c.args.place c.self.invariant.1 c.take_turn-book.ensures.turn c.recycle.ensures.stays c.recycle.ensures.sizes c.recycle.ensures.says (ap (λ (s : Sight). is_owed c.args.place s.owed) c.self.view_is ∙ c.requires) in
-    let new : Pass = record p { seat = c.end_turn.new.seat } in
-    let a : IsAfter p c.take_turn-book.new.seat.me c.take_turn-book.result (Pays c.args.place) (Pays c.args.place) None p.spare new =
-    record { change = refl; table = c.end_turn.ensures.table ∙ c.take_turn-book.ensures.table; ended = c.end_turn.ensures.ended; sizes = refl; notes = refl; room = refl; spare = refl } in
-    rw (← c.self.view_is) (recycle_told p c.take_turn-book.new.seat.me c.take_turn-book.result c.recycle.new.self (Pays c.args.place) c.args.place new t a refl c.recycle.ensures.says)
+    let new : Pass = c.end_turn.new.self in
+    let a : IsAfter p c.take_turn-book.new.seat.me (Pays c.args.place) (Pays c.args.place) None p.spare new =
+    record { change = refl; table = c.end_turn.ensures.table ∙ c.take_turn-book.ensures.table; ended = c.end_turn.ensures.ended; sizes = c.end_turn.ensures.sizes; notes = c.end_turn.ensures.items; room = c.end_turn.ensures.room; spare = c.end_turn.ensures.spare } in
+    rw (← c.self.view_is) (recycle_told p c.take_turn-book.new.seat.me c.take_turn-book.result c.recycle.new.self (Pays c.args.place) c.args.place new t a c.end_turn.ensures.taken c.recycle.ensures.says)
 
 pub returns-clause-knows : goal.returns-clause-knows
 returns-clause-knows g c = (invariant_of-self g c).1.knows

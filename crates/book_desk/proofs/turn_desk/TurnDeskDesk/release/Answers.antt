@@ -1,4 +1,4 @@
-use Rattle.std.proofs.Common.{ap, refl, None, ◌∙◌}
+use Rattle.std.proofs.Common.{ap, None, ◌∙◌}
 use Rattle.history_book.specs.Sight.{Sight}
 use Rattle.history_book.specs.Held.{is_at, is_held}
 use Rattle.book_desk.specs.Turn.Change.{released_change}
@@ -31,9 +31,9 @@ invariant_of-self g c =
     let p : Pass = c.self.inside.pass in
     let t : IsTurn p c.take_turn-book.new.seat.me c.take_turn-book.result c.release-outcome.new.self (released_change c.args.place c.release-outcome.result) None p.spare =
     release_turn p c.take_turn-book.new.seat.me c.take_turn-book.result c.release-outcome.new.self c.args.place c.release-outcome.result c.self.invariant.1 c.take_turn-book.ensures.turn c.release-outcome.ensures.stays c.release-outcome.ensures.sizes c.release-outcome.ensures.says (ap (λ (s : Sight). is_held c.args.place s.held) c.self.view_is ∙ c.requires) in
-    let new : Pass = record p { seat = c.end_turn.new.seat } in
-    let a : IsAfter p c.take_turn-book.new.seat.me c.take_turn-book.result (released_change c.args.place c.release-outcome.result) c.released_change.result None p.spare new =
-    record { change = c.released_change.ensures; table = c.end_turn.ensures.table ∙ c.take_turn-book.ensures.table; ended = c.end_turn.ensures.ended; sizes = refl; notes = refl; room = refl; spare = refl } in
+    let new : Pass = c.end_turn.new.self in
+    let a : IsAfter p c.take_turn-book.new.seat.me (released_change c.args.place c.release-outcome.result) c.released_change.result None p.spare new =
+    record { change = c.released_change.ensures; table = c.end_turn.ensures.table ∙ c.take_turn-book.ensures.table; ended = c.end_turn.ensures.ended; sizes = c.end_turn.ensures.sizes; notes = c.end_turn.ensures.items; room = c.end_turn.ensures.room; spare = c.end_turn.ensures.spare } in
     (c.end_turn.ensures.table ∙ c.take_turn-book.ensures.table ∙ c.self.invariant.0, seated_then p c.take_turn-book.new.seat.me c.take_turn-book.result c.release-outcome.new.self (released_change c.args.place c.release-outcome.result) c.released_change.result None p.spare new t a)
 
 pub returns-clause-says : goal.returns-clause-says
@@ -41,10 +41,10 @@ returns-clause-says g c =
     let p : Pass = c.self.inside.pass in
     let t : IsTurn p c.take_turn-book.new.seat.me c.take_turn-book.result c.release-outcome.new.self (released_change c.args.place c.release-outcome.result) None p.spare =
     release_turn p c.take_turn-book.new.seat.me c.take_turn-book.result c.release-outcome.new.self c.args.place c.release-outcome.result c.self.invariant.1 c.take_turn-book.ensures.turn c.release-outcome.ensures.stays c.release-outcome.ensures.sizes c.release-outcome.ensures.says (ap (λ (s : Sight). is_held c.args.place s.held) c.self.view_is ∙ c.requires) in
-    let new : Pass = record p { seat = c.end_turn.new.seat } in
-    let a : IsAfter p c.take_turn-book.new.seat.me c.take_turn-book.result (released_change c.args.place c.release-outcome.result) c.released_change.result None p.spare new =
-    record { change = c.released_change.ensures; table = c.end_turn.ensures.table ∙ c.take_turn-book.ensures.table; ended = c.end_turn.ensures.ended; sizes = refl; notes = refl; room = refl; spare = refl } in
-    rw (← c.self.view_is) (release_told p c.take_turn-book.new.seat.me c.take_turn-book.result c.release-outcome.new.self c.released_change.result c.args.place c.release-outcome.result new t a refl c.release-outcome.ensures.says (ap (λ (s : Sight). is_held c.args.place s.held) c.self.view_is ∙ c.requires))
+    let new : Pass = c.end_turn.new.self in
+    let a : IsAfter p c.take_turn-book.new.seat.me (released_change c.args.place c.release-outcome.result) c.released_change.result None p.spare new =
+    record { change = c.released_change.ensures; table = c.end_turn.ensures.table ∙ c.take_turn-book.ensures.table; ended = c.end_turn.ensures.ended; sizes = c.end_turn.ensures.sizes; notes = c.end_turn.ensures.items; room = c.end_turn.ensures.room; spare = c.end_turn.ensures.spare } in
+    rw (← c.self.view_is) (release_told p c.take_turn-book.new.seat.me c.take_turn-book.result c.release-outcome.new.self c.released_change.result c.args.place c.release-outcome.result new t a c.end_turn.ensures.taken c.release-outcome.ensures.says (ap (λ (s : Sight). is_held c.args.place s.held) c.self.view_is ∙ c.requires))
 
 pub returns-clause-knows : goal.returns-clause-knows
 returns-clause-knows g c = (invariant_of-self g c).1.knows
