@@ -13,6 +13,7 @@ ghost use Rattle.history_book.specs.Legality.{reason_moment_of};
 ghost use Rattle.book_desk.specs.Internal.Book.{IsSomeBook, StaysBook, Tells, counted};
 
 use crate::book::Book;
+use crate::bundles::{histories_go_on, records_are_named};
 use crate::entries::{is_same_flow, winner};
 use crate::holds::{give_up, held_id, is_in_use, pay, place_index};
 use expect_table::expectation::{Expectation, Want};
@@ -22,8 +23,7 @@ use history_book::event::{Event, Why};
 use history_book::find::{find, find_id};
 use history_book::laws::{
     destroys_take_one, entries_keep_their_helper, entries_keep_their_protocol,
-    entries_keep_their_zone, expectations_are_in_order, free_is_absent, ids_name_records,
-    legal_histories_go_on, live_records_are_confirmed, records_are_apart, states_follow,
+    entries_keep_their_zone, expectations_are_in_order, free_is_absent, live_records_are_confirmed,
     states_stay, touches_change_one,
 };
 use history_book::legality::{expectation_at, is_reason_for};
@@ -107,8 +107,7 @@ impl Book {
         ensures says { Tells self.old self.new result.1 (λ old new. ConfirmSays place flow.now old new result.0) }
         ensures sizes { self.new.sizes ≡ self.old.sizes }
     {
-        legal_histories_go_on();
-        states_follow();
+        histories_go_on();
         free_is_absent();
         let at = self.events;
         let records = self.records.as_slice();
@@ -144,11 +143,9 @@ impl Book {
         ensures sizes { self.new.sizes ≡ self.old.sizes }
     {
         entries_keep_their_protocol();
-        legal_histories_go_on();
-        states_follow();
+        histories_go_on();
         states_stay();
-        records_are_apart();
-        ids_name_records();
+        records_are_named();
         touches_change_one();
         same_part_is_equality();
         let at = self.events;
@@ -203,11 +200,9 @@ impl Book {
         ensures sizes { self.new.sizes ≡ self.old.sizes }
     {
         live_records_are_confirmed();
-        legal_histories_go_on();
-        states_follow();
+        histories_go_on();
         states_stay();
-        records_are_apart();
-        ids_name_records();
+        records_are_named();
         destroys_take_one();
         let at = self.events;
         let id = held_id(self.holds.as_slice(), place);
@@ -244,8 +239,7 @@ impl Book {
         entries_keep_their_helper();
         entries_keep_their_zone();
         expectations_are_in_order();
-        legal_histories_go_on();
-        states_follow();
+        histories_go_on();
         let at = self.events;
         let id = held_id(self.holds.as_slice(), place);
         let Some(index) = find_id(self.records.as_slice(), id) else {
@@ -276,8 +270,7 @@ impl Book {
         ensures says { Tells self.old self.new result.1 (λ old new. ClaimSays t.now moment old new result.0) }
         ensures sizes { self.new.sizes ≡ self.old.sizes }
     {
-        legal_histories_go_on();
-        states_follow();
+        histories_go_on();
         let at = self.events;
         let Some(met) = self.expects.matching(t, moment) else {
             return (ClaimOutcome::Unclaimed { at }, None);
@@ -307,8 +300,7 @@ impl Book {
         ensures says { Tells self.old self.new result.1 (λ old new. UnexpectSays id moment old new result.0) }
         ensures sizes { self.new.sizes ≡ self.old.sizes }
     {
-        legal_histories_go_on();
-        states_follow();
+        histories_go_on();
         let at = self.events;
         let Some(Expectation { deadline, .. }) = self.expects.find(id) else {
             return (UnexpectOutcome::Gone { at }, None);
@@ -344,8 +336,7 @@ impl Book {
         ensures sizes { self.new.sizes ≡ self.old.sizes }
     {
         live_records_are_confirmed();
-        records_are_apart();
-        ids_name_records();
+        records_are_named();
         let at = self.events;
         let Some(index) = place_index(self.records.as_slice(), place) else {
             return HoldOutcome::Empty { at };

@@ -2,6 +2,7 @@
 #![tactic(auto)]
 
 mod book;
+mod bundles;
 mod calls;
 pub mod desk;
 mod entries;

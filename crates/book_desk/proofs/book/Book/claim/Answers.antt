@@ -5,7 +5,7 @@ use Rattle.book_desk.proofs.book.Book.claim.Goals as goal
 
 pub returns-clause-stays : goal.returns-clause-stays
 returns-clause-stays c log h =
-    fulfilled c.states_follow.ensures c.legal_histories_go_on.ensures log c.args.self.now c.end_expectation.new.self c.in-Some.met c.args.t.now
+    fulfilled c.histories_go_on.ensures.states c.histories_go_on.ensures.legal log c.args.self.now c.end_expectation.new.self c.in-Some.met c.args.t.now
     c.args.moment h c.end_expectation.ensures.adds (sym c.matching.ensures ∙ c.in-Some.is) c.end_expectation.ensures.records
     c.end_expectation.ensures.holds c.end_expectation.ensures.expects
 

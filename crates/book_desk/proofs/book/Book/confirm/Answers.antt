@@ -33,7 +33,7 @@ returns-clause-stays c log h =
     let b = c.args.self.now in
     let flow = c.args.flow.now in
     subst (λ (e : Event). IsBook (log ++ e ∷ []) c.enter-event.new.self) (sym c.enter-event.ensures.event)
-    (entered c.states_follow.ensures c.legal_histories_go_on.ensures c.free_is_absent.ensures log b c.enter-event.new.self
+    (entered c.histories_go_on.ensures.states c.histories_go_on.ensures.legal c.free_is_absent.ensures log b c.enter-event.new.self
     (record_for flow b.events c.args.place) h c.enter-event.ensures.adds c.requires.taken refl c.requires.protocol
     (subst (λ rs. live_under flow.original (state_of rs) ≡ None) c.as_slice-records.ensures c.in_default.ensures.original)
     (subst (λ rs. live_under flow.reply (state_of rs) ≡ None) c.as_slice-records.ensures c.in_default.ensures.reply)

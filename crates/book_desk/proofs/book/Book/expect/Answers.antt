@@ -28,7 +28,7 @@ returns-in-Added-clause-stays c log h =
     c.as_slice-2.result.now c.as_slice-3.result.now c.args.place c.held_id-id.result c.in-Some.index c.zone_at-zone.result
     c.requires.right.1 h c.as_slice.ensures c.as_slice-2.ensures c.as_slice-3.ensures c.held_id-id.ensures c.in-Some.ensures.found
     c.zone_at-zone.ensures c.requires.right.2 in
-    promised c.states_follow.ensures c.legal_histories_go_on.ensures log b c.promise.new.self e c.in-Added.replaced c.args.moment h
+    promised c.histories_go_on.ensures.states c.histories_go_on.ensures.legal log b c.promise.new.self e c.in-Added.replaced c.args.moment h
     c.promise.ensures.adds (ap (λ (x : Expectation). x.id) c.expectation_at-e.ensures)
     (ap (λ (x : Expectation). x.deadline) c.expectation_at-e.ensures)
     (ap (λ (x : Expectation). helps_in x.zone (record_of x.master (state_in b))) c.expectation_at-e.ensures ∙ can.helped)

@@ -39,7 +39,7 @@ returns-clause-says c log spare taken h =
     let found : position (has_place c.args.place) b.records.items ≡ Some c.in-Some.index =
     ap (position (has_place c.args.place)) (sym c.as_slice.ensures) ∙ sym c.place_index.ensures ∙ c.in-Some.is in
     let live : IsLiveIn c.args.place subject.id (state_in b) =
-    live_in c.records_are_apart.ensures c.ids_name_records.ensures log b c.args.place c.in-Some.index subject h found
+    live_in c.records_are_named.ensures.apart c.records_are_named.ensures.ids log b c.args.place c.in-Some.index subject h found
     c.hold_record-subject.ensures.subject in (
       looked log spare taken b new b.events (IsLiveIn c.args.place subject.id) h refl (ap (λ (x : Book). x.sizes) rest) live,
       subst (λ (p : ℕ). HoldsOneMore (sight_in log spare taken b) (sight_in log spare taken new) p (Some subject.id))

@@ -14,7 +14,7 @@ returns-clause-stays c log h =
     entry_of b c.as_slice.result.now c.as_slice-2.result.now c.args.place c.held_id-id.result c.in-Some.index c.at.result.now
     c.as_slice.ensures c.as_slice-2.ensures c.held_id-id.ensures c.in-Some.ensures.found c.at.ensures in
     let reason : is_reason c.args.why c.at.result.now ≡ true = search rules in
-    destroyed c.states_follow.ensures c.legal_histories_go_on.ensures c.records_are_apart.ensures c.ids_name_records.ensures
+    destroyed c.histories_go_on.ensures.states c.histories_go_on.ensures.legal c.records_are_named.ensures.apart c.records_are_named.ensures.ids
     c.destroys_take_one.ensures log b c.destroy.new.self c.in-Some.index c.at.result.now c.args.why h c.destroy.ensures.adds
     c.at.ensures
     (held_place c.live_records_are_confirmed.ensures log b c.args.place c.in-Some.index c.at.result.now h c.requires.held c.at.ensures
@@ -31,5 +31,5 @@ returns-clause-says c log spare taken h =
     let e : Event = Destroy c.at.result.now.id c.args.why in
     subst (λ (k : ℕ). Destroys k c.args.why (sight_in log (spare + 1) taken b) (sight_in (log ++ e ∷ []) spare taken c.destroy.new.self)
     b.events c.at.result.now) (its.named ∙ its.given)
-    (destroys c.states_stay.ensures c.records_are_apart.ensures c.ids_name_records.ensures log spare taken b c.destroy.new.self c.in-Some.index
+    (destroys c.states_stay.ensures c.records_are_named.ensures.apart c.records_are_named.ensures.ids log spare taken b c.destroy.new.self c.in-Some.index
     c.at.result.now c.args.why h c.destroy.ensures.adds c.at.ensures reason c.destroy.ensures.holds)

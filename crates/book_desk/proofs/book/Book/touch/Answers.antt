@@ -28,7 +28,7 @@ returns-in-Accept-clause-stays c log h =
     let protocol : is_of_protocol c.args.segment c.at.result.now.part.kind ≡ true =
     keeps_protocol c.entries_keep_their_protocol.ensures its_log b c.held_id-id.result c.at.result.now c.args.segment c.requires.right.1 its.its
     (ap (λ n. is_of_entry c.args.segment n its_log) its.given ∙ c.requires.right.2) in
-    refreshed c.states_follow.ensures c.legal_histories_go_on.ensures c.records_are_apart.ensures c.ids_name_records.ensures
+    refreshed c.histories_go_on.ensures.states c.histories_go_on.ensures.legal c.records_are_named.ensures.apart c.records_are_named.ensures.ids
     c.touches_change_one.ensures c.same_part_is_equality.ensures log b c.refresh.new.self c.in-Some.index c.at.result.now
     c.args.direction c.args.segment c.args.moment c.in-Accept.after h c.refresh.ensures.adds c.at.ensures protocol
     (sym c.step.ensures ∙ c.in-Accept.is) c.refresh.ensures.records c.refresh.ensures.holds c.refresh.ensures.expects
@@ -42,6 +42,6 @@ returns-in-Accept-clause-says c log spare taken h =
     let e : Event = Touch c.at.result.now.id c.args.direction c.args.segment c.args.moment c.in-Accept.after in
     subst (λ (k : ℕ). Touches k c.args.direction c.args.segment c.args.moment
     (sight_in log (spare + 1) taken b) (sight_in (log ++ e ∷ []) spare taken c.refresh.new.self) b.events c.at.result.now) (its.named ∙ its.given)
-    (touches c.states_stay.ensures c.records_are_apart.ensures c.ids_name_records.ensures log spare taken b c.refresh.new.self c.in-Some.index
+    (touches c.states_stay.ensures c.records_are_named.ensures.apart c.records_are_named.ensures.ids log spare taken b c.refresh.new.self c.in-Some.index
     c.at.result.now c.args.direction c.args.segment c.args.moment c.in-Accept.after h c.refresh.ensures.adds c.at.ensures
     (sym c.step.ensures ∙ c.in-Accept.is) c.refresh.ensures.holds)

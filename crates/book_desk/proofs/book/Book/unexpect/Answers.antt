@@ -5,7 +5,7 @@ use Rattle.book_desk.proofs.book.Book.unexpect.Goals as goal
 
 pub returns-clause-stays : goal.returns-clause-stays
 returns-clause-stays c log h =
-    dropped c.states_follow.ensures c.legal_histories_go_on.ensures log c.args.self.now c.end_expectation.new.self c.args.id c.in-Some.field-0
+    dropped c.histories_go_on.ensures.states c.histories_go_on.ensures.legal log c.args.self.now c.end_expectation.new.self c.args.id c.in-Some.field-0
     c.args.moment h c.end_expectation.ensures.adds (sym c.find.ensures ∙ c.in-Some.is)
     (omega (arith, c.if-moment-deadline.false, c.in-Some.deadline-is)) c.end_expectation.ensures.records c.end_expectation.ensures.holds
     c.end_expectation.ensures.expects
