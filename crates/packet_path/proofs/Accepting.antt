@@ -11,7 +11,7 @@ use Rattle.packet_path.specs.declared.fast.Tried.{Tried}
 use Rattle.packet_path.specs.declared.fast.Tried.TheVariants.{Done, Killed, Left}
 use Rattle.packet_path.specs.declared.setup.Setup.{Setup}
 use Rattle.packet_path.specs.Internal.Attempt.{KilledOne}
-use Rattle.packet_path.specs.Internal.Fast.{Answered, Appended, TriedSays}
+use Rattle.packet_path.specs.Internal.Fast.{Answered, Appended, TriedSays, Trying}
 use Rattle.packet_path.specs.Packet.{FlowPacket}
 use Rattle.packet_path.specs.Taken.{taken_by}
 use Rattle.packet_path.proofs.Attempts.{answers_after, answers_before, answers_from, killed_after, killed_before, starts_longer}
@@ -43,32 +43,32 @@ lower_kill a b packet kills lower from le one = record {
 
 module _ (states : StatesStay) (events : EventsStay) (going : GoingOnAddsUp) (twice : SeeingAddsUp) where
   -- the desk had seen more before, and sees more behind it
-  answered_along : (setup : Setup) (a b c d : Sight) (packet : FlowPacket) (kills first base : ℕ) (before after : Roomed Verdict) → Saw a b
-      → Answered setup packet kills (record { first = first; base = base }) b c before after → Saw c d → Answered setup packet kills (record { first = first; base = base }) a d before after
-  answered_along setup a b c d packet kills first base before after saw answered more = record {
+  answered_along : (setup : Setup) (a b c d : Sight) (packet : FlowPacket) (t : Trying) (before after : Roomed Verdict) → Saw a b
+      → Answered setup packet t b c before after → Saw c d → Answered setup packet t a d before after
+  answered_along setup a b c d packet t before after saw answered more = record {
     class = answered.class;
-    answers = answers_before states events going twice setup a c d packet kills (length a.front) answered.class
-        (answers_from states events going twice setup a c packet kills (length a.front) (length b.front) answered.class
+    answers = answers_before states events going twice setup a c d packet t.kills (length a.front) answered.class
+        (answers_from states events going twice setup a c packet t.kills (length a.front) (length b.front) answered.class
         (starts_longer b.front a.front saw.went.front)
-        (answers_after states events going twice setup a b c packet kills (length b.front) answered.class saw answered.answers))
+        (answers_after states events going twice setup a b c packet t.kills (length b.front) answered.class saw answered.answers))
         more;
     taken = more.taken ∙ answered.taken ∙ ap (taken_by answered.class) saw.taken;
-    appended = appended_stays answered.class first base c d before after more answered.appended;
+    appended = appended_stays answered.class t.counting.first t.counting.base c d before after more answered.appended;
   }
 
-  pub tried_along : (setup : Setup) (a b c d : Sight) (packet : FlowPacket) (kills first base : ℕ) (before after : Roomed Verdict) (tried : Tried) → Saw a b
-      → TriedSays setup packet kills (record { first = first; base = base }) b c before after tried → Saw c d → TriedSays setup packet kills (record { first = first; base = base }) a d before after tried
-  tried_along setup a b c d packet kills first base before after Done saw answered more =
-      answered_along setup a b c d packet kills first base before after saw answered more
-  tried_along setup a b c d packet kills first base before after Killed saw ended more = record {
-    killed = killed_before states events going twice a c d packet kills (length a.front)
-        (lower_kill a c packet kills (length a.front) (length b.front) (starts_longer b.front a.front saw.went.front)
-        (killed_after states events going twice a b c packet kills (length b.front) saw ended.killed))
+  pub tried_along : (setup : Setup) (a b c d : Sight) (packet : FlowPacket) (t : Trying) (before after : Roomed Verdict) (tried : Tried) → Saw a b
+      → TriedSays setup packet t b c before after tried → Saw c d → TriedSays setup packet t a d before after tried
+  tried_along setup a b c d packet t before after Done saw answered more =
+      answered_along setup a b c d packet t before after saw answered more
+  tried_along setup a b c d packet t before after Killed saw ended more = record {
+    killed = killed_before states events going twice a c d packet t.kills (length a.front)
+        (lower_kill a c packet t.kills (length a.front) (length b.front) (starts_longer b.front a.front saw.went.front)
+        (killed_after states events going twice a b c packet t.kills (length b.front) saw ended.killed))
         more;
     taken = more.taken ∙ ended.taken ∙ saw.taken;
     kept = ended.kept;
   }
-  tried_along setup a b c d packet kills first base before after Left saw left more = record {
+  tried_along setup a b c d packet t before after Left saw left more = record {
     saw = twice a c d (twice a b c saw left.saw) more;
     kept = left.kept;
   }

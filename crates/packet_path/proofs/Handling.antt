@@ -29,7 +29,7 @@ use Rattle.packet_headers.specs.declared.packet.Packet.{Packet}
 use Rattle.packet_headers.specs.declared.packet.Packet.TheVariants as packet
 use Rattle.tuple_core.specs.declared.Segment.{Segment}
 use Rattle.packet_path.specs.Internal.Attempt.{Answers, GoesOnKilling, IsKilling, KilledOne}
-use Rattle.packet_path.specs.Internal.Fast.{Answered, Appended}
+use Rattle.packet_path.specs.Internal.Fast.{Answered, Appended, Trying}
 use Rattle.packet_path.specs.Handled.{Handled, HandledInto}
 use Rattle.packet_path.specs.Packet.{Given, IsFlow, is_flow, packet_in}
 use Rattle.packet_path.specs.declared.setup.Setup.{Setup}
@@ -130,14 +130,15 @@ module _ (states : StatesStay) (events : EventsStay) (going : GoingOnAddsUp) (ol
       }
 
   -- a packet was answered after so many kills, and its verdict is appended
-  pub answered_into : (setup : Setup) (n first base : ℕ) (now new : Sight) (before after : Roomed Verdict) → IsKilling old now packet n
-      → HoldsNothing new → first ≡ length old.own → Answered setup packet n (record { first = first; base = base }) now new before after
-      → (given : Given) → IsFlow given packet → HandledInto base setup given old new before after
-  answered_into setup n first base now new before after killing empty starts a given flow =
+  pub answered_into : (setup : Setup) (t : Trying) (now new : Sight) (before after : Roomed Verdict) → IsKilling old now packet t.kills
+      → HoldsNothing new → t.counting.first ≡ length old.own → Answered setup packet t now new before after
+      → (given : Given) → IsFlow given packet → HandledInto t.counting.base setup given old new before after
+  answered_into setup t now new before after killing empty starts a given flow =
+      let first = t.counting.first in
       let verdict : Verdict = record { class = a.class; first = first; made = length new.own - first } in
       record {
         verdict = verdict;
-        handled = killing_done setup now new n verdict given flow killing a.answers a.taken empty starts
+        handled = killing_done setup now new t.kills verdict given flow killing a.answers a.taken empty starts
             (ap (λ n. length new.own - n) starts);
         items = a.appended.items;
         room = a.appended.room;

@@ -1,5 +1,5 @@
-//! The common way of a packet of a flow: its entry accepts it, or is expired and destroyed, the fifth alone is not, or the packet
-//! begins a flow. Its verdict is appended where its class is known, so that no class is carried through layers.
+//! The common way of a packet of a flow: its entry accepts it, or is expired and destroyed (unless four were), or the packet begins
+//! a flow. Its verdict is appended where its class is known, so that no class is carried through layers.
 
 ghost use Rattle.std.specs.Prelude.{◌≡◌, ◌+◌, ◌<◌, ◌≤◌, ◌^◌, true, length};
 ghost use Rattle.std.specs.List.{AllByRecursion};
@@ -120,7 +120,8 @@ fn touch_entry<R: Wait, D: Desk>(
     requires low { first ≤ length (D.sight desk.old).own }
     requires high { length (D.sight desk.old).own ≤ first + kills }
     requires room { length verdicts.old.items < verdicts.old.room }
-    ensures says { (setup : Setup) → TriedSays setup (flow_packet packet.now) kills (record { first = first; base = base })
+    ensures says { (setup : Setup) → TriedSays setup (flow_packet packet.now)
+        (record { kills = kills; counting = record { first = first; base = base } })
         (D.sight desk.old) (D.sight desk.new) verdicts.old verdicts.new result }
     ensures places { SamePlaces (D.sight desk.old) (D.sight desk.new) }
     ensures knows { IsKnown (D.sight desk.new) }
@@ -188,7 +189,8 @@ pub fn fast_packet<R: Wait, D: Desk>(
     requires low { first ≤ length (D.sight desk.old).own }
     requires high { length (D.sight desk.old).own ≤ first + kills }
     requires room { length verdicts.old.items < verdicts.old.room }
-    ensures says { TriedSays setup.now (flow_packet packet.now) kills (record { first = first; base = base })
+    ensures says { TriedSays setup.now (flow_packet packet.now)
+        (record { kills = kills; counting = record { first = first; base = base } })
         (D.sight desk.old) (D.sight desk.new) verdicts.old verdicts.new result }
     ensures empty { HoldsNothing (D.sight desk.new) }
     ensures knows { IsKnown (D.sight desk.new) }

@@ -79,7 +79,7 @@ fn meet_frame<R: Wait, D: Desk>(
     requires room { length verdicts.old.items < verdicts.old.room }
     requires flow { is_flow (packet_of bytes.now frame.now) ≡ true }
     ensures says { (setup : Setup) (packet : FlowPacket) → IsFlow (given_of zone bytes.now frame.now) packet →
-        TriedSays setup packet kills (record { first = first; base = base })
+        TriedSays setup packet (record { kills = kills; counting = record { first = first; base = base } })
         (D.sight desk.old) (D.sight desk.new) verdicts.old verdicts.new result }
     ensures empty { HoldsNothing (D.sight desk.new) }
     ensures knows { IsKnown (D.sight desk.new) }

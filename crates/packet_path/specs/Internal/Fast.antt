@@ -22,6 +22,11 @@ pub record Counting : Type 0 where
   pub first : ℕ
   pub base : ℕ
 
+-- a try of a packet behind so many kills, whose verdict counts its events so
+pub record Trying : Type 0 where
+  pub kills : ℕ
+  pub counting : Counting
+
 -- a verdict of this class is now the last of a list: it has all of the desk's own events from the one of index `first` on, and counts
 -- from `base`
 pub record Appended (class : Class) (first base : ℕ) (own : List Note) (before after : Roomed Verdict) : Type 0 where
@@ -35,26 +40,26 @@ pub record ReadInto (packet : FlowPacket) (found : Found) (touched : ℕ) (n : C
   pub follows : Follows packet found touched old new ftp
   pub appended : Appended (Passed (label_of found.subject found.direction) found.subject.id (touched + 1) ftp) n.first n.base new.own before after
 
--- a packet was answered after so many kills, and its verdict appended
-pub record Answered (setup : Setup) (packet : FlowPacket) (kills : ℕ) (n : Counting) (old new : Sight) (before after : Roomed Verdict) : Type 0 where
+-- the packet was answered, and its verdict appended
+pub record Answered (setup : Setup) (packet : FlowPacket) (t : Trying) (old new : Sight) (before after : Roomed Verdict) : Type 0 where
   pub class : Class
-  pub answers : Answers setup old new packet kills (length old.front) class
+  pub answers : Answers setup old new packet t.kills (length old.front) class
   pub taken : new.taken ≡ taken_by class old.taken
-  pub appended : Appended class n.first n.base new.own before after
+  pub appended : Appended class t.counting.first t.counting.base new.own before after
 
 -- nothing was done, and the list is as it was
 pub record LeftIt (old new : Sight) (before after : Roomed Verdict) : Type 0 where
   pub saw : Saw old new
   pub kept : after ≡ before
 
--- after so many kills the packet destroyed the entry that it met, for a reason that a packet kills for, and the list is as it was
+-- behind so many kills the packet destroyed the entry that it met, for a reason that a packet kills for, and the list is as it was
 pub record Ended (packet : FlowPacket) (kills : ℕ) (old new : Sight) (before after : Roomed Verdict) : Type 0 where
   pub killed : KilledOne old new packet kills (length old.front)
   pub taken : new.taken ≡ old.taken
   pub kept : after ≡ before
 
--- what came of a try after so many kills
-abbrev pub TriedSays : Setup → FlowPacket → ℕ → Counting → Sight → Sight → Roomed Verdict → Roomed Verdict → Tried → Type 0
-TriedSays setup packet kills n old new before after Done = Answered setup packet kills n old new before after
-TriedSays setup packet kills n old new before after Killed = Ended packet kills old new before after
-TriedSays setup packet kills n old new before after Left = LeftIt old new before after
+-- what came of a try
+abbrev pub TriedSays : Setup → FlowPacket → Trying → Sight → Sight → Roomed Verdict → Roomed Verdict → Tried → Type 0
+TriedSays setup packet t old new before after Done = Answered setup packet t old new before after
+TriedSays setup packet t old new before after Killed = Ended packet t.kills old new before after
+TriedSays setup packet t old new before after Left = LeftIt old new before after

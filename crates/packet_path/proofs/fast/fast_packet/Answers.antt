@@ -28,5 +28,5 @@ returns-in-Found-clause-says g c =
     let then = g.D.Desk.sight c.touch_entry-tried.new.desk in
     let new = g.D.Desk.sight c.give_up.new.desk in
     tried_along c.desks_go_on.ensures.states c.desks_go_on.ensures.events c.desks_go_on.ensures.all c.desks_go_on.ensures.twice c.args.setup.now s mid then new (flow_packet c.args.packet.now)
-    c.args.kills c.args.first c.args.base c.args.verdicts.now c.touch_entry-tried.new.verdicts c.touch_entry-tried.result c.in-Found.ensures.says.0.saw
+    (record { kills = c.args.kills; counting = record { first = c.args.first; base = c.args.base } }) c.args.verdicts.now c.touch_entry-tried.new.verdicts c.touch_entry-tried.result c.in-Found.ensures.says.0.saw
     (c.touch_entry-tried.ensures.says c.args.setup.now) c.give_up.ensures.saw

@@ -26,7 +26,8 @@ returns-in-Done-clause-handled g c =
     let new = g.D.Desk.sight c.fast_packet.new.desk in
     let given = given_of c.args.zone c.args.bytes.now c.args.frame.now in
     subst (λ (v : Roomed Verdict). HandledInto c.args.base c.args.setup.now given s new v c.fast_packet.new.verdicts) c.tries.invariant.3
-    (answered_into c.desks_go_on.ensures.states c.desks_go_on.ensures.events c.desks_go_on.ensures.all s (flow_packet c.args.packet.now) c.args.setup.now c.tries.kills c.made-first.result c.args.base
+    (answered_into c.desks_go_on.ensures.states c.desks_go_on.ensures.events c.desks_go_on.ensures.all s (flow_packet c.args.packet.now) c.args.setup.now
+    (record { kills = c.tries.kills; counting = record { first = c.made-first.result; base = c.args.base } })
     (g.D.Desk.sight c.tries.desk) new c.tries.verdicts c.fast_packet.new.verdicts c.tries.invariant.2.killing c.in-Done.ensures.empty c.made-first.ensures.exact c.in-Done.ensures.says
     given c.requires.flow)
 
@@ -54,7 +55,8 @@ returns-in-Done-meet_frame-clause-handled g c =
     let goes = goes_on_again c.desks_go_on.ensures.states c.desks_go_on.ensures.events c.desks_go_on.ensures.all s packet (g.D.Desk.sight c.tries.desk) left c.tries.kills c.made-first.result
     c.tries.invariant.2 c.in-Left.ensures.says.saw c.in-Left.ensures.empty c.in-Left.ensures.knows in
     subst (λ (v : Roomed Verdict). HandledInto c.args.base c.args.setup.now given s new v c.meet_frame.new.verdicts) (c.in-Left.ensures.says.kept ∙ c.tries.invariant.3)
-    (answered_into c.desks_go_on.ensures.states c.desks_go_on.ensures.events c.desks_go_on.ensures.all s packet c.args.setup.now c.tries.kills c.made-first.result c.args.base
+    (answered_into c.desks_go_on.ensures.states c.desks_go_on.ensures.events c.desks_go_on.ensures.all s packet c.args.setup.now
+    (record { kills = c.tries.kills; counting = record { first = c.made-first.result; base = c.args.base } })
     left new c.fast_packet.new.verdicts c.meet_frame.new.verdicts goes.killing c.in-Done-meet_frame.ensures.empty c.made-first.ensures.exact
     (c.in-Done-meet_frame.ensures.says c.args.setup.now packet c.requires.flow) given c.requires.flow)
 

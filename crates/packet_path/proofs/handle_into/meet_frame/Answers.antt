@@ -30,7 +30,7 @@ returns-in-Done-clause-says g c = λ setup packet flow.
     let is : IsFlow there mine = c.flow_in-packet.ensures.flow in
     let known : IsFlow there packet =
     subst (λ (p : Packet). IsFlow (given_by c.args.bytes.now (packet_in c.args.zone p) c.args.frame.now.moment) packet) (sym c.in-Flow.ensures.exact) flow in
-    subst (λ (p : FlowPacket). TriedSays setup p c.args.kills (record { first = c.args.first; base = c.args.base }) (g.D.Desk.sight c.args.desk.now) (g.D.Desk.sight c.meet_packet.new.desk)
+    subst (λ (p : FlowPacket). TriedSays setup p (record { kills = c.args.kills; counting = record { first = c.args.first; base = c.args.base } }) (g.D.Desk.sight c.args.desk.now) (g.D.Desk.sight c.meet_packet.new.desk)
     c.args.verdicts.now c.append.new.verdicts Done) (same_flow there mine packet is known)
     (record { class = c.in-Done.class; answers = c.in-Done.ensures.says setup; taken = c.in-Done.ensures.taken; appended = c.append.ensures })
 
@@ -42,7 +42,7 @@ returns-in-Killed-clause-says g c = λ setup packet flow.
     let is : IsFlow there mine = c.flow_in-packet.ensures.flow in
     let known : IsFlow there packet =
     subst (λ (p : Packet). IsFlow (given_by c.args.bytes.now (packet_in c.args.zone p) c.args.frame.now.moment) packet) (sym c.in-Flow.ensures.exact) flow in
-    subst (λ (p : FlowPacket). TriedSays setup p c.args.kills (record { first = c.args.first; base = c.args.base }) (g.D.Desk.sight c.args.desk.now) (g.D.Desk.sight c.meet_packet.new.desk)
+    subst (λ (p : FlowPacket). TriedSays setup p (record { kills = c.args.kills; counting = record { first = c.args.first; base = c.args.base } }) (g.D.Desk.sight c.args.desk.now) (g.D.Desk.sight c.meet_packet.new.desk)
     c.args.verdicts.now c.args.verdicts.now Killed) (same_flow there mine packet is known)
     (record { killed = c.in-Killed.ensures.says setup; taken = c.in-Killed.ensures.taken; kept = refl })
 
