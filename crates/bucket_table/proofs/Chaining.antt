@@ -13,7 +13,7 @@ use Rattle.bucket_table.specs.declared.finding.FindOnce.TheVariants.{Found, Abse
 use Rattle.track_rule.specs.Links.{kind_of}
 use Rattle.track_rule.specs.Readings.{added, changes, found, stored}
 use Rattle.track_rule.specs.Sights.{PassSight, sizes_of}
-use Rattle.track_rule.specs.declared.view.Entry.{Entry}
+use Rattle.track_rule.specs.declared.view.ChainLink.{ChainLink}
 use Rattle.track_rule.specs.declared.view.Reading.{Reading}
 use Rattle.track_rule.specs.declared.view.View.{View}
 use Rattle.bucket_table.specs.GoesOn.{ReadingsStand}
@@ -66,7 +66,7 @@ some_next z word x n e = subst (λ (k : ℕ). is_some_next z (stored k n) ≡ tr
             (and_from (nat_le (3 + 2 * z.buckets) (next_word z x)) (side x == 8) high (eq-eqb (side x) 8 (omega (arith, low, here, λ (s : side x ≡ 7). false≢true (sym t ∙ eq-eqb (side x) 7 s)))))
 
 -- the word behind entries of a chain
-end_in : (z : Sizes) (b word n : ℕ) (passed : List Entry) → b < z.buckets → word ≡ end_word z b passed → either (is_head_of b) is_some_next z (stored word n) ≡ true
+end_in : (z : Sizes) (b word n : ℕ) (passed : List ChainLink) → b < z.buckets → word ≡ end_word z b passed → either (is_head_of b) is_some_next z (stored word n) ≡ true
 end_in z b word n [] below e = or_left (is_head_of b z (stored word n)) (is_some_next z (stored word n)) (head_in z z word b n refl below e)
 end_in z b word n (e ∷ es) below here = or_right (is_head_of b z (stored word n)) (is_some_next z (stored word n)) (some_next z word e.link n here)
 
@@ -85,7 +85,7 @@ put_words z b x n head next v u w y same below head_is next_is loads one two =
     (string_words f head x w y two (or_left (is_head_of b w.passes.sizes (stored head x)) (is_next_of (place_of x) w.passes.sizes (stored head x))
     (head_in w.passes.sizes z head b x (same ∙ sym s2) (subst (λ (k : Sizes). b < k.buckets) (sym s2) below) head_is))))
 
-pub take_words : (b word n word' : ℕ) (passed : List Entry) (o v w y : PassSight) → OnlyLoads o v → b < (sizes_of o).buckets → word ≡ end_word (sizes_of v) b passed
+pub take_words : (b word n word' : ℕ) (passed : List ChainLink) (o v w y : PassSight) → OnlyLoads o v → b < (sizes_of o).buckets → word ≡ end_word (sizes_of v) b passed
     → LoadsLink word' v.view n w.view → Strings word n w.view y.view → ChangesWords (either (is_head_of b) is_some_next) o.view y.view
 take_words b word n word' passed o v w y only below end loads cut =
     let f : Sizes → Reading → Bool = either (is_head_of b) is_some_next in

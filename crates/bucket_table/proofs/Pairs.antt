@@ -13,7 +13,7 @@ use Rattle.track_rule.specs.Layout.{head_word, next_word, place_of, side_of}
 use Rattle.track_rule.specs.Links.{hook_of, is_down, is_raised, last_link}
 use Rattle.track_rule.specs.Sights.{PassSight, sizes_of}
 use Rattle.track_rule.specs.Sums.{bit, total}
-use Rattle.track_rule.specs.declared.view.Entry.{Entry}
+use Rattle.track_rule.specs.declared.view.ChainLink.{ChainLink}
 use Rattle.track_rule.specs.declared.view.Hook.{Hook}
 use Rattle.track_rule.specs.declared.view.Shut.{Shut}
 use Rattle.track_rule.specs.declared.view.HeldBuckets.{HeldBuckets}
@@ -34,7 +34,7 @@ bucket_shut locked b v shut e =
     (cases_Bool (b == locked.lower))
 
 -- the shut buckets stay, where a chain changes
-shuts_with : (b : ℕ) (es : List Entry) (c : ℕ) (shut : List Shut) → total (λ (s : Shut). bit (s.bucket == c)) (with_chain b es shut) ≡ total (λ (s : Shut). bit (s.bucket == c)) shut
+shuts_with : (b : ℕ) (es : List ChainLink) (c : ℕ) (shut : List Shut) → total (λ (s : Shut). bit (s.bucket == c)) (with_chain b es shut) ≡ total (λ (s : Shut). bit (s.bucket == c)) shut
 shuts_with b es c [] = refl
 shuts_with b es c (s ∷ rest) =
     cond_both (s.bucket == b) (record s { chain = es } ∷ rest) (s ∷ with_chain b es rest)
@@ -86,7 +86,7 @@ second_of z y test change o u w loads changes keeps =
 -- WALKS
 
 -- what a walk finds is the original link, else the reply link
-pub found_is : (first second : ℕ) (reply : ℕ) (es : List Entry) → 0 < reply
+pub found_is : (first second : ℕ) (reply : ℕ) (es : List ChainLink) → 0 < reply
     → found_from first second reply es ≡ original_first (link_with 0 first second es) (Some reply)
 found_is first second reply [] any =
     ap (λ (b : Bool). if b then None else Some (place_of reply, Reply)) (ne_eqb reply 0 (λ e. omega (arith, e, any)))
@@ -104,7 +104,7 @@ found_is first second reply (e ∷ es) any =
     by_tests true false on p q = p
     by_tests false b on p q = q
 
-pub finds : (first second : ℕ) (es : List Entry) → ((i : ℕ) (e : Entry) → get_elem? es i ≡ some e → 0 < e.link) → found_from first second 0 es ≡ found_in first second es
+pub finds : (first second : ℕ) (es : List ChainLink) → ((i : ℕ) (e : ChainLink) → get_elem? es i ≡ some e → 0 < e.link) → found_from first second 0 es ≡ found_in first second es
 finds first second [] each = refl
 finds first second (e ∷ es) each =
     let rest = finds first second es (λ i x at. each (suc i) x at) in
@@ -149,19 +149,19 @@ walk_start z b n word first second v w same word_is below mine loads kept =
 pub walk_some : (b first second link left reply : ℕ) (v : PassSight) → IsWalking b first second v link left reply → link ≢ 0 → (0 < link) × (0 < left)
 walk_some b first second link left reply v s some_link = by_rest s.passed s.rest s.passing
   where
-    by_rest : (passed rest : List Entry) → IsPassing b v link left passed rest → (0 < link) × (0 < left)
+    by_rest : (passed rest : List ChainLink) → IsPassing b v link left passed rest → (0 < link) × (0 < left)
     by_rest passed [] p = absurd (some_link p.link_is)
     by_rest passed (e ∷ rest) p = passing_some b link left e passed rest v p
 
 -- one link more
 pub walk_on : (b first second link left reply n word : ℕ) (has : Bool) (o v w : PassSight) → b < (sizes_of o).buckets → IsWalking b first second o link left reply → link ≢ 0
     → OnlyLoads o v
-    → ((passed : List Entry) (e : Entry) (rest : List Entry) → IsShutAt b o.view passed (e ∷ rest) → link ≡ e.link → has ≡ has_words first second e)
+    → ((passed : List ChainLink) (e : ChainLink) (rest : List ChainLink) → IsShutAt b o.view passed (e ∷ rest) → link ≡ e.link → has ≡ has_words first second e)
     → (has ≡ true → side_of link ≢ 0) → word ≡ next_word (sizes_of o) link → LoadsLink word v.view n w.view → w ≡ record v { view = w.view }
     → IsWalking b first second w n (left - 1) (if has then (if reply == 0 then link else reply) else reply)
 walk_on b first second link left reply n word has o v w below s some_link loads there not_original word_is next kept = by_rest s.passed s.rest s.passing s.finds
   where
-    by_rest : (passed rest : List Entry) → IsPassing b o link left passed rest → found_from first second 0 (chain_in b o.view.buckets.shut) ≡ found_from first second reply rest
+    by_rest : (passed rest : List ChainLink) → IsPassing b o link left passed rest → found_from first second 0 (chain_in b o.view.buckets.shut) ≡ found_from first second reply rest
         → IsWalking b first second w n (left - 1) (if has then (if reply == 0 then link else reply) else reply)
     by_rest passed [] p finds = absurd (some_link p.link_is)
     by_rest passed (e ∷ rest) p finds =
@@ -195,7 +195,7 @@ walk_on b first second link left reply n word has o v w below s some_link loads 
         low_then true false p q = q
         low_then false c p q = q
 
-        step : (e : Entry) (rest : List Entry) (h : Bool) → h ≡ has_words first second e → side_of e.link ≡ side_of link → link ≡ e.link → (h ≡ true → side_of link ≢ 0)
+        step : (e : ChainLink) (rest : List ChainLink) (h : Bool) → h ≡ has_words first second e → side_of e.link ≡ side_of link → link ≡ e.link → (h ≡ true → side_of link ≢ 0)
             → found_from first second reply (e ∷ rest) ≡ found_from first second (if h then (if reply == 0 then link else reply) else reply) rest
         step e rest true is side link_is not_first =
             ap (λ (k : Bool). if k then (if side_of e.link == 0 then Some (place_of e.link, Original) else found_from first second (if reply == 0 then e.link else reply) rest) else found_from first second reply rest) (sym is)
@@ -207,11 +207,11 @@ walk_on b first second link left reply n word has o v w below s some_link loads 
 
 -- an original link with the tuple is the answer
 pub walk_found : (b first second link left reply : ℕ) (v : PassSight) → IsWalking b first second v link left reply → link ≢ 0
-    → ((passed : List Entry) (e : Entry) (rest : List Entry) → IsShutAt b v.view passed (e ∷ rest) → link ≡ e.link → true ≡ has_words first second e)
+    → ((passed : List ChainLink) (e : ChainLink) (rest : List ChainLink) → IsShutAt b v.view passed (e ∷ rest) → link ≡ e.link → true ≡ has_words first second e)
     → side_of link ≡ 0 → found_from first second 0 (chain_in b v.view.buckets.shut) ≡ Some (place_of link, Original)
 walk_found b first second link left reply v s some_link there original = by_rest s.passed s.rest s.passing s.finds
   where
-    by_rest : (passed rest : List Entry) → IsPassing b v link left passed rest → found_from first second 0 (chain_in b v.view.buckets.shut) ≡ found_from first second reply rest
+    by_rest : (passed rest : List ChainLink) → IsPassing b v link left passed rest → found_from first second 0 (chain_in b v.view.buckets.shut) ≡ found_from first second reply rest
         → found_from first second 0 (chain_in b v.view.buckets.shut) ≡ Some (place_of link, Original)
     by_rest passed [] p finds = absurd (some_link p.link_is)
     by_rest passed (e ∷ rest) p finds =
@@ -227,7 +227,7 @@ pub walk_end : (b first second link left reply : ℕ) (v : PassSight) → IsWalk
     → found_from first second 0 (chain_in b v.view.buckets.shut) ≡ (if reply == 0 then None else Some (place_of reply, Reply))
 walk_end b first second link left reply v s none = by_rest s.passed s.rest s.passing s.finds
   where
-    by_rest : (passed rest : List Entry) → IsPassing b v link left passed rest → found_from first second 0 (chain_in b v.view.buckets.shut) ≡ found_from first second reply rest
+    by_rest : (passed rest : List ChainLink) → IsPassing b v link left passed rest → found_from first second 0 (chain_in b v.view.buckets.shut) ≡ found_from first second reply rest
         → found_from first second 0 (chain_in b v.view.buckets.shut) ≡ (if reply == 0 then None else Some (place_of reply, Reply))
     by_rest passed [] p finds = finds
     by_rest passed (e ∷ rest) p finds = absurd (omega (arith, none, (passing_some b link left e passed rest v p).0))

@@ -13,18 +13,18 @@ use Rattle.track_rule.specs.Readings.{found, noted}
 use Rattle.track_rule.specs.Sights.{PassSight, sizes_of}
 use Rattle.track_rule.specs.Sums.{Each}
 use Rattle.track_rule.specs.Walks.{rev_onto}
-use Rattle.track_rule.specs.declared.view.Entry.{Entry}
+use Rattle.track_rule.specs.declared.view.ChainLink.{ChainLink}
 use Rattle.track_rule.specs.declared.view.HeldBuckets.{HeldBuckets}
 use Rattle.track_rule.specs.declared.view.View.{View}
 use Rattle.bucket_table.specs.LockedChain.{ChangesBuckets, IsPassing, IsSeeking, OnlyLoads, hook_bucket}
 use Rattle.bucket_table.proofs.Reading.{More, more_found, more_join, more_of, more_own, more_stand, more_stored, more_weak}
 use Rattle.bucket_table.proofs.Stringing.{stand_frame}
 
-pub length_rev : (passed rest : List Entry) → length (rev_onto passed rest) ≡ length passed + length rest
+pub length_rev : (passed rest : List ChainLink) → length (rev_onto passed rest) ≡ length passed + length rest
 length_rev [] rest = omega arith
 length_rev (p ∷ ps) rest = omega (arith, length_rev ps (p ∷ rest))
 
-each_behind : (F : Entry → Type 0) (passed rest : List Entry) → Each F (rev_onto passed rest) → Each F rest
+each_behind : (F : ChainLink → Type 0) (passed rest : List ChainLink) → Each F (rev_onto passed rest) → Each F rest
 each_behind F [] rest e = e
 each_behind F (p ∷ ps) rest e = λ i x at. each_behind F ps (p ∷ rest) e (suc i) x at
 
@@ -122,7 +122,7 @@ passing_start b n v w below mine loads kept =
     }
 
 -- the load of the next link
-pub passing_on : (b link left n : ℕ) (e : Entry) (passed rest : List Entry) (v w : PassSight) → b < (sizes_of v).buckets → IsPassing b v link left passed (e ∷ rest)
+pub passing_on : (b link left n : ℕ) (e : ChainLink) (passed rest : List ChainLink) (v w : PassSight) → b < (sizes_of v).buckets → IsPassing b v link left passed (e ∷ rest)
     → LoadsLink (next_word (sizes_of v) link) v.view n w.view → w ≡ record v { view = w.view } → IsPassing b w n (left - 1) (e ∷ passed) rest
 passing_on b link left n e passed rest v w below p loads kept =
     let buckets : w.view.buckets ≡ v.view.buckets = ap (λ (k : View). k.buckets) loads.view in
@@ -135,15 +135,15 @@ passing_on b link left n e passed rest v w below p loads kept =
       right = subst (λ (k : HeldBuckets). IsChainOf (sizes_of w) b (chain_in b k.shut)) (sym buckets) (subst (λ (y : Sizes). IsChainOf y b (chain_in b v.view.buckets.shut)) (sym sizes) p.right);
     }
   where
-    some_left : (b link left : ℕ) (e : Entry) (passed rest : List Entry) (v : PassSight) → IsPassing b v link left passed (e ∷ rest) → 0 < left
-    some_left b link left e passed rest v p = omega (arith, p.count, p.right.few, ap (λ (es : List Entry). length es) p.at.all, length_rev passed (e ∷ rest))
+    some_left : (b link left : ℕ) (e : ChainLink) (passed rest : List ChainLink) (v : PassSight) → IsPassing b v link left passed (e ∷ rest) → 0 < left
+    some_left b link left e passed rest v p = omega (arith, p.count, p.right.few, ap (λ (es : List ChainLink). length es) p.at.all, length_rev passed (e ∷ rest))
 
 -- what is there of the next link
-pub passing_some : (b link left : ℕ) (e : Entry) (passed rest : List Entry) (v : PassSight) → IsPassing b v link left passed (e ∷ rest) → (0 < link) × (0 < left)
+pub passing_some : (b link left : ℕ) (e : ChainLink) (passed rest : List ChainLink) (v : PassSight) → IsPassing b v link left passed (e ∷ rest) → (0 < link) × (0 < left)
 passing_some b link left e passed rest v p =
     let each = each_behind (IsEntryOf (sizes_of v) b) passed (e ∷ rest) (subst (Each (IsEntryOf (sizes_of v) b)) p.at.all p.right.each) in (
       omega (arith, p.link_is, (each 0 e refl).some),
-      omega (arith, p.count, p.right.few, ap (λ (es : List Entry). length es) p.at.all, length_rev passed (e ∷ rest)),
+      omega (arith, p.count, p.right.few, ap (λ (es : List ChainLink). length es) p.at.all, length_rev passed (e ∷ rest)),
     )
 
 -- SEEKING A LINK
@@ -168,7 +168,7 @@ pub seek_on : (b x word link left n word' : ℕ) (v w : PassSight) → b < (size
     → word' ≡ next_word (sizes_of v) link → LoadsLink word' v.view n w.view → w ≡ record v { view = w.view } → IsSeeking b x w word' n (left - 1)
 seek_on b x word link left n word' v w below s other word_is loads kept = by_rest s.passed s.rest s.passing s.there
   where
-    by_rest : (passed rest : List Entry) → IsPassing b v link left passed rest → has_link x rest ≡ true → IsSeeking b x w word' n (left - 1)
+    by_rest : (passed rest : List ChainLink) → IsPassing b v link left passed rest → has_link x rest ≡ true → IsSeeking b x w word' n (left - 1)
     by_rest passed [] p there = absurd (false≢true there)
     by_rest passed (e ∷ rest) p there =
         let sizes : sizes_of w ≡ sizes_of v = ap sizes_of kept ∙ ap (λ (k : View). k.passes.sizes) loads.view in
@@ -183,7 +183,7 @@ seek_on b x word link left n word' v w below s other word_is loads kept = by_res
 pub seek_some : (b x word link left : ℕ) (v : PassSight) → IsSeeking b x v word link left → (0 < link) × (0 < left)
 seek_some b x word link left v s = by_rest s.passed s.rest s.passing s.there
   where
-    by_rest : (passed rest : List Entry) → IsPassing b v link left passed rest → has_link x rest ≡ true → (0 < link) × (0 < left)
+    by_rest : (passed rest : List ChainLink) → IsPassing b v link left passed rest → has_link x rest ≡ true → (0 < link) × (0 < left)
     by_rest passed [] p there = absurd (false≢true there)
     by_rest passed (e ∷ rest) p there = passing_some b link left e passed rest v p
 
@@ -193,7 +193,7 @@ pub take_may : (b x word left n word' : ℕ) (v w : PassSight) → b < (sizes_of
     → MayString word n w.view × ((y : View) → Strings word n w.view y → y ≡ strung word n (taken_from b x v.view.buckets) w.view)
 take_may b x word left n word' v w below s up word_is loads kept = by_rest s.passed s.rest s.passing s.there s.word_is
   where
-    by_rest : (passed rest : List Entry) → IsPassing b v x left passed rest → has_link x rest ≡ true → word ≡ end_word (sizes_of v) b passed
+    by_rest : (passed rest : List ChainLink) → IsPassing b v x left passed rest → has_link x rest ≡ true → word ≡ end_word (sizes_of v) b passed
         → MayString word n w.view × ((y : View) → Strings word n w.view y → y ≡ strung word n (taken_from b x v.view.buckets) w.view)
     by_rest passed [] p there end = absurd (false≢true there)
     by_rest passed (e ∷ rest) p there end =

@@ -7,7 +7,7 @@ use Rattle.track_rule.specs.Chains.{chain_in, shuts_of}
 use Rattle.track_rule.specs.Layout.{head_word, next_word, side_of}
 use Rattle.track_rule.specs.Links.{last_link}
 use Rattle.track_rule.specs.Sights.{PassSight, sizes_of}
-use Rattle.track_rule.specs.declared.view.Entry.{Entry}
+use Rattle.track_rule.specs.declared.view.ChainLink.{ChainLink}
 use Rattle.track_rule.specs.declared.view.HeldBuckets.{HeldBuckets}
 use Rattle.track_rule.specs.declared.view.View.{View}
 use Rattle.bucket_table.specs.Following.{has_words}
@@ -15,7 +15,7 @@ use Rattle.bucket_table.specs.LockedChain.{IsLooking, IsPassing, OnlyLoads, link
 use Rattle.bucket_table.proofs.Passing.{passing_on, passing_some, passing_start}
 
 -- loads leave how far the walk is
-passing_after : (b link left : ℕ) (passed rest : List Entry) (v w : PassSight) → OnlyLoads v w → IsPassing b v link left passed rest → IsPassing b w link left passed rest
+passing_after : (b link left : ℕ) (passed rest : List ChainLink) (v w : PassSight) → OnlyLoads v w → IsPassing b v link left passed rest → IsPassing b w link left passed rest
 passing_after b link left passed rest v w loads p =
     let buckets : w.view.buckets ≡ v.view.buckets = ap (λ (k : PassSight). k.view.buckets) loads.same in
     let sizes : sizes_of w ≡ sizes_of v = ap sizes_of loads.same in
@@ -47,19 +47,19 @@ look_start z b side n word first second v w same word_is below mine loads kept =
 pub look_some : (b side first second link left : ℕ) (v : PassSight) → IsLooking b side first second v link left → link ≢ 0 → (0 < link) × (0 < left)
 look_some b side first second link left v s some_link = by_rest s.passed s.rest s.passing
   where
-    by_rest : (passed rest : List Entry) → IsPassing b v link left passed rest → (0 < link) × (0 < left)
+    by_rest : (passed rest : List ChainLink) → IsPassing b v link left passed rest → (0 < link) × (0 < left)
     by_rest passed [] p = absurd (some_link p.link_is)
     by_rest passed (e ∷ rest) p = passing_some b link left e passed rest v p
 
 -- one link more, which is not the one
 pub look_on : (b side first second link left n word : ℕ) (has : Bool) (o v w : PassSight) → b < (sizes_of o).buckets → IsLooking b side first second o link left → link ≢ 0
     → OnlyLoads o v
-    → ((passed : List Entry) (e : Entry) (rest : List Entry) → IsShutAt b o.view passed (e ∷ rest) → link ≡ e.link → has ≡ has_words first second e)
+    → ((passed : List ChainLink) (e : ChainLink) (rest : List ChainLink) → IsShutAt b o.view passed (e ∷ rest) → link ≡ e.link → has ≡ has_words first second e)
     → (has && side_of link == side) ≡ false → word ≡ next_word (sizes_of o) link → LoadsLink word v.view n w.view → w ≡ record v { view = w.view }
     → IsLooking b side first second w n (left - 1)
 look_on b side first second link left n word has o v w below s some_link loads there other word_is next kept = by_rest s.passed s.rest s.passing s.finds
   where
-    by_rest : (passed rest : List Entry) → IsPassing b o link left passed rest → link_with side first second (chain_in b o.view.buckets.shut) ≡ link_with side first second rest
+    by_rest : (passed rest : List ChainLink) → IsPassing b o link left passed rest → link_with side first second (chain_in b o.view.buckets.shut) ≡ link_with side first second rest
         → IsLooking b side first second w n (left - 1)
     by_rest passed [] p finds = absurd (some_link p.link_is)
     by_rest passed (e ∷ rest) p finds =
@@ -78,11 +78,11 @@ look_on b side first second link left n word has o v w below s some_link loads t
 
 -- the one is found
 pub look_found : (b side first second link left : ℕ) (has : Bool) (v : PassSight) → IsLooking b side first second v link left → link ≢ 0
-    → ((passed : List Entry) (e : Entry) (rest : List Entry) → IsShutAt b v.view passed (e ∷ rest) → link ≡ e.link → has ≡ has_words first second e)
+    → ((passed : List ChainLink) (e : ChainLink) (rest : List ChainLink) → IsShutAt b v.view passed (e ∷ rest) → link ≡ e.link → has ≡ has_words first second e)
     → (has && side_of link == side) ≡ true → link_with side first second (chain_in b v.view.buckets.shut) ≡ Some link
 look_found b side first second link left has v s some_link there here = by_rest s.passed s.rest s.passing s.finds
   where
-    by_rest : (passed rest : List Entry) → IsPassing b v link left passed rest → link_with side first second (chain_in b v.view.buckets.shut) ≡ link_with side first second rest
+    by_rest : (passed rest : List ChainLink) → IsPassing b v link left passed rest → link_with side first second (chain_in b v.view.buckets.shut) ≡ link_with side first second rest
         → link_with side first second (chain_in b v.view.buckets.shut) ≡ Some link
     by_rest passed [] p finds = absurd (some_link p.link_is)
     by_rest passed (e ∷ rest) p finds =
@@ -96,7 +96,7 @@ pub look_end : (b side first second link left : ℕ) (v : PassSight) → IsLooki
     → link_with side first second (chain_in b v.view.buckets.shut) ≡ None
 look_end b side first second link left v s none = by_rest s.passed s.rest s.passing s.finds
   where
-    by_rest : (passed rest : List Entry) → IsPassing b v link left passed rest → link_with side first second (chain_in b v.view.buckets.shut) ≡ link_with side first second rest
+    by_rest : (passed rest : List ChainLink) → IsPassing b v link left passed rest → link_with side first second (chain_in b v.view.buckets.shut) ≡ link_with side first second rest
         → link_with side first second (chain_in b v.view.buckets.shut) ≡ None
     by_rest passed [] p finds = finds
     by_rest passed (e ∷ rest) p finds = absurd (omega (arith, none, (passing_some b link left e passed rest v p).0))

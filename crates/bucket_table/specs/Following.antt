@@ -20,7 +20,7 @@ use Rattle.track_rule.specs.Readings.{Gave, IsSole, added, changes, found, is_fo
 use Rattle.track_rule.specs.Sights.{PassSight, looked_on, sizes_of}
 use Rattle.track_rule.specs.Steps.{AreAll}
 use Rattle.track_rule.specs.Walks.{HasLive, Stands}
-use Rattle.track_rule.specs.declared.view.Entry.{Entry}
+use Rattle.track_rule.specs.declared.view.ChainLink.{ChainLink}
 use Rattle.track_rule.specs.declared.view.Met.{Met}
 use Rattle.track_rule.specs.declared.view.Pair.{Pair}
 use Rattle.track_rule.specs.declared.view.Reading.{Reading}
@@ -63,7 +63,7 @@ abbrev pub walk_seen : ℕ → ℕ → List Met → ℕ → Walk
 walk_seen bucket generation met point = record (walk_through bucket generation met) { at = Some point }
 
 -- an entry has these two words
-abbrev pub has_words : ℕ → ℕ → Entry → Bool
+abbrev pub has_words : ℕ → ℕ → ChainLink → Bool
 has_words first second e = e.pair.first == first && e.pair.second == second
 
 -- The pass has only read: no word was changed, and nothing of what it has. It may have seen more events, and its readings come
@@ -115,7 +115,7 @@ pub record IsEnd (t : Tuple) (at : ℕ) (v w : PassSight) : Type 0 where
   pub before : List Met
   pub others : list_all (is_another (address_word t) (flow_word t)) before ≡ true
   pub walk : w.view.walk ≡ Some (walk_seen (bucket_in (sizes_of v) t) generation before at)
-  pub chain : List Entry
+  pub chain : List ChainLink
   pub stands : Stands chain (walk_seen (bucket_in (sizes_of v) t) generation before at)
   pub right : IsChainOf (sizes_of v) (bucket_in (sizes_of v) t) chain
   pub none : list_any (has_words (address_word t) (flow_word t)) chain ≡ false

@@ -13,7 +13,7 @@ use Rattle.track_rule.specs.Layout.{place_of, side_of}
 use Rattle.track_rule.specs.Links.{hook_of, is_link_word, last_link}
 use Rattle.track_rule.specs.Readings.{added, changes}
 use Rattle.track_rule.specs.Sights.{PassSight, sizes_of}
-use Rattle.track_rule.specs.declared.view.Entry.{Entry}
+use Rattle.track_rule.specs.declared.view.ChainLink.{ChainLink}
 use Rattle.track_rule.specs.declared.view.Hook.{Hook}
 use Rattle.track_rule.specs.declared.view.HeldBuckets.{HeldBuckets}
 use Rattle.track_rule.specs.declared.view.Reading.{Reading}
@@ -49,7 +49,7 @@ abbrev pub unlink_words : ℕ → ℕ → Sizes → Reading → Bool
 unlink_words a b = either (heads_of a b) is_some_next
 
 -- the first link of this direction in the chain that has the two words
-abbrev pub link_with : ℕ → ℕ → ℕ → List Entry → Option ℕ
+abbrev pub link_with : ℕ → ℕ → ℕ → List ChainLink → Option ℕ
 link_with side first second [] = None
 link_with side first second (e ∷ es) = (if has_words first second e && side_of e.link == side then Some e.link else link_with side first second es)
 
@@ -60,7 +60,7 @@ original_first None (Some y) = Some (place_of y, Reply)
 original_first None None = None
 
 -- the place and the direction of the link in the chain that has the two words, the original one first
-abbrev pub found_in : ℕ → ℕ → List Entry → Option (ℕ × Direction)
+abbrev pub found_in : ℕ → ℕ → List ChainLink → Option (ℕ × Direction)
 found_in first second chain = original_first (link_with 0 first second chain) (link_with 1 first second chain)
 
 -- the place of a link, if there is one
@@ -105,7 +105,7 @@ unlinked_buckets z place s =
 -- ON THE WAY
 
 -- what a walk finds from here on, where it met this reply link with the tuple, or none, 0
-abbrev pub found_from : ℕ → ℕ → ℕ → List Entry → Option (ℕ × Direction)
+abbrev pub found_from : ℕ → ℕ → ℕ → List ChainLink → Option (ℕ × Direction)
 found_from first second reply [] = (if reply == 0 then None else Some (place_of reply, Reply))
 found_from first second reply (e ∷ es) =
     (if has_words first second e then
@@ -113,7 +113,7 @@ found_from first second reply (e ∷ es) =
     found_from first second reply es)
 
 -- so many links of the chain were passed, and this is the next one
-pub record IsPassing (bucket : ℕ) (v : PassSight) (link left : ℕ) (passed rest : List Entry) : Type 0 where
+pub record IsPassing (bucket : ℕ) (v : PassSight) (link left : ℕ) (passed rest : List ChainLink) : Type 0 where
   pub at : IsShutAt bucket v.view passed rest
   pub link_is : link ≡ first_of rest
   pub count : length passed + left ≡ last_link (sizes_of v)
@@ -121,23 +121,23 @@ pub record IsPassing (bucket : ℕ) (v : PassSight) (link left : ℕ) (passed re
   pub right : IsChainOf (sizes_of v) bucket (chain_in bucket v.view.buckets.shut)
 
 pub record IsWalking (bucket first second : ℕ) (v : PassSight) (link left reply : ℕ) : Type 0 where
-  pub passed : List Entry
-  pub rest : List Entry
+  pub passed : List ChainLink
+  pub rest : List ChainLink
   pub passing : IsPassing bucket v link left passed rest
   pub finds : found_from first second 0 (chain_in bucket v.view.buckets.shut) ≡ found_from first second reply rest
   pub low : reply ≤ last_link (sizes_of v)
 
 -- so many links of the chain were passed, and none of this direction that has the two words
 pub record IsLooking (bucket side first second : ℕ) (v : PassSight) (link left : ℕ) : Type 0 where
-  pub passed : List Entry
-  pub rest : List Entry
+  pub passed : List ChainLink
+  pub rest : List ChainLink
   pub passing : IsPassing bucket v link left passed rest
   pub finds : link_with side first second (chain_in bucket v.view.buckets.shut) ≡ link_with side first second rest
 
 -- the word has the next link, and the one that is looked for is not passed yet
 pub record IsSeeking (bucket sought : ℕ) (v : PassSight) (word link left : ℕ) : Type 0 where
-  pub passed : List Entry
-  pub rest : List Entry
+  pub passed : List ChainLink
+  pub rest : List ChainLink
   pub passing : IsPassing bucket v link left passed rest
   pub word_is : word ≡ end_word (sizes_of v) bucket passed
   pub there : has_link sought rest ≡ true
@@ -145,5 +145,5 @@ pub record IsSeeking (bucket sought : ℕ) (v : PassSight) (word link left : ℕ
 -- whether the next link of a locked chain has these two words
 abbrev pub IsThere : Sizes → ℕ → List ℕ → Bool → View → Type 0
 IsThere z link goal result v =
-    (bucket : ℕ) (passed : List Entry) (e : Entry) (rest : List Entry) → bucket < z.buckets → IsShutAt bucket v passed (e ∷ rest) → link ≡ e.link
+    (bucket : ℕ) (passed : List ChainLink) (e : ChainLink) (rest : List ChainLink) → bucket < z.buckets → IsShutAt bucket v passed (e ∷ rest) → link ≡ e.link
     → result ≡ has_words (get_or goal 0 0) (get_or goal 1 0) e

@@ -22,7 +22,7 @@ use Rattle.track_rule.specs.Sights.{PassSight, sizes_of}
 use Rattle.track_rule.specs.Steps.{AreAll, Looks}
 use Rattle.track_rule.specs.Sums.{Each, total}
 use Rattle.track_rule.specs.Walks.{rev_onto}
-use Rattle.track_rule.specs.declared.view.Entry.{Entry}
+use Rattle.track_rule.specs.declared.view.ChainLink.{ChainLink}
 use Rattle.track_rule.specs.declared.view.Hook.{Hook}
 use Rattle.track_rule.specs.declared.view.View.{View}
 use Rattle.bucket_table.specs.Following.{bucket_in}
@@ -36,14 +36,14 @@ use Rattle.shared_desk.proofs.Naming.{AreLinked}
 use Rattle.shared_desk.proofs.Under.{AreLaws, not_original, reply_is, under, under_none, unused_place}
 
 -- nothing is loose where no hook is up
-pub none_loose : (z : Sizes) (b : ℕ) (w : Entry → ℕ) (hooks : List Hook) → is_any_up hooks ≡ false
+pub none_loose : (z : Sizes) (b : ℕ) (w : ChainLink → ℕ) (hooks : List Hook) → is_any_up hooks ≡ false
     → total (λ (h : Hook). (if h.up then side z b w (entry_of h) else 0)) hooks ≡ 0
 none_loose z b w [] e = refl
 none_loose z b w (h ∷ hs) e =
     let parts = or_parts h.up (is_any_up hs) e in
     omega (arith, none_loose z b w hs parts.1, ap (λ (k : Bool). if k then side z b w (entry_of h) else 0) parts.0)
 
-each_rest : (F : Entry → Type 0) (passed rest : List Entry) → Each F (rev_onto passed rest) → Each F rest
+each_rest : (F : ChainLink → Type 0) (passed rest : List ChainLink) → Each F (rev_onto passed rest) → Each F rest
 each_rest F [] rest h = h
 each_rest F (p ∷ ps) rest h = λ i x at. each_rest F ps (p ∷ rest) h (suc i) x at
 
@@ -52,9 +52,9 @@ pub record IsTheRival (flow : Flow) (rival : Rival) (log : List Event) (v : View
   pub subject : Record
   pub bucket : ℕ
   pub below : bucket < v.passes.sizes.buckets
-  pub passed : List Entry
-  pub entry : Entry
-  pub rest : List Entry
+  pub passed : List ChainLink
+  pub entry : ChainLink
+  pub rest : List ChainLink
   pub at : IsShutAt bucket v passed (entry ∷ rest)
   pub named : entry.id ≡ Some subject.id
   pub placed : place_of entry.link ≡ rival.place
@@ -72,7 +72,7 @@ module _ (flow : Flow) (place : ℕ) (rival : Rival) (v : PassSight) (word : ℕ
         none_loose (sizes_of v) (bucket_in (sizes_of v) t) weight v.view.buckets.hooks blocked.down,
       )
 
-  low_place : (t : Tuple) (passed rest : List Entry) (e : Entry) (p : ℕ) → IsChainOf (sizes_of v) (bucket_in (sizes_of v) t) (chain_of (sizes_of v) t v.view.buckets.shut)
+  low_place : (t : Tuple) (passed rest : List ChainLink) (e : ChainLink) (p : ℕ) → IsChainOf (sizes_of v) (bucket_in (sizes_of v) t) (chain_of (sizes_of v) t v.view.buckets.shut)
       → chain_of (sizes_of v) t v.view.buckets.shut ≡ rev_onto passed (e ∷ rest) → place_of e.link ≡ p → p < (sizes_of v).entries
   low_place t passed rest e p right all at =
       let entry : IsEntryOf (sizes_of v) (bucket_in (sizes_of v) t) e =

@@ -25,7 +25,7 @@ use Rattle.track_rule.specs.References.{is_at, is_for_new, is_held, is_taken}
 use Rattle.track_rule.specs.Sights.{PassSight, sizes_of}
 use Rattle.track_rule.specs.Steps.{AreAll}
 use Rattle.track_rule.specs.Sums.{bit, times, total}
-use Rattle.track_rule.specs.declared.view.Entry.{Entry}
+use Rattle.track_rule.specs.declared.view.ChainLink.{ChainLink}
 use Rattle.track_rule.specs.declared.view.HeldBuckets.{HeldBuckets}
 use Rattle.track_rule.specs.declared.view.Hook.{Hook}
 use Rattle.track_rule.specs.declared.view.Keep.{Keep}
@@ -105,7 +105,7 @@ absent_parts (Some x) r e = cc
 absent_parts None (Some y) e = cc
 absent_parts None None e = (refl, refl)
 
-absent_sides : (a b : ℕ) (chain : List Entry) → link_with 0 a b chain ≡ None → link_with 1 a b chain ≡ None
+absent_sides : (a b : ℕ) (chain : List ChainLink) → link_with 0 a b chain ≡ None → link_with 1 a b chain ≡ None
     → total (has_pair (record { first = a; second = b })) chain ≡ 0
 absent_sides a b [] e f = refl
 absent_sides a b (x ∷ xs) e f =
@@ -138,7 +138,7 @@ absent_sides a b (x ∷ xs) e f =
         ∙ f))
         (cases_eq (side_of x.link) 0)
 
-pub absent_weighs : (t : Tuple) (chain : List Entry) → found_in (address_word t) (flow_word t) chain ≡ None → total (has_pair (pair_of t)) chain ≡ 0
+pub absent_weighs : (t : Tuple) (chain : List ChainLink) → found_in (address_word t) (flow_word t) chain ≡ None → total (has_pair (pair_of t)) chain ≡ 0
 absent_weighs t chain e =
     let parts = absent_parts (link_with 0 (address_word t) (flow_word t) chain) (link_with 1 (address_word t) (flow_word t) chain) e in
     absent_sides (address_word t) (flow_word t) chain parts.0 parts.1
@@ -148,7 +148,7 @@ absent_weighs t chain e =
 abbrev shuts_at : ℕ → List Shut → ℕ
 shuts_at b shut = total (λ (k : Shut). bit (k.bucket == b)) shut
 
-abbrev standing_weight : Sizes → ℕ → (Entry → ℕ) → List Hook → ℕ
+abbrev standing_weight : Sizes → ℕ → (ChainLink → ℕ) → List Hook → ℕ
 standing_weight z c w hooks = total (λ (h : Hook). (if h.up then side z c w (entry_of h) else 0)) hooks
 
 -- both links of a place, which are in no chain, each with a tuple of a bucket that is shut
@@ -168,7 +168,7 @@ apart place = λ e. omega (arith, e)
 apart' : (place : ℕ) → reply_link place ≢ original_link place
 apart' place = λ e. omega (arith, e)
 
-linked_balance : (z : Sizes) (place : ℕ) (flow : Flow) (s : HeldBuckets) → TwoLinks z place flow s → (c : ℕ) (w : Entry → ℕ)
+linked_balance : (z : Sizes) (place : ℕ) (flow : Flow) (s : HeldBuckets) → TwoLinks z place flow s → (c : ℕ) (w : ChainLink → ℕ)
     → total w (chain_in c (linked_buckets z place s).shut) + standing_weight z c w s.hooks
     ≡ total w (chain_in c s.shut) + standing_weight z c w (linked_buckets z place s).hooks
 linked_balance z place flow s two c w =

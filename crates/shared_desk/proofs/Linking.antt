@@ -8,7 +8,7 @@ use Rattle.track_rule.specs.Chains.{bucket_of, chain_in, entry_of, side}
 use Rattle.track_rule.specs.CommitSteps.{dropped}
 use Rattle.track_rule.specs.Links.{hook_of, hooks_of, is_down, is_raised, is_up}
 use Rattle.track_rule.specs.Sums.{bit, total}
-use Rattle.track_rule.specs.declared.view.Entry.{Entry}
+use Rattle.track_rule.specs.declared.view.ChainLink.{ChainLink}
 use Rattle.track_rule.specs.declared.view.HeldBuckets.{HeldBuckets}
 use Rattle.track_rule.specs.declared.view.Hook.{Hook}
 use Rattle.track_rule.specs.declared.view.Shut.{Shut}
@@ -124,7 +124,7 @@ raise_none x (h ∷ hs) e =
     (cases_Bool (h.link == x))
 
 -- what stands weighs more by the link that came up
-pub raised_weight : (z : Sizes) (c x : ℕ) (w : Entry → ℕ) (hooks : List Hook) → hooks_of x hooks ≡ 1 → is_down x hooks ≡ true
+pub raised_weight : (z : Sizes) (c x : ℕ) (w : ChainLink → ℕ) (hooks : List Hook) → hooks_of x hooks ≡ 1 → is_down x hooks ≡ true
     → total (λ (h : Hook). (if h.up then side z c w (entry_of h) else 0)) (map (raise x) hooks)
     ≡ total (λ (h : Hook). (if h.up then side z c w (entry_of h) else 0)) hooks + side z c w (entry_of (hook_of x hooks))
 raised_weight z c x w [] one down = absurd (omega (arith, one))
@@ -168,7 +168,7 @@ raised_weight z c x w (h ∷ hs) one down =
         last false k = refl
 
 -- the buckets that are shut are the same ones
-pub same_buckets : (b : ℕ) (es : List Entry) (shut : List Shut) → shut_buckets (with_chain b es shut) ≡ shut_buckets shut
+pub same_buckets : (b : ℕ) (es : List ChainLink) (shut : List Shut) → shut_buckets (with_chain b es shut) ≡ shut_buckets shut
 same_buckets b es [] = refl
 same_buckets b es (s ∷ rest) =
     cond_both (s.bucket == b) (record s { chain = es } ∷ rest) (s ∷ with_chain b es rest) (λ xs. shut_buckets xs ≡ s.bucket ∷ shut_buckets rest)
@@ -184,7 +184,7 @@ same_shuts c a b e =
     over (s ∷ rest) = ap (λ (n : ℕ). bit (s.bucket == c) + n) (over rest)
 
 -- a chain that changes, and another one
-pub chain_here : (b : ℕ) (es : List Entry) (shut : List Shut) → 0 < total (λ (s : Shut). bit (s.bucket == b)) shut → chain_in b (with_chain b es shut) ≡ es
+pub chain_here : (b : ℕ) (es : List ChainLink) (shut : List Shut) → 0 < total (λ (s : Shut). bit (s.bucket == b)) shut → chain_in b (with_chain b es shut) ≡ es
 chain_here b es [] any = absurd (omega (arith, any))
 chain_here b es (s ∷ rest) any =
     ⊎_elim
@@ -196,7 +196,7 @@ chain_here b es (s ∷ rest) any =
     ∙ ap (λ (k : Bool). if k then s.chain else chain_in b (with_chain b es rest)) e ∙ chain_here b es rest (omega (arith, any, ap bit e)))
     (cases_Bool (s.bucket == b))
 
-pub chain_else : (b c : ℕ) (es : List Entry) (shut : List Shut) → c ≢ b → chain_in c (with_chain b es shut) ≡ chain_in c shut
+pub chain_else : (b c : ℕ) (es : List ChainLink) (shut : List Shut) → c ≢ b → chain_in c (with_chain b es shut) ≡ chain_in c shut
 chain_else b c es [] other = refl
 chain_else b c es (s ∷ rest) other =
     ⊎_elim
@@ -212,12 +212,12 @@ chain_else b c es (s ∷ rest) other =
     (cases_Bool (s.bucket == b))
 
 -- A link comes into the chain of its bucket: the chain, and what of the pass stands there, weigh more by the same.
-pub put_balance : (z : Sizes) (b x c : ℕ) (w : Entry → ℕ) (s : HeldBuckets) → b ≡ bucket_of z (hook_of x s.hooks).pair → hooks_of x s.hooks ≡ 1 → is_down x s.hooks ≡ true
+pub put_balance : (z : Sizes) (b x c : ℕ) (w : ChainLink → ℕ) (s : HeldBuckets) → b ≡ bucket_of z (hook_of x s.hooks).pair → hooks_of x s.hooks ≡ 1 → is_down x s.hooks ≡ true
     → 0 < total (λ (k : Shut). bit (k.bucket == b)) s.shut
     → total w (chain_in c (put_in b x s).shut) + total (λ (h : Hook). (if h.up then side z c w (entry_of h) else 0)) s.hooks
     ≡ total w (chain_in c s.shut) + total (λ (h : Hook). (if h.up then side z c w (entry_of h) else 0)) (put_in b x s).hooks
 put_balance z b x c w s placed one down mine =
-    let e : Entry = entry_of (hook_of x s.hooks) in
+    let e : ChainLink = entry_of (hook_of x s.hooks) in
     ⊎_elim
     (λ (t : (b == c) ≡ true).
     let same : b ≡ c = eqb-true b c t in

@@ -23,7 +23,7 @@ use Rattle.track_rule.specs.Chains.{pair_of}
 use Rattle.track_rule.specs.History.{records_after, state_after}
 use Rattle.track_rule.specs.Layout.{side_of}
 use Rattle.track_rule.specs.References.{WasConfirmed}
-use Rattle.track_rule.specs.declared.view.Entry.{Entry}
+use Rattle.track_rule.specs.declared.view.ChainLink.{ChainLink}
 use Rattle.bucket_table.specs.Finding.{direction_by, is_pair}
 use Rattle.bucket_table.specs.Following.{has_words}
 use Rattle.bucket_table.specs.LockedChain.{link_with, original_first}
@@ -45,7 +45,7 @@ found_in_list q (r ∷ rs) x e =
     one a b k = cc
 
 -- a chain without the words has no link with them
-no_link : (d a b : ℕ) (chain : List Entry) → list_any (has_words a b) chain ≡ false → link_with d a b chain ≡ None
+no_link : (d a b : ℕ) (chain : List ChainLink) → list_any (has_words a b) chain ≡ false → link_with d a b chain ≡ None
 no_link d a b [] e = refl
 no_link d a b (x ∷ xs) e =
     let parts = or_parts (has_words a b x) (list_any (has_words a b) xs) e in
@@ -71,7 +71,7 @@ module _ (z : Sizes) (log : List Event) (legal : is_legal z log ≡ true) (laws 
 
   module _ (valid_t : is_valid t ≡ true) where
     -- nor is one that no link of the chain of what is live has
-    pub nobody_linked : (chain : List Entry) → AreLinked z t chain (records_after log) → list_any (has_words (address_word t) (flow_word t)) chain ≡ false
+    pub nobody_linked : (chain : List ChainLink) → AreLinked z t chain (records_after log) → list_any (has_words (address_word t) (flow_word t)) chain ≡ false
         → live_under t (state_after log) ≡ None
     nobody_linked chain sums none =
         (under_none z log legal laws t chain sums valid_t

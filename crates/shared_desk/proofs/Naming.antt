@@ -14,23 +14,23 @@ use Rattle.track_rule.specs.Chains.{bucket_of, links_in, original_of, pair_of, r
 use Rattle.track_rule.specs.Layout.{place_of, side_of}
 use Rattle.track_rule.specs.Sums.{bit, total}
 use Rattle.track_rule.specs.Walks.{rev_onto}
-use Rattle.track_rule.specs.declared.view.Entry.{Entry}
+use Rattle.track_rule.specs.declared.view.ChainLink.{ChainLink}
 use Rattle.track_rule.specs.declared.view.Pair.{Pair}
 use Rattle.bucket_table.specs.Following.{bucket_in, has_words}
 use Rattle.bucket_table.specs.LockedChain.{link_with}
 use Rattle.shared_desk.proofs.Members.{IsIn, some_weighs, weighs_in}
 
 -- a link of a chain with a tuple, in this direction
-pub record IsLinkOf (a b d : ℕ) (chain : List Entry) (x : ℕ) : Type 0 where
-  pub passed : List Entry
-  pub entry : Entry
-  pub rest : List Entry
+pub record IsLinkOf (a b d : ℕ) (chain : List ChainLink) (x : ℕ) : Type 0 where
+  pub passed : List ChainLink
+  pub entry : ChainLink
+  pub rest : List ChainLink
   pub all : chain ≡ rev_onto passed (entry ∷ rest)
   pub words : has_words a b entry ≡ true
   pub sided : side_of entry.link ≡ d
   pub link : entry.link ≡ x
 
-split_on : (a b d x : ℕ) (passed chain : List Entry) → link_with d a b chain ≡ Some x → IsLinkOf a b d (rev_onto passed chain) x
+split_on : (a b d x : ℕ) (passed chain : List ChainLink) → link_with d a b chain ≡ Some x → IsLinkOf a b d (rev_onto passed chain) x
 split_on a b d x passed [] e = cc
 split_on a b d x passed (y ∷ ys) e =
     ⊎_elim
@@ -45,11 +45,11 @@ split_on a b d x passed (y ∷ ys) e =
     one : Some y.link ≡ Some x → y.link ≡ x
     one same = cc
 
-pub link_there : (a b d x : ℕ) (chain : List Entry) → link_with d a b chain ≡ Some x → IsLinkOf a b d chain x
+pub link_there : (a b d x : ℕ) (chain : List ChainLink) → link_with d a b chain ≡ Some x → IsLinkOf a b d chain x
 link_there a b d x chain e = split_on a b d x [] chain e
 
 -- where there is none, none weighs
-pub none_there : (a b d : ℕ) (chain : List Entry) → link_with d a b chain ≡ None → total (λ (y : Entry). bit (has_words a b y && side_of y.link == d)) chain ≡ 0
+pub none_there : (a b d : ℕ) (chain : List ChainLink) → link_with d a b chain ≡ None → total (λ (y : ChainLink). bit (has_words a b y && side_of y.link == d)) chain ≡ 0
 none_there a b d [] e = refl
 none_there a b d (y ∷ ys) e =
     ⊎_elim
@@ -61,12 +61,12 @@ none_there a b d (y ∷ ys) e =
     some_none : (n : ℕ) → Some n ≡ None → ⊥
     some_none n g = cc
 
-total_onto : (f : Entry → ℕ) (passed rest : List Entry) → total f (rev_onto passed rest) ≡ total f passed + total f rest
+total_onto : (f : ChainLink → ℕ) (passed rest : List ChainLink) → total f (rev_onto passed rest) ≡ total f passed + total f rest
 total_onto f [] rest = omega arith
 total_onto f (p ∷ ps) rest = omega (arith, total_onto f ps (p ∷ rest))
 
 -- this very entry: its link, its tuple and its id
-abbrev is_entry : Entry → Entry → Bool
+abbrev is_entry : ChainLink → ChainLink → Bool
 is_entry e y = (y.link == e.link && has_words e.pair.first e.pair.second y) && same_id y.id e.id
 
 id_self : (o : Option ℕ) → same_id o o ≡ true
@@ -77,7 +77,7 @@ id_named : (n : ℕ) (o : Option ℕ) → same_id (Some n) o ≡ true → o ≡ 
 id_named n None e = absurd (false≢true e)
 id_named n (Some m) e = ap (λ (k : ℕ). Some k) (sym (eqb-true n m e))
 
-entry_self : (e : Entry) → is_entry e e ≡ true
+entry_self : (e : ChainLink) → is_entry e e ≡ true
 entry_self e =
     and_from (e.link == e.link && has_words e.pair.first e.pair.second e) (same_id e.id e.id)
     (and_from (e.link == e.link) (has_words e.pair.first e.pair.second e) (eq-eqb e.link e.link refl)
@@ -88,7 +88,7 @@ bit_set : (b : Bool) → 0 < bit b → b ≡ true
 bit_set true e = refl
 bit_set false e = absurd (omega (arith, e))
 
-side_some : (z : Sizes) (b : ℕ) (w : Entry → ℕ) (e : Entry) → 0 < side z b w e → 0 < w e
+side_some : (z : Sizes) (b : ℕ) (w : ChainLink → ℕ) (e : ChainLink) → 0 < side z b w e → 0 < w e
 side_some z b w e any =
     ⊎_elim
     (λ (t : (bucket_of z e.pair == b) ≡ true). omega (arith, any, ap (λ (k : Bool). if k then w e else 0) t))
@@ -106,16 +106,16 @@ valid_tuples r e =
     (and_parts ((is_valid r.original && is_valid r.reply && is_of_one_zone r) && same_proto r.original.proto (proto_of r.part.kind)) (same_proto r.reply.proto (proto_of r.part.kind)) e).0).0).0
 
 -- the chain weighs what these records weigh in the bucket of the tuple
-abbrev pub AreLinked : Sizes → Tuple → List Entry → List Record → Type 0
-AreLinked z t chain rs = (weight : Entry → ℕ) → total weight chain ≡ total (links_in z (bucket_in z t) weight) rs
+abbrev pub AreLinked : Sizes → Tuple → List ChainLink → List Record → Type 0
+AreLinked z t chain rs = (weight : ChainLink → ℕ) → total weight chain ≡ total (links_in z (bucket_in z t) weight) rs
 
-module _ (z : Sizes) (t : Tuple) (chain : List Entry) (rs : List Record) (sums : AreLinked z t chain rs)
+module _ (z : Sizes) (t : Tuple) (chain : List ChainLink) (rs : List Record) (sums : AreLinked z t chain rs)
     (valid : (r : Record) → IsIn r rs → is_of_one_flow r ≡ true) (valid_t : is_valid t ≡ true) (words : WordsDetermineTheTuple) where
   -- the record of an entry of the chain
-  owner : (passed : List Entry) (e : Entry) (rest : List Entry) → chain ≡ rev_onto passed (e ∷ rest)
+  owner : (passed : List ChainLink) (e : ChainLink) (rest : List ChainLink) → chain ≡ rev_onto passed (e ∷ rest)
       → (r : Record) × IsIn r rs × ((is_entry e (original_of r) ≡ true) ⊎ (is_entry e (reply_of r) ≡ true))
   owner passed e rest all =
-      let w : Entry → ℕ = λ y. bit (is_entry e y) in
+      let w : ChainLink → ℕ = λ y. bit (is_entry e y) in
       let found = some_weighs (links_in z (bucket_in z t) (λ y. bit (is_entry e y))) rs
       (omega (arith, sums (λ y. bit (is_entry e y)), ap (total (λ y. bit (is_entry e y))) all, total_onto (λ y. bit (is_entry e y)) passed (e ∷ rest), ap bit (entry_self e))) in
       (found.0, found.1, by_side found.0 found.2)
@@ -128,7 +128,7 @@ module _ (z : Sizes) (t : Tuple) (chain : List Entry) (rs : List Record) (sums :
           first (suc n) k = inl (bit_set (is_entry e (original_of r)) (side_some z (bucket_in z t) (λ y. bit (is_entry e y)) (original_of r) (omega (arith, k))))
 
   -- the tuple of the words
-  by_words : (u : Tuple) (e : Entry) → is_valid u ≡ true → has_words (address_word t) (flow_word t) e ≡ true → has_words e.pair.first e.pair.second (record { link = 0; pair = pair_of u; id = None }) ≡ true → u ≡ t
+  by_words : (u : Tuple) (e : ChainLink) → is_valid u ≡ true → has_words (address_word t) (flow_word t) e ≡ true → has_words e.pair.first e.pair.second (record { link = 0; pair = pair_of u; id = None }) ≡ true → u ≡ t
   by_words u e valid_u has same =
       let p = and_parts (e.pair.first == address_word t) (e.pair.second == flow_word t) has in
       let q = and_parts (address_word u == e.pair.first) (flow_word u == e.pair.second) same in
@@ -140,15 +140,15 @@ module _ (z : Sizes) (t : Tuple) (chain : List Entry) (rs : List Record) (sums :
     pub there : IsIn subject rs
     pub tuple : tuple_of subject ≡ t
     pub placed : subject.place ≡ place_of x
-    pub passed : List Entry
-    pub entry : Entry
-    pub rest : List Entry
+    pub passed : List ChainLink
+    pub entry : ChainLink
+    pub rest : List ChainLink
     pub all : chain ≡ rev_onto passed (entry ∷ rest)
     pub at : place_of entry.link ≡ place_of x
     pub named : entry.id ≡ Some subject.id
 
   -- an entry of a record is this link, so the record is that of the link
-  owns : (tuple_of : Record → Tuple) (d x : ℕ) (l : IsLinkOf (address_word t) (flow_word t) d chain x) (r : Record) → IsIn r rs → (e : Entry)
+  owns : (tuple_of : Record → Tuple) (d x : ℕ) (l : IsLinkOf (address_word t) (flow_word t) d chain x) (r : Record) → IsIn r rs → (e : ChainLink)
       → is_entry l.entry e ≡ true → e.pair ≡ pair_of (tuple_of r) → e.id ≡ Some r.id → place_of e.link ≡ r.place → is_valid (tuple_of r) ≡ true → Owns tuple_of x
   owns tuple_of d x l r there e here pair id place valid_u =
       let parts = and_parts (e.link == l.entry.link && has_words l.entry.pair.first l.entry.pair.second e) (same_id e.id l.entry.id) here in
@@ -169,7 +169,7 @@ module _ (z : Sizes) (t : Tuple) (chain : List Entry) (rs : List Record) (sums :
       }
 
   -- an entry on the other side is not this link
-  other_side : (d : ℕ) (e y : Entry) → is_entry e y ≡ true → side_of e.link ≡ d → side_of y.link ≢ d → ⊥
+  other_side : (d : ℕ) (e y : ChainLink) → is_entry e y ≡ true → side_of e.link ≡ d → side_of y.link ≢ d → ⊥
   other_side d e y here side other =
       let parts = and_parts (y.link == e.link && has_words e.pair.first e.pair.second y) (same_id y.id e.id) here in
       other (ap side_of (eqb-true y.link e.link (and_parts (y.link == e.link) (has_words e.pair.first e.pair.second y) parts.0).0) ∙ side)
@@ -197,7 +197,7 @@ module _ (z : Sizes) (t : Tuple) (chain : List Entry) (rs : List Record) (sums :
   -- and where no link has it, none has
   pub original_free : link_with 0 (address_word t) (flow_word t) chain ≡ None → (r : Record) → IsIn r rs → r.original ≡ t → ⊥
   original_free e r i same =
-      let w : Entry → ℕ = λ y. bit (has_words (address_word t) (flow_word t) y && side_of y.link == 0) in
+      let w : ChainLink → ℕ = λ y. bit (has_words (address_word t) (flow_word t) y && side_of y.link == 0) in
       omega (
         arith,
         none_there (address_word t) (flow_word t) 0 chain e,

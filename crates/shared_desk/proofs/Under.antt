@@ -24,7 +24,7 @@ use Rattle.track_rule.specs.Layout.{place_of}
 use Rattle.track_rule.specs.Phases.{of_place}
 use Rattle.track_rule.specs.Sums.{bit, total}
 use Rattle.track_rule.specs.Walks.{rev_onto}
-use Rattle.track_rule.specs.declared.view.Entry.{Entry}
+use Rattle.track_rule.specs.declared.view.ChainLink.{ChainLink}
 use Rattle.bucket_table.specs.LockedChain.{found_in, link_with, original_first, place_in}
 use Rattle.shared_desk.specs.Rival.{has_both}
 use Rattle.shared_desk.proofs.Members.{IsIn, any_none, found_none, found_only, holds_in, same_or_apart, weighs_in}
@@ -69,20 +69,20 @@ module _ (z : Sizes) (log : List Event) (legal : is_legal z log ≡ true) (laws 
       (λ q i t. omega (arith, zero_total, weighs_in (of_place place) q (records_after log) i, ap bit t)))
 
   -- the record that is live under the tuple, and its link
-  pub record IsUnder (t : Tuple) (chain : List Entry) (place : ℕ) (direction : Direction) : Type 0 where
+  pub record IsUnder (t : Tuple) (chain : List ChainLink) (place : ℕ) (direction : Direction) : Type 0 where
     pub subject : Record
     pub there : IsIn subject (records_after log)
     pub live : live_under t (state_after log) ≡ Some (record { subject = subject; direction = direction })
     pub placed : subject.place ≡ place
     pub original : direction ≡ Original → subject.original ≡ t
-    pub passed : List Entry
-    pub entry : Entry
-    pub rest : List Entry
+    pub passed : List ChainLink
+    pub entry : ChainLink
+    pub rest : List ChainLink
     pub all : chain ≡ rev_onto passed (entry ∷ rest)
     pub at : place_of entry.link ≡ place
     pub named : entry.id ≡ Some subject.id
 
-  module _ (t : Tuple) (chain : List Entry) (sums : AreLinked z t chain (records_after log)) (valid_t : is_valid t ≡ true) where
+  module _ (t : Tuple) (chain : List ChainLink) (sums : AreLinked z t chain (records_after log)) (valid_t : is_valid t ≡ true) where
     no_original : link_with 0 (address_word t) (flow_word t) chain ≡ None → find (has_original t) (records_after log) ≡ None
     no_original e = found_none (has_original t) (records_after log) (λ q i k. original_free z t chain (records_after log) sums valid_in valid_t laws.words e q i ((laws.same q.original t).0 k))
 

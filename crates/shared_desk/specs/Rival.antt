@@ -17,7 +17,7 @@ use Rattle.track_rule.specs.PhaseSteps.{holds_open}
 use Rattle.track_rule.specs.References.{is_taken}
 use Rattle.track_rule.specs.Sights.{PassSight, looked_on, sizes_of}
 use Rattle.track_rule.specs.Steps.{AreAll}
-use Rattle.track_rule.specs.declared.view.Entry.{Entry}
+use Rattle.track_rule.specs.declared.view.ChainLink.{ChainLink}
 use Rattle.track_rule.specs.declared.view.Middle.TheVariants.{Calm}
 use Rattle.track_rule.specs.declared.view.Shut.{Shut}
 use Rattle.bucket_table.specs.Following.{bucket_in}
@@ -39,7 +39,7 @@ rival_of None reply (Some (place, direction)) = Some (record { place = place; di
 rival_of None reply None = None
 
 -- the chain of the bucket of a tuple
-abbrev pub chain_of : Sizes → Tuple → List Shut → List Entry
+abbrev pub chain_of : Sizes → Tuple → List Shut → List ChainLink
 chain_of z t shut = chain_in (bucket_in z t) shut
 
 abbrev pub found_for : Sizes → Tuple → List Shut → Option (ℕ × Direction)

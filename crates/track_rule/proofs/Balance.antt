@@ -13,7 +13,7 @@ use Rattle.history_book.specs.declared.sizes.Sizes.{Sizes}
 use Rattle.history_book.specs.Point.{StartsWith}
 use Rattle.history_book.specs.Sight.{AreEventsOf}
 use Rattle.track_rule.specs.declared.slot.Slot.{Slot}
-use Rattle.track_rule.specs.declared.view.Entry.{Entry}
+use Rattle.track_rule.specs.declared.view.ChainLink.{ChainLink}
 use Rattle.track_rule.specs.declared.view.Hook.{Hook}
 use Rattle.track_rule.specs.declared.view.Keep.{Keep}
 use Rattle.track_rule.specs.declared.view.Places.{Places}
@@ -56,7 +56,7 @@ pub record Moves (v w : View) : Type 0 where
 -- and what it says of the links of the pass and of its walk, which other words show
 pub record Lines (z : Sizes) (l : Ledger) (s : State Slot View) (id : ℕ) (v w : View) : Type 0 where
   pub shut : w.buckets.shut ≡ v.buckets.shut
-  pub loose : (b : ℕ) (weight : Entry → ℕ) → loose_of z b weight w ≡ loose_of z b weight v
+  pub loose : (b : ℕ) (weight : ChainLink → ℕ) → loose_of z b weight w ≡ loose_of z b weight v
   pub lone : (link : ℕ) → 0 < link → total (hooks_at link) (set s.views id w) + total (of_place (place_of link)) (records_after l.log) ≤ 1
   pub hooks : HasHooks z s.words w.places w.buckets.hooks
   pub walk : (n : Walk) → w.walk ≡ Some n → IsWalk z s.words l.chains w.seen.front n

@@ -16,7 +16,7 @@ use Rattle.history_book.specs.declared.record.Record.{Record}
 use Rattle.history_book.specs.declared.sizes.Sizes.{Sizes}
 use Rattle.tuple_core.specs.declared.Tuple.{Tuple}
 use Rattle.track_rule.specs.declared.slot.Slot.{Slot}
-use Rattle.track_rule.specs.declared.view.Entry.{Entry}
+use Rattle.track_rule.specs.declared.view.ChainLink.{ChainLink}
 use Rattle.track_rule.specs.declared.view.Hand.{Hand}
 use Rattle.track_rule.specs.declared.view.Hook.{Hook}
 use Rattle.track_rule.specs.declared.view.Middle.{Middle}
@@ -150,14 +150,14 @@ module _ (l : Ledger) (s : State Slot View) (id : ℕ) (v : View) (r : Record) (
       )
 
   -- a link of the place weighs, once it is told the id, what that of the record weighs
-  weighs_up : (b : ℕ) (f : Entry → ℕ) (k : Hook) (e : Entry) → k.up ≡ true → k.link ≡ e.link → k.pair ≡ e.pair → e.id ≡ Some (length l.log) → place_of e.link ≡ r.place
+  weighs_up : (b : ℕ) (f : ChainLink → ℕ) (k : Hook) (e : ChainLink) → k.up ≡ true → k.link ≡ e.link → k.pair ≡ e.pair → e.id ≡ Some (length l.log) → place_of e.link ≡ r.place
       → (if k.up then side v.passes.sizes b (λ x. f (named r.place (length l.log) x)) (entry_of k) else 0) ≡ side v.passes.sizes b f e
   weighs_up b f k e up link pair its_id here =
       ap (λ (t : Bool). if t then side v.passes.sizes b (λ x. f (named r.place (length l.log) x)) (entry_of k) else 0) up
-      ∙ ap (λ (x : Entry). if bucket_of v.passes.sizes k.pair == b then f x else 0) (named_here r.place (Some (length l.log)) (entry_of k) (ap place_of link ∙ here))
+      ∙ ap (λ (x : ChainLink). if bucket_of v.passes.sizes k.pair == b then f x else 0) (named_here r.place (Some (length l.log)) (entry_of k) (ap place_of link ∙ here))
       ∙ (λ i. side v.passes.sizes b f (record { link = link i; pair = pair i; id = sym its_id i }))
 
-  loose_left : (b : ℕ) (f : Entry → ℕ)
+  loose_left : (b : ℕ) (f : ChainLink → ℕ)
       → loose_of v.passes.sizes b (λ x. f (named r.place (length l.log) x)) after_it + links_in v.passes.sizes b f subject
       ≡ loose_of v.passes.sizes b (λ x. f (named r.place (length l.log) x)) v
   loose_left b f = omega (
@@ -226,7 +226,7 @@ module _ (l : Ledger) (s : State Slot View) (id : ℕ) (v : View) (r : Record) (
   -- WHAT CHAINS WEIGH
 
   -- a chain that is told the id
-  told_weighs : (b : ℕ) → b < v.passes.sizes.buckets → (f : Entry → ℕ)
+  told_weighs : (b : ℕ) → b < v.passes.sizes.buckets → (f : ChainLink → ℕ)
       → total f (map (named r.place (length l.log)) (l.chains b)) ≡ total (links_in v.passes.sizes b f) (records_after made) + total (loose_of v.passes.sizes b f) (set s.views id after_it)
   told_weighs b below f =
       let z : Sizes = v.passes.sizes in
@@ -245,7 +245,7 @@ module _ (l : Ledger) (s : State Slot View) (id : ℕ) (v : View) (r : Record) (
       )
 
   -- one that is not
-  else_weighs : (b : ℕ) → b < v.passes.sizes.buckets → shuts_of b v ≡ 0 → (f : Entry → ℕ)
+  else_weighs : (b : ℕ) → b < v.passes.sizes.buckets → shuts_of b v ≡ 0 → (f : ChainLink → ℕ)
       → total f (l.chains b) ≡ total (links_in v.passes.sizes b f) (records_after made) + total (loose_of v.passes.sizes b f) (set s.views id after_it)
   else_weighs b below off f =
       let z : Sizes = v.passes.sizes in

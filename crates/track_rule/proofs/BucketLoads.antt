@@ -8,7 +8,7 @@ use lib.ListN.{get_elem?}
 use Rattle.atomic_table.specs.Table.{Allows, State, keeps as unchanged, step}
 use Rattle.history_book.specs.declared.sizes.Sizes.{Sizes}
 use Rattle.track_rule.specs.declared.slot.Slot.{Slot}
-use Rattle.track_rule.specs.declared.view.Entry.{Entry}
+use Rattle.track_rule.specs.declared.view.ChainLink.{ChainLink}
 use Rattle.track_rule.specs.declared.view.Hook.{Hook}
 use Rattle.track_rule.specs.declared.view.Shut.{Shut}
 use Rattle.track_rule.specs.declared.view.View.{View}
@@ -120,10 +120,10 @@ link_low z l s word h is =
 
 -- the chain of a bucket that the pass has shut
 module _ (z : Sizes) (l : Ledger) (s : State Slot View) (h : IsKept z l s) (id : ℕ) (v : View) (at : get_elem? s.views id ≡ some v) where
-  pub shut_chain : (b : ℕ) (passed rest : List Entry) → b < z.buckets → IsShutAt b v passed rest → l.chains b ≡ rev_onto passed rest
+  pub shut_chain : (b : ℕ) (passed rest : List ChainLink) → b < z.buckets → IsShutAt b v passed rest → l.chains b ≡ rev_onto passed rest
   shut_chain b passed rest below k = sym (h.chains.mine b below id v at k.mine) ∙ k.all
 
-  pub chain_rest : (b : ℕ) (passed rest : List Entry) → b < z.buckets → IsShutAt b v passed rest → IsChain z s.words b (slice_index s.words (end_word z b passed)) rest
+  pub chain_rest : (b : ℕ) (passed rest : List ChainLink) → b < z.buckets → IsShutAt b v passed rest → IsChain z s.words b (slice_index s.words (end_word z b passed)) rest
   chain_rest b passed rest below k =
       chain_at z s.words b passed rest (slice_index s.words (head_word z b)) refl
       (subst (IsChain z s.words b (slice_index s.words (head_word z b))) (shut_chain b passed rest below k) (h.chains.linked b below))

@@ -13,7 +13,7 @@ use Rattle.history_book.specs.declared.event.Event.{Event}
 use Rattle.history_book.specs.Point.{StartsWith}
 use Rattle.history_book.specs.declared.sizes.Sizes.{Sizes}
 use Rattle.track_rule.specs.declared.slot.Slot.{Slot}
-use Rattle.track_rule.specs.declared.view.Entry.{Entry}
+use Rattle.track_rule.specs.declared.view.ChainLink.{ChainLink}
 use Rattle.track_rule.specs.declared.view.Hook.{Hook}
 use Rattle.track_rule.specs.declared.view.Places.{Places}
 use Rattle.track_rule.specs.declared.view.Seen.{Seen}
@@ -53,7 +53,7 @@ pub record SameRest (z : Sizes) (ws ws' : List ℕ) : Type 0 where
   pub refs : (p : ℕ) → refs_at z ws' p ≡ refs_at z ws p
 
 -- a step of one pass on the buckets or links
-pub bucket_moved : (z : Sizes) (l : Ledger) (s : State Slot View) (id : ℕ) (v w : View) (ws' : List ℕ) (chains' : ℕ → List Entry)
+pub bucket_moved : (z : Sizes) (l : Ledger) (s : State Slot View) (id : ℕ) (v w : View) (ws' : List ℕ) (chains' : ℕ → List ChainLink)
     → IsKept z l s → get_elem? s.views id ≡ some v → Moves v w → 0 < v.passes.shares → w.seen ≡ v.seen → w.places ≡ v.places → w.free ≡ v.free
     → SameRest z s.words ws' → length ws' ≡ length s.words
     → ((p : ℕ) → 0 < total (shows_held p) s.views → SamePairs z s.words ws' p)
@@ -105,7 +105,7 @@ module _ (z : Sizes) (ws : List ℕ) (b n : ℕ) (below : b < z.buckets) where
   gen_here low = get_or-set_same ws (gen_word z b) n 0 low
 
 -- A generation rises to a value at which no note can stand: then all notes stay true.
-walk_raised : (z : Sizes) (ws ws' : List ℕ) (chains : ℕ → List Entry) (b : ℕ) (front : List Event) (m : Walk)
+walk_raised : (z : Sizes) (ws ws' : List ℕ) (chains : ℕ → List ChainLink) (b : ℕ) (front : List Event) (m : Walk)
     → ((c : ℕ) → c ≢ b → gen_at z ws' c ≡ gen_at z ws c) → gen_at z ws b ≤ gen_at z ws' b
     → (m.generation ≤ gen_at z ws b → gen_at z ws' b ≡ m.generation → m.generation % 2 ≡ 0 → ⊥)
     → IsWalk z ws chains front m → IsWalk z ws' chains front m
@@ -153,7 +153,7 @@ module _ (b : ℕ) where
   chain_else c other (s ∷ rest) =
       cond_both (s.bucket == b) rest (s ∷ opened_of b rest) (λ xs. chain_in c xs ≡ (if s.bucket == c then s.chain else chain_in c rest))
       (λ e. sym (ap (λ (k : Bool). if k then s.chain else chain_in c rest) (ne_eqb s.bucket c (λ k. other (sym k ∙ eqb-true s.bucket b e)))))
-      (λ e. ap (λ (es : List Entry). if s.bucket == c then s.chain else es) (chain_else c other rest))
+      (λ e. ap (λ (es : List ChainLink). if s.bucket == c then s.chain else es) (chain_else c other rest))
 
 -- the chains where a generation changed
 module _ (l : Ledger) (s : State Slot View) (id b : ℕ) (v : View) (h : IsKept v.passes.sizes l s) (at : get_elem? s.views id ≡ some v)
@@ -264,7 +264,7 @@ module _ (l : Ledger) (s : State Slot View) (id b : ℕ) (v : View) (h : IsKept 
       let own : (if b == b then l.chains b else chain_in b v.buckets.shut) ≡ l.chains b =
       ap (λ (k : Bool). if k then l.chains b else chain_in b v.buckets.shut) (eq-eqb b b refl) in
       record {
-        view = ap (λ (es : List Entry). noted (stored (gen_word v.passes.sizes b) (even + 1)) (record v { buckets = shut_now b es v.buckets })) (sym own);
+        view = ap (λ (es : List ChainLink). noted (stored (gen_word v.passes.sizes b) (even + 1)) (record v { buckets = shut_now b es v.buckets })) (sym own);
         chain = subst (IsChainOf v.passes.sizes b) (sym own) (chain_of v.passes.sizes l.log s.words s.views l.chains h.chains b below);
         before = none_shut even hit half;
         sole = λ one. sym hit ∙ h.readings one id v at has_some (gen_word v.passes.sizes b);

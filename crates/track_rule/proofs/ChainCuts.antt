@@ -8,7 +8,7 @@ use lib.ListN.{get_elem?}
 use Rattle.atomic_table.specs.Table.{State}
 use Rattle.history_book.specs.declared.sizes.Sizes.{Sizes}
 use Rattle.track_rule.specs.declared.slot.Slot.{Slot}
-use Rattle.track_rule.specs.declared.view.Entry.{Entry}
+use Rattle.track_rule.specs.declared.view.ChainLink.{ChainLink}
 use Rattle.track_rule.specs.declared.view.Hook.{Hook}
 use Rattle.track_rule.specs.declared.view.View.{View}
 use Rattle.track_rule.specs.BucketSteps.{IsShutAt, end_word, first_of, lower, strung, taken_from, without_link}
@@ -34,7 +34,7 @@ each_both P Q hooks p q i k at = (p i k at, q i k at)
 module _ (l : Ledger) (s : State Slot View) (id b : ℕ) (v : View) (h : IsKept v.passes.sizes l s) (at : get_elem? s.views id ≡ some v)
     (has_some : 0 < v.passes.shares) (below : b < v.passes.sizes.buckets) where
   -- The word after what was passed, in the chain that goes on with this entry: what else has it, and what stands before it.
-  pub record EndWord (word : ℕ) (passed : List Entry) (e : Entry) (rest : List Entry) : Type 0 where
+  pub record EndWord (word : ℕ) (passed : List ChainLink) (e : ChainLink) (rest : List ChainLink) : Type 0 where
     pub string : IsString v.passes.sizes word
     pub long : word < length s.words
     pub heads : (c : ℕ) → c < v.passes.sizes.buckets → c ≢ b → head_word v.passes.sizes c ≢ word
@@ -48,7 +48,7 @@ module _ (l : Ledger) (s : State Slot View) (id b : ℕ) (v : View) (h : IsKept 
   chain_links : (c : ℕ) → c < v.passes.sizes.buckets → Each (IsLinked v.passes.sizes s.words c) (l.chains c)
   chain_links c under = chain_each v.passes.sizes s.words c (slice_index s.words (head_word v.passes.sizes c)) (l.chains c) (h.chains.linked c under)
 
-  pub end_word_is : (passed : List Entry) (e : Entry) (rest : List Entry) → l.chains b ≡ rev_onto passed (e ∷ rest) → IsPassed v.passes.sizes s.words b passed
+  pub end_word_is : (passed : List ChainLink) (e : ChainLink) (rest : List ChainLink) → l.chains b ≡ rev_onto passed (e ∷ rest) → IsPassed v.passes.sizes s.words b passed
       → Each (IsLinked v.passes.sizes s.words b) rest → EndWord (end_word v.passes.sizes b passed) passed e rest
   end_word_is [] e rest all before links = record {
     string = string_head v.passes.sizes b below;
@@ -109,7 +109,7 @@ module _ (l : Ledger) (s : State Slot View) (id b : ℕ) (v : View) (h : IsKept 
             }) p ps (omega (arith, lone, sum, same_bit p.link p.link refl)) before;
       }
 
-  module _ (passed : List Entry) (e : Entry) (rest : List Entry) (shut : IsShutAt b v passed (e ∷ rest)) (up : is_raised e.link v.buckets.hooks ≡ true) where
+  module _ (passed : List ChainLink) (e : ChainLink) (rest : List ChainLink) (shut : IsShutAt b v passed (e ∷ rest)) (up : is_raised e.link v.buckets.hooks ≡ true) where
     whole : l.chains b ≡ rev_onto passed (e ∷ rest)
     whole = shut_chain v.passes.sizes l s h id v at b passed (e ∷ rest) below shut
 
@@ -151,8 +151,8 @@ module _ (l : Ledger) (s : State Slot View) (id b : ℕ) (v : View) (h : IsKept 
         its_id = omega (
           arith,
           unnamed v.passes.sizes l.log s.words s.views l.chains h.chains b below e.link id v at parts.1.1.some own.0,
-          ap (total (λ (x : Entry). bit (x.link == e.link && is_some x.id))) whole,
-          total_rev (λ (x : Entry). bit (x.link == e.link && is_some x.id)) passed (e ∷ rest),
+          ap (total (λ (x : ChainLink). bit (x.link == e.link && is_some x.id))) whole,
+          total_rev (λ (x : ChainLink). bit (x.link == e.link && is_some x.id)) passed (e ∷ rest),
         )
 
         no_id : (o : Option ℕ) → bit (e.link == e.link && is_some o) ≡ 0 → None ≡ o
@@ -168,7 +168,7 @@ module _ (l : Ledger) (s : State Slot View) (id b : ℕ) (v : View) (h : IsKept 
     lowered_other : (k : Hook) → k.link ≢ e.link → lower e.link k ≡ k
     lowered_other k p = ap (λ (t : Bool). if t then record k { next = None; up = false } else k) (ne_eqb k.link e.link p)
 
-    cut_loose : (c : ℕ) (g : Entry → ℕ)
+    cut_loose : (c : ℕ) (g : ChainLink → ℕ)
         → loose_of v.passes.sizes c g (strung (end_word v.passes.sizes b passed) (first_of rest) (taken_from b e.link v.buckets) v) + side v.passes.sizes c g e
         ≡ loose_of v.passes.sizes c g v
     cut_loose c g =
@@ -192,7 +192,7 @@ module _ (l : Ledger) (s : State Slot View) (id b : ℕ) (v : View) (h : IsKept 
         let word : ℕ = end_word z b passed in
         let to : ℕ = first_of rest in
         let new : List ℕ = slice_set s.words (end_word z b passed) (first_of rest) in
-        let es : List Entry = without_link e.link (chain_in b v.buckets.shut) in
+        let es : List ChainLink = without_link e.link (chain_in b v.buckets.shut) in
         let w = end_word_is passed e rest whole parts.0 behind in
         restrung l s id b v h at has_some below shut.mine (end_word z b passed) (first_of rest) (taken_from b e.link v.buckets) es (record {
           string = w.string;
@@ -258,16 +258,16 @@ module _ (l : Ledger) (s : State Slot View) (id b : ℕ) (v : View) (h : IsKept 
             cond_both (k.link == e.link) (record k { next = None; up = false }) k (λ (n : Hook). n.up ≡ true → (n.link ≡ k.link) × (k.up ≡ true))
             (λ p up. absurd (false≢true up)) (λ p up. (refl, up))
 
-        low_first : (es : List Entry) → Each (IsLinked v.passes.sizes s.words b) es → first_of es ≤ last_link v.passes.sizes
+        low_first : (es : List ChainLink) → Each (IsLinked v.passes.sizes s.words b) es → first_of es ≤ last_link v.passes.sizes
         low_first [] each = omega arith
         low_first (x ∷ xs) each = low_link x.link (each 0 x refl).some (each 0 x refl).below
           where
             low_link : (x : ℕ) → 0 < x → place_of x < v.passes.sizes.entries → x ≤ last_link v.passes.sizes
             low_link x any low = omega (arith, any, low)
 
-        in_bucket : (g : Entry → ℕ) → side v.passes.sizes b g e ≡ g e
+        in_bucket : (g : ChainLink → ℕ) → side v.passes.sizes b g e ≡ g e
         in_bucket g = ap (λ (t : Bool). if t then g e else 0) (eq-eqb (bucket_of v.passes.sizes e.pair) b parts.1.1.placed)
 
-        not_in : (c : ℕ) → c ≢ b → (g : Entry → ℕ) → side v.passes.sizes c g e ≡ 0
+        not_in : (c : ℕ) → c ≢ b → (g : ChainLink → ℕ) → side v.passes.sizes c g e ≡ 0
         not_in c other g =
             ap (λ (t : Bool). if t then g e else 0) (ne_eqb (bucket_of v.passes.sizes e.pair) c (λ same. other (sym same ∙ parts.1.1.placed)))

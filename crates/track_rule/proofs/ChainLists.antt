@@ -7,7 +7,7 @@ use lib.ListN.{get_elem?}
 use Rattle.history_book.specs.declared.event.Event.{Event}
 use Rattle.history_book.specs.declared.record.Record.{Record}
 use Rattle.history_book.specs.declared.sizes.Sizes.{Sizes}
-use Rattle.track_rule.specs.declared.view.Entry.{Entry}
+use Rattle.track_rule.specs.declared.view.ChainLink.{ChainLink}
 use Rattle.track_rule.specs.declared.view.Hook.{Hook}
 use Rattle.track_rule.specs.declared.view.View.{View}
 use Rattle.track_rule.specs.BucketSteps.{IsChainOf, IsEntryOf, end_word, first_of, has_link, is_up_in}
@@ -23,32 +23,32 @@ use Rattle.track_rule.proofs.Lists.{bit_both, bit_fails, bit_low, other_bit, sam
 use Rattle.track_rule.proofs.Sums.{total_gap, total_le, total_term}
 
 -- what entries weigh that were passed, and those after them
-pub total_rev : (f : Entry → ℕ) (passed rest : List Entry) → total f (rev_onto passed rest) ≡ total f passed + total f rest
+pub total_rev : (f : ChainLink → ℕ) (passed rest : List ChainLink) → total f (rev_onto passed rest) ≡ total f passed + total f rest
 total_rev f [] rest = omega arith
 total_rev f (p ∷ ps) rest = omega (arith, total_rev f ps (p ∷ rest))
 
-pub length_rev : (passed rest : List Entry) → length (rev_onto passed rest) ≡ length passed + length rest
+pub length_rev : (passed rest : List ChainLink) → length (rev_onto passed rest) ≡ length passed + length rest
 length_rev [] rest = omega arith
 length_rev (p ∷ ps) rest = omega (arith, length_rev ps (p ∷ rest))
 
 module _ (z : Sizes) (ws : List ℕ) (b : ℕ) where
   -- behind what was passed the chain goes on
-  pub chain_at : (passed rest : List Entry) → (head : ℕ) → head ≡ slice_index ws (end_word z b []) → IsChain z ws b head (rev_onto passed rest)
+  pub chain_at : (passed rest : List ChainLink) → (head : ℕ) → head ≡ slice_index ws (end_word z b []) → IsChain z ws b head (rev_onto passed rest)
       → IsChain z ws b (slice_index ws (end_word z b passed)) rest
   chain_at [] rest head e h = subst (λ (n : ℕ). IsChain z ws b n rest) e h
   chain_at (p ∷ ps) rest head e h = (chain_at ps (p ∷ rest) head e h).2
 
-  pub chain_first : (link : ℕ) (es : List Entry) → IsChain z ws b link es → link ≡ first_of es
+  pub chain_first : (link : ℕ) (es : List ChainLink) → IsChain z ws b link es → link ≡ first_of es
   chain_first link [] h = h
   chain_first link (e ∷ es) h = h.0
 
   -- its entries are of the bucket
-  pub chain_each : (link : ℕ) (es : List Entry) → IsChain z ws b link es → Each (IsLinked z ws b) es
+  pub chain_each : (link : ℕ) (es : List ChainLink) → IsChain z ws b link es → Each (IsLinked z ws b) es
   chain_each link [] h i x at = absurd (some-ne-none x (sym at))
   chain_each link (e ∷ es) h zero x at = subst (IsLinked z ws b) (some-injective e x at) h.1
   chain_each link (e ∷ es) h (suc i) x at = chain_each (slice_index ws (next_word z e.link)) es h.2 i x at
 
-  pub entry_each : (es : List Entry) → Each (IsLinked z ws b) es → Each (IsEntryOf z b) es
+  pub entry_each : (es : List ChainLink) → Each (IsLinked z ws b) es → Each (IsEntryOf z b) es
   entry_each es h i x at =
       let k = h i x at in
       record { some = k.some; below = low_link x.link k.some k.below; placed = k.placed }
@@ -61,33 +61,33 @@ pub total_zero : {X : Type 0} (f : X → ℕ) (xs : List X) → Each (λ x. f x 
 total_zero f [] h = refl
 total_zero f (x ∷ xs) h = omega (arith, h 0 x refl, total_zero f xs (λ i y at. h (suc i) y at))
 
-times_map : (f : Entry → ℕ) (p : ℕ) (es : List Entry) → times p (map f es) ≡ total (λ e. bit (f e == p)) es
+times_map : (f : ChainLink → ℕ) (p : ℕ) (es : List ChainLink) → times p (map f es) ≡ total (λ e. bit (f e == p)) es
 times_map f p [] = refl
 times_map f p (e ∷ es) = omega (arith, times_map f p es)
 
-length_links : (f : Entry → ℕ) (es : List Entry) → length (map f es) ≡ length es
+length_links : (f : ChainLink → ℕ) (es : List ChainLink) → length (map f es) ≡ length es
 length_links f [] = refl
 length_links f (e ∷ es) = omega (arith, length_links f es)
 
 -- a chain in which each link stands once at most is no longer than there are links
-pub few_entries : (z : Sizes) (b : ℕ) (es : List Entry) → Each (IsEntryOf z b) es → ((x : ℕ) → 0 < x → total (is_at_link x) es ≤ 1) → length es ≤ last_link z
+pub few_entries : (z : Sizes) (b : ℕ) (es : List ChainLink) → Each (IsEntryOf z b) es → ((x : ℕ) → 0 < x → total (is_at_link x) es ≤ 1) → length es ≤ last_link z
 few_entries z b es each lone =
     omega (
       arith,
-      few_places (last_link z) (map (λ (e : Entry). e.link - 1) es) []
+      few_places (last_link z) (map (λ (e : ChainLink). e.link - 1) es) []
           (λ p low. omega (
             arith,
-            times_map (λ (e : Entry). e.link - 1) p es,
+            times_map (λ (e : ChainLink). e.link - 1) p es,
             lone (p + 1) (omega arith),
-            total_le (λ (e : Entry). bit (e.link - 1 == p)) (is_at_link (p + 1)) es (λ i e at. next_bit e.link p (each i e at).some),
+            total_le (λ (e : ChainLink). bit (e.link - 1 == p)) (is_at_link (p + 1)) es (λ i e at. next_bit e.link p (each i e at).some),
           ))
           (λ p above. omega (
             arith,
-            times_map (λ (e : Entry). e.link - 1) p es,
-            total_zero (λ (e : Entry). bit (e.link - 1 == p)) es
+            times_map (λ (e : ChainLink). e.link - 1) p es,
+            total_zero (λ (e : ChainLink). bit (e.link - 1 == p)) es
                 (λ i e at. other_bit (e.link - 1) p (λ x. omega (arith, x, above, (each i e at).some, (each i e at).below))),
           )),
-      length_links (λ (e : Entry). e.link - 1) es,
+      length_links (λ (e : ChainLink). e.link - 1) es,
     )
   where
     next_bit : (x p : ℕ) → 0 < x → bit (x - 1 == p) ≤ bit (x == p + 1)
@@ -97,7 +97,7 @@ few_entries z b es each lone =
         (cases_eq (x - 1) p)
 
 -- in a bucket an entry weighs what it weighs, or nothing
-pub side_low : (z : Sizes) (b : ℕ) (f : Entry → ℕ) (e : Entry) → side z b f e ≤ f e
+pub side_low : (z : Sizes) (b : ℕ) (f : ChainLink → ℕ) (e : ChainLink) → side z b f e ≤ f e
 side_low z b f e = pick (bucket_of z e.pair == b) (f e)
   where
     pick : (b : Bool) (n : ℕ) → (if b then n else 0) ≤ n
@@ -183,14 +183,14 @@ up_some z b x (h ∷ hs) e =
     on u b n e f = rw (e, f) refl
 
 -- what weighs less weighs less in a bucket, and what weighs nothing weighs nothing there
-pub side_le : (z : Sizes) (b : ℕ) (f g : Entry → ℕ) (e : Entry) → f e ≤ g e → side z b f e ≤ side z b g e
+pub side_le : (z : Sizes) (b : ℕ) (f g : ChainLink → ℕ) (e : ChainLink) → f e ≤ g e → side z b f e ≤ side z b g e
 side_le z b f g e le = low (bucket_of z e.pair == b)
   where
     low : (k : Bool) → (if k then f e else 0) ≤ (if k then g e else 0)
     low true = le
     low false = omega arith
 
-pub loose_zero : (z : Sizes) (b : ℕ) (f : Entry → ℕ) (hooks : List Hook) → Each (λ h. f (entry_of h) ≡ 0) hooks
+pub loose_zero : (z : Sizes) (b : ℕ) (f : ChainLink → ℕ) (hooks : List Hook) → Each (λ h. f (entry_of h) ≡ 0) hooks
     → total (λ (h : Hook). (if h.up then side z b f (entry_of h) else 0)) hooks ≡ 0
 loose_zero z b f hooks none =
     total_zero (λ (h : Hook). (if h.up then side z b f (entry_of h) else 0)) hooks (λ i h at. off h.up (bucket_of z h.pair == b) (f (entry_of h)) (none i h at))
@@ -200,7 +200,7 @@ loose_zero z b f hooks none =
     off true false n e = refl
     off false k n e = refl
 
-module _ (z : Sizes) (log : List Event) (ws : List ℕ) (vs : List View) (chains : ℕ → List Entry) (h : AreChains z log ws vs chains)
+module _ (z : Sizes) (log : List Event) (ws : List ℕ) (vs : List View) (chains : ℕ → List ChainLink) (h : AreChains z log ws vs chains)
     (b : ℕ) (below : b < z.buckets) where
   -- a link stands in a chain once at most
   pub alone : (x : ℕ) → 0 < x → total (is_at_link x) (chains b) ≤ 1
@@ -226,27 +226,27 @@ module _ (z : Sizes) (log : List Event) (ws : List ℕ) (vs : List View) (chains
       )
 
   -- a link of a pass names no id
-  pub unnamed : (x i : ℕ) (v : View) → get_elem? vs i ≡ some v → 0 < x → 0 < hooks_at x v → total (λ (e : Entry). bit (e.link == x && is_some e.id)) (chains b) ≡ 0
+  pub unnamed : (x i : ℕ) (v : View) → get_elem? vs i ≡ some v → 0 < x → 0 < hooks_at x v → total (λ (e : ChainLink). bit (e.link == x && is_some e.id)) (chains b) ≡ 0
   unnamed x i v at any mine =
       omega (
         arith,
-        h.chained b below (λ (e : Entry). bit (e.link == x && is_some e.id)),
+        h.chained b below (λ (e : ChainLink). bit (e.link == x && is_some e.id)),
         h.lone x any,
         total_term (hooks_at x) vs i v at,
-        total_le (links_in z b (λ (e : Entry). bit (e.link == x && is_some e.id))) (of_place (place_of x)) (records_after log) (λ j r there. omega (
+        total_le (links_in z b (λ (e : ChainLink). bit (e.link == x && is_some e.id))) (of_place (place_of x)) (records_after log) (λ j r there. omega (
           arith,
           record_links z b x any r,
-          side_le z b (λ (e : Entry). bit (e.link == x && is_some e.id)) (is_at_link x) (original_of r) (bit_both (1 + 2 * r.place == x) true),
-          side_le z b (λ (e : Entry). bit (e.link == x && is_some e.id)) (is_at_link x) (reply_of r) (bit_both (2 + 2 * r.place == x) true),
+          side_le z b (λ (e : ChainLink). bit (e.link == x && is_some e.id)) (is_at_link x) (original_of r) (bit_both (1 + 2 * r.place == x) true),
+          side_le z b (λ (e : ChainLink). bit (e.link == x && is_some e.id)) (is_at_link x) (reply_of r) (bit_both (2 + 2 * r.place == x) true),
         )),
-        total_zero (loose_of z b (λ (e : Entry). bit (e.link == x && is_some e.id))) vs (λ j u there.
-            loose_zero z b (λ (e : Entry). bit (e.link == x && is_some e.id)) u.buckets.hooks (λ k m at'. bit_fails (m.link == x))),
+        total_zero (loose_of z b (λ (e : ChainLink). bit (e.link == x && is_some e.id))) vs (λ j u there.
+            loose_zero z b (λ (e : ChainLink). bit (e.link == x && is_some e.id)) u.buckets.hooks (λ k m at'. bit_fails (m.link == x))),
       )
 
   -- one that is up in this bucket stands in its chain
   pub linked_up : (x i : ℕ) (v : View) → get_elem? vs i ≡ some v → is_up_in z b x v.buckets.hooks ≡ true → has_link x (chains b) ≡ true
   linked_up x i v at up =
-      some_of (λ (e : Entry). e.link == x) (chains b) (omega (
+      some_of (λ (e : ChainLink). e.link == x) (chains b) (omega (
         arith,
         h.chained b below (is_at_link x),
         total_term (loose_of z b (is_at_link x)) vs i v at,

@@ -10,7 +10,7 @@ use Rattle.history_book.specs.declared.event.Event.{Event}
 use Rattle.history_book.specs.declared.sizes.Sizes.{Sizes}
 use Rattle.track_rule.specs.Free.{is_among}
 use Rattle.track_rule.specs.declared.slot.Slot.{Slot}
-use Rattle.track_rule.specs.declared.view.Entry.{Entry}
+use Rattle.track_rule.specs.declared.view.ChainLink.{ChainLink}
 use Rattle.track_rule.specs.declared.view.Hook.{Hook}
 use Rattle.track_rule.specs.declared.view.HeldBuckets.{HeldBuckets}
 use Rattle.track_rule.specs.declared.view.View.{View}
@@ -50,11 +50,11 @@ down_at (h ∷ hs) (suc i) k at off = ap (λ (b : Bool). (h.link == k.link && no
     or_true false = refl
 
 -- the chain of one bucket is another
-abbrev pub rechained : (ℕ → List Entry) → ℕ → List Entry → ℕ → List Entry
+abbrev pub rechained : (ℕ → List ChainLink) → ℕ → List ChainLink → ℕ → List ChainLink
 rechained chains b es c = (if c == b then es else chains c)
 
 -- What a store does to the chain of a bucket, and to what the pass knows of it. No other chain has the word.
-pub record Restrings (z : Sizes) (s : State Slot View) (chains : ℕ → List Entry) (id b word to : ℕ) (v : View) (buckets : HeldBuckets) (es : List Entry) : Type 0 where
+pub record Restrings (z : Sizes) (s : State Slot View) (chains : ℕ → List ChainLink) (id b word to : ℕ) (v : View) (buckets : HeldBuckets) (es : List ChainLink) : Type 0 where
   pub string : IsString z word
   pub long : word < length s.words
   pub low : to ≤ last_link z
@@ -65,8 +65,8 @@ pub record Restrings (z : Sizes) (s : State Slot View) (chains : ℕ → List En
   pub off : (j : ℕ) (u : View) → get_elem? s.views j ≡ some u → Each (λ k. k.up ≡ false → next_word z k.link ≢ word) u.buckets.hooks
   pub chain : IsChain z (slice_set s.words word to) b (slice_index (slice_set s.words word to) (head_word z b)) es
   pub ordered : IsOrdered es
-  pub weights : (g : Entry → ℕ) → total g es + loose_of z b g v ≡ total g (chains b) + loose_of z b g (strung word to buckets v)
-  pub elsewhere : (c : ℕ) → c ≢ b → (g : Entry → ℕ) → loose_of z c g (strung word to buckets v) ≡ loose_of z c g v
+  pub weights : (g : ChainLink → ℕ) → total g es + loose_of z b g v ≡ total g (chains b) + loose_of z b g (strung word to buckets v)
+  pub elsewhere : (c : ℕ) → c ≢ b → (g : ChainLink → ℕ) → loose_of z c g (strung word to buckets v) ≡ loose_of z c g v
   pub links : (x : ℕ) → hooks_of x buckets.hooks ≡ hooks_of x v.buckets.hooks
   pub shuts : (c : ℕ) → shuts_of c (strung word to buckets v) ≡ shuts_of c v
   pub here : chain_in b buckets.shut ≡ es
@@ -83,7 +83,7 @@ module _ (l : Ledger) (s : State Slot View) (id b : ℕ) (v : View) (h : IsKept 
       half : (n : ℕ) → n % 2 < 2
       half n = omega arith
 
-  module _ (word to : ℕ) (buckets : HeldBuckets) (es : List Entry) (t : Restrings v.passes.sizes s l.chains id b word to v buckets es) where
+  module _ (word to : ℕ) (buckets : HeldBuckets) (es : List ChainLink) (t : Restrings v.passes.sizes s l.chains id b word to v buckets es) where
     chains_here : rechained l.chains b es b ≡ es
     chains_here = ap (λ (k : Bool). if k then es else l.chains b) (eq-eqb b b refl)
 
@@ -91,7 +91,7 @@ module _ (l : Ledger) (s : State Slot View) (id b : ℕ) (v : View) (h : IsKept 
     chains_else c other = ap (λ (k : Bool). if k then es else l.chains c) (ne_eqb c b other)
 
     -- where it is so of the one chain, and of the others, it is so of all
-    on_each : (P : ℕ → List Entry → Type 0) → P b es → ((c : ℕ) → c ≢ b → P c (l.chains c)) → (c : ℕ) → P c (rechained l.chains b es c)
+    on_each : (P : ℕ → List ChainLink → Type 0) → P b es → ((c : ℕ) → c ≢ b → P c (l.chains c)) → (c : ℕ) → P c (rechained l.chains b es c)
     on_each P one others c =
         ⊎_elim
         (λ (e : c ≡ b). subst (λ (k : ℕ). P k (rechained l.chains b es k)) (sym e) (subst (P b) (sym chains_here) one))
@@ -109,7 +109,7 @@ module _ (l : Ledger) (s : State Slot View) (id b : ℕ) (v : View) (h : IsKept 
           stands = λ here even.
               ⊎_elim
               (λ (e : m.bucket ≡ b). absurd (omega (arith, sym gen ∙ here, even, odd, ap (gen_at z s.words) e)))
-              (λ (e : m.bucket ≢ b). subst (λ (xs : List Entry). Stands xs m) (sym (chains_else m.bucket e)) (w.stands (sym gen ∙ here) even))
+              (λ (e : m.bucket ≢ b). subst (λ (xs : List ChainLink). Stands xs m) (sym (chains_else m.bucket e)) (w.stands (sym gen ∙ here) even))
               (cases_eq m.bucket b);
           known = λ point at'.
               let k = w.known point at' in
@@ -157,7 +157,7 @@ module _ (l : Ledger) (s : State Slot View) (id b : ℕ) (v : View) (h : IsKept 
               (λ c other under.
               each_other (λ u. 0 < shuts_of c u → chain_in c u.buckets.shut ≡ l.chains c) s.views id w (λ j u apart at' any. h.chains.mine c under j u at' any)
               (λ any. t.there c other ∙ h.chains.mine c under id v at (omega (arith, any, t.shuts c))));
-          chained = on_each (λ c xs. c < z.buckets → (g : Entry → ℕ) → total g xs ≡ total (links_in z c g) (records_after l.log) + total (loose_of z c g) (set s.views id w))
+          chained = on_each (λ c xs. c < z.buckets → (g : ChainLink → ℕ) → total g xs ≡ total (links_in z c g) (records_after l.log) + total (loose_of z c g) (set s.views id w))
               (λ under g. omega (arith, h.chains.chained b below g, t.weights g, total_set (loose_of z b g) s.views id v w at))
               (λ c other under g.
               h.chains.chained c under g
@@ -254,7 +254,7 @@ module _ (l : Ledger) (s : State Slot View) (id b x : ℕ) (v : View) (h : IsKep
       low_place : (y : ℕ) → 0 < y → y ≤ last_link v.passes.sizes → place_of y < v.passes.sizes.entries
       low_place y any low = omega (arith, any, low)
 
-  put_loose : (c : ℕ) (g : Entry → ℕ)
+  put_loose : (c : ℕ) (g : ChainLink → ℕ)
       → loose_of v.passes.sizes c g (strung (head_word v.passes.sizes b) x (put_in b x v.buckets) v)
       ≡ loose_of v.passes.sizes c g v + side v.passes.sizes c g (entry_of (hook_of x v.buckets.hooks))
   put_loose c g =
@@ -280,7 +280,7 @@ module _ (l : Ledger) (s : State Slot View) (id b x : ℕ) (v : View) (h : IsKep
       let new : List ℕ = slice_set s.words (head_word z b) x in
       let own = own_link l s id v h at has_some x down in
       let k : Hook = hook_of x v.buckets.hooks in
-      let es : List Entry = entry_of (hook_of x v.buckets.hooks) ∷ chain_in b v.buckets.shut in
+      let es : List ChainLink = entry_of (hook_of x v.buckets.hooks) ∷ chain_in b v.buckets.shut in
       let there = hook_there x (IsHook z s.words) v.buckets.hooks own.2 (h.links.hooks id v at).each in
       let known : chain_in b v.buckets.shut ≡ l.chains b = h.chains.mine b below id v at mine in
       restrung l s id b v h at has_some below mine (head_word z b) x (put_in b x v.buckets) es (record {
@@ -296,7 +296,7 @@ module _ (l : Ledger) (s : State Slot View) (id b x : ℕ) (v : View) (h : IsKep
         ordered = (
           λ reply. omega (
             arith,
-            ap (λ (xs : List Entry). total (is_at_link ((hook_of x v.buckets.hooks).link - 1)) xs) known,
+            ap (λ (xs : List ChainLink). total (is_at_link ((hook_of x v.buckets.hooks).link - 1)) xs) known,
             ap (λ (y : ℕ). total (is_at_link (y - 1)) (l.chains b)) there.1,
             unlinked z l.log s.words s.views l.chains h.chains b below (x - 1) id v at (behind x own.0 (ap side_of (sym there.1) ∙ reply)) (before (ap side_of (sym there.1) ∙ reply)),
           ),
@@ -334,12 +334,12 @@ module _ (l : Ledger) (s : State Slot View) (id b x : ℕ) (v : View) (h : IsKep
       behind : (y : ℕ) → 0 < y → side_of y ≡ 1 → 0 < y - 1
       behind y any e = omega (arith, any, e)
 
-      in_bucket : (g : Entry → ℕ) → side v.passes.sizes b g (entry_of (hook_of x v.buckets.hooks)) ≡ g (entry_of (hook_of x v.buckets.hooks))
+      in_bucket : (g : ChainLink → ℕ) → side v.passes.sizes b g (entry_of (hook_of x v.buckets.hooks)) ≡ g (entry_of (hook_of x v.buckets.hooks))
       in_bucket g =
           ap (λ (t : Bool). if t then g (entry_of (hook_of x v.buckets.hooks)) else 0)
           (eq-eqb (bucket_of v.passes.sizes (hook_of x v.buckets.hooks).pair) b placed)
 
-      not_in : (c : ℕ) → c ≢ b → (g : Entry → ℕ) → side v.passes.sizes c g (entry_of (hook_of x v.buckets.hooks)) ≡ 0
+      not_in : (c : ℕ) → c ≢ b → (g : ChainLink → ℕ) → side v.passes.sizes c g (entry_of (hook_of x v.buckets.hooks)) ≡ 0
       not_in c other g =
           ap (λ (t : Bool). if t then g (entry_of (hook_of x v.buckets.hooks)) else 0)
           (ne_eqb (bucket_of v.passes.sizes (hook_of x v.buckets.hooks).pair) c (λ e. other (sym e ∙ placed)))

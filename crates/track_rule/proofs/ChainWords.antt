@@ -5,7 +5,7 @@ use Rattle.std.proofs.lemmas.Bool.{cases_eq}
 use Rattle.std.proofs.lemmas.List.{get_or-set_other, get_or-set_same}
 use mathlib.Core.Option.{some-injective, some-ne-none}
 use Rattle.history_book.specs.declared.sizes.Sizes.{Sizes}
-use Rattle.track_rule.specs.declared.view.Entry.{Entry}
+use Rattle.track_rule.specs.declared.view.ChainLink.{ChainLink}
 use Rattle.track_rule.specs.BucketSteps.{end_word}
 use Rattle.track_rule.specs.Chains.{IsChain, IsLinked, bucket_of, is_at_link}
 use Rattle.track_rule.specs.Layout.{first_word, gen_at, gen_word, head_word, next_word, phase_word, refs_word, second_word, turn_word}
@@ -120,7 +120,7 @@ pub record SameAt (z : Sizes) (ws ws' : List ℕ) (x : ℕ) : Type 0 where
   pub next : slice_index ws' (next_word z x) ≡ slice_index ws (next_word z x)
 
 module _ (z : Sizes) (ws ws' : List ℕ) (b : ℕ) where
-  pub chain_local : (link : ℕ) (es : List Entry) → IsChain z ws b link es → Each (λ e. SameAt z ws ws' e.link) es → IsChain z ws' b link es
+  pub chain_local : (link : ℕ) (es : List ChainLink) → IsChain z ws b link es → Each (λ e. SameAt z ws ws' e.link) es → IsChain z ws' b link es
   chain_local link [] h same = h
   chain_local link (e ∷ es) h same =
       let here : SameAt z ws ws' e.link = same 0 e refl in (
@@ -131,18 +131,18 @@ module _ (z : Sizes) (ws ws' : List ℕ) (b : ℕ) where
       )
 
 -- entries that were passed, the newest first, stand in the words one after another
-abbrev pub IsPassed : Sizes → List ℕ → ℕ → List Entry → Type 0
+abbrev pub IsPassed : Sizes → List ℕ → ℕ → List ChainLink → Type 0
 IsPassed z ws b [] = Unit {0}
 IsPassed z ws b (p ∷ ps) = (slice_index ws (end_word z b ps) ≡ p.link) × IsLinked z ws b p × IsPassed z ws b ps
 
 module _ (z : Sizes) (ws : List ℕ) (b : ℕ) where
   -- a chain is what was passed, and what comes after it
-  pub chain_split : (passed rest : List Entry) → IsChain z ws b (slice_index ws (head_word z b)) (rev_onto passed rest)
+  pub chain_split : (passed rest : List ChainLink) → IsChain z ws b (slice_index ws (head_word z b)) (rev_onto passed rest)
       → IsPassed z ws b passed × IsChain z ws b (slice_index ws (end_word z b passed)) rest
   chain_split [] rest h = (tt, h)
   chain_split (p ∷ ps) rest h = let t = chain_split ps (p ∷ rest) h in ((t.1.0, t.1.1, t.0), t.1.2)
 
-  pub chain_join : (passed rest : List Entry) → IsPassed z ws b passed → IsChain z ws b (slice_index ws (end_word z b passed)) rest
+  pub chain_join : (passed rest : List ChainLink) → IsPassed z ws b passed → IsChain z ws b (slice_index ws (end_word z b passed)) rest
       → IsChain z ws b (slice_index ws (head_word z b)) (rev_onto passed rest)
   chain_join [] rest p h = h
   chain_join (q ∷ qs) rest p h = chain_join qs (q ∷ rest) p.2 (p.0, p.1, h)
@@ -156,30 +156,30 @@ pub record NextElse (z : Sizes) (ws ws' : List ℕ) (b y : ℕ) : Type 0 where
 
 module _ (z : Sizes) (ws ws' : List ℕ) (b y : ℕ) (other : NextElse z ws ws' b y) where
   -- what was passed before it stands there still
-  pub end_kept : (ps : List Entry) → total (is_at_link y) ps ≡ 0 → IsPassed z ws b ps → slice_index ws' (end_word z b ps) ≡ slice_index ws (end_word z b ps)
+  pub end_kept : (ps : List ChainLink) → total (is_at_link y) ps ≡ 0 → IsPassed z ws b ps → slice_index ws' (end_word z b ps) ≡ slice_index ws (end_word z b ps)
   end_kept [] none p = other.head
   end_kept (q ∷ qs) none p = other.nexts q.link p.1.some (λ e. omega (arith, none, same_bit q.link y e))
 
-  linked_kept : (e : Entry) → IsLinked z ws b e → IsLinked z ws' b e
+  linked_kept : (e : ChainLink) → IsLinked z ws b e → IsLinked z ws' b e
   linked_kept e p = record { some = p.some; below = p.below; first = other.firsts e.link ∙ p.first; second = other.seconds e.link ∙ p.second; placed = p.placed }
 
-  pub passed_kept : (ps : List Entry) → total (is_at_link y) ps ≡ 0 → IsPassed z ws b ps → IsPassed z ws' b ps
+  pub passed_kept : (ps : List ChainLink) → total (is_at_link y) ps ≡ 0 → IsPassed z ws b ps → IsPassed z ws' b ps
   passed_kept [] none p = tt
   passed_kept (q ∷ qs) none p =
       (end_kept qs (omega (arith, none)) p.2 ∙ p.0, linked_kept q p.1, passed_kept qs (omega (arith, none)) p.2)
 
   -- and so does that link itself
-  pub passed_to : (p : Entry) (ps : List Entry) → total (is_at_link y) ps ≡ 0 → IsPassed z ws b (p ∷ ps) → IsPassed z ws' b (p ∷ ps)
+  pub passed_to : (p : ChainLink) (ps : List ChainLink) → total (is_at_link y) ps ≡ 0 → IsPassed z ws b (p ∷ ps) → IsPassed z ws' b (p ∷ ps)
   passed_to p ps none t = (end_kept ps none t.2 ∙ t.0, linked_kept p t.1, passed_kept ps none t.2)
 
 -- entries whose link is not this one
-pub each_other_link : (x : ℕ) (es : List Entry) → total (is_at_link x) es ≡ 0 → Each (λ e. e.link ≢ x) es
+pub each_other_link : (x : ℕ) (es : List ChainLink) → total (is_at_link x) es ≡ 0 → Each (λ e. e.link ≢ x) es
 each_other_link x [] none i e at = absurd (some-ne-none e (sym at))
-each_other_link x (y ∷ ys) none zero e at = λ same. omega (arith, none, same_bit y.link x (ap (λ (k : Entry). k.link) (some-injective y e at) ∙ same))
+each_other_link x (y ∷ ys) none zero e at = λ same. omega (arith, none, same_bit y.link x (ap (λ (k : ChainLink). k.link) (some-injective y e at) ∙ same))
 each_other_link x (y ∷ ys) none (suc i) e at = each_other_link x ys (omega (arith, none)) i e at
 
 -- the bucket of a link that stands in a chain
-pub bucket_there : (z : Sizes) (ws : List ℕ) (b y : ℕ) (es : List Entry) → Each (IsLinked z ws b) es → 1 ≤ total (is_at_link y) es
+pub bucket_there : (z : Sizes) (ws : List ℕ) (b y : ℕ) (es : List ChainLink) → Each (IsLinked z ws b) es → 1 ≤ total (is_at_link y) es
     → bucket_of z (record { first = slice_index ws (first_word z y); second = slice_index ws (second_word z y) }) ≡ b
 bucket_there z ws b y [] each any = absurd (omega (arith, any))
 bucket_there z ws b y (e ∷ es) each any =

@@ -14,7 +14,7 @@ use Rattle.history_book.specs.declared.event.Event.{Event}
 use Rattle.history_book.specs.declared.event.Event.TheVariants.{Confirm}
 use Rattle.history_book.specs.declared.record.Record.{Record}
 use Rattle.history_book.specs.declared.sizes.Sizes.{Sizes}
-use Rattle.track_rule.specs.declared.view.Entry.{Entry}
+use Rattle.track_rule.specs.declared.view.ChainLink.{ChainLink}
 use Rattle.track_rule.specs.declared.view.Hook.{Hook}
 use Rattle.track_rule.specs.declared.view.Keep.{Keep}
 use Rattle.track_rule.specs.declared.view.Pair.{Pair}
@@ -218,7 +218,7 @@ same_pair t u e =
     flow z p q r = omega (arith, z, p, q, r)
 
 -- an entry with a tuple weighs one in the bucket of the tuple
-pub weighs_one : (z : Sizes) (t : Tuple) (e : Entry) → e.pair ≡ pair_of t → side z (bucket_of z (pair_of t)) (has_pair (pair_of t)) e ≡ 1
+pub weighs_one : (z : Sizes) (t : Tuple) (e : ChainLink) → e.pair ≡ pair_of t → side z (bucket_of z (pair_of t)) (has_pair (pair_of t)) e ≡ 1
 weighs_one z t e same =
     ap (λ (b : Bool). if b then has_pair (pair_of t) e else 0) (eq-eqb (bucket_of z e.pair) (bucket_of z (pair_of t)) (ap (bucket_of z) same))
     ∙ ap bit (and_from (e.pair.first == (pair_of t).first) (e.pair.second == (pair_of t).second)

@@ -18,7 +18,7 @@ use Rattle.history_book.specs.declared.event.Event.TheVariants.{Destroy}
 use Rattle.history_book.specs.declared.record.Record.{Record}
 use Rattle.history_book.specs.declared.sizes.Sizes.{Sizes}
 use Rattle.track_rule.specs.declared.slot.Slot.{Slot}
-use Rattle.track_rule.specs.declared.view.Entry.{Entry}
+use Rattle.track_rule.specs.declared.view.ChainLink.{ChainLink}
 use Rattle.track_rule.specs.declared.view.Hand.{Hand}
 use Rattle.track_rule.specs.declared.view.Hook.{Hook}
 use Rattle.track_rule.specs.declared.view.Middle.{Middle}
@@ -75,13 +75,13 @@ its_list i (Some before) list e = (before, refl, one_list list (without_master i
     one_list a b k = cc
 
 -- it is the entry of this link, with this tuple
-abbrev is_entry_at : ℕ → Pair → Entry → Bool
+abbrev is_entry_at : ℕ → Pair → ChainLink → Bool
 is_entry_at link p e = e.link == link && (e.pair.first == p.first && e.pair.second == p.second)
 
-abbrev is_entry : ℕ → Pair → Entry → ℕ
+abbrev is_entry : ℕ → Pair → ChainLink → ℕ
 is_entry link p e = bit (is_entry_at link p e)
 
-entry_weighs : (z : Sizes) (e : Entry) → side z (bucket_of z e.pair) (is_entry e.link e.pair) e ≡ 1
+entry_weighs : (z : Sizes) (e : ChainLink) → side z (bucket_of z e.pair) (is_entry e.link e.pair) e ≡ 1
 entry_weighs z e =
     ap (λ (k : Bool). if k then is_entry e.link e.pair e else 0) (eq-eqb (bucket_of z e.pair) (bucket_of z e.pair) refl)
     ∙ ap bit (λ i. eq-eqb e.link e.link refl i && (eq-eqb e.pair.first e.pair.first refl i && eq-eqb e.pair.second e.pair.second refl i))
@@ -338,17 +338,17 @@ module _ (l : Ledger) (s : State Slot View) (id : ℕ) (v : View) (d : Destroyin
   )
 
   -- a link weighs, once it names no id, what that of the pass weighs
-  weighs_loose : (b : ℕ) (f : Entry → ℕ)
+  weighs_loose : (b : ℕ) (f : ChainLink → ℕ)
       → links_in v.passes.sizes b (λ x. f (told r.place None x)) r
       ≡ side v.passes.sizes b f (entry_of (loose_hook (1 + 2 * r.place) r.original)) + side v.passes.sizes b f (entry_of (loose_hook (2 + 2 * r.place) r.reply))
   weighs_loose b f = omega (
     arith,
-    ap (λ (x : Entry). if bucket_of v.passes.sizes (pair_of r.original) == b then f x else 0) (named_here r.place None (original_of r) (omega arith)),
-    ap (λ (x : Entry). if bucket_of v.passes.sizes (pair_of r.reply) == b then f x else 0) (named_here r.place None (reply_of r) (omega arith)),
+    ap (λ (x : ChainLink). if bucket_of v.passes.sizes (pair_of r.original) == b then f x else 0) (named_here r.place None (original_of r) (omega arith)),
+    ap (λ (x : ChainLink). if bucket_of v.passes.sizes (pair_of r.reply) == b then f x else 0) (named_here r.place None (reply_of r) (omega arith)),
   )
 
   -- a chain that is told
-  told_weighs : (b : ℕ) → b < v.passes.sizes.buckets → (f : Entry → ℕ)
+  told_weighs : (b : ℕ) → b < v.passes.sizes.buckets → (f : ChainLink → ℕ)
       → total f (map (told r.place None) (l.chains b)) ≡ total (links_in v.passes.sizes b f) (records_after made) + total (loose_of v.passes.sizes b f) (set s.views id after_it)
   told_weighs b below f =
       let z : Sizes = v.passes.sizes in
@@ -365,7 +365,7 @@ module _ (l : Ledger) (s : State Slot View) (id : ℕ) (v : View) (d : Destroyin
       )
 
   -- one that is not
-  else_weighs : (b : ℕ) → b < v.passes.sizes.buckets → shuts_of b v ≡ 0 → (f : Entry → ℕ)
+  else_weighs : (b : ℕ) → b < v.passes.sizes.buckets → shuts_of b v ≡ 0 → (f : ChainLink → ℕ)
       → total f (l.chains b) ≡ total (links_in v.passes.sizes b f) (records_after made) + total (loose_of v.passes.sizes b f) (set s.views id after_it)
   else_weighs b below off f =
       let z : Sizes = v.passes.sizes in
@@ -435,7 +435,7 @@ module _ (l : Ledger) (s : State Slot View) (id : ℕ) (v : View) (d : Destroyin
         total_term (links_in z b (is_entry link (pair_of t))) (records_after l.log) there.0 r there.1,
         weight,
       )) in
-      let e : Entry = found.1 in
+      let e : ChainLink = found.1 in
       let parts = and_parts (found.1.link == link) (found.1.pair.first == (pair_of t).first && found.1.pair.second == (pair_of t).second) found.3 in
       let words_are = and_parts (found.1.pair.first == (pair_of t).first) (found.1.pair.second == (pair_of t).second) parts.1 in
       let same : found.1.link ≡ link = eqb-true found.1.link link parts.0 in

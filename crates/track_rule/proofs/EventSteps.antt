@@ -9,7 +9,7 @@ use Rattle.history_book.specs.History.{is_legal}
 use Rattle.history_book.specs.declared.event.Event.{Event}
 use Rattle.history_book.specs.declared.sizes.Sizes.{Sizes}
 use Rattle.track_rule.specs.declared.slot.Slot.{Slot}
-use Rattle.track_rule.specs.declared.view.Entry.{Entry}
+use Rattle.track_rule.specs.declared.view.ChainLink.{ChainLink}
 use Rattle.track_rule.specs.declared.view.HeldBuckets.{HeldBuckets}
 use Rattle.track_rule.specs.declared.view.Hook.{Hook}
 use Rattle.track_rule.specs.declared.view.Places.{Places}
@@ -41,7 +41,7 @@ use Rattle.track_rule.proofs.Sums.{each_put, total_same}
 pub record SameRecords (log made : List Event) : Type 0 where
   pub places : (p : ℕ) → total (of_place p) (records_after made) ≡ total (of_place p) (records_after log)
   pub both : (p i : ℕ) → total (of_both p i) (records_after made) ≡ total (of_both p i) (records_after log)
-  pub links : (z : Sizes) (b : ℕ) (f : Entry → ℕ) → total (links_in z b f) (records_after made) ≡ total (links_in z b f) (records_after log)
+  pub links : (z : Sizes) (b : ℕ) (f : ChainLink → ℕ) → total (links_in z b f) (records_after made) ≡ total (links_in z b f) (records_after log)
 
 -- what the pass that makes the event keeps, but for its walk
 pub record KeepsParts (v w : View) : Type 0 where
@@ -158,7 +158,7 @@ module _ (l : Ledger) (s : State Slot View) (id : ℕ) (v w : View) (e : Event) 
       same_shuts : (c : ℕ) → shuts_of c w ≡ shuts_of c v
       same_shuts c = ap (λ (x : HeldBuckets). shuts_in c x.shut) parts.buckets
 
-      same_loose : (b : ℕ) (f : Entry → ℕ) → loose_of v.passes.sizes b f w ≡ loose_of v.passes.sizes b f v
+      same_loose : (b : ℕ) (f : ChainLink → ℕ) → loose_of v.passes.sizes b f w ≡ loose_of v.passes.sizes b f v
       same_loose b f = ap (λ (x : HeldBuckets). total (λ (k : Hook). (if k.up then side v.passes.sizes b f (entry_of k) else 0)) x.hooks) parts.buckets
 
   event_hooks : HasHooks v.passes.sizes words w.places w.buckets.hooks

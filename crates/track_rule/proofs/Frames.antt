@@ -9,7 +9,7 @@ use Rattle.history_book.specs.declared.sizes.Sizes.{Sizes}
 use Rattle.track_rule.specs.declared.view.Places.{Places}
 use Rattle.track_rule.specs.declared.slot.Slot.{Slot}
 use Rattle.track_rule.specs.declared.view.Commit.{Commit}
-use Rattle.track_rule.specs.declared.view.Entry.{Entry}
+use Rattle.track_rule.specs.declared.view.ChainLink.{ChainLink}
 use Rattle.track_rule.specs.declared.view.Middle.{Middle}
 use Rattle.track_rule.specs.declared.view.Middle.TheVariants.{Calm, Born, Dying}
 use Rattle.track_rule.specs.declared.view.HeldBuckets.{HeldBuckets}
@@ -175,7 +175,7 @@ module _ (z : Sizes) (ws ws' : List ℕ) (still : Still z ws ws') where
   }
 
 module _ (z : Sizes) (ws ws' : List ℕ) (same : SameLinks z ws ws') where
-  pub chain_stays : (b link : ℕ) (es : List Entry) → IsChain z ws b link es → IsChain z ws' b link es
+  pub chain_stays : (b link : ℕ) (es : List ChainLink) → IsChain z ws b link es → IsChain z ws' b link es
   chain_stays b link [] h = h
   chain_stays b link (e ∷ es) h = (
     h.0,
@@ -207,8 +207,8 @@ module _ (z : Sizes) (ws ws' : List ℕ) (same : SameLinks z ws ws') where
 
 module _ (z : Sizes) (ws ws' : List ℕ) (same : SameChains z ws ws') where
   -- the chains, where all views together have shut the same, and as much of links that no record has
-  pub chains_stay : (log : List Event) (vs vs' : List View) (chains : ℕ → List Entry) → Carries (λ (v : View). v.buckets.shut) [] vs vs'
-      → ((b : ℕ) (weight : Entry → ℕ) → total (loose_of z b weight) vs' ≡ total (loose_of z b weight) vs)
+  pub chains_stay : (log : List Event) (vs vs' : List View) (chains : ℕ → List ChainLink) → Carries (λ (v : View). v.buckets.shut) [] vs vs'
+      → ((b : ℕ) (weight : ChainLink → ℕ) → total (loose_of z b weight) vs' ≡ total (loose_of z b weight) vs)
       → Each (λ v. (b : ℕ) → b < z.buckets → 0 < loose_of z b each_link v → 0 < shuts_of b v) vs'
       → ((link : ℕ) → 0 < link → total (hooks_at link) vs' + total (of_place (place_of link)) (records_after log) ≤ 1)
       → AreChains z log ws vs chains → AreChains z log ws' vs' chains
@@ -229,7 +229,7 @@ module _ (z : Sizes) (ws ws' : List ℕ) (same : SameChains z ws ws') where
     lone = lone;
   }
 
-  pub walk_stays : (chains : ℕ → List Entry) (front : List Event) (n : Walk) → IsWalk z ws chains front n → IsWalk z ws' chains front n
+  pub walk_stays : (chains : ℕ → List ChainLink) (front : List Event) (n : Walk) → IsWalk z ws chains front n → IsWalk z ws' chains front n
   walk_stays chains front n w = record {
     bucket = w.bucket;
     least = omega (arith, w.least, same.gens n.bucket w.bucket);
@@ -249,7 +249,7 @@ module _ (z : Sizes) (ws ws' : List ℕ) (same : SameChains z ws ws') where
   }
 
 -- A step that leaves the history, the phases, the turns of records and of the expectations: what the other parts say.
-pub kept : (z : Sizes) (l : Ledger) (s : State Slot View) (ws' : List ℕ) (hs' : List (Slotted Slot)) (vs' : List View) (free' : List ℕ) (chains' : ℕ → List Entry)
+pub kept : (z : Sizes) (l : Ledger) (s : State Slot View) (ws' : List ℕ) (hs' : List (Slotted Slot)) (vs' : List View) (free' : List ℕ) (chains' : ℕ → List ChainLink)
     → IsKept z l s → Still z s.words ws' → length ws' ≡ length s.words → Stays s.homes hs' → Leaves s.views vs'
     → ArePasses z l.log vs' → AreReferences z l.log ws' vs' → IsFreeList z ws' hs' vs' free'
     → AreChains z l.log ws' vs' chains' → AreLinks z ws' vs' → AreWalks z ws' vs' chains' → AreRead z ws' vs' → AreCommits z l.log vs'

@@ -4,7 +4,7 @@ use Rattle.std.specs.Prelude.{◌==◌, ◌&&◌, ◌||◌, if◌then◌else◌}
 use Rattle.std.specs.List.{list_any}
 use Rattle.std.proofs.lemmas.Bool.{and_parts, cases_Bool, cond_both, eq-eqb, eqb-true, false≢true, ne_eqb}
 use mathlib.Core.Option.{some-injective, some-ne-none}
-use Rattle.track_rule.specs.declared.view.Entry.{Entry}
+use Rattle.track_rule.specs.declared.view.ChainLink.{ChainLink}
 use Rattle.track_rule.specs.declared.view.Hook.{Hook}
 use Rattle.track_rule.specs.declared.view.Shut.{Shut}
 use Rattle.track_rule.specs.BucketSteps.{with_chain, without_link}
@@ -88,7 +88,7 @@ each_change P Q f (h ∷ hs) each change zero k at = subst Q (some-injective (f 
 each_change P Q f (h ∷ hs) each change (suc i) k at = each_change P Q f hs (λ j m at'. each (suc j) m at') change i k at
 
 -- the chain of a bucket that is shut is another one
-module _ (b : ℕ) (es : List Entry) where
+module _ (b : ℕ) (es : List ChainLink) where
   pub with_here : (shut : List Shut) → 0 < total (λ (s : Shut). bit (s.bucket == b)) shut → chain_in b (with_chain b es shut) ≡ es
   with_here [] any = absurd (omega (arith, any))
   with_here (s ∷ rest) any =
@@ -103,7 +103,7 @@ module _ (b : ℕ) (es : List Entry) where
       (λ e.
       let not_c : (s.bucket == c) ≡ false = ne_eqb s.bucket c (λ k. other (sym k ∙ eqb-true s.bucket b e)) in
       ap (λ (k : Bool). if k then es else chain_in c rest) not_c ∙ sym (ap (λ (k : Bool). if k then s.chain else chain_in c rest) not_c))
-      (λ e. ap (λ (xs : List Entry). if s.bucket == c then s.chain else xs) (with_else c other rest))
+      (λ e. ap (λ (xs : List ChainLink). if s.bucket == c then s.chain else xs) (with_else c other rest))
 
   pub with_shuts : (c : ℕ) (shut : List Shut) → total (λ (s : Shut). bit (s.bucket == c)) (with_chain b es shut) ≡ total (λ (s : Shut). bit (s.bucket == c)) shut
   with_shuts c [] = refl
@@ -114,17 +114,17 @@ module _ (b : ℕ) (es : List Entry) where
 
 -- a link that is taken out stands behind those that were passed
 module _ (x : ℕ) where
-  pub without_rev : (passed es : List Entry) → total (is_at_link x) passed ≡ 0 → without_link x (rev_onto passed es) ≡ rev_onto passed (without_link x es)
+  pub without_rev : (passed es : List ChainLink) → total (is_at_link x) passed ≡ 0 → without_link x (rev_onto passed es) ≡ rev_onto passed (without_link x es)
   without_rev [] es none = refl
   without_rev (p ∷ ps) es none =
       without_rev ps (p ∷ es) (omega (arith, none))
       ∙ ap (λ (k : Bool). rev_onto ps (if k then es else p ∷ without_link x es)) (ne_eqb p.link x (λ e. omega (arith, none, same_bit p.link x e)))
 
-  pub without_first : (e : Entry) (es : List Entry) → e.link ≡ x → without_link x (e ∷ es) ≡ es
+  pub without_first : (e : ChainLink) (es : List ChainLink) → e.link ≡ x → without_link x (e ∷ es) ≡ es
   without_first e es here = ap (λ (k : Bool). if k then es else e ∷ without_link x es) (eq-eqb e.link x here)
 
 -- fewer entries behind those that were passed leave the order
-pub ordered_rev : (passed es es' : List Entry) → ((x : ℕ) → total (is_at_link x) es' ≤ total (is_at_link x) es) → (IsOrdered es → IsOrdered es')
+pub ordered_rev : (passed es es' : List ChainLink) → ((x : ℕ) → total (is_at_link x) es' ≤ total (is_at_link x) es) → (IsOrdered es → IsOrdered es')
     → IsOrdered (rev_onto passed es) → IsOrdered (rev_onto passed es')
 ordered_rev [] es es' fewer order h = order h
 ordered_rev (p ∷ ps) es es' fewer order h =

@@ -6,7 +6,7 @@ use lib.ListN.{get_elem?}
 use Rattle.atomic_table.specs.Table.{Allows, State, keeps as unchanged, step}
 use Rattle.history_book.specs.declared.sizes.Sizes.{Sizes}
 use Rattle.track_rule.specs.declared.slot.Slot.{Slot}
-use Rattle.track_rule.specs.declared.view.Entry.{Entry}
+use Rattle.track_rule.specs.declared.view.ChainLink.{ChainLink}
 use Rattle.track_rule.specs.declared.view.View.{View}
 use Rattle.track_rule.specs.BucketSteps.{Aims, Cuts, IsShutAt, MayString, Puts, StoreLinkStep, Strings, aimed, end_word, first_of, put_in, strung, taken_from}
 use Rattle.track_rule.specs.Chains.{bucket_of, is_at_link}
@@ -25,7 +25,7 @@ use Rattle.track_rule.proofs.OwnWords.{aims_kept, own_link}
 module _ (l : Ledger) (s : State Slot View) (id : ℕ) (v : View) (h : IsKept v.passes.sizes l s) (at : get_elem? s.views id ≡ some v)
     (has_some : 0 < v.passes.shares) where
   -- a link in no chain is not one of a chain
-  not_both : (b x : ℕ) (passed rest : List Entry) → b < v.passes.sizes.buckets → IsShutAt b v passed rest → is_down x v.buckets.hooks ≡ true
+  not_both : (b x : ℕ) (passed rest : List ChainLink) → b < v.passes.sizes.buckets → IsShutAt b v passed rest → is_down x v.buckets.hooks ≡ true
       → 1 ≤ total (is_at_link x) passed + total (is_at_link x) rest → ⊥
   not_both b x passed rest below shut down any =
       omega (
@@ -37,7 +37,7 @@ module _ (l : Ledger) (s : State Slot View) (id : ℕ) (v : View) (h : IsKept v.
       )
 
   -- the word after such a link is not one of a chain
-  aim_not_cut : (b x : ℕ) (passed rest : List Entry) → b < v.passes.sizes.buckets → IsShutAt b v passed rest → is_down x v.buckets.hooks ≡ true
+  aim_not_cut : (b x : ℕ) (passed rest : List ChainLink) → b < v.passes.sizes.buckets → IsShutAt b v passed rest → is_down x v.buckets.hooks ≡ true
       → next_word v.passes.sizes x ≡ end_word v.passes.sizes b passed → ⊥
   aim_not_cut b x [] rest below shut down e = next_head v.passes.sizes x b below e
   aim_not_cut b x (p ∷ ps) rest below shut down e =
@@ -45,12 +45,12 @@ module _ (l : Ledger) (s : State Slot View) (id : ℕ) (v : View) (h : IsKept v.
       let here : x ≡ p.link = one_next v.passes.sizes x p.link own.0 (passed_some b p ps rest below shut) e in
       not_both b x (p ∷ ps) rest below shut down (omega (arith, same_bit p.link x (sym here)))
     where
-      passed_some : (b : ℕ) (p : Entry) (ps rest : List Entry) → b < v.passes.sizes.buckets → IsShutAt b v (p ∷ ps) rest → 0 < p.link
+      passed_some : (b : ℕ) (p : ChainLink) (ps rest : List ChainLink) → b < v.passes.sizes.buckets → IsShutAt b v (p ∷ ps) rest → 0 < p.link
       passed_some b p ps rest below shut =
           (chain_rest v.passes.sizes l s h id v at b ps (p ∷ rest) below (record { mine = shut.mine; all = shut.all })).1.some
 
   -- nor is it a link of one
-  put_not_cut : (b x : ℕ) (passed : List Entry) (e : Entry) (rest : List Entry) → b < v.passes.sizes.buckets → IsShutAt b v passed (e ∷ rest)
+  put_not_cut : (b x : ℕ) (passed : List ChainLink) (e : ChainLink) (rest : List ChainLink) → b < v.passes.sizes.buckets → IsShutAt b v passed (e ∷ rest)
       → is_down x v.buckets.hooks ≡ true → x ≡ first_of rest → ⊥
   put_not_cut b x passed e [] below shut down same = omega (arith, same, (own_link l s id v h at has_some x down).0)
   put_not_cut b x passed e (r ∷ rs) below shut down same =
@@ -78,7 +78,7 @@ module _ (l : Ledger) (s : State Slot View) (id : ℕ) (v : View) (h : IsKept v.
     same = refl;
   }
 
-  cuts_told : (b : ℕ) (passed : List Entry) (e : Entry) (rest : List Entry) → b < v.passes.sizes.buckets → IsShutAt b v passed (e ∷ rest)
+  cuts_told : (b : ℕ) (passed : List ChainLink) (e : ChainLink) (rest : List ChainLink) → b < v.passes.sizes.buckets → IsShutAt b v passed (e ∷ rest)
       → Strings (end_word v.passes.sizes b passed) (first_of rest) v (strung (end_word v.passes.sizes b passed) (first_of rest) (taken_from b e.link v.buckets) v)
   cuts_told b passed e rest below shut =
       let z : Sizes = v.passes.sizes in

@@ -13,7 +13,7 @@ use Rattle.history_book.specs.declared.event.Event.TheVariants.{Confirm}
 use Rattle.history_book.specs.declared.record.Record.{Record}
 use Rattle.history_book.specs.declared.sizes.Sizes.{Sizes}
 use Rattle.track_rule.specs.declared.slot.Slot.{Slot}
-use Rattle.track_rule.specs.declared.view.Entry.{Entry}
+use Rattle.track_rule.specs.declared.view.ChainLink.{ChainLink}
 use Rattle.track_rule.specs.declared.view.Pair.{Pair}
 use Rattle.track_rule.specs.declared.view.View.{View}
 use Rattle.track_rule.specs.Chains.{bucket_of, links_in, original_of, pair_of, reply_of, side}
@@ -30,11 +30,11 @@ use Rattle.track_rule.proofs.Sums.{total_term, total_le}
 use Rattle.track_rule.specs.Phases.{of_both, of_place}
 
 -- it is the link, with this tuple
-abbrev is_this : ℕ → Pair → Entry → Bool
+abbrev is_this : ℕ → Pair → ChainLink → Bool
 is_this link p e = e.link == link && (e.pair.first == p.first && e.pair.second == p.second)
 
 -- such an entry weighs one in the bucket of its tuple
-this_weighs : (z : Sizes) (link : ℕ) (p : Pair) (e : Entry) → e.link ≡ link → e.pair ≡ p → side z (bucket_of z p) (λ x. bit (is_this link p x)) e ≡ 1
+this_weighs : (z : Sizes) (link : ℕ) (p : Pair) (e : ChainLink) → e.link ≡ link → e.pair ≡ p → side z (bucket_of z p) (λ x. bit (is_this link p x)) e ≡ 1
 this_weighs z link p e here pair =
     ap (λ (t : Bool). if t then bit (is_this link p e) else 0) (eq-eqb (bucket_of z e.pair) (bucket_of z p) (ap (bucket_of z) pair))
     ∙ ap bit (and_from (e.link == link) (e.pair.first == p.first && e.pair.second == p.second) (eq-eqb e.link link here)

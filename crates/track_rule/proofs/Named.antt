@@ -16,7 +16,7 @@ use Rattle.std.specs.Prelude.{slice_index, ◌==◌, if◌then◌else◌}
 use Rattle.std.proofs.lemmas.Bool.{cases_eq, cond_both, eqb-true, false≢true}
 use Rattle.history_book.specs.declared.record.Record.{Record}
 use Rattle.history_book.specs.declared.sizes.Sizes.{Sizes}
-use Rattle.track_rule.specs.declared.view.Entry.{Entry}
+use Rattle.track_rule.specs.declared.view.ChainLink.{ChainLink}
 use Rattle.track_rule.specs.declared.view.Hook.{Hook}
 use Rattle.track_rule.specs.declared.view.Shut.{Shut}
 use Rattle.track_rule.specs.declared.view.View.{View}
@@ -29,7 +29,7 @@ use Rattle.track_rule.proofs.Sums.{each_other, each_put, total_alike, total_map,
 
 module _ (p : ℕ) (o : Option ℕ) where
   -- a chain in words stays one, and in order
-  pub named_chain : (z : Sizes) (ws : List ℕ) (b n : ℕ) (es : List Entry) → IsChain z ws b n es → IsChain z ws b n (map (told p o) es)
+  pub named_chain : (z : Sizes) (ws : List ℕ) (b n : ℕ) (es : List ChainLink) → IsChain z ws b n es → IsChain z ws b n (map (told p o) es)
   named_chain z ws b n [] h = h
   named_chain z ws b n (e ∷ es) h = (
     h.0,
@@ -37,7 +37,7 @@ module _ (p : ℕ) (o : Option ℕ) where
     named_chain z ws b (slice_index ws (next_word z e.link)) es h.2,
   )
 
-  pub named_ordered : (es : List Entry) → IsOrdered es → IsOrdered (map (told p o) es)
+  pub named_ordered : (es : List ChainLink) → IsOrdered es → IsOrdered (map (told p o) es)
   named_ordered [] h = tt
   named_ordered (e ∷ es) h = (λ reply. total_map (is_at_link (e.link - 1)) (told p o) es ∙ h.0 reply, named_ordered es h.1)
 
@@ -53,15 +53,15 @@ module _ (p : ℕ) (o : Option ℕ) where
       (λ e. ap (λ (k : Bool). if k then map (told p o) s.chain else chain_in b (told_in p o rest)) e ∙ named_in_chain b rest)
 
   -- a link of another place is told nothing
-  named_else : (e : Entry) → place_of e.link ≢ p → told p o e ≡ e
+  named_else : (e : ChainLink) → place_of e.link ≢ p → told p o e ≡ e
   named_else e other = ap (λ (k : Bool). record e { id = (if k then o else e.id) }) (ne_eqb (place_of e.link) p other)
 
-  pub named_here : (e : Entry) → place_of e.link ≡ p → told p o e ≡ record e { id = o }
+  pub named_here : (e : ChainLink) → place_of e.link ≡ p → told p o e ≡ record e { id = o }
   named_here e here = ap (λ (k : Bool). record e { id = (if k then o else e.id) }) (eq-eqb (place_of e.link) p here)
 
-  module _ (z : Sizes) (b : ℕ) (f : Entry → ℕ) where
-    side_else : (e : Entry) → place_of e.link ≢ p → side z b (λ x. f (told p o x)) e ≡ side z b f e
-    side_else e other = ap (λ (x : Entry). if bucket_of z e.pair == b then f x else 0) (named_else e other)
+  module _ (z : Sizes) (b : ℕ) (f : ChainLink → ℕ) where
+    side_else : (e : ChainLink) → place_of e.link ≢ p → side z b (λ x. f (told p o x)) e ≡ side z b f e
+    side_else e other = ap (λ (x : ChainLink). if bucket_of z e.pair == b then f x else 0) (named_else e other)
 
     -- so records and links of other places weigh what they did
     pub records_else : (rs : List Record) → Each (λ r. r.place ≢ p) rs → total (links_in z b (λ x. f (told p o x))) rs ≡ total (links_in z b f) rs
@@ -79,7 +79,7 @@ module _ (p : ℕ) (o : Option ℕ) where
         (λ j h at. ap (λ (n : ℕ). if h.up then n else 0) (side_else (entry_of h) (others j h at)))
 
 -- in a bucket that a pass has not shut, a tuple of which it has shut the bucket weighs nothing
-pub shut_else : (z : Sizes) (b : ℕ) (t : Tuple) (v : View) → 0 < shuts_of (bucket_of z (pair_of t)) v → shuts_of b v ≡ 0 → (f : Entry → ℕ) (e : Entry)
+pub shut_else : (z : Sizes) (b : ℕ) (t : Tuple) (v : View) → 0 < shuts_of (bucket_of z (pair_of t)) v → shuts_of b v ≡ 0 → (f : ChainLink → ℕ) (e : ChainLink)
     → e.pair ≡ pair_of t → side z b f e ≡ 0
 shut_else z b t v shut off f e pair =
     ap (λ (k : Bool). if k then f e else 0)
@@ -103,11 +103,11 @@ two_links p link some_link =
     neither p link some_link e f x = omega (arith, some_link, e, f, x)
 
 -- the chains, with the id told in buckets that the pass has shut
-abbrev pub named_chains : ℕ → Option ℕ → View → (ℕ → List Entry) → ℕ → List Entry
+abbrev pub named_chains : ℕ → Option ℕ → View → (ℕ → List ChainLink) → ℕ → List ChainLink
 named_chains p o v chains b = (if shuts_of b v == 0 then chains b else map (told p o) (chains b))
 
-module _ (p : ℕ) (o : Option ℕ) (v : View) (chains : ℕ → List Entry) (b : ℕ) where
-  pub chains_both : (P : List Entry → Type 0) → (shuts_of b v ≡ 0 → P (chains b)) → (shuts_of b v ≢ 0 → P (map (told p o) (chains b))) → P (named_chains p o v chains b)
+module _ (p : ℕ) (o : Option ℕ) (v : View) (chains : ℕ → List ChainLink) (b : ℕ) where
+  pub chains_both : (P : List ChainLink → Type 0) → (shuts_of b v ≡ 0 → P (chains b)) → (shuts_of b v ≢ 0 → P (map (told p o) (chains b))) → P (named_chains p o v chains b)
   chains_both P off on =
       cond_both (shuts_of b v == 0) (chains b) (map (told p o) (chains b)) P (λ e. off (eqb-true (shuts_of b v) 0 e))
       (λ e. on (λ same. false≢true (sym e ∙ eq-eqb (shuts_of b v) 0 same)))

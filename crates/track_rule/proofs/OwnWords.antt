@@ -10,7 +10,7 @@ use Rattle.atomic_table.specs.Table.{Allows, State, keeps as unchanged, step}
 use Rattle.history_book.specs.declared.event.Event.{Event}
 use Rattle.history_book.specs.declared.sizes.Sizes.{Sizes}
 use Rattle.track_rule.specs.declared.slot.Slot.{Slot}
-use Rattle.track_rule.specs.declared.view.Entry.{Entry}
+use Rattle.track_rule.specs.declared.view.ChainLink.{ChainLink}
 use Rattle.track_rule.specs.declared.view.Hook.{Hook}
 use Rattle.track_rule.specs.declared.view.View.{View}
 use Rattle.track_rule.specs.declared.view.Walk.{Walk}
@@ -37,7 +37,7 @@ use Rattle.track_rule.proofs.Sums.{each_other, each_put, total_same, total_term,
 use Rattle.track_rule.proofs.UpHooks.{one_fewer, up_map}
 
 -- a note stays true where no generation changes, and no chain
-pub walk_gens : (z : Sizes) (ws ws' : List ℕ) (chains : ℕ → List Entry) (front : List Event) (m : Walk)
+pub walk_gens : (z : Sizes) (ws ws' : List ℕ) (chains : ℕ → List ChainLink) (front : List Event) (m : Walk)
     → ((b : ℕ) → b < z.buckets → gen_at z ws' b ≡ gen_at z ws b) → IsWalk z ws chains front m → IsWalk z ws' chains front m
 walk_gens z ws ws' chains front m same w = record {
   bucket = w.bucket;
@@ -180,7 +180,7 @@ module _ (l : Ledger) (s : State Slot View) (id : ℕ) (v : View) (h : IsKept v.
       (stored_on z l.log s.words s.views id word to v w h.passes at has_some low (record { reading = stored word to; more = refl; word = refl; value = refl }) h.readings)
       (h.commits id v at)
     where
-      loose_stays : (b : ℕ) (weight : Entry → ℕ)
+      loose_stays : (b : ℕ) (weight : ChainLink → ℕ)
           → total (λ (k : Hook). (if k.up then side v.passes.sizes b weight (entry_of k) else 0)) (map f v.buckets.hooks)
           ≡ total (λ (k : Hook). (if k.up then side v.passes.sizes b weight (entry_of k) else 0)) v.buckets.hooks
       loose_stays b weight =

@@ -11,7 +11,7 @@ use Rattle.history_book.specs.Record.{has_id}
 use Rattle.history_book.specs.declared.record.Record.{Record}
 use Rattle.history_book.specs.declared.sizes.Sizes.{Sizes}
 use Rattle.track_rule.specs.declared.slot.Slot.{Slot}
-use Rattle.track_rule.specs.declared.view.Entry.{Entry}
+use Rattle.track_rule.specs.declared.view.ChainLink.{ChainLink}
 use Rattle.track_rule.specs.declared.view.Hand.{Hand}
 use Rattle.track_rule.specs.declared.view.Hook.{Hook}
 use Rattle.track_rule.specs.declared.view.Middle.{Middle}
@@ -31,7 +31,7 @@ use Rattle.track_rule.proofs.Lists.{bit_both, bit_fails, find_there, other_bit, 
 use Rattle.track_rule.proofs.Sums.{total_alike, total_le, total_only, total_term, total_times}
 
 -- links that are not in a bucket weigh nothing there
-loose_none : (z : Sizes) (b : ℕ) (f : Entry → ℕ) (hooks : List Hook)
+loose_none : (z : Sizes) (b : ℕ) (f : ChainLink → ℕ) (hooks : List Hook)
     → total (λ (h : Hook). (if h.up then side z b each_link (entry_of h) else 0)) hooks ≡ 0
     → total (λ (h : Hook). (if h.up then side z b f (entry_of h) else 0)) hooks ≡ 0
 loose_none z b f [] none_there = refl
@@ -45,14 +45,14 @@ loose_none z b f (h ∷ hs) none_there =
 
 module _ (z : Sizes) (l : Ledger) (s : State Slot View) (h : IsKept z l s) (b : ℕ) (below : b < z.buckets) where
   -- a pass has no link that is up in a bucket that it has not shut
-  loose_else : (f : Entry → ℕ) (j : ℕ) (u : View) → get_elem? s.views j ≡ some u → shuts_of b u ≡ 0 → loose_of z b f u ≡ 0
+  loose_else : (f : ChainLink → ℕ) (j : ℕ) (u : View) → get_elem? s.views j ≡ some u → shuts_of b u ≡ 0 → loose_of z b f u ≡ 0
   loose_else f j u there none_shut =
       loose_none z b f u.buckets.hooks
       (⊎_elim (λ (e : 0 < loose_of z b each_link u). absurd (omega (arith, none_shut, h.chains.home j u there b below e)))
       (λ (e : loose_of z b each_link u ≤ 0). omega (arith, e)) (cases_lt 0 (loose_of z b each_link u)))
 
   -- so the chain of one that nobody has shut is that of the live records
-  pub open_weighs : gen_at z s.words b % 2 ≡ 0 → (f : Entry → ℕ) → total f (l.chains b) ≡ total (links_in z b f) (records_after l.log)
+  pub open_weighs : gen_at z s.words b % 2 ≡ 0 → (f : ChainLink → ℕ) → total f (l.chains b) ≡ total (links_in z b f) (records_after l.log)
   open_weighs even f = omega (
     arith,
     h.chains.chained b below f,
@@ -70,16 +70,16 @@ module _ (z : Sizes) (l : Ledger) (s : State Slot View) (id : ℕ) (v : View) (h
   shut_only = omega (arith, h.chains.gens b below, mine, total_term (shuts_of b) s.views id v at)
 
   -- so none has a link that is up in it
-  loose_only : (f : Entry → ℕ) → total (loose_of z b f) s.views ≡ loose_of z b f v
+  loose_only : (f : ChainLink → ℕ) → total (loose_of z b f) s.views ≡ loose_of z b f v
   loose_only f = total_only (loose_of z b f) (shuts_of b) s.views id v at shut_only (λ j u there off. loose_else z l s h b below f j u there off)
 
   -- what its chain weighs
-  pub shut_weighs : (f : Entry → ℕ) → total f (chain_in b v.buckets.shut) ≡ total (links_in z b f) (records_after l.log) + loose_of z b f v
+  pub shut_weighs : (f : ChainLink → ℕ) → total f (chain_in b v.buckets.shut) ≡ total (links_in z b f) (records_after l.log) + loose_of z b f v
   shut_weighs f = omega (arith, ap (total f) (h.chains.mine b below id v at mine), h.chains.chained b below f, loose_only f)
 
 -- where a record weighs something in a bucket, one of its tuples belongs there
-module _ (z : Sizes) (b : ℕ) (f : Entry → ℕ) where
-  side_else : (e : Entry) → bucket_of z e.pair ≢ b → side z b f e ≡ 0
+module _ (z : Sizes) (b : ℕ) (f : ChainLink → ℕ) where
+  side_else : (e : ChainLink) → bucket_of z e.pair ≢ b → side z b f e ≡ 0
   side_else e other = ap (λ (k : Bool). if k then f e else 0) (ne_eqb (bucket_of z e.pair) b other)
 
   weighs_shut : (r : Record) (shut : List Shut) → 0 < shuts_in (bucket_of z (pair_of r.original)) shut → 0 < shuts_in (bucket_of z (pair_of r.reply)) shut
@@ -97,7 +97,7 @@ is_id i None = false
 is_id i (Some n) = n == i
 
 -- 1 where the entry of a chain is of this place and names this id
-abbrev names : ℕ → ℕ → Entry → ℕ
+abbrev names : ℕ → ℕ → ChainLink → ℕ
 names p i e = bit (place_of e.link == p && is_id i e.id)
 
 module _ (z : Sizes) (b p i : ℕ) where
@@ -113,7 +113,7 @@ module _ (z : Sizes) (b p i : ℕ) where
 
 module _ (z : Sizes) (l : Ledger) (s : State Slot View) (id : ℕ) (v : View) (h : IsKept z l s) (at : get_elem? s.views id ≡ some v)
     (b : ℕ) (below : b < z.buckets) (p i : ℕ) (low : p < z.entries) (calm : v.commit.middle ≡ Calm)
-    (passed : List Entry) (e : Entry) (rest : List Entry) (shut : IsShutAt b v passed (e ∷ rest)) (its_id : e.id ≡ Some i) (here : place_of e.link ≡ p) where
+    (passed : List ChainLink) (e : ChainLink) (rest : List ChainLink) (shut : IsShutAt b v passed (e ∷ rest)) (its_id : e.id ≡ Some i) (here : place_of e.link ≡ p) where
   named_one : names p i e ≡ 1
   named_one = ap bit (λ k. (eq-eqb (place_of e.link) p here k) && (ap (is_id i) its_id ∙ eq-eqb i i refl) k)
 
@@ -176,7 +176,7 @@ module _ (z : Sizes) (l : Ledger) (s : State Slot View) (id : ℕ) (v : View) (h
       (cases_eq (phase_at z s.words p) (3 + i))
 
 -- 1 where the entry of a chain is of this place
-abbrev pub at_place : ℕ → Entry → ℕ
+abbrev pub at_place : ℕ → ChainLink → ℕ
 at_place p e = bit (place_of e.link == p)
 
 -- a record's links are of its place

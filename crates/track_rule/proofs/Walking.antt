@@ -5,7 +5,7 @@ use Rattle.std.proofs.lemmas.Bool.{and_parts, cases_Bool, cases_eq, cond_both, e
 use Rattle.std.proofs.lemmas.Option.{none-some}
 use Rattle.history_book.specs.declared.event.Event.{Event}
 use Rattle.history_book.specs.declared.sizes.Sizes.{Sizes}
-use Rattle.track_rule.specs.declared.view.Entry.{Entry}
+use Rattle.track_rule.specs.declared.view.ChainLink.{ChainLink}
 use Rattle.track_rule.specs.declared.view.Met.{Met}
 use Rattle.track_rule.specs.declared.view.View.{View}
 use Rattle.track_rule.specs.declared.view.Walk.{Walk}
@@ -19,7 +19,7 @@ use Rattle.track_rule.proofs.ChainLists.{chain_at, chain_of, total_rev}
 use Rattle.track_rule.proofs.Lists.{same_bit}
 use Rattle.track_rule.proofs.ShutChains.{at_place}
 
-module _ (z : Sizes) (ws : List ℕ) (chains : ℕ → List Entry) (front : List Event) where
+module _ (z : Sizes) (ws : List ℕ) (chains : ℕ → List ChainLink) (front : List Event) where
   -- a walk of which nothing was read
   pub fresh_is : (b n : ℕ) → b < z.buckets → n ≤ gen_at z ws b → IsWalk z ws chains front (fresh_walk b n)
   fresh_is b n below least = record {
@@ -40,7 +40,7 @@ module _ (z : Sizes) (ws : List ℕ) (chains : ℕ → List Entry) (front : List
 
   -- one link more, or the end, where the chain goes on with it
   module _ (b : ℕ) (n : ℕ) where
-    more_stands : (m : Walk) (chain passed rest : List Entry) → chain ≡ rev_onto passed rest → Matches m.met passed
+    more_stands : (m : Walk) (chain passed rest : List ChainLink) → chain ≡ rev_onto passed rest → Matches m.met passed
         → (m.ended ≡ true → rest ≡ []) → IsChain z ws b n rest → (n == 0) ≡ false → Stands chain (record m { met = just_met n ∷ m.met })
     more_stands m chain passed [] all matches ended link some = absurd (false≢true (sym some ∙ eq-eqb n 0 link))
     more_stands m chain passed (e ∷ es) all matches ended link some = record {
@@ -51,7 +51,7 @@ module _ (z : Sizes) (ws : List ℕ) (chains : ℕ → List Entry) (front : List
       ended = λ t. let none : e ∷ es ≡ [] = ended t in cc;
     }
 
-    end_stands : (m : Walk) (chain passed rest : List Entry) → chain ≡ rev_onto passed rest → Matches m.met passed
+    end_stands : (m : Walk) (chain passed rest : List ChainLink) → chain ≡ rev_onto passed rest → Matches m.met passed
         → IsChain z ws b n rest → (n == 0) ≡ true → Stands chain (record m { ended = true })
     end_stands m chain passed [] all matches link none = record { passed = passed; rest = []; all = all; matches = matches; ended = λ t. refl }
     end_stands m chain passed (e ∷ es) all matches link none = absurd (omega (arith, eqb-true n 0 none, link.0, link.1.some))
@@ -78,7 +78,7 @@ module _ (z : Sizes) (ws : List ℕ) (chains : ℕ → List Entry) (front : List
       })
 
   -- the word after the newest link that was met is the one after what was passed
-  after_met : (b word : ℕ) (met : List Met) (passed : List Entry) → Matches met passed → is_after z word met ≡ true → end_word z b passed ≡ word
+  after_met : (b word : ℕ) (met : List Met) (passed : List ChainLink) → Matches met passed → is_after z word met ≡ true → end_word z b passed ≡ word
   after_met b word [] passed m e = absurd (false≢true e)
   after_met b word (m ∷ ms) [] t e = absurd t
   after_met b word (m ∷ ms) (p ∷ ps) t e = ap (next_word z) (sym t.0) ∙ eqb-true (next_word z m.link) word e
@@ -103,7 +103,7 @@ module _ (z : Sizes) (ws : List ℕ) (chains : ℕ → List Entry) (front : List
       (subst (IsChain z ws m.bucket (slice_index ws (head_word z m.bucket))) t.all (linked m.bucket w.bucket)))))
       (λ f. w))
     where
-      head_chain : head_word z m.bucket ≡ word → (passed rest : List Entry) → chains m.bucket ≡ rev_onto passed rest → Matches [] passed
+      head_chain : head_word z m.bucket ≡ word → (passed rest : List ChainLink) → chains m.bucket ≡ rev_onto passed rest → Matches [] passed
           → IsChain z ws m.bucket (slice_index ws word) rest
       head_chain e [] rest all matches =
           subst (λ (k : ℕ). IsChain z ws m.bucket (slice_index ws k) rest) e
@@ -120,7 +120,7 @@ module _ (z : Sizes) (ws : List ℕ) (chains : ℕ → List Entry) (front : List
   not_other n e (Some k) same r other = false≢true (sym (ap not (eq-eqb k n (r ∙ sym same))) ∙ other)
 
   module _ (b word : ℕ) where
-    read_matches : (met : List Met) (passed rest : List Entry) → Matches met passed → IsChain z ws b (slice_index ws (head_word z b)) (rev_onto passed rest)
+    read_matches : (met : List Met) (passed rest : List ChainLink) → Matches met passed → IsChain z ws b (slice_index ws (head_word z b)) (rev_onto passed rest)
         → Matches (met_read z word (slice_index ws word) met) passed
     read_matches [] passed rest t c = t
     read_matches (m ∷ ms) [] rest t c = absurd t
@@ -140,7 +140,7 @@ module _ (z : Sizes) (ws : List ℕ) (chains : ℕ → List Entry) (front : List
         (t.0, t.1, read_is (slice_index ws word) p.pair.second m.second here t.2, t.3))
         (λ f. t))
 
-    not_changed : (met : List Met) (passed rest : List Entry) → Matches met passed → IsChain z ws b (slice_index ws (head_word z b)) (rev_onto passed rest)
+    not_changed : (met : List Met) (passed rest : List ChainLink) → Matches met passed → IsChain z ws b (slice_index ws (head_word z b)) (rev_onto passed rest)
         → is_changed z word (slice_index ws word) met ≡ true → ⊥
     not_changed [] passed rest t c e = false≢true e
     not_changed (m ∷ ms) [] rest t c e = t
@@ -191,7 +191,7 @@ module _ (z : Sizes) (ws : List ℕ) (chains : ℕ → List Entry) (front : List
       whole t = subst (IsChain z ws m.bucket (slice_index ws (head_word z m.bucket))) t.all (linked m.bucket w.bucket)
 
 -- a link of a place that was met is of an entry that was passed
-met_there : (place : ℕ) (met : List Met) (passed : List Entry) → Matches met passed → has_met place met ≡ true → 0 < total (at_place place) passed
+met_there : (place : ℕ) (met : List Met) (passed : List ChainLink) → Matches met passed → has_met place met ≡ true → 0 < total (at_place place) passed
 met_there place [] passed t e = absurd (false≢true e)
 met_there place (m ∷ ms) [] t e = absurd t
 met_there place (m ∷ ms) (p ∷ ps) t e =
@@ -201,7 +201,7 @@ met_there place (m ∷ ms) (p ∷ ps) t e =
     omega (arith, met_there place ms ps t.3 (sym (ap (λ (k : Bool). k || has_met place ms) f) ∙ e)))
     (cases_Bool (place_of m.link == place))
 
-module _ (z : Sizes) (ws : List ℕ) (chains : ℕ → List Entry) (front : List Event) (place : ℕ)
+module _ (z : Sizes) (ws : List ℕ) (chains : ℕ → List ChainLink) (front : List Event) (place : ℕ)
     (none : (b : ℕ) → b < z.buckets → gen_at z ws b % 2 ≡ 0 → total (at_place place) (chains b) ≡ 0) where
   -- the note, where no chain that stands has an entry of the place
   lost_is : (m : Walk) → IsWalk z ws chains front m → IsWalk z ws chains front (lost_noted place m)
@@ -237,14 +237,14 @@ module _ (z : Sizes) (ws : List ℕ) (chains : ℕ → List Entry) (front : List
   lost_note_is (Some n) h m e = let same : lost_noted place n ≡ m = cc in subst (IsWalk z ws chains front) same (lost_is n (h n refl))
 
 -- the note of a pass after a load that may show so
-pub note_where_is : (z : Sizes) (ws : List ℕ) (chains : ℕ → List Entry) (front : List Event) (lost : Bool) (place : ℕ) (o : Option Walk)
+pub note_where_is : (z : Sizes) (ws : List ℕ) (chains : ℕ → List ChainLink) (front : List Event) (lost : Bool) (place : ℕ) (o : Option Walk)
     → (lost ≡ true → (b : ℕ) → b < z.buckets → gen_at z ws b % 2 ≡ 0 → total (at_place place) (chains b) ≡ 0)
     → ((m : Walk) → o ≡ Some m → IsWalk z ws chains front m) → (m : Walk) → note_where lost place o ≡ Some m → IsWalk z ws chains front m
 note_where_is z ws chains front false place o none h m e = h m e
 note_where_is z ws chains front true place o none h m e = lost_note_is z ws chains front place (none refl) o h m e
 
 -- the note of a pass after a load of a walk
-pub link_note_is : (z : Sizes) (ws : List ℕ) (chains : ℕ → List Entry) (front : List Event) (word : ℕ) (o : Option Walk)
+pub link_note_is : (z : Sizes) (ws : List ℕ) (chains : ℕ → List ChainLink) (front : List Event) (word : ℕ) (o : Option Walk)
     → ((b : ℕ) → b < z.buckets → IsChain z ws b (slice_index ws (head_word z b)) (chains b)) → ((m : Walk) → o ≡ Some m → IsWalk z ws chains front m)
     → (m : Walk) → link_note z word (slice_index ws word) o ≡ Some m → IsWalk z ws chains front m
 link_note_is z ws chains front word None linked h m e = absurd (none-some m e)
@@ -252,7 +252,7 @@ link_note_is z ws chains front word (Some n) linked h m e =
     let same : link_noted z word (slice_index ws word) n ≡ m = cc in
     subst (IsWalk z ws chains front) same (link_is z ws chains front word n linked (h n refl))
 
-pub tuple_note_is : (z : Sizes) (ws : List ℕ) (chains : ℕ → List Entry) (front : List Event) (word : ℕ) (o : Option Walk)
+pub tuple_note_is : (z : Sizes) (ws : List ℕ) (chains : ℕ → List ChainLink) (front : List Event) (word : ℕ) (o : Option Walk)
     → ((b : ℕ) → b < z.buckets → IsChain z ws b (slice_index ws (head_word z b)) (chains b)) → ((m : Walk) → o ≡ Some m → IsWalk z ws chains front m)
     → (m : Walk) → tuple_note z word (slice_index ws word) o ≡ Some m → IsWalk z ws chains front m
 tuple_note_is z ws chains front word None linked h m e = absurd (none-some m e)
@@ -269,7 +269,7 @@ note_of b n (Some m) =
     (λ e. record { bucket_is = refl; generation_is = refl })
 
 -- a note that is met again was true
-pub was_chain : (z : Sizes) (log : List Event) (ws : List ℕ) (vs : List View) (chains : ℕ → List Entry) (front : List Event) (m : Walk)
+pub was_chain : (z : Sizes) (log : List Event) (ws : List ℕ) (vs : List View) (chains : ℕ → List ChainLink) (front : List Event) (m : Walk)
     → AreChains z log ws vs chains → IsWalk z ws chains front m → gen_at z ws m.bucket ≡ m.generation → m.generation % 2 ≡ 0
     → (m.passed ≡ false) × WasChain z front m
 was_chain z log ws vs chains front m h w here even = (

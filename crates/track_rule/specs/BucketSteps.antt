@@ -8,7 +8,7 @@ use Rattle.history_book.specs.declared.event.Event.TheVariants.{Confirm}
 use Rattle.history_book.specs.declared.record.Record.{Record}
 use Rattle.history_book.specs.declared.sizes.Sizes.{Sizes}
 use Rattle.track_rule.specs.declared.slot.Slot.{Slot}
-use Rattle.track_rule.specs.declared.view.Entry.{Entry}
+use Rattle.track_rule.specs.declared.view.ChainLink.{ChainLink}
 use Rattle.track_rule.specs.declared.view.Hook.{Hook}
 use Rattle.track_rule.specs.declared.view.Shut.{Shut}
 use Rattle.track_rule.specs.declared.view.HeldBuckets.{HeldBuckets}
@@ -29,13 +29,13 @@ use Rattle.track_rule.specs.Walks.{HasLive, Stands, rev_onto}
 -- GENERATIONS
 
 -- a link of a place below the entries, whose tuple belongs to the bucket
-pub record IsEntryOf (z : Sizes) (bucket : ℕ) (e : Entry) : Type 0 where
+pub record IsEntryOf (z : Sizes) (bucket : ℕ) (e : ChainLink) : Type 0 where
   pub some : 0 < e.link
   pub below : e.link ≤ last_link z
   pub placed : bucket_of z e.pair ≡ bucket
 
 -- A chain of a bucket: it is no longer than there are links, and an original link comes before the reply link of its place.
-pub record IsChainOf (z : Sizes) (bucket : ℕ) (chain : List Entry) : Type 0 where
+pub record IsChainOf (z : Sizes) (bucket : ℕ) (chain : List ChainLink) : Type 0 where
   pub each : Each (IsEntryOf z bucket) chain
   pub few : length chain ≤ last_link z
   pub ordered : IsOrdered chain
@@ -43,7 +43,7 @@ pub record IsChainOf (z : Sizes) (bucket : ℕ) (chain : List Entry) : Type 0 wh
 -- This was the chain all the time from the load that began the note to this one: what was met begins it, and it is what was
 -- live at the noted point, which is that of all events that the pass has seen.
 pub record WasChain (z : Sizes) (front : List Event) (m : Walk) : Type 0 where
-  pub chain : List Entry
+  pub chain : List ChainLink
   pub right : IsChainOf z m.bucket chain
   pub stands : Stands chain m
   pub live : (point : ℕ) → m.at ≡ Some point → (point ≡ length front) × HasLive z m.bucket front chain
@@ -66,7 +66,7 @@ pub record LoadsGen (bucket : ℕ) (v : View) (n : ℕ) (w : View) : Type 0 wher
   pub again : (m : Walk) → v.walk ≡ Some m → IsNoteOf bucket n m → n % 2 ≡ 0 → (m.passed ≡ false) × WasChain v.passes.sizes v.seen.front m
 
 -- the pass has shut the bucket, and knows its chain
-abbrev pub shut_now : ℕ → List Entry → HeldBuckets → HeldBuckets
+abbrev pub shut_now : ℕ → List ChainLink → HeldBuckets → HeldBuckets
 shut_now bucket chain s = record s { shut = record { bucket = bucket; chain = chain } ∷ s.shut }
 
 -- The generation was this even one, and is odd now. The pass has the bucket.
@@ -104,23 +104,23 @@ pub record OpensGen (bucket : ℕ) (v : View) (w : View) : Type 0 where
 -- LOADS OF LINKS AND OF TUPLES
 
 -- the word that has the link after these entries of a chain, the newest first
-abbrev pub end_word : Sizes → ℕ → List Entry → ℕ
+abbrev pub end_word : Sizes → ℕ → List ChainLink → ℕ
 end_word z bucket [] = head_word z bucket
 end_word z bucket (e ∷ es) = next_word z e.link
 
 -- the link with which entries begin
-abbrev pub first_of : List Entry → ℕ
+abbrev pub first_of : List ChainLink → ℕ
 first_of [] = 0
 first_of (e ∷ es) = e.link
 
 -- the chain of a bucket that the pass has shut is these entries, the first of them passed
-pub record IsShutAt (bucket : ℕ) (v : View) (passed rest : List Entry) : Type 0 where
+pub record IsShutAt (bucket : ℕ) (v : View) (passed rest : List ChainLink) : Type 0 where
   pub mine : 0 < shuts_of bucket v
   pub all : chain_in bucket v.buckets.shut ≡ rev_onto passed rest
 
 -- a chain has the link
-abbrev pub has_link : ℕ → List Entry → Bool
-has_link link chain = list_any (λ (e : Entry). e.link == link) chain
+abbrev pub has_link : ℕ → List ChainLink → Bool
+has_link link chain = list_any (λ (e : ChainLink). e.link == link) chain
 
 -- a hook at this link of this bucket is in its chain
 abbrev pub is_up_in : Sizes → ℕ → ℕ → List Hook → Bool
@@ -132,7 +132,7 @@ pub record LoadsLink (word : ℕ) (v : View) (n : ℕ) (w : View) : Type 0 where
   pub view : w ≡ noted (found word n) (record v { walk = link_note v.passes.sizes word n v.walk })
   pub link : n ≤ last_link v.passes.sizes
   pub sole : IsSole v → n ≡ last_read word v
-  pub next : (bucket : ℕ) (passed rest : List Entry) → bucket < v.passes.sizes.buckets → IsShutAt bucket v passed rest
+  pub next : (bucket : ℕ) (passed rest : List ChainLink) → bucket < v.passes.sizes.buckets → IsShutAt bucket v passed rest
       → word ≡ end_word v.passes.sizes bucket passed → n ≡ first_of rest
   pub up : (bucket link : ℕ) → bucket < v.passes.sizes.buckets → 0 < shuts_of bucket v → is_raised link v.buckets.hooks ≡ true
       → bucket_of v.passes.sizes (hook_of link v.buckets.hooks).pair ≡ bucket → has_link link (chain_in bucket v.buckets.shut) ≡ true
@@ -148,9 +148,9 @@ pub record ReadsPair (z : Sizes) (word n link : ℕ) (p : Pair) : Type 0 where
 pub record LoadsTuple (word : ℕ) (v : View) (n : ℕ) (w : View) : Type 0 where
   pub view : w ≡ noted (found word n) (record v { walk = tuple_note v.passes.sizes word n v.walk })
   pub sole : IsSole v → n ≡ last_read word v
-  pub first : (bucket : ℕ) (passed : List Entry) (e : Entry) (rest : List Entry) → bucket < v.passes.sizes.buckets
+  pub first : (bucket : ℕ) (passed : List ChainLink) (e : ChainLink) (rest : List ChainLink) → bucket < v.passes.sizes.buckets
       → IsShutAt bucket v passed (e ∷ rest) → word ≡ first_word v.passes.sizes e.link → n ≡ e.pair.first
-  pub second : (bucket : ℕ) (passed : List Entry) (e : Entry) (rest : List Entry) → bucket < v.passes.sizes.buckets
+  pub second : (bucket : ℕ) (passed : List ChainLink) (e : ChainLink) (rest : List ChainLink) → bucket < v.passes.sizes.buckets
       → IsShutAt bucket v passed (e ∷ rest) → word ≡ second_word v.passes.sizes e.link → n ≡ e.pair.second
   pub own_first : (link : ℕ) → 0 < hooks_of link v.buckets.hooks → word ≡ first_word v.passes.sizes link → n ≡ (hook_of link v.buckets.hooks).pair.first
   pub own_second : (link : ℕ) → 0 < hooks_of link v.buckets.hooks → word ≡ second_word v.passes.sizes link → n ≡ (hook_of link v.buckets.hooks).pair.second
@@ -183,7 +183,7 @@ abbrev pub aimed : ℕ → ℕ → HeldBuckets → HeldBuckets
 aimed link to s = record s { hooks = map (aim link to) s.hooks }
 
 -- a bucket that the pass has shut has this chain
-abbrev pub with_chain : ℕ → List Entry → List Shut → List Shut
+abbrev pub with_chain : ℕ → List ChainLink → List Shut → List Shut
 with_chain bucket chain [] = []
 with_chain bucket chain (s ∷ rest) = (if s.bucket == bucket then record s { chain = chain } ∷ rest else s ∷ with_chain bucket chain rest)
 
@@ -203,7 +203,7 @@ abbrev pub lower : ℕ → Hook → Hook
 lower link h = (if h.link == link then record h { next = None; up = false } else h)
 
 -- a chain without the link
-abbrev pub without_link : ℕ → List Entry → List Entry
+abbrev pub without_link : ℕ → List ChainLink → List ChainLink
 without_link link [] = []
 without_link link (e ∷ es) = (if e.link == link then es else e ∷ without_link link es)
 
@@ -241,9 +241,9 @@ pub record Puts (word to : ℕ) (v : View) : Type 0 where
 pub record Cuts (word to : ℕ) (v : View) : Type 0 where
   pub bucket : ℕ
   pub below : bucket < v.passes.sizes.buckets
-  pub passed : List Entry
-  pub entry : Entry
-  pub rest : List Entry
+  pub passed : List ChainLink
+  pub entry : ChainLink
+  pub rest : List ChainLink
   pub at : IsShutAt bucket v passed (entry ∷ rest)
   pub word_is : word ≡ end_word v.passes.sizes bucket passed
   pub to_is : to ≡ first_of rest
@@ -261,7 +261,7 @@ pub record Strings (word to : ℕ) (v w : View) : Type 0 where
   pub aims : (link : ℕ) → is_down link v.buckets.hooks ≡ true → word ≡ next_word v.passes.sizes link → w ≡ strung word to (aimed link to v.buckets) v
   pub puts : (bucket : ℕ) → bucket < v.passes.sizes.buckets → word ≡ head_word v.passes.sizes bucket → is_down to v.buckets.hooks ≡ true
       → w ≡ strung word to (put_in bucket to v.buckets) v
-  pub cuts : (bucket : ℕ) (passed : List Entry) (e : Entry) (rest : List Entry) → bucket < v.passes.sizes.buckets → IsShutAt bucket v passed (e ∷ rest)
+  pub cuts : (bucket : ℕ) (passed : List ChainLink) (e : ChainLink) (rest : List ChainLink) → bucket < v.passes.sizes.buckets → IsShutAt bucket v passed (e ∷ rest)
       → word ≡ end_word v.passes.sizes bucket passed → to ≡ first_of rest → w ≡ strung word to (taken_from bucket e.link v.buckets) v
   pub same : w ≡ strung word to w.buckets v
 

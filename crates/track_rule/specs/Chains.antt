@@ -11,7 +11,7 @@ use Rattle.tuple_core.specs.declared.Tuple.{Tuple}
 use Rattle.history_book.specs.declared.event.Event.{Event}
 use Rattle.history_book.specs.declared.record.Record.{Record}
 use Rattle.history_book.specs.declared.sizes.Sizes.{Sizes}
-use Rattle.track_rule.specs.declared.view.Entry.{Entry}
+use Rattle.track_rule.specs.declared.view.ChainLink.{ChainLink}
 use Rattle.track_rule.specs.declared.view.Hook.{Hook}
 use Rattle.track_rule.specs.declared.view.Pair.{Pair}
 use Rattle.track_rule.specs.declared.view.Shut.{Shut}
@@ -29,7 +29,7 @@ abbrev pub pair_of : Tuple → Pair
 pair_of t = record { first = address_word t; second = flow_word t }
 
 -- the link, and its tuple, stand in the words so, and the tuple belongs to the bucket
-pub record IsLinked (z : Sizes) (words : List ℕ) (bucket : ℕ) (e : Entry) : Type 0 where
+pub record IsLinked (z : Sizes) (words : List ℕ) (bucket : ℕ) (e : ChainLink) : Type 0 where
   pub some : 0 < e.link
   pub below : place_of e.link < z.entries
   pub first : slice_index words (first_word z e.link) ≡ e.pair.first
@@ -37,44 +37,44 @@ pub record IsLinked (z : Sizes) (words : List ℕ) (bucket : ℕ) (e : Entry) : 
   pub placed : bucket_of z e.pair ≡ bucket
 
 -- 1 where it is the entry of this link
-abbrev pub is_at_link : ℕ → Entry → ℕ
+abbrev pub is_at_link : ℕ → ChainLink → ℕ
 is_at_link link e = bit (e.link == link)
 
 -- no original link stands behind the reply link of its place
-abbrev pub IsOrdered : List Entry → Type 0
+abbrev pub IsOrdered : List ChainLink → Type 0
 IsOrdered [] = Unit {0}
 IsOrdered (e ∷ es) = (side_of e.link ≡ 1 → total (is_at_link (e.link - 1)) es ≡ 0) × IsOrdered es
 
 -- from this link on these entries follow, to the end
-abbrev pub IsChain : Sizes → List ℕ → ℕ → ℕ → List Entry → Type 0
+abbrev pub IsChain : Sizes → List ℕ → ℕ → ℕ → List ChainLink → Type 0
 IsChain z words bucket link [] = link ≡ 0
 IsChain z words bucket link (e ∷ es) =
     (link ≡ e.link) × IsLinked z words bucket e × IsChain z words bucket (slice_index words (next_word z e.link)) es
 
 -- the two entries of a record, and that of a hook
-abbrev pub original_of : Record → Entry
+abbrev pub original_of : Record → ChainLink
 original_of r = record { link = 1 + 2 * r.place; pair = pair_of r.original; id = Some r.id }
 
-abbrev pub reply_of : Record → Entry
+abbrev pub reply_of : Record → ChainLink
 reply_of r = record { link = 2 + 2 * r.place; pair = pair_of r.reply; id = Some r.id }
 
-abbrev pub entry_of : Hook → Entry
+abbrev pub entry_of : Hook → ChainLink
 entry_of h = record { link = h.link; pair = h.pair; id = None }
 
 -- what an entry weighs in a bucket
-abbrev pub side : Sizes → ℕ → (Entry → ℕ) → Entry → ℕ
+abbrev pub side : Sizes → ℕ → (ChainLink → ℕ) → ChainLink → ℕ
 side z bucket weight e = (if bucket_of z e.pair == bucket then weight e else 0)
 
 -- what a record weighs in it
-abbrev pub links_in : Sizes → ℕ → (Entry → ℕ) → Record → ℕ
+abbrev pub links_in : Sizes → ℕ → (ChainLink → ℕ) → Record → ℕ
 links_in z bucket weight r = side z bucket weight (original_of r) + side z bucket weight (reply_of r)
 
 -- what the links of a pass weigh that stand and are not those of a live record
-abbrev pub loose_of : Sizes → ℕ → (Entry → ℕ) → View → ℕ
+abbrev pub loose_of : Sizes → ℕ → (ChainLink → ℕ) → View → ℕ
 loose_of z bucket weight v = total (λ (h : Hook). (if h.up then side z bucket weight (entry_of h) else 0)) v.buckets.hooks
 
 -- each link weighs one
-abbrev pub each_link : Entry → ℕ
+abbrev pub each_link : ChainLink → ℕ
 each_link e = 1
 
 -- how often a pass has shut the bucket, and how many hooks it has at a link
@@ -85,15 +85,15 @@ abbrev pub hooks_at : ℕ → View → ℕ
 hooks_at link v = total (λ (h : Hook). bit (h.link == link)) v.buckets.hooks
 
 -- the chain of a bucket as the pass that shut it knows it
-abbrev pub chain_in : ℕ → List Shut → List Entry
+abbrev pub chain_in : ℕ → List Shut → List ChainLink
 chain_in bucket [] = []
 chain_in bucket (s ∷ rest) = (if s.bucket == bucket then s.chain else chain_in bucket rest)
 
-pub record AreChains (z : Sizes) (log : List Event) (words : List ℕ) (views : List View) (chains : ℕ → List Entry) : Type 0 where
+pub record AreChains (z : Sizes) (log : List Event) (words : List ℕ) (views : List View) (chains : ℕ → List ChainLink) : Type 0 where
   pub linked : (b : ℕ) → b < z.buckets → IsChain z words b (slice_index words (head_word z b)) (chains b)
   pub ordered : (b : ℕ) → b < z.buckets → IsOrdered (chains b)
   pub gens : (b : ℕ) → b < z.buckets → gen_at z words b % 2 ≡ total (shuts_of b) views
   pub mine : (b : ℕ) → b < z.buckets → Each (λ v. 0 < shuts_of b v → chain_in b v.buckets.shut ≡ chains b) views
-  pub chained : (b : ℕ) → b < z.buckets → (weight : Entry → ℕ) → total weight (chains b) ≡ total (links_in z b weight) (records_after log) + total (loose_of z b weight) views
+  pub chained : (b : ℕ) → b < z.buckets → (weight : ChainLink → ℕ) → total weight (chains b) ≡ total (links_in z b weight) (records_after log) + total (loose_of z b weight) views
   pub home : Each (λ v. (b : ℕ) → b < z.buckets → 0 < loose_of z b each_link v → 0 < shuts_of b v) views
   pub lone : (link : ℕ) → 0 < link → total (hooks_at link) views + total (of_place (place_of link)) (records_after log) ≤ 1

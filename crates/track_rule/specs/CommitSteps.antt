@@ -8,7 +8,7 @@ use Rattle.history_book.specs.declared.event.Event.{Event}
 use Rattle.history_book.specs.declared.event.Event.TheVariants.{Confirm, Touch, Destroy, Expect, Claim, Unexpect}
 use Rattle.history_book.specs.declared.record.Record.{Record}
 use Rattle.track_rule.specs.declared.slot.Slot.{Slot}
-use Rattle.track_rule.specs.declared.view.Entry.{Entry}
+use Rattle.track_rule.specs.declared.view.ChainLink.{ChainLink}
 use Rattle.track_rule.specs.declared.view.Hook.{Hook}
 use Rattle.track_rule.specs.declared.view.Keep.{Keep}
 use Rattle.track_rule.specs.declared.view.Middle.{Middle}
@@ -31,7 +31,7 @@ use Rattle.track_rule.specs.Sums.{bit, times, total}
 -- CONFIRM
 
 -- 1 where the entry of a chain has this tuple
-abbrev pub has_pair : Pair → Entry → ℕ
+abbrev pub has_pair : Pair → ChainLink → ℕ
 has_pair p e = bit (e.pair.first == p.first && e.pair.second == p.second)
 
 -- A link of the pass with this tuple is in its chain, in a bucket that the pass has shut. No other link there has the tuple than
@@ -73,10 +73,10 @@ abbrev pub with_confirm : List Event → Record → List Event
 with_confirm log r = log ++ Confirm (born (length log) r) ∷ []
 
 -- a link of the place is that of the entry of this id now, or of none
-abbrev pub told : ℕ → Option ℕ → Entry → Entry
+abbrev pub told : ℕ → Option ℕ → ChainLink → ChainLink
 told place id e = record e { id = (if place_of e.link == place then id else e.id) }
 
-abbrev pub named : ℕ → ℕ → Entry → Entry
+abbrev pub named : ℕ → ℕ → ChainLink → ChainLink
 named place id e = told place (Some id) e
 
 -- so it is in each of these buckets

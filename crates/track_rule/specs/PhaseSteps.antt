@@ -7,7 +7,7 @@ use Rattle.history_book.specs.Entry.{confirmed_by}
 use Rattle.history_book.specs.declared.event.Event.{Event}
 use Rattle.history_book.specs.declared.record.Record.{Record}
 use Rattle.track_rule.specs.declared.slot.Slot.{Slot}
-use Rattle.track_rule.specs.declared.view.Entry.{Entry}
+use Rattle.track_rule.specs.declared.view.ChainLink.{ChainLink}
 use Rattle.track_rule.specs.declared.view.Hand.{Hand}
 use Rattle.track_rule.specs.declared.view.Keep.{Keep}
 use Rattle.track_rule.specs.declared.view.Middle.TheVariants.{Calm}
@@ -103,7 +103,7 @@ pub record LoadsPhase (place : ℕ) (v : View) (n : ℕ) (w : View) : Type 0 whe
   pub kept : (id : ℕ) → is_kept_for place id v.places.held ≡ true → 3 ≤ n → n ≡ 3 + id
   pub live : (id : ℕ) → n ≡ 3 + id → WasConfirmed v.seen.front id place → IsLiveIn place id (state_after v.seen.front)
   pub hand : (h : Hand) → v.commit.hand ≡ Some h → h.place ≡ place → (2 < h.phase → n ≡ h.phase) × (h.phase ≤ 2 → n ≤ 2)
-  pub linked : (b : ℕ) (passed : List Entry) (e : Entry) (rest : List Entry) (id : ℕ) → b < v.passes.sizes.buckets → IsShutAt b v passed (e ∷ rest)
+  pub linked : (b : ℕ) (passed : List ChainLink) (e : ChainLink) (rest : List ChainLink) (id : ℕ) → b < v.passes.sizes.buckets → IsShutAt b v passed (e ∷ rest)
       → v.commit.middle ≡ Calm → e.id ≡ Some id → place_of e.link ≡ place → n ≡ 3 + id
 
 -- the pass has stored it: a place that is FREE may be given to the free list, and links of one that is OWNED put in chains

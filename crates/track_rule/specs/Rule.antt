@@ -5,7 +5,7 @@ use Rattle.history_book.specs.declared.event.Event.{Event}
 use Rattle.history_book.specs.declared.sizes.Sizes.{Sizes}
 use Rattle.history_book.specs.Sizes.{AreWithinLimits}
 use Rattle.track_rule.specs.declared.slot.Slot.{Slot}
-use Rattle.track_rule.specs.declared.view.Entry.{Entry}
+use Rattle.track_rule.specs.declared.view.ChainLink.{ChainLink}
 use Rattle.track_rule.specs.declared.view.Middle.TheVariants.{Calm}
 use Rattle.track_rule.specs.declared.view.View.{View}
 use Rattle.track_rule.specs.Layout.{word_count}
@@ -27,7 +27,7 @@ use Rattle.track_rule.specs.KeptWords.{AreKeptWords}
 pub record Ledger : Type 0 where
   pub log : List Event
   pub free : List ℕ
-  pub chains : ℕ → List Entry
+  pub chains : ℕ → List ChainLink
 
 -- The nine parts of the rule. What it says of references, of phases and of chains is in two parts each: of the references and of
 -- the tuple words of places that are held for ids, of the phases and of the middle of a commit, and of the chains and of the

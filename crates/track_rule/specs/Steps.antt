@@ -11,7 +11,7 @@ use Rattle.history_book.specs.declared.event.Event.{Event}
 use Rattle.history_book.specs.declared.event.Note.{Note}
 use Rattle.track_rule.specs.declared.slot.Slot.{Slot}
 use Rattle.track_rule.specs.declared.slot.Slot.TheVariants.{Free}
-use Rattle.track_rule.specs.declared.view.Entry.{Entry}
+use Rattle.track_rule.specs.declared.view.ChainLink.{ChainLink}
 use Rattle.track_rule.specs.declared.view.Hand.{Hand}
 use Rattle.track_rule.specs.declared.view.Hook.{Hook}
 use Rattle.track_rule.specs.declared.view.Keep.{Keep}
@@ -92,7 +92,7 @@ uses place v = held_times place v.places.held + times place v.places.owed
 -- Of a bucket that it has shut: its chain weighs what the live records weigh in it, and the pass's own links there.
 abbrev pub KnowsChains : View → List Event → Type 0
 KnowsChains v log =
-    (b : ℕ) → b < v.passes.sizes.buckets → 0 < shuts_of b v → (weight : Entry → ℕ)
+    (b : ℕ) → b < v.passes.sizes.buckets → 0 < shuts_of b v → (weight : ChainLink → ℕ)
     → total weight (chain_in b v.buckets.shut) ≡ total (links_in v.passes.sizes b weight) (records_after log) + loose_of v.passes.sizes b weight v
 
 -- Of the places that it holds: no live record has one that it has taken, and it has seen the Confirm of each id for which it

@@ -5,7 +5,7 @@
 use Rattle.std.specs.Prelude.{◌≡◌, ℕ, ◌<◌, ◌≤◌, ◌%◌, true, Option, Some, None, List, [], ◌∷◌, length}
 use Rattle.history_book.specs.declared.event.Event.{Event}
 use Rattle.history_book.specs.declared.sizes.Sizes.{Sizes}
-use Rattle.track_rule.specs.declared.view.Entry.{Entry}
+use Rattle.track_rule.specs.declared.view.ChainLink.{ChainLink}
 use Rattle.track_rule.specs.declared.view.Met.{Met}
 use Rattle.track_rule.specs.declared.view.View.{View}
 use Rattle.track_rule.specs.declared.view.Walk.{Walk}
@@ -15,7 +15,7 @@ use Rattle.track_rule.specs.Layout.{gen_at}
 use Rattle.track_rule.specs.Sums.{Each, total}
 
 -- entries that were passed, the newest first, and those after them
-abbrev pub rev_onto : List Entry → List Entry → List Entry
+abbrev pub rev_onto : List ChainLink → List ChainLink → List ChainLink
 rev_onto [] es = es
 rev_onto (p ∷ ps) es = rev_onto ps (p ∷ es)
 
@@ -25,35 +25,35 @@ IsRead None n = Unit {0}
 IsRead (Some m) n = m ≡ n
 
 -- what was met is these entries, as far as it was read
-abbrev pub Matches : List Met → List Entry → Type 0
+abbrev pub Matches : List Met → List ChainLink → Type 0
 Matches [] [] = Unit {0}
 Matches [] (e ∷ es) = ⊥
 Matches (m ∷ ms) [] = ⊥
 Matches (m ∷ ms) (e ∷ es) = (m.link ≡ e.link) × IsRead m.first e.pair.first × IsRead m.second e.pair.second × Matches ms es
 
 -- what was met begins the chain, and is all of it where the end was met
-pub record Stands (chain : List Entry) (n : Walk) : Type 0 where
-  pub passed : List Entry
-  pub rest : List Entry
+pub record Stands (chain : List ChainLink) (n : Walk) : Type 0 where
+  pub passed : List ChainLink
+  pub rest : List ChainLink
   pub all : chain ≡ rev_onto passed rest
   pub matches : Matches n.met passed
   pub ended : n.ended ≡ true → rest ≡ []
 
 -- the chain is the tuples of the bucket that were live after these events, and no other
-abbrev pub HasLive : Sizes → ℕ → List Event → List Entry → Type 0
-HasLive z bucket front chain = (weight : Entry → ℕ) → total weight chain ≡ total (links_in z bucket weight) (records_after front)
+abbrev pub HasLive : Sizes → ℕ → List Event → List ChainLink → Type 0
+HasLive z bucket front chain = (weight : ChainLink → ℕ) → total weight chain ≡ total (links_in z bucket weight) (records_after front)
 
 -- the pass has seen the events up to the noted point, and the chain is what was live there
-pub record IsKnown (z : Sizes) (words : List ℕ) (chain : List Entry) (front : List Event) (n : Walk) (point : ℕ) : Type 0 where
+pub record IsKnown (z : Sizes) (words : List ℕ) (chain : List ChainLink) (front : List Event) (n : Walk) (point : ℕ) : Type 0 where
   pub seen : point ≡ length front
   pub live : gen_at z words n.bucket ≡ n.generation → n.generation % 2 ≡ 0 → HasLive z n.bucket front chain
 
-pub record IsWalk (z : Sizes) (words : List ℕ) (chains : ℕ → List Entry) (front : List Event) (n : Walk) : Type 0 where
+pub record IsWalk (z : Sizes) (words : List ℕ) (chains : ℕ → List ChainLink) (front : List Event) (n : Walk) : Type 0 where
   pub bucket : n.bucket < z.buckets
   pub least : n.generation ≤ gen_at z words n.bucket
   pub stands : gen_at z words n.bucket ≡ n.generation → n.generation % 2 ≡ 0 → Stands (chains n.bucket) n
   pub known : (point : ℕ) → n.at ≡ Some point → IsKnown z words (chains n.bucket) front n point
   pub gone : n.passed ≡ true → n.generation % 2 ≡ 0 → n.generation < gen_at z words n.bucket
 
-pub record AreWalks (z : Sizes) (words : List ℕ) (views : List View) (chains : ℕ → List Entry) : Type 0 where
+pub record AreWalks (z : Sizes) (words : List ℕ) (views : List View) (chains : ℕ → List ChainLink) : Type 0 where
   pub each : Each (λ v. (n : Walk) → v.walk ≡ Some n → IsWalk z words chains v.seen.front n) views

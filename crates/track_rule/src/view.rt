@@ -68,7 +68,7 @@ pub struct Pair {
 }
 
 /// A link of a chain, and its tuple.
-pub struct Entry {
+pub struct ChainLink {
     pub link: u64,
     pub pair: Pair,
     /// The id of the entry whose link it is, once that is confirmed. No word shows it.
@@ -78,7 +78,7 @@ pub struct Entry {
 /// A bucket that a pass has shut, and its chain.
 pub struct Shut {
     pub bucket: u32,
-    pub chain: LinkedList<Entry>,
+    pub chain: LinkedList<ChainLink>,
 }
 
 /// A link of a place that a pass has taken, or whose entry it has destroyed.
