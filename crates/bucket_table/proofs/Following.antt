@@ -20,7 +20,7 @@ use Rattle.track_rule.specs.Sights.{PassSight, sizes_of}
 use Rattle.track_rule.specs.Steps.{AreAll, Looks, at_point, found_history}
 use Rattle.track_rule.specs.Walks.{HasLive, IsRead, Matches, rev_onto}
 use Rattle.track_rule.specs.declared.view.ChainLink.{ChainLink}
-use Rattle.track_rule.specs.declared.view.Met.{Met}
+use Rattle.track_rule.specs.declared.view.MetLink.{MetLink}
 use Rattle.track_rule.specs.declared.view.Reading.{Reading}
 use Rattle.track_rule.specs.declared.view.View.{View}
 use Rattle.track_rule.specs.declared.view.Walk.{Walk}
@@ -252,7 +252,7 @@ again_reads g now v u w b a =
     }
 
 -- no entry that was passed has the tuple
-none_passed : (first second : ℕ) (met : List Met) (passed : List ChainLink) → Matches met passed → list_all (is_another first second) met ≡ true
+none_passed : (first second : ℕ) (met : List MetLink) (passed : List ChainLink) → Matches met passed → list_all (is_another first second) met ≡ true
     → list_any (has_words first second) passed ≡ false
 none_passed first second [] [] m e = refl
 none_passed first second [] (p ∷ ps) m e = absurd m
@@ -265,7 +265,7 @@ none_passed first second (x ∷ xs) (p ∷ ps) m e =
     other_word None k n r e = absurd (false≢true e)
     other_word (Some j) k n r e = ne_eqb k n (λ same. false≢true (sym (ap not (eq-eqb j n (r ∙ same))) ∙ e))
 
-    not_this : (x : Met) (p : ChainLink) → IsRead x.first p.pair.first → IsRead x.second p.pair.second → is_another first second x ≡ true → has_words first second p ≡ false
+    not_this : (x : MetLink) (p : ChainLink) → IsRead x.first p.pair.first → IsRead x.second p.pair.second → is_another first second x ≡ true → has_words first second p ≡ false
     not_this x p r s e =
         ⊎_elim
         (λ (f : is_other x.first first ≡ true). ap (λ (b : Bool). b && p.pair.second == second) (other_word x.first p.pair.first first r f))
@@ -364,7 +364,7 @@ end_moved t g word was now word_of v u w bucket below word_of_is mine even some 
     }
 
 -- there are no more links than the chain has
-matches_long : (met : List Met) (passed : List ChainLink) → Matches met passed → length met ≡ length passed
+matches_long : (met : List MetLink) (passed : List ChainLink) → Matches met passed → length met ≡ length passed
 matches_long [] [] m = refl
 matches_long [] (p ∷ ps) m = absurd m
 matches_long (x ∷ xs) [] m = absurd m

@@ -10,7 +10,7 @@ use Rattle.track_rule.specs.Layout.{first_word, second_word}
 use Rattle.track_rule.specs.Notes.{is_changed, just_met, met_read, read_then, tuple_note, tuple_noted}
 use Rattle.track_rule.specs.Readings.{found, noted}
 use Rattle.track_rule.specs.Sights.{PassSight, sizes_of}
-use Rattle.track_rule.specs.declared.view.Met.{Met}
+use Rattle.track_rule.specs.declared.view.MetLink.{MetLink}
 use Rattle.track_rule.specs.declared.view.Reading.{Reading}
 use Rattle.track_rule.specs.declared.view.View.{View}
 use Rattle.track_rule.specs.declared.view.Walk.{Walk}
@@ -18,13 +18,13 @@ use Rattle.bucket_table.specs.Following.{Compares, HasMet, HasPassed, WalksOn, i
 use Rattle.bucket_table.specs.declared.lookup.Goal.{Goal}
 
 -- a link of which the first word was read
-abbrev half_met : ℕ → ℕ → Met
+abbrev half_met : ℕ → ℕ → MetLink
 half_met link n = record { link = link; first = Some n; second = None }
 
-abbrev whole_met : ℕ → ℕ → ℕ → Met
+abbrev whole_met : ℕ → ℕ → ℕ → MetLink
 whole_met link n m = record { link = link; first = Some n; second = Some m }
 
-module _ (z : Sizes) (g : Goal) (link : ℕ) (before : List Met) where
+module _ (z : Sizes) (g : Goal) (link : ℕ) (before : List MetLink) where
   read_first : (n : ℕ) → tuple_noted z (first_word z link) n (walk_on g (just_met link ∷ before)) ≡ walk_on g (half_met link n ∷ before)
   read_first n =
       let here : (first_word z link == first_word z link) ≡ true = eq-eqb (first_word z link) (first_word z link) refl in
@@ -87,10 +87,10 @@ walks_on u v w a b = record {
 
 -- a link that was met with the tuple, after a load of a word of a tuple
 module _ (z : Sizes) (g : Goal) (x word n : ℕ) (v w : View) (walk : w.walk ≡ tuple_note z word n v.walk) (h : HasMet g x v) where
-  head_stays : (m : Met) → m ≡ met_with x g.first g.second → (if first_word z m.link == word then record m { first = read_then n m.first } else
+  head_stays : (m : MetLink) → m ≡ met_with x g.first g.second → (if first_word z m.link == word then record m { first = read_then n m.first } else
       (if second_word z m.link == word then record m { second = read_then n m.second } else m)) ≡ met_with x g.first g.second
   head_stays m is =
-      ap (λ (k : Met). if first_word z k.link == word then record k { first = read_then n k.first } else
+      ap (λ (k : MetLink). if first_word z k.link == word then record k { first = read_then n k.first } else
       (if second_word z k.link == word then record k { second = read_then n k.second } else k)) is
       ∙ cond_both (first_word z x == word) (met_with x g.first g.second) (if second_word z x == word then met_with x g.first g.second else met_with x g.first g.second)
       (λ k. k ≡ met_with x g.first g.second) (λ e. refl)
@@ -103,7 +103,7 @@ module _ (z : Sizes) (g : Goal) (x word n : ℕ) (v w : View) (walk : w.walk ≡
     is = record {
       its = record { bucket_is = h.is.its.bucket_is; generation_is = h.is.its.generation_is };
       before = h.is.before;
-      met = ap (met_read z word n) h.is.met ∙ ap (λ (m : Met). m ∷ h.is.before) (head_stays (met_with x g.first g.second) refl);
+      met = ap (met_read z word n) h.is.met ∙ ap (λ (m : MetLink). m ∷ h.is.before) (head_stays (met_with x g.first g.second) refl);
     };
   }
 
@@ -113,7 +113,7 @@ module _ (z : Sizes) (g : Goal) (x word n : ℕ) (v w : View) (walk : w.walk ≡
     note = tuple_noted z word n h.note;
     walk = walk ∙ ap (tuple_note z word n) h.walk;
     its = record { bucket_is = h.is.its.bucket_is; generation_is = h.is.its.generation_is };
-    passed = ap (λ (met : List Met). h.note.passed || is_changed z word n met) h.is.met ∙ or_right h.note.passed _ changed;
+    passed = ap (λ (met : List MetLink). h.note.passed || is_changed z word n met) h.is.met ∙ or_right h.note.passed _ changed;
   }
 
   first_lost : word ≡ first_word z x → n ≢ g.first → HasPassed g w
@@ -154,7 +154,7 @@ compares_second g link n m same u v w some loads kept here loads' kept' decides 
     let sizes : sizes_of v ≡ sizes_of u = ap sizes_of kept ∙ ap (λ (x : View). x.passes.sizes) loads.view in
     let second : w.view.walk ≡ tuple_note (sizes_of u) (second_word (sizes_of u) link) m v.view.walk =
     ap (λ (x : View). x.walk) loads'.view ∙ ap (λ (z : Sizes). tuple_note z (second_word (sizes_of u) link) m v.view.walk) sizes in
-    let whole : (before : List Met) → u.view.walk ≡ Some (walk_on g (just_met link ∷ before)) → w.view.walk ≡ Some (walk_on g (whole_met link n m ∷ before)) =
+    let whole : (before : List MetLink) → u.view.walk ≡ Some (walk_on g (just_met link ∷ before)) → w.view.walk ≡ Some (walk_on g (whole_met link n m ∷ before)) =
     λ before walk.
     second
     ∙ ap (tuple_note (sizes_of u) (second_word (sizes_of u) link) m)

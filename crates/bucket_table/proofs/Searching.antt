@@ -8,7 +8,7 @@ use Rattle.track_rule.specs.Layout.{head_word, next_word}
 use Rattle.track_rule.specs.Links.{last_link}
 use Rattle.track_rule.specs.Notes.{fresh_walk, just_met, link_note, link_noted, met_then}
 use Rattle.track_rule.specs.Sights.{PassSight, sizes_of}
-use Rattle.track_rule.specs.declared.view.Met.{Met}
+use Rattle.track_rule.specs.declared.view.MetLink.{MetLink}
 use Rattle.track_rule.specs.declared.view.View.{View}
 use Rattle.track_rule.specs.declared.view.Walk.{Walk}
 use Rattle.bucket_table.specs.Following.{Compares, IsSoFar, IsStart, SearchSays, WalksOn, all_others, is_another, note_at, walk_on, walk_through}
@@ -26,14 +26,14 @@ walk_none v = record {
 }
 
 -- the note at a link, which there is
-note_some : (g : Goal) (link : ℕ) (before : List Met) → link ≢ 0 → note_at g link before ≡ walk_on g (just_met link ∷ before)
+note_some : (g : Goal) (link : ℕ) (before : List MetLink) → link ≢ 0 → note_at g link before ≡ walk_on g (just_met link ∷ before)
 note_some g link before some = ap (λ (b : Bool). if b then walk_through g.bucket g.generation before else walk_on g (just_met link ∷ before)) (ne_eqb link 0 some)
 
-note_none : (g : Goal) (before : List Met) → note_at g 0 before ≡ walk_through g.bucket g.generation before
+note_none : (g : Goal) (before : List MetLink) → note_at g 0 before ≡ walk_through g.bucket g.generation before
 note_none g before = refl
 
 -- the note after a load of the next link
-link_read : (z : Sizes) (g : Goal) (m : Met) (before : List Met) (n : ℕ) → g.bucket < z.buckets
+link_read : (z : Sizes) (g : Goal) (m : MetLink) (before : List MetLink) (n : ℕ) → g.bucket < z.buckets
     → link_noted z (next_word z m.link) n (walk_on g (m ∷ before)) ≡ note_at g n (m ∷ before)
 link_read z g m before n below =
     let other : (head_word z g.bucket == next_word z m.link) ≡ false = ne_eqb (head_word z g.bucket) (next_word z m.link) (λ e. omega (arith, e, below)) in

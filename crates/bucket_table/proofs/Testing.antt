@@ -15,7 +15,7 @@ use Rattle.track_rule.specs.Readings.{found}
 use Rattle.track_rule.specs.References.{WasConfirmed}
 use Rattle.track_rule.specs.Sights.{PassSight, sizes_of}
 use Rattle.track_rule.specs.Steps.{AreAll, Looks, at_point, found_history, keep}
-use Rattle.track_rule.specs.declared.view.Met.{Met}
+use Rattle.track_rule.specs.declared.view.MetLink.{MetLink}
 use Rattle.track_rule.specs.declared.view.Purpose.{Purpose}
 use Rattle.track_rule.specs.declared.view.Purpose.TheVariants.{Shown, For}
 use Rattle.track_rule.specs.declared.view.Reading.{Reading}
@@ -132,7 +132,7 @@ module _ (g : Goal) (link place : ℕ) (lost : Bool) (v w : View) (walk : w.walk
     note = lost_noted place h.note;
     walk = walk ∙ ap (λ (b : Bool). note_where b place v.walk) is ∙ ap (lost_note place) h.walk;
     its = record { bucket_is = h.is.its.bucket_is; generation_is = h.is.its.generation_is };
-    passed = ap (λ (met : List Met). h.note.passed || has_met place met) h.is.met
+    passed = ap (λ (met : List MetLink). h.note.passed || has_met place met) h.is.met
         ∙ or_right h.note.passed (has_met place (met_with link g.first g.second ∷ h.is.before))
         (or_left (place_of link == place) (has_met place h.is.before) (eq-eqb (place_of link) place here));
   }

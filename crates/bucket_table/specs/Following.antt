@@ -21,7 +21,7 @@ use Rattle.track_rule.specs.Sights.{PassSight, looked_on, sizes_of}
 use Rattle.track_rule.specs.Steps.{AreAll}
 use Rattle.track_rule.specs.Walks.{HasLive, Stands}
 use Rattle.track_rule.specs.declared.view.ChainLink.{ChainLink}
-use Rattle.track_rule.specs.declared.view.Met.{Met}
+use Rattle.track_rule.specs.declared.view.MetLink.{MetLink}
 use Rattle.track_rule.specs.declared.view.Pair.{Pair}
 use Rattle.track_rule.specs.declared.view.Reading.{Reading}
 use Rattle.track_rule.specs.declared.view.View.{View}
@@ -44,22 +44,22 @@ abbrev pub direction_of : ℕ → Direction
 direction_of link = direction_at_side (side_of link)
 
 -- a link was met that has another tuple than these two words
-abbrev pub is_another : ℕ → ℕ → Met → Bool
+abbrev pub is_another : ℕ → ℕ → MetLink → Bool
 is_another first second m = is_other m.first first || is_other m.second second
 
 -- a link was met that has this tuple
-abbrev pub met_with : ℕ → ℕ → ℕ → Met
+abbrev pub met_with : ℕ → ℕ → ℕ → MetLink
 met_with link first second = record { link = link; first = Some first; second = Some second }
 
 -- a walk along the chain of this bucket at this generation, which met these links, the newest first; and one that met the end
-abbrev pub walk_to : ℕ → ℕ → List Met → Walk
+abbrev pub walk_to : ℕ → ℕ → List MetLink → Walk
 walk_to bucket generation met = record { bucket = bucket; generation = generation; met = met; ended = false; at = None; passed = false }
 
-abbrev pub walk_through : ℕ → ℕ → List Met → Walk
+abbrev pub walk_through : ℕ → ℕ → List MetLink → Walk
 walk_through bucket generation met = record { bucket = bucket; generation = generation; met = met; ended = true; at = None; passed = false }
 
 -- the same, where the pass has seen all events up to this point
-abbrev pub walk_seen : ℕ → ℕ → List Met → ℕ → Walk
+abbrev pub walk_seen : ℕ → ℕ → List MetLink → ℕ → Walk
 walk_seen bucket generation met point = record (walk_through bucket generation met) { at = Some point }
 
 -- an entry has these two words
@@ -89,7 +89,7 @@ pub record IsLink (t : Tuple) (place : ℕ) (direction : Direction) (generation 
   pub below : link ≤ last_link (sizes_of v)
   pub place_is : place ≡ place_of link
   pub direction_is : direction ≡ direction_of link
-  pub before : List Met
+  pub before : List MetLink
   pub others : list_all (is_another (address_word t) (flow_word t)) before ≡ true
   pub walk : w.view.walk ≡ Some (walk_to (bucket_in (sizes_of v) t) generation (met_with link (address_word t) (flow_word t) ∷ before))
 
@@ -112,7 +112,7 @@ pub record IsEnd (t : Tuple) (at : ℕ) (v w : PassSight) : Type 0 where
   pub even : generation % 2 ≡ 0
   pub between : Encloses (gen_word (sizes_of v) (bucket_in (sizes_of v) t)) generation (added v.view w.view)
   pub events : events_in between.history.value ≡ at
-  pub before : List Met
+  pub before : List MetLink
   pub others : list_all (is_another (address_word t) (flow_word t)) before ≡ true
   pub walk : w.view.walk ≡ Some (walk_seen (bucket_in (sizes_of v) t) generation before at)
   pub chain : List ChainLink
@@ -153,7 +153,7 @@ FollowSays (Moved word was now) t v w = IsMoved t word was now v w
 -- the walk met this link last, with the tuple that is looked for
 pub record IsMet (g : Goal) (link : ℕ) (note : Walk) : Type 0 where
   pub its : IsNoteOf g.bucket g.generation note
-  pub before : List Met
+  pub before : List MetLink
   pub met : note.met ≡ met_with link g.first g.second ∷ before
 
 pub record HasMet (g : Goal) (link : ℕ) (view : View) : Type 0 where
@@ -183,31 +183,31 @@ pub record WalksOn (v w : PassSight) : Type 0 where
   pub quiet : list_all (is_of_walk (sizes_of v)) more ≡ true
 
 -- what is looked for: these two words, in this bucket, at this generation
-abbrev pub walk_on : Goal → List Met → Walk
+abbrev pub walk_on : Goal → List MetLink → Walk
 walk_on g met = walk_to g.bucket g.generation met
 
-abbrev pub all_others : Goal → List Met → Bool
+abbrev pub all_others : Goal → List MetLink → Bool
 all_others g met = list_all (is_another g.first g.second) met
 
 -- Whether a link has the tuple, which the walk notes where it is the newest one. Another one at a link that was met with the tuple
 -- shows that the generation has passed. Of a place that the pass holds for an id it is that of the id's Confirm.
 pub record Compares (g : Goal) (link : ℕ) (same : Bool) (v w : PassSight) : Type 0 where
   pub walks : WalksOn v w
-  pub has : same ≡ true → (before : List Met) → v.view.walk ≡ Some (walk_on g (just_met link ∷ before))
+  pub has : same ≡ true → (before : List MetLink) → v.view.walk ≡ Some (walk_on g (just_met link ∷ before))
       → w.view.walk ≡ Some (walk_on g (met_with link g.first g.second ∷ before))
-  pub another : same ≡ false → (before : List Met) → v.view.walk ≡ Some (walk_on g (just_met link ∷ before))
-      → (m : Met) × (w.view.walk ≡ Some (walk_on g (m ∷ before))) × (m.link ≡ link) × (is_another g.first g.second m ≡ true)
+  pub another : same ≡ false → (before : List MetLink) → v.view.walk ≡ Some (walk_on g (just_met link ∷ before))
+      → (m : MetLink) × (w.view.walk ≡ Some (walk_on g (m ∷ before))) × (m.link ≡ link) × (is_another g.first g.second m ≡ true)
   pub stays : (x : ℕ) → HasMet g x v.view → HasMet g x w.view
   pub lost : same ≡ false → HasMet g link v.view → HasPassed g w.view
   pub kept : (place id : ℕ) (subject : Record) (d : Direction) → is_kept_for place id v.view.places.held ≡ true
       → slice_get v.view.seen.front id ≡ Some (Confirm subject) → link ≡ link_of d place → same ≡ has_pair g (pair_in d subject)
 
 -- so far all links had other tuples, and this is the next one, or the end
-abbrev pub note_at : Goal → ℕ → List Met → Walk
+abbrev pub note_at : Goal → ℕ → List MetLink → Walk
 note_at g link before = (if link == 0 then walk_through g.bucket g.generation before else walk_on g (just_met link ∷ before))
 
 pub record IsSoFar (g : Goal) (z : Sizes) (link left : ℕ) (view : View) : Type 0 where
-  pub before : List Met
+  pub before : List MetLink
   pub walk : view.walk ≡ Some (note_at g link before)
   pub others : all_others g before ≡ true
   pub count : length before + left ≡ last_link z
@@ -221,17 +221,17 @@ IsStart g link view = view.walk ≡ Some (note_at g link [])
 pub record SearchFound (g : Goal) (link : ℕ) (z : Sizes) (view : View) : Type 0 where
   pub some : 0 < link
   pub below : link ≤ last_link z
-  pub before : List Met
+  pub before : List MetLink
   pub others : all_others g before ≡ true
   pub walk : view.walk ≡ Some (walk_on g (met_with link g.first g.second ∷ before))
 
 pub record SearchEnded (g : Goal) (view : View) : Type 0 where
-  pub before : List Met
+  pub before : List MetLink
   pub others : all_others g before ≡ true
   pub walk : view.walk ≡ Some (walk_through g.bucket g.generation before)
 
 pub record SearchLong (g : Goal) (z : Sizes) (view : View) : Type 0 where
-  pub met : List Met
+  pub met : List MetLink
   pub long : last_link z < length met
   pub walk : view.walk ≡ Some (walk_on g met)
 

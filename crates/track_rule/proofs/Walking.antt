@@ -6,7 +6,7 @@ use Rattle.std.proofs.lemmas.Option.{none-some}
 use Rattle.history_book.specs.declared.event.Event.{Event}
 use Rattle.history_book.specs.declared.sizes.Sizes.{Sizes}
 use Rattle.track_rule.specs.declared.view.ChainLink.{ChainLink}
-use Rattle.track_rule.specs.declared.view.Met.{Met}
+use Rattle.track_rule.specs.declared.view.MetLink.{MetLink}
 use Rattle.track_rule.specs.declared.view.View.{View}
 use Rattle.track_rule.specs.declared.view.Walk.{Walk}
 use Rattle.track_rule.specs.BucketSteps.{IsNoteOf, WasChain, end_word}
@@ -78,7 +78,7 @@ module _ (z : Sizes) (ws : List ℕ) (chains : ℕ → List ChainLink) (front : 
       })
 
   -- the word after the newest link that was met is the one after what was passed
-  after_met : (b word : ℕ) (met : List Met) (passed : List ChainLink) → Matches met passed → is_after z word met ≡ true → end_word z b passed ≡ word
+  after_met : (b word : ℕ) (met : List MetLink) (passed : List ChainLink) → Matches met passed → is_after z word met ≡ true → end_word z b passed ≡ word
   after_met b word [] passed m e = absurd (false≢true e)
   after_met b word (m ∷ ms) [] t e = absurd t
   after_met b word (m ∷ ms) (p ∷ ps) t e = ap (next_word z) (sym t.0) ∙ eqb-true (next_word z m.link) word e
@@ -120,7 +120,7 @@ module _ (z : Sizes) (ws : List ℕ) (chains : ℕ → List ChainLink) (front : 
   not_other n e (Some k) same r other = false≢true (sym (ap not (eq-eqb k n (r ∙ sym same))) ∙ other)
 
   module _ (b word : ℕ) where
-    read_matches : (met : List Met) (passed rest : List ChainLink) → Matches met passed → IsChain z ws b (slice_index ws (head_word z b)) (rev_onto passed rest)
+    read_matches : (met : List MetLink) (passed rest : List ChainLink) → Matches met passed → IsChain z ws b (slice_index ws (head_word z b)) (rev_onto passed rest)
         → Matches (met_read z word (slice_index ws word) met) passed
     read_matches [] passed rest t c = t
     read_matches (m ∷ ms) [] rest t c = absurd t
@@ -140,7 +140,7 @@ module _ (z : Sizes) (ws : List ℕ) (chains : ℕ → List ChainLink) (front : 
         (t.0, t.1, read_is (slice_index ws word) p.pair.second m.second here t.2, t.3))
         (λ f. t))
 
-    not_changed : (met : List Met) (passed rest : List ChainLink) → Matches met passed → IsChain z ws b (slice_index ws (head_word z b)) (rev_onto passed rest)
+    not_changed : (met : List MetLink) (passed rest : List ChainLink) → Matches met passed → IsChain z ws b (slice_index ws (head_word z b)) (rev_onto passed rest)
         → is_changed z word (slice_index ws word) met ≡ true → ⊥
     not_changed [] passed rest t c e = false≢true e
     not_changed (m ∷ ms) [] rest t c e = t
@@ -191,7 +191,7 @@ module _ (z : Sizes) (ws : List ℕ) (chains : ℕ → List ChainLink) (front : 
       whole t = subst (IsChain z ws m.bucket (slice_index ws (head_word z m.bucket))) t.all (linked m.bucket w.bucket)
 
 -- a link of a place that was met is of an entry that was passed
-met_there : (place : ℕ) (met : List Met) (passed : List ChainLink) → Matches met passed → has_met place met ≡ true → 0 < total (at_place place) passed
+met_there : (place : ℕ) (met : List MetLink) (passed : List ChainLink) → Matches met passed → has_met place met ≡ true → 0 < total (at_place place) passed
 met_there place [] passed t e = absurd (false≢true e)
 met_there place (m ∷ ms) [] t e = absurd t
 met_there place (m ∷ ms) (p ∷ ps) t e =

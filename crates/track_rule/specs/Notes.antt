@@ -5,12 +5,12 @@
 use Rattle.std.specs.Prelude.{ℕ, ◌==◌, ◌&&◌, ◌||◌, not, Bool, true, false, if◌then◌else◌, Option, Some, None, List, [], ◌∷◌}
 use Rattle.std.specs.List.{list_any}
 use Rattle.history_book.specs.declared.sizes.Sizes.{Sizes}
-use Rattle.track_rule.specs.declared.view.Met.{Met}
+use Rattle.track_rule.specs.declared.view.MetLink.{MetLink}
 use Rattle.track_rule.specs.declared.view.Walk.{Walk}
 use Rattle.track_rule.specs.Layout.{first_word, head_word, next_word, place_of, second_word}
 
 -- a link that was met, of whose tuple nothing was read
-abbrev pub just_met : ℕ → Met
+abbrev pub just_met : ℕ → MetLink
 just_met link = record { link = link; first = None; second = None }
 
 -- a walk along the chain of a bucket at this generation, of which nothing was read
@@ -30,7 +30,7 @@ abbrev pub met_then : ℕ → Walk → Walk
 met_then link n = (if link == 0 then record n { ended = true } else record n { met = just_met link ∷ n.met })
 
 -- the word of the link after the newest one
-abbrev pub is_after : Sizes → ℕ → List Met → Bool
+abbrev pub is_after : Sizes → ℕ → List MetLink → Bool
 is_after z word [] = false
 is_after z word (m ∷ ms) = next_word z m.link == word
 
@@ -53,13 +53,13 @@ abbrev pub is_other : Option ℕ → ℕ → Bool
 is_other None n = false
 is_other (Some m) n = not (m == n)
 
-abbrev pub met_read : Sizes → ℕ → ℕ → List Met → List Met
+abbrev pub met_read : Sizes → ℕ → ℕ → List MetLink → List MetLink
 met_read z word n [] = []
 met_read z word n (m ∷ ms) =
     (if first_word z m.link == word then record m { first = read_then n m.first } else
     (if second_word z m.link == word then record m { second = read_then n m.second } else m)) ∷ ms
 
-abbrev pub is_changed : Sizes → ℕ → ℕ → List Met → Bool
+abbrev pub is_changed : Sizes → ℕ → ℕ → List MetLink → Bool
 is_changed z word n [] = false
 is_changed z word n (m ∷ ms) =
     (first_word z m.link == word && is_other m.first n) || (second_word z m.link == word && is_other m.second n)
@@ -72,8 +72,8 @@ tuple_note z word n None = None
 tuple_note z word n (Some walk) = Some (tuple_noted z word n walk)
 
 -- a link of the place was met
-abbrev pub has_met : ℕ → List Met → Bool
-has_met place met = list_any (λ (m : Met). place_of m.link == place) met
+abbrev pub has_met : ℕ → List MetLink → Bool
+has_met place met = list_any (λ (m : MetLink). place_of m.link == place) met
 
 -- no entry is live at the place: the generation has passed, where a link of the place was met
 abbrev pub lost_noted : ℕ → Walk → Walk

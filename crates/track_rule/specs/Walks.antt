@@ -6,7 +6,7 @@ use Rattle.std.specs.Prelude.{◌≡◌, ℕ, ◌<◌, ◌≤◌, ◌%◌, true,
 use Rattle.history_book.specs.declared.event.Event.{Event}
 use Rattle.history_book.specs.declared.sizes.Sizes.{Sizes}
 use Rattle.track_rule.specs.declared.view.ChainLink.{ChainLink}
-use Rattle.track_rule.specs.declared.view.Met.{Met}
+use Rattle.track_rule.specs.declared.view.MetLink.{MetLink}
 use Rattle.track_rule.specs.declared.view.View.{View}
 use Rattle.track_rule.specs.declared.view.Walk.{Walk}
 use Rattle.track_rule.specs.Chains.{links_in}
@@ -25,7 +25,7 @@ IsRead None n = Unit {0}
 IsRead (Some m) n = m ≡ n
 
 -- what was met is these entries, as far as it was read
-abbrev pub Matches : List Met → List ChainLink → Type 0
+abbrev pub Matches : List MetLink → List ChainLink → Type 0
 Matches [] [] = Unit {0}
 Matches [] (e ∷ es) = ⊥
 Matches (m ∷ ms) [] = ⊥

@@ -120,7 +120,7 @@ pub struct Commit {
 }
 
 /// A link that was met, and what was read of its tuple.
-pub struct Met {
+pub struct MetLink {
     pub link: u64,
     pub first: Option<u64>,
     pub second: Option<u64>,
@@ -131,7 +131,7 @@ pub struct Walk {
     pub bucket: u32,
     pub generation: u64,
     /// What was met, the newest first.
-    pub met: LinkedList<Met>,
+    pub met: LinkedList<MetLink>,
     /// Whether the end was met.
     pub ended: bool,
     /// How many events there were when the history word was loaded.
