@@ -21,12 +21,12 @@ use Rattle.shared_desk.specs.Noting.{room_after, with_note}
 use Rattle.shared_desk.specs.Rest.{IsAtRest}
 use Rattle.shared_desk.specs.Sights.{hold_of, sight_of}
 use Rattle.shared_desk.specs.Touching.{Gives, IsLeft, IsNotLive, IsTouched, Notes, SuitsEntry, TouchesLive, touch_of}
-use Rattle.shared_desk.specs.declared.touching.Packet.{Packet}
+use Rattle.shared_desk.specs.declared.touching.EntryPacket.{EntryPacket}
 use Rattle.shared_desk.proofs.Noted.{known_made, looks_left, made_here, noted_one, rest_left, so_before}
 use Rattle.shared_desk.proofs.Peeking.{kept}
 use Rattle.shared_desk.proofs.Resting.{clerk_at, idle_still, then_of}
 
-module _ (v : PassSight) (notes : Roomed Note) (spare place : ℕ) (p : Packet) (h : IsAtRest v notes spare)
+module _ (v : PassSight) (notes : Roomed Note) (spare place : ℕ) (p : EntryPacket) (h : IsAtRest v notes spare)
     (held : is_held_for_entry place (map hold_of v.view.places.held) ≡ true) (room : 1 ≤ spare) where
   id : ℕ
   id = held_id place (map hold_of v.view.places.held)

@@ -24,7 +24,7 @@ use Rattle.track_rule.specs.TouchSteps.{hand_goes_on, known_record}
 use Rattle.track_rule.specs.TurnSteps.{subject_in, with_subject}
 use Rattle.shared_desk.specs.Looking.{HasRecord}
 use Rattle.shared_desk.specs.Touching.{Accepts, Gives, GoesOn, IsLeft, IsStill, IsTouchedUnder, StepsRecord, SuitsEntry, TouchesUnder, touch_of}
-use Rattle.shared_desk.specs.declared.touching.Packet.{Packet}
+use Rattle.shared_desk.specs.declared.touching.EntryPacket.{EntryPacket}
 use Rattle.shared_desk.proofs.Lists.{get_append}
 use Rattle.shared_desk.proofs.Loaded.{all_from, all_seen, its_id, left_now, live_now, subject_is, view_is}
 use Rattle.history_book.specs.History.{is_legal}
@@ -43,7 +43,7 @@ entry_stays segment id front log (more, same) e =
         ∙ ap (λ (o : Option Event). is_of_record segment (confirmed_by o)) (get_append front more id x is) ∙ e
 
 -- under the turn a phase and then the history word were loaded
-module _ (place n word : ℕ) (p : Packet) (v u w : PassSight) (h : HasRecord place v) (s : SuitsEntry place p v)
+module _ (place n word : ℕ) (p : EntryPacket) (v u w : PassSight) (h : HasRecord place v) (s : SuitsEntry place p v)
     (loads : LoadsPhase place v.view n u.view) (kept : u ≡ record v { view = u.view })
     (looks : Looks u.view word w.view) (kept' : w ≡ record u { view = w.view })
     (live : 3 ≤ n) (before : Record) (out : Some before ≡ subject_in w.slots) where

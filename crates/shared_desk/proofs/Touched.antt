@@ -19,14 +19,14 @@ use Rattle.track_rule.specs.TurnSteps.{gave_turn, with_subject}
 use Rattle.shared_desk.specs.Commit.{HasRecordTurn, seen_with}
 use Rattle.shared_desk.specs.Looking.{HasRecord, IsFreeFor}
 use Rattle.shared_desk.specs.Touching.{Gives, GoesOn, IsLeft, IsNotLive, IsTouched, IsTouchedUnder, TouchesLive, TouchesUnder, touch_of}
-use Rattle.shared_desk.specs.declared.touching.Packet.{Packet}
+use Rattle.shared_desk.specs.declared.touching.EntryPacket.{EntryPacket}
 use Rattle.shared_desk.proofs.Looking.{still_has}
 
 -- nothing was touched
 pub left_known : (place at : ℕ) (F : ℕ → List Event → Type 0) (v w : PassSight) → HasRecord place v → IsLeft place at F v w → HasRecord place w
 left_known place at F v w h p = still_has place v w h p.same
 
-touched_known : (place : ℕ) (p : Packet) (number : ℕ) (q : Record) (v w : PassSight) → HasRecord place v → IsTouchedUnder place p number q v w → HasRecord place w
+touched_known : (place : ℕ) (p : EntryPacket) (number : ℕ) (q : Record) (v w : PassSight) → HasRecord place v → IsTouchedUnder place p number q v w → HasRecord place w
 touched_known place p number q v w h t =
     let subject : h.hand.subject ≡ Some q = sym (ap known_record h.known) ∙ t.known in
     record {
@@ -43,7 +43,7 @@ touched_known place p number q v w h t =
       closed = ap (λ (k : PassSight). holds_open k.view.places.held) t.goes.same ∙ h.closed;
     }
 
-pub still_known : (place : ℕ) (p : Packet) (o : TouchOutcome) (v w : PassSight) → HasRecord place v → TouchesUnder place p o v w → HasRecord place w
+pub still_known : (place : ℕ) (p : EntryPacket) (o : TouchOutcome) (v w : PassSight) → HasRecord place v → TouchesUnder place p o v w → HasRecord place w
 still_known place p (touch.Touched number q) v w h t = touched_known place p number q v w h t
 still_known place p (touch.Ignored at) v w h t = left_known place at (Gives p outcome.Ignore) v w h t
 still_known place p (touch.Invalid at) v w h t = left_known place at (Gives p outcome.Invalid) v w h t
@@ -93,7 +93,7 @@ module _ (place : ℕ) (v w x y : PassSight) (f : IsFreeFor place v) (t : HasRec
         is = λ id kept. subst (F id) (sym front) (p.is id (still_held id kept));
       }
 
-  touched_back : (p : Packet) (number : ℕ) (q : Record) → IsTouchedUnder place p number q w x → IsTouched place p number q v y
+  touched_back : (p : EntryPacket) (number : ℕ) (q : Record) → IsTouchedUnder place p number q w x → IsTouched place p number q v y
   touched_back p number q u =
       let g : GoesOn place u.id q p u.after number w x = u.goes in
       let whole : y ≡ record v {
@@ -136,7 +136,7 @@ module _ (place : ℕ) (v w x y : PassSight) (f : IsFreeFor place v) (t : HasRec
         });
       }
 
-  pub given_back : (p : Packet) (o : TouchOutcome) → TouchesUnder place p o w x → TouchesLive place p o v y
+  pub given_back : (p : EntryPacket) (o : TouchOutcome) → TouchesUnder place p o w x → TouchesLive place p o v y
   given_back p (touch.Touched number q) u = touched_back p number q u
   given_back p (touch.Ignored at) u = left_back at (Gives p outcome.Ignore) u
   given_back p (touch.Invalid at) u = left_back at (Gives p outcome.Invalid) u

@@ -23,10 +23,10 @@ use Rattle.track_rule.specs.TouchSteps.{hand_goes_on, known_phase, known_record}
 use Rattle.track_rule.specs.TurnSteps.{with_subject}
 use Rattle.shared_desk.specs.Looking.{HasRecord}
 use Rattle.shared_desk.specs.declared.touching.MadeTouch.{MadeTouch}
-use Rattle.shared_desk.specs.declared.touching.Packet.{Packet}
+use Rattle.shared_desk.specs.declared.touching.EntryPacket.{EntryPacket}
 
 -- The pass holds the place for an entry, whose protocol is that of the packet, and has room for an event.
-pub record SuitsEntry (place : ℕ) (p : Packet) (v : PassSight) : Type 0 where
+pub record SuitsEntry (place : ℕ) (p : EntryPacket) (v : PassSight) : Type 0 where
   pub id : ℕ
   pub kept : is_kept_for place id v.view.places.held ≡ true
   pub protocol : is_of_entry p.segment id v.view.seen.front ≡ true
@@ -39,16 +39,16 @@ Notes None old new = new ≡ old
 Notes (Some note) old new = new ≡ old ++ note ∷ []
 
 -- its Touch
-abbrev pub touch_of : Packet → ℕ → Part → Event
+abbrev pub touch_of : EntryPacket → ℕ → Part → Event
 touch_of p id after = Touch id p.direction p.segment p.moment after
 
 -- as an own event, if it was made
-abbrev pub touch_note : Packet → Option MadeTouch → Option Note
+abbrev pub touch_note : EntryPacket → Option MadeTouch → Option Note
 touch_note p None = None
 touch_note p (Some made) = Some (record { number = made.number; event = touch_of p made.id made.after })
 
 -- The Touch of the entry was made after all these events, and was lawful.
-pub record IsTouched (place : ℕ) (p : Packet) (number : ℕ) (before : Record) (v w : PassSight) : Type 0 where
+pub record IsTouched (place : ℕ) (p : EntryPacket) (number : ℕ) (before : Record) (v w : PassSight) : Type 0 where
   pub id : ℕ
   pub its : (i : ℕ) → is_kept_for place i v.view.places.held ≡ true → i ≡ id
   pub log : List Event
@@ -70,7 +70,7 @@ pub record IsLeft (place at : ℕ) (F : ℕ → List Event → Type 0) (v w : Pa
   pub is : (id : ℕ) → is_kept_for place id v.view.places.held ≡ true → F id w.view.seen.front
 
 -- the step gave this
-abbrev pub Gives : Packet → Outcome → ℕ → List Event → Type 0
+abbrev pub Gives : EntryPacket → Outcome → ℕ → List Event → Type 0
 Gives p o id log = StepGives id p.direction p.segment p.moment o (state_after log)
 
 abbrev pub IsNotLive : ℕ → List Event → Type 0
@@ -85,7 +85,7 @@ pub record KnowsEntry (place id : ℕ) (before : Record) (v : PassSight) : Type 
   pub subject : known_record v.view.commit.hand ≡ Some before
 
 -- The Touch was made, and the record goes on with the part.
-pub record GoesOn (place id : ℕ) (before : Record) (p : Packet) (after : Part) (number : ℕ) (v w : PassSight) : Type 0 where
+pub record GoesOn (place id : ℕ) (before : Record) (p : EntryPacket) (after : Part) (number : ℕ) (v w : PassSight) : Type 0 where
   pub log : List Event
   pub all : AreAll v.view log
   pub number_is : number ≡ length log
@@ -102,18 +102,18 @@ pub record GoesOn (place id : ℕ) (before : Record) (p : Packet) (after : Part)
   }
 
 -- the step gave this, and nothing changed
-pub record IsStill (before : Record) (p : Packet) (o : Outcome) (at a : ℕ) (v w : PassSight) : Type 0 where
+pub record IsStill (before : Record) (p : EntryPacket) (o : Outcome) (at a : ℕ) (v w : PassSight) : Type 0 where
   pub point : a ≡ at
   pub step : step_of before.part p.direction p.segment p.moment ≡ o
   pub same : w ≡ v
 
-pub record Accepts (place id : ℕ) (before : Record) (p : Packet) (number : ℕ) (record_was : Record) (v w : PassSight) : Type 0 where
+pub record Accepts (place id : ℕ) (before : Record) (p : EntryPacket) (number : ℕ) (record_was : Record) (v w : PassSight) : Type 0 where
   pub was : record_was ≡ before
   pub after : Part
   pub step : step_of before.part p.direction p.segment p.moment ≡ outcome.Accept after
   pub goes : GoesOn place id before p after number v w
 
-abbrev pub StepsRecord : ℕ → ℕ → Record → Packet → ℕ → TouchOutcome → PassSight → PassSight → Type 0
+abbrev pub StepsRecord : ℕ → ℕ → Record → EntryPacket → ℕ → TouchOutcome → PassSight → PassSight → Type 0
 StepsRecord place id before p at (touch.Touched number record_was) v w = Accepts place id before p number record_was v w
 StepsRecord place id before p at (touch.Ignored a) v w = IsStill before p outcome.Ignore at a v w
 StepsRecord place id before p at (touch.Invalid a) v w = IsStill before p outcome.Invalid at a v w
@@ -123,7 +123,7 @@ StepsRecord place id before p at (touch.Expired a) v w = IsStill before p outcom
 StepsRecord place id before p at (touch.Gone a) v w = ⊥
 
 -- all else is as it was, but the note of a walk and the readings
-abbrev pub TouchesLive : ℕ → Packet → TouchOutcome → PassSight → PassSight → Type 0
+abbrev pub TouchesLive : ℕ → EntryPacket → TouchOutcome → PassSight → PassSight → Type 0
 TouchesLive place p (touch.Touched number before) v w = IsTouched place p number before v w
 TouchesLive place p (touch.Ignored at) v w = IsLeft place at (Gives p outcome.Ignore) v w
 TouchesLive place p (touch.Invalid at) v w = IsLeft place at (Gives p outcome.Invalid) v w
@@ -133,7 +133,7 @@ TouchesLive place p (touch.Expired at) v w = IsLeft place at (Gives p outcome.Ex
 TouchesLive place p (touch.Gone at) v w = IsLeft place at IsNotLive v w
 
 -- what a Touch is under the turn: the pass knows the record with its new part, which is in the slot's stead
-pub record IsTouchedUnder (place : ℕ) (p : Packet) (number : ℕ) (before : Record) (v w : PassSight) : Type 0 where
+pub record IsTouchedUnder (place : ℕ) (p : EntryPacket) (number : ℕ) (before : Record) (v w : PassSight) : Type 0 where
   pub id : ℕ
   pub its : (i : ℕ) → is_kept_for place i v.view.places.held ≡ true → i ≡ id
   pub after : Part
@@ -141,7 +141,7 @@ pub record IsTouchedUnder (place : ℕ) (p : Packet) (number : ℕ) (before : Re
   pub known : known_record v.view.commit.hand ≡ Some before
   pub goes : GoesOn place id before p after number v w
 
-abbrev pub TouchesUnder : ℕ → Packet → TouchOutcome → PassSight → PassSight → Type 0
+abbrev pub TouchesUnder : ℕ → EntryPacket → TouchOutcome → PassSight → PassSight → Type 0
 TouchesUnder place p (touch.Touched number before) v w = IsTouchedUnder place p number before v w
 TouchesUnder place p (touch.Ignored at) v w = IsLeft place at (Gives p outcome.Ignore) v w
 TouchesUnder place p (touch.Invalid at) v w = IsLeft place at (Gives p outcome.Invalid) v w

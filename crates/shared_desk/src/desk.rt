@@ -21,7 +21,7 @@ use crate::entry::{kill, peek, touch};
 use crate::expecting::expect;
 use crate::holding::hold;
 use crate::noting::{note_confirm, note_event, note_touch};
-use crate::touching::Packet;
+use crate::touching::EntryPacket;
 use bucket_table::finding::FindOnce;
 use ct_io::Gate;
 use entry_pool::take::{recycle, take};
@@ -207,7 +207,7 @@ impl<'t, G: Gate> Desk for Clerk<'t, G> {
         ensures knows { IsKnown (sight_of self.new) }
     {
         states_stay();
-        let packet = Packet {
+        let packet = EntryPacket {
             direction,
             segment,
             moment,

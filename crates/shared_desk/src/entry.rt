@@ -10,7 +10,7 @@ ghost use Rattle.track_rule.specs.TurnSteps.{subject_in};
 
 use crate::commit::take_turn;
 use crate::killing::judge;
-use crate::touching::{MadeTouch, Packet, step_record};
+use crate::touching::{EntryPacket, MadeTouch, step_record};
 use history_book::event::{Note, Why};
 use history_book::laws::entries_keep_their_protocol;
 use history_book::outcome::{KillOutcome, PeekOutcome, TouchOutcome};
@@ -62,7 +62,11 @@ pub fn peek<R: Wait>(rt: &R, pass: &mut Pass, place: u32) -> PeekOutcome
 
 /// Touches the entry for which a place is held, under the turn of the place's record.
 #[inline(always)]
-fn touch_record(pass: &mut Pass, place: u32, packet: &Packet) -> (TouchOutcome, Option<MadeTouch>)
+fn touch_record(
+    pass: &mut Pass,
+    place: u32,
+    packet: &EntryPacket,
+) -> (TouchOutcome, Option<MadeTouch>)
     requires has { HasRecord place pass.old }
     requires suits { SuitsEntry place packet.now pass.old }
     ensures touches { TouchesUnder place packet.now result.0 pass.old pass.new }
@@ -87,7 +91,7 @@ pub fn touch<R: Wait>(
     rt: &R,
     pass: &mut Pass,
     place: u32,
-    packet: &Packet,
+    packet: &EntryPacket,
 ) -> (TouchOutcome, Option<MadeTouch>)
     requires free { IsFreeFor place pass.old }
     requires suits { SuitsEntry place packet.now pass.old }

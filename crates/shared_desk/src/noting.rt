@@ -5,7 +5,7 @@ ghost use Rattle.shared_desk.specs.Noting.{made_by, room_after, room_for, with_n
 ghost use Rattle.shared_desk.specs.Touching.{touch_note};
 
 use crate::commit::record_for;
-use crate::touching::{MadeTouch, Packet, touch_event};
+use crate::touching::{EntryPacket, MadeTouch, touch_event};
 use history_book::event::{Event, Note};
 use history_book::outcome::ConfirmOutcome;
 use history_book::record::Flow;
@@ -55,7 +55,7 @@ pub fn note_event(notes: &mut Notes, spare: &mut u64, made: Option<Note>)
 
 /// Notes the Touch by a packet, if the call made it. There is room for it.
 #[inline(always)]
-pub fn note_touch(notes: &mut Notes, spare: &mut u64, packet: &Packet, made: Option<MadeTouch>)
+pub fn note_touch(notes: &mut Notes, spare: &mut u64, packet: &EntryPacket, made: Option<MadeTouch>)
     requires room { length notes.old.items + spare.old ≤ notes.old.room }
     requires spare { 1 ≤ spare.old }
     ensures notes { notes.new ≡ with_note (touch_note packet.now made) notes.old }

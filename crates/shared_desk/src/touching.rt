@@ -18,7 +18,7 @@ use tuple_core::{Direction, Segment};
 
 /// A packet of an entry: its direction, what a tracker reads of it, and its moment in microseconds.
 #[derive(Clone, Copy)]
-pub struct Packet {
+pub struct EntryPacket {
     pub direction: Direction,
     pub segment: Segment,
     pub moment: u64,
@@ -34,10 +34,10 @@ pub struct MadeTouch {
 
 /// The Touch of the entry of this id by a packet, with which it goes on so.
 #[inline(always)]
-pub fn touch_event(packet: &Packet, id: u64, after: Part) -> Event
+pub fn touch_event(packet: &EntryPacket, id: u64, after: Part) -> Event
     ensures { result ≡ touch_of packet.now id after }
 {
-    let Packet {
+    let EntryPacket {
         direction,
         segment,
         moment,
@@ -58,7 +58,7 @@ fn go_on(
     place: u32,
     id: u64,
     before: &Record,
-    packet: &Packet,
+    packet: &EntryPacket,
     after: Part,
 ) -> MadeTouch
     requires knows { KnowsEntry place id before.now pass.old }
@@ -82,7 +82,7 @@ pub fn step_record(
     place: u32,
     id: u64,
     before: &Record,
-    packet: &Packet,
+    packet: &EntryPacket,
     at: u64,
 ) -> (TouchOutcome, Option<MadeTouch>)
     requires knows { KnowsEntry place id before.now pass.old }
