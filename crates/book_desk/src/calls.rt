@@ -15,7 +15,7 @@ ghost use Rattle.book_desk.specs.Internal.Book.{IsSomeBook, StaysBook, Tells, co
 use crate::book::Book;
 use crate::bundles::{histories_go_on, records_are_named};
 use crate::entries::{is_same_flow, winner};
-use crate::holds::{give_up, held_id, is_in_use, pay, place_index};
+use crate::holds::{forget_hold, held_id, is_in_use, pay, place_index};
 use expect_table::expectation::{Expectation, Want};
 use expect_table::table::AddOutcome;
 use history_book::desk::Hold;
@@ -353,7 +353,7 @@ impl Book {
         ensures says { Tells self.old self.new None (λ old new. ReleaseSays place old new result) }
         ensures sizes { self.new.sizes ≡ self.old.sizes }
     {
-        give_up(&mut self.holds, place);
+        forget_hold(&mut self.holds, place);
         if is_in_use(self.records.as_slice(), self.holds.as_slice(), place) {
             return ReleaseOutcome::Kept;
         }

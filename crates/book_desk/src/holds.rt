@@ -60,7 +60,7 @@ pub fn held_id(holds: &[Hold], place: u32) -> u64
 }
 
 /// Takes out the first reference to the place.
-pub fn give_up(holds: &mut RoomList<Hold>, place: u32)
+pub fn forget_hold(holds: &mut RoomList<Hold>, place: u32)
     requires { is_held place holds.old.items ≡ true }
     ensures items { holds.new.items ≡ without place holds.old.items }
     ensures room { holds.new.room ≡ holds.old.room }

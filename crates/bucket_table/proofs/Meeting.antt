@@ -31,7 +31,7 @@ use Rattle.track_rule.specs.declared.view.Purpose.TheVariants.{For, Testing}
 use Rattle.track_rule.specs.declared.view.Reading.{Reading}
 use Rattle.track_rule.specs.declared.view.View.{View}
 use Rattle.track_rule.specs.declared.view.Walk.{Walk}
-use Rattle.bucket_table.specs.Finding.{AgainSays, CanGiveUp, CanTest, GivesUp, HasEntry, IsDirected, IsElse, IsLastGiven, IsNewlyOwed, IsTesting, LosesEntry, MeetSays, ReadsAgain, ShowsLive, ShowsNone, TestMoved, TestSays, Tests, has_hook, is_of_test, others_of, owed_more, movement}
+use Rattle.bucket_table.specs.Finding.{AgainSays, CanDropReference, CanTest, DropsReference, HasEntry, IsDirected, IsElse, IsLastGiven, IsNewlyOwed, IsTesting, LosesEntry, MeetSays, ReadsAgain, ShowsLive, ShowsNone, TestMoved, TestSays, Tests, has_hook, is_of_test, others_of, owed_more, movement}
 use Rattle.bucket_table.specs.Following.{HasPassed}
 use Rattle.bucket_table.specs.declared.finding.FindOnce.{FindOnce}
 use Rattle.bucket_table.specs.declared.finding.FindOnce.TheVariants.{Found, Absent, Moved}
@@ -117,7 +117,7 @@ held_some place (k ∷ ks) e =
     (λ (t : is_at place k ≡ false). omega (arith, held_some place ks (sym (ap (λ (b : Bool). b || is_held place ks) t) ∙ e)))
     (cases_Bool (is_at place k))
 
-module _ (place : ℕ) (v : PassSight) (can : CanGiveUp place v) where
+module _ (place : ℕ) (v : PassSight) (can : CanDropReference place v) where
   others : List Keep
   others = others_of v.view.places.held
 
@@ -207,7 +207,7 @@ module _ (place : ℕ) (v : PassSight) (can : CanGiveUp place v) where
         ∙ ap (λ (b : Bool). let_go_of b place n v.view) (ap (is_among place) can.carried)
         ∙ ap (λ (b : Bool). noted (stored (refs_word (sizes_of v) place) (n - 1)) (gave_up (if b then place ∷ v.view.places.owed else v.view.places.owed))) e)
 
-    pub gives_some : n ≢ 1 → GivesUp None place v w
+    pub gives_some : n ≢ 1 → DropsReference None place v w
     gives_some other =
         let same = lowered false (ne_eqb n 1 other) in
         record {
@@ -220,7 +220,7 @@ module _ (place : ℕ) (v : PassSight) (can : CanGiveUp place v) where
           walk = ap (λ (x : PassSight). x.view.walk) same;
         }
 
-    pub gives_last : n ≡ 1 → GivesUp (Some place) place v w
+    pub gives_last : n ≡ 1 → DropsReference (Some place) place v w
     unfolding gives_test
     gives_last last =
         let same : w ≡ record v { view = noted (stored (refs_word (sizes_of v) place) 0) (gave_up (place ∷ v.view.places.owed)) } =
@@ -264,11 +264,11 @@ owes_from o n m xs ys ks ls a b c h =
 
 -- THE TEST
 
-module _ (g : Goal) (place : ℕ) (met : Direction) (v u : PassSight) (can : CanGiveUp place v) (loses : LosesEntry g (link_of met place) place v u) where
+module _ (g : Goal) (place : ℕ) (met : Direction) (v u : PassSight) (can : CanDropReference place v) (loses : LosesEntry g (link_of met place) place v u) where
   same_others : others_of u.view.places.held ≡ others_of v.view.places.held
   same_others = ap others_of loses.still.held
 
-  pub can_still : CanGiveUp place u
+  pub can_still : CanDropReference place u
   can_still = record {
     why = loses.still.why;
     not_new = loses.still.not_new;
@@ -280,7 +280,7 @@ module _ (g : Goal) (place : ℕ) (met : Direction) (v u : PassSight) (can : Can
     owned = λ p has. ap (is_taken p) same_others ∙ can.owned p (sym (ap (λ (x : PassSight). is_among p x.view.places.owned) loses.tests.same) ∙ has);
   }
 
-  pub test_moved : (r : FindOnce) (o : Option ℕ) (b w : PassSight) → GivesUp o place u b → AgainSays r g o b w → TestSays r g place met v w
+  pub test_moved : (r : FindOnce) (o : Option ℕ) (b w : PassSight) → DropsReference o place u b → AgainSays r g o b w → TestSays r g place met v w
   unfolding tests_on
   test_moved (Found p id direction at) o b w gives again = absurd again
   test_moved (Absent at) o b w gives again = absurd again
@@ -398,7 +398,7 @@ module _ (place seen : ℕ) (v m u : PassSight) (can : CanTest v) (below : place
     closed = ap (λ (ks : List Keep). holds_open (others_of ks)) its_held ∙ can.closed;
   }
 
-  pub hold_can : CanGiveUp place u
+  pub hold_can : CanDropReference place u
   hold_can = record {
     why = Testing;
     not_new = refl;

@@ -258,7 +258,7 @@ EntrySays None g place met v w = LosesEntry g (link_of met place) place v w
 
 -- The newest reference is to the place, and for no new entry. The pass carries no reference and has no link in a chain. Behind that
 -- reference it holds each place of which it has a link, and has taken each that it owns.
-pub record CanGiveUp (place : ℕ) (v : PassSight) : Type 0 where
+pub record CanDropReference (place : ℕ) (v : PassSight) : Type 0 where
   pub why : Purpose
   pub not_new : is_for_new why ≡ false
   pub held : v.view.places.held ≡ keep place why ∷ others_of v.view.places.held
@@ -269,7 +269,7 @@ pub record CanGiveUp (place : ℕ) (v : PassSight) : Type 0 where
   pub owned : (p : ℕ) → is_among p v.view.places.owned ≡ true → is_taken p (others_of v.view.places.held) ≡ true
 
 -- The reference was given up, and the place is owed where it was the last of all.
-pub record GivesUp (owed : Option ℕ) (place : ℕ) (v w : PassSight) : Type 0 where
+pub record DropsReference (owed : Option ℕ) (place : ℕ) (v w : PassSight) : Type 0 where
   pub tests : Tests place v w
   pub held : w.view.places.held ≡ others_of v.view.places.held
   pub owed_is : w.view.places.owed ≡ owed_more owed v.view.places.owed

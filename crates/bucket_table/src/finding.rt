@@ -2,7 +2,7 @@
 //! and tested.
 
 ghost use Rattle.std.specs.Prelude.{◌≡◌, ◌<◌};
-ghost use Rattle.bucket_table.specs.Finding.{AgainSays, CanGiveUp, CanTest, DirectionSays, EntrySays, FindOnceSays, GivesUp, IsTesting, MeetSays, ShowsSays, TestSays, once_words};
+ghost use Rattle.bucket_table.specs.Finding.{AgainSays, CanDropReference, CanTest, DirectionSays, EntrySays, FindOnceSays, DropsReference, IsTesting, MeetSays, ShowsSays, TestSays, once_words};
 ghost use Rattle.bucket_table.specs.Following.{bucket_in};
 ghost use Rattle.history_book.specs.Sizes.{AreWithinLimits};
 ghost use Rattle.track_rule.specs.ChangesOnly.{ChangesWords, no_word};
@@ -151,9 +151,9 @@ fn entry_at(
 
 /// Gives up the reference to a place that was tested. Gives the place, if that was the last one.
 #[inline(always)]
-fn give_up(pass: &mut Pass, place: u32) -> Option<u32>
-    requires { CanGiveUp place pass.old }
-    ensures { GivesUp result place pass.old pass.new }
+fn drop_reference(pass: &mut Pass, place: u32) -> Option<u32>
+    requires { CanDropReference place pass.old }
+    ensures { DropsReference result place pass.old pass.new }
 {
     if pass.ref_down(place) == 1 {
         Some(place)
@@ -187,7 +187,7 @@ fn test(pass: &mut Pass, sizes: &Sizes, goal: &Goal, place: u32, met: Direction)
     requires bucket { goal.now.bucket < (sizes_of pass.old).buckets }
     requires place { place < (sizes_of pass.old).entries }
     requires testing { IsTesting place Testing pass.old }
-    requires can { CanGiveUp place pass.old }
+    requires can { CanDropReference place pass.old }
     ensures { TestSays result goal.now place met pass.old pass.new }
 {
     match entry_at(pass, sizes, goal, place, met) {
@@ -198,7 +198,7 @@ fn test(pass: &mut Pass, sizes: &Sizes, goal: &Goal, place: u32, met: Direction)
             at: entry.at,
         },
         None => {
-            let owed = give_up(pass, place);
+            let owed = drop_reference(pass, place);
             load_again(pass, sizes, goal, owed)
         }
     }

@@ -4,11 +4,11 @@ use Rattle.book_desk.proofs.book.Book.release.Goals as goal
 
 pub returns-then-is_in_use-clause-stays : goal.returns-then-is_in_use-clause-stays
 returns-then-is_in_use-clause-stays c log h =
-    book_keep log c.args.self.now c.give_up.new.holds c.args.place h c.requires.held c.give_up.ensures.items c.give_up.ensures.room
-    (still_used c.args.place c.args.self.now.records.items c.give_up.new.holds.items (search rules))
+    book_keep log c.args.self.now c.forget_hold.new.holds c.args.place h c.requires.held c.forget_hold.ensures.items c.forget_hold.ensures.room
+    (still_used c.args.place c.args.self.now.records.items c.forget_hold.new.holds.items (search rules))
 
 pub returns-clause-stays : goal.returns-clause-stays
 returns-clause-stays c log h =
-    book_owe log c.args.self.now c.give_up.new.holds c.put_first.new.self c.args.place h c.requires.held c.give_up.ensures.items
-    c.give_up.ensures.room c.put_first.ensures.items c.put_first.ensures.room
-    (not_used c.args.place c.args.self.now.records.items c.give_up.new.holds.items (search rules))
+    book_owe log c.args.self.now c.forget_hold.new.holds c.put_first.new.self c.args.place h c.requires.held c.forget_hold.ensures.items
+    c.forget_hold.ensures.room c.put_first.ensures.items c.put_first.ensures.room
+    (not_used c.args.place c.args.self.now.records.items c.forget_hold.new.holds.items (search rules))

@@ -2,7 +2,7 @@ use Rattle.std.proofs.Common.{ap, sym, ◌∙◌}
 use Rattle.std.specs.List.{position}
 use Rattle.history_book.specs.Held.{is_at}
 use Rattle.book_desk.proofs.Positions.{without_at, some_at}
-use Rattle.book_desk.proofs.holds.give_up.Goals as goal
+use Rattle.book_desk.proofs.holds.forget_hold.Goals as goal
 
 pub returns-in-Some-clause-items : goal.returns-in-Some-clause-items
 returns-in-Some-clause-items c =

@@ -1,5 +1,5 @@
 use Rattle.bucket_table.proofs.Meeting.{gives_last, gives_some}
-use Rattle.bucket_table.proofs.finding.give_up.Goals as goal
+use Rattle.bucket_table.proofs.finding.drop_reference.Goals as goal
 
 pub returns-then-ref_down-eq1 : goal.returns-then-ref_down-eq1
 returns-then-ref_down-eq1 c =
