@@ -16,7 +16,7 @@ use crate::noting::count_taken;
 use crate::turn::change::{
     PlaceChange, confirmed_change, found_change, held_change, released_change, taken_change,
 };
-use crate::turn::pass::Pass;
+use crate::turn::pass::TurnPass;
 use crate::turn::rule::{TurnShared, TurnTable};
 use crate::turn::steps;
 use crate::turn::steps::last_book;
@@ -59,7 +59,7 @@ impl Model for TurnBook {
 /// What was left of a desk: all that it knew. Contracts see it as a desk's sight.
 #[derive(Drop)]
 pub struct TurnSpot {
-    pass: Pass,
+    pass: TurnPass,
 }
 
 impl Model for TurnSpot {
@@ -76,7 +76,7 @@ impl Model for TurnSpot {
 /// One thread's desk. Each call that needs the book waits for the turn.
 #[derive(Drop)]
 pub struct TurnDesk<'t, G: Gate> {
-    pass: Pass,
+    pass: TurnPass,
     shared: &'t TurnShared,
     /// The gate and the thread's number, with which a desk is made. No gate is passed: a turn has no middle that another
     /// pass could see.
@@ -109,7 +109,7 @@ impl TurnBook {
         let Ok((table, seat)) = Table::new(alloc, &[0], slots, &sizes) else {
             return Err(NoMemory);
         };
-        let pass = Pass {
+        let pass = TurnPass {
             alloc,
             sizes,
             seat,
@@ -141,7 +141,7 @@ impl TurnBook {
     {
         let TurnBook { table } = self;
         let TurnSpot { pass } = spot;
-        let Pass { seat, notes, .. } = pass;
+        let TurnPass { seat, notes, .. } = pass;
         let book = last_book(table, seat);
         Closed {
             events: book.events,
@@ -169,7 +169,7 @@ impl<'t, G: Gate> TurnDesk<'t, G> {
         ensures further_knows { IsKnown result }
     {
         let seat = steps::split(self.shared, &mut self.pass.seat, shares);
-        let pass = Pass {
+        let pass = TurnPass {
             alloc: self.pass.alloc,
             sizes: self.pass.sizes,
             seat,
@@ -192,7 +192,7 @@ impl<'t, G: Gate> TurnDesk<'t, G> {
         ensures knows { IsKnown self.new }
     {
         let TurnDesk { pass, .. } = other;
-        let Pass { seat, notes, .. } = pass;
+        let TurnPass { seat, notes, .. } = pass;
         steps::merge(self.shared, &mut self.pass.seat, seat);
         let _ = steps::look(self.shared, &mut self.pass.seat);
         notes

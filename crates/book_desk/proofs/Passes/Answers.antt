@@ -52,7 +52,7 @@ use Rattle.history_book.specs.WentOn.{IsSamePass, Looked, MadeEvent, Saw}
 use Rattle.book_desk.specs.declared.book.Book.{Book}
 use Rattle.book_desk.specs.declared.turn.change.PlaceChange.{PlaceChange}
 use Rattle.book_desk.specs.declared.turn.change.PlaceChange.TheVariants.{Same, Holds, Names, Releases, Owes, Pays}
-use Rattle.book_desk.specs.declared.turn.view.View.{View}
+use Rattle.book_desk.specs.declared.turn.view.TurnView.{TurnView}
 use Rattle.book_desk.specs.Made.{with_made, noted}
 use Rattle.book_desk.specs.Internal.Book.{counted, sight_in, spare_before}
 use Rattle.book_desk.specs.Internal.Seated.{pass_sight}
@@ -73,7 +73,7 @@ zone_on log front id (rest, same) helped = by_event (slice_get front id) refl he
         ap (λ (x : Option Event). zone_of (confirmed_by x)) (at ∙ sym (ap (λ l. slice_get l id) same ∙ get_append front rest id e at))
 
 -- the pass before and after, and one pass that kept everything before and after
-module _ (tracker : List ℕ) (v : View) (log : List Event) (b b' : Book) (made : Option Event) (notes : List Note) (less : ℕ) (has : HasTurn v log b) (taken : ℕ) where
+module _ (tracker : List ℕ) (v : TurnView) (log : List Event) (b b' : Book) (made : Option Event) (notes : List Note) (less : ℕ) (has : HasTurn v log b) (taken : ℕ) where
   abbrev pub before : Sight
   before = pass_sight tracker v notes (spare_before less made) taken
 
@@ -96,7 +96,7 @@ module _ (tracker : List ℕ) (v : View) (log : List Event) (b b' : Book) (made 
   seen_on = starts_on log v.front made has.all.front
 
 -- where one pass made no event, so did this one
-saw_too : (tracker : List ℕ) (v : View) (log : List Event) (b b' : Book) (made : Option Event) (notes : List Note) (less : ℕ) (has : HasTurn v log b) (taken : ℕ)
+saw_too : (tracker : List ℕ) (v : TurnView) (log : List Event) (b b' : Book) (made : Option Event) (notes : List Note) (less : ℕ) (has : HasTurn v log b) (taken : ℕ)
     (c : PlaceChange) → Saw (one_before tracker v log b b' made notes less has taken) (one_behind tracker v log b b' made notes less has taken)
     → (Saw (before tracker v log b b' made notes less has taken) (behind tracker v log b b' made notes less has taken c)) × (made ≡ None)
 saw_too tracker v log b b' None notes less has taken c saw = (
@@ -114,7 +114,7 @@ saw_too tracker v log b b' None notes less has taken c saw = (
 )
 saw_too tracker v log b b' (Some e) notes less has taken c saw = absurd (omega (arith, saw.spare))
 
-looked_too : (tracker : List ℕ) (v : View) (log : List Event) (b b' : Book) (made : Option Event) (notes : List Note) (less : ℕ) (has : HasTurn v log b) (taken : ℕ)
+looked_too : (tracker : List ℕ) (v : TurnView) (log : List Event) (b b' : Book) (made : Option Event) (notes : List Note) (less : ℕ) (has : HasTurn v log b) (taken : ℕ)
     (c : PlaceChange) (at : ℕ) (F : State → Type 0)
     → Looked (one_before tracker v log b b' made notes less has taken) (one_behind tracker v log b b' made notes less has taken) at F
     → Looked (before tracker v log b b' made notes less has taken) (behind tracker v log b b' made notes less has taken c) at F
@@ -124,7 +124,7 @@ looked_too tracker v log b b' made notes less has taken c at F l = record {
   fact = l.fact;
 }
 
-made_too : (tracker : List ℕ) (v : View) (log : List Event) (b b' : Book) (made : Option Event) (notes : List Note) (less : ℕ) (has : HasTurn v log b) (taken : ℕ)
+made_too : (tracker : List ℕ) (v : TurnView) (log : List Event) (b b' : Book) (made : Option Event) (notes : List Note) (less : ℕ) (has : HasTurn v log b) (taken : ℕ)
     (c : PlaceChange) (number : ℕ) (e : Event)
     → MadeEvent (one_before tracker v log b b' made notes less has taken) (one_behind tracker v log b b' made notes less has taken) number e
     → MadeEvent (before tracker v log b b' made notes less has taken) (behind tracker v log b b' made notes less has taken c) number e
@@ -169,7 +169,7 @@ not_in_use p s t front held owed unused =
     or_from _ _ (or_from _ _ (subst (λ l. not (is_unused p (after l (length l))) ≡ false) front two.0) (none_among (is_at p) s.held t.held held two.1))
     (none_among (λ q. q == p) s.owed t.owed owed parts.1)
 
-module _ (tracker : List ℕ) (v : View) (log : List Event) (b b' : Book) (notes : List Note) (less : ℕ) (has : HasTurn v log b) (taken : ℕ) where
+module _ (tracker : List ℕ) (v : TurnView) (log : List Event) (b b' : Book) (notes : List Note) (less : ℕ) (has : HasTurn v log b) (taken : ℕ) where
   abbrev S : Sight
   S = one_before tracker v log b b' None notes less has taken
 
@@ -290,7 +290,7 @@ module _ (tracker : List ℕ) (v : View) (log : List Event) (b b' : Book) (notes
     alone = λ one. not_in_use place (behind tracker v log b b' None notes less has taken (Pays place)) T refl held owed (r.alone refl);
   }
 
-module _ (tracker : List ℕ) (v : View) (log : List Event) (b b' : Book) (made : Option Event) (notes : List Note) (less : ℕ) (has : HasTurn v log b) (taken : ℕ)
+module _ (tracker : List ℕ) (v : TurnView) (log : List Event) (b b' : Book) (made : Option Event) (notes : List Note) (less : ℕ) (has : HasTurn v log b) (taken : ℕ)
     (same_sizes : b'.sizes ≡ b.sizes) where
   abbrev S' : Sight
   S' = one_before tracker v log b b' made notes less has taken

@@ -14,7 +14,7 @@ use Rattle.history_book.specs.Point.{StartsWith}
 use Rattle.history_book.specs.Sight.{AreEventsOf, IsForEntryOf, IsKnown}
 use Rattle.book_desk.specs.declared.book.Book.{Book}
 use Rattle.book_desk.specs.declared.turn.change.Ending.{Ending}
-use Rattle.book_desk.specs.declared.turn.view.View.{View}
+use Rattle.book_desk.specs.declared.turn.view.TurnView.{TurnView}
 use Rattle.book_desk.specs.Fields.{IsBook}
 use Rattle.book_desk.specs.Made.{with_made, noted}
 use Rattle.book_desk.specs.Uses.{tally}
@@ -46,7 +46,7 @@ longer_log log None spare less is = omega (arith, is)
 longer_log log (Some e) spare less is = omega (arith, is, length-append log (e ∷ []))
 
 -- a call in its turn: what it did to the book, and to the pass's places and events
-pub record IsCall (tracker : List ℕ) (v : View) (log : List Event) (b b' : Book) (e : Ending) (notes : List Note) (spare taken : ℕ) : Type 0 where
+pub record IsCall (tracker : List ℕ) (v : TurnView) (log : List Event) (b b' : Book) (e : Ending) (notes : List Note) (spare taken : ℕ) : Type 0 where
   pub has : HasTurn v log b
   pub some_shares : 0 < v.shares
   pub known : IsKnown (pass_sight tracker v notes spare taken)
@@ -58,7 +58,7 @@ pub record IsCall (tracker : List ℕ) (v : View) (log : List Event) (b b' : Boo
   pub can : CanChange e.places v.held v.owed
   pub right : IsRightChange e.places b.free.items b'
 
-module _ (tracker : List ℕ) (v : View) (log : List Event) (b b' : Book) (e : Ending) (notes : List Note) (spare taken less : ℕ)
+module _ (tracker : List ℕ) (v : TurnView) (log : List Event) (b b' : Book) (e : Ending) (notes : List Note) (spare taken less : ℕ)
     (c : IsCall tracker v log b b' e notes spare taken) (room : spare ≡ spare_before less e.made) where
   pub can_end : CanEnd e (turned v log b) b'
   can_end = record {

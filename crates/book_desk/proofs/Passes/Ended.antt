@@ -16,7 +16,7 @@ use Rattle.history_book.specs.Point.{StartsWith}
 use Rattle.history_book.specs.Sight.{AreEventsOf, notes_from}
 use Rattle.book_desk.specs.declared.book.Book.{Book}
 use Rattle.book_desk.specs.declared.turn.change.Ending.{Ending}
-use Rattle.book_desk.specs.declared.turn.view.View.{View}
+use Rattle.book_desk.specs.declared.turn.view.TurnView.{TurnView}
 use Rattle.book_desk.specs.Made.{with_made, noted}
 use Rattle.book_desk.specs.Turn.Passes.{ArePasses, IsPass, has_share, made_weight, shares_of}
 use Rattle.book_desk.specs.Turn.Places.{AreOfPasses}
@@ -104,7 +104,7 @@ weighs_on weight log (Some e) notes =
     )
 
 -- a pass that has not the turn
-pass_on : (z : Sizes) (log : List Event) (made : Option Event) (u : View) → IsPass z log u → (z.passes ≡ 1 → 0 < u.shares → ⊥)
+pass_on : (z : Sizes) (log : List Event) (made : Option Event) (u : TurnView) → IsPass z log u → (z.passes ≡ 1 → 0 < u.shares → ⊥)
     → IsPass z (with_made log made) u
 pass_on z log made u p other = record {
   front = starts_on log u.front made p.front;
@@ -121,7 +121,7 @@ pass_on z log made u p other = record {
 }
 
 -- the pass whose turn has ended
-pass_ended : (z : Sizes) (e : Ending) (v : View) → IsPass z v.front v → 0 < v.shares
+pass_ended : (z : Sizes) (e : Ending) (v : TurnView) → IsPass z v.front v → 0 < v.shares
     → length (noted v.own (length v.front) e.made) ≤ 2 ^ 30 → IsPass z (with_made v.front e.made) (ended e v)
 pass_ended z e v p some_shares own_few = record {
   front = ([], sym (append-nil (with_made v.front e.made)));
@@ -138,7 +138,7 @@ pass_ended z e v p some_shares own_few = record {
 }
 
 -- where the pass with the turn knows the book
-module _ (z : Sizes) (e : Ending) (v : View) (b b' : Book) (s : State (Option Book) View) (id : ℕ) (at : get_elem? s.views id ≡ some v)
+module _ (z : Sizes) (e : Ending) (v : TurnView) (b b' : Book) (s : State (Option Book) TurnView) (id : ℕ) (at : get_elem? s.views id ≡ some v)
     (can : CanEnd e v b') (known : v.book ≡ Some b) (kept : IsKept z v.front b s) where
   passes_ended : ArePasses z (with_made v.front e.made) (set s.views id (ended e v))
   passes_ended = record {
@@ -195,7 +195,7 @@ module _ (z : Sizes) (e : Ending) (v : View) (b b' : Book) (s : State (Option Bo
         places = places_ended;
       }
 
-pub ends : (z : Sizes) (slots id word : ℕ) (e : Ending) (v : View) (b : Book) → slots ≡ 1 → CanEnd e v b → word ≡ packed 0 b
+pub ends : (z : Sizes) (slots id word : ℕ) (e : Ending) (v : TurnView) (b : Book) → slots ≡ 1 → CanEnd e v b → word ≡ packed 0 b
     → Allows (Holds z) slots id (v, (0, Some b) ∷ []) 0 (λ _. word) (λ _. Ends e (step slots 0 word 0 none) (v, (0, Some b) ∷ []) word)
 ends z slots id word e v b' one can is s (log, b, kept) sized at range =
     let whole = kept.away id v at can.turn in

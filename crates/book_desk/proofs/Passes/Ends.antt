@@ -13,8 +13,8 @@ use Rattle.history_book.specs.History.{is_legal}
 use Rattle.history_book.specs.Sight.{AreEventsOf, IsHoldOf, IsKnown, notes_from}
 use Rattle.history_book.specs.State.{State}
 use Rattle.book_desk.specs.declared.book.Book.{Book}
-use Rattle.book_desk.specs.declared.turn.pass.Pass.{Pass}
-use Rattle.book_desk.specs.declared.turn.view.View.{View}
+use Rattle.book_desk.specs.declared.turn.pass.TurnPass.{TurnPass}
+use Rattle.book_desk.specs.declared.turn.view.TurnView.{TurnView}
 use Rattle.book_desk.specs.Internal.Seated.{IsSeated, numbers_of, pass_sight, sight_at}
 use Rattle.book_desk.specs.Turn.Rule.{IsTable}
 use Rattle.book_desk.specs.Turn.Steps.{AreAll, IsLast, Looks, joined}
@@ -24,7 +24,7 @@ use Rattle.book_desk.proofs.Passes.Called.{events_later}
 use Rattle.book_desk.proofs.Passes.Sums.{total_append}
 
 -- a pass that took in another one, and then saw all events
-known_joined : (tracker : List ℕ) (v w : View) (log : List Event) (notes others : List Note) (spare taken more other_taken now : ℕ)
+known_joined : (tracker : List ℕ) (v w : TurnView) (log : List Event) (notes others : List Note) (spare taken more other_taken now : ℕ)
     → IsKnown (pass_sight tracker v notes spare taken) → IsKnown (pass_sight tracker w others more other_taken) → notes ≡ v.own → others ≡ w.own
     → v.held ≡ [] → (all : AreAll (joined v w) log)
     → IsKnown (pass_sight tracker (record (joined v w) { front = log }) notes spare now)
@@ -61,7 +61,7 @@ known_joined tracker v w log notes others spare taken more other_taken now k l o
 }
 
 -- what a pass knows it knows by whatever numbers of its tracker
-known_anywhere : (s t : List ℕ) (v : View) (notes : List Note) (spare taken : ℕ) → IsKnown (pass_sight t v notes spare taken) → IsKnown (pass_sight s v notes spare taken)
+known_anywhere : (s t : List ℕ) (v : TurnView) (notes : List Note) (spare taken : ℕ) → IsKnown (pass_sight t v notes spare taken) → IsKnown (pass_sight s v notes spare taken)
 known_anywhere s t v notes spare taken k = record {
   legal = k.legal;
   few = k.few;
@@ -82,26 +82,26 @@ known_anywhere s t v notes spare taken k = record {
 }
 
 -- a desk that took in another one is right
-pub seated_joined : (p q new : Pass) (mid : Me (Option Book) View) (word : ℕ) → IsSeated p → IsSeated q → p.seat.me.0.held ≡ []
+pub seated_joined : (p q new : TurnPass) (mid : Me (Option Book) TurnView) (word : ℕ) → IsSeated p → IsSeated q → p.seat.me.0.held ≡ []
     → mid ≡ (joined p.seat.me.0 q.seat.me.0, []) → Looks mid.0 new.seat.me.0 word → new.seat.me.1 ≡ [] → new.seat.table_id ≡ p.seat.table_id
     → new.sizes ≡ p.sizes → new.notes ≡ p.notes → new.spare ≡ p.spare → IsSeated new
 seated_joined p q new mid word h k none is looks away table sizes notes spare =
-    let v : View = p.seat.me.0 in
-    let w : View = q.seat.me.0 in
-    let first : mid.0 ≡ joined v w = ap (λ (m : Me (Option Book) View). m.0) is in
-    let seen : Looks (joined v w) new.seat.me.0 word = subst (λ (u : View). Looks u new.seat.me.0 word) first looks in
+    let v : TurnView = p.seat.me.0 in
+    let w : TurnView = q.seat.me.0 in
+    let first : mid.0 ≡ joined v w = ap (λ (m : Me (Option Book) TurnView). m.0) is in
+    let seen : Looks (joined v w) new.seat.me.0 word = subst (λ (u : TurnView). Looks u new.seat.me.0 word) first looks in
     let log : List Event = new.seat.me.0.front in
     let view : new.seat.me.0 ≡ record (joined v w) { front = log } = seen.same in
     record {
       table = subst IsTable (sym table) h.table;
       away = away;
-      turn = ap (λ (u : View). u.turn) view ∙ h.turn;
-      sizes = sizes ∙ h.sizes ∙ sym (ap (λ (u : View). u.sizes) view);
-      own = ap (λ ns. ns.items) notes ∙ h.own ∙ sym (ap (λ (u : View). u.own) view);
+      turn = ap (λ (u : TurnView). u.turn) view ∙ h.turn;
+      sizes = sizes ∙ h.sizes ∙ sym (ap (λ (u : TurnView). u.sizes) view);
+      own = ap (λ ns. ns.items) notes ∙ h.own ∙ sym (ap (λ (u : TurnView). u.own) view);
       room = subst (λ ns. length ns.items + new.spare ≤ ns.room) (sym notes) (subst (λ (n : ℕ). length p.notes.items + n ≤ p.notes.room) (sym spare) h.room);
       knows = subst (λ ns. IsKnown (pass_sight (numbers_of new.seat.table_id) new.seat.me.0 ns.items new.spare new.taken)) (sym notes)
           (subst (λ (n : ℕ). IsKnown (pass_sight (numbers_of new.seat.table_id) new.seat.me.0 p.notes.items n new.taken)) (sym spare)
-          (subst (λ (u : View). IsKnown (pass_sight (numbers_of new.seat.table_id) u p.notes.items p.spare new.taken)) (sym view)
+          (subst (λ (u : TurnView). IsKnown (pass_sight (numbers_of new.seat.table_id) u p.notes.items p.spare new.taken)) (sym view)
           (subst (λ t. IsKnown (pass_sight (numbers_of t) (record (joined v w) { front = log }) p.notes.items p.spare new.taken)) (sym table)
           (known_joined (numbers_of p.seat.table_id) v w log p.notes.items q.notes.items p.spare p.taken q.spare q.taken new.taken h.knows (known_anywhere (numbers_of p.seat.table_id) (numbers_of q.seat.table_id) q.seat.me.0 q.notes.items q.spare q.taken k.knows) h.own k.own none seen.all))));
     }
@@ -117,10 +117,10 @@ events_from k [] = refl
 events_from k (e ∷ es) = ap (λ t. e ∷ t) (events_from (k + 1) es)
 
 -- what the last desk leaves
-pub closes_last : (p : Pass) (b : Book) (closed : Closed) → IsSeated p → IsLast p.seat.me.0 b → closed.events ≡ b.events
+pub closes_last : (p : TurnPass) (b : Book) (closed : Closed) → IsSeated p → IsLast p.seat.me.0 b → closed.events ≡ b.events
     → closed.live ≡ length b.records.items → closed.notes.items ≡ p.notes.items → Closes (sight_at p) closed
 closes_last p b closed h last events live notes =
-    let v : View = p.seat.me.0 in
+    let v : TurnView = p.seat.me.0 in
     let log : List Event = last.log in
     record {
       log = log;

@@ -12,7 +12,7 @@ use Rattle.history_book.specs.declared.event.Event.{Event}
 use Rattle.history_book.specs.declared.event.Note.{Note}
 use Rattle.history_book.specs.declared.sizes.Sizes.{Sizes}
 use Rattle.book_desk.specs.declared.book.Book.{Book}
-use Rattle.book_desk.specs.declared.turn.view.View.{View}
+use Rattle.book_desk.specs.declared.turn.view.TurnView.{TurnView}
 use Rattle.book_desk.specs.Fields.{IsBook}
 use Rattle.book_desk.specs.Turn.Passes.{IsPass, IsSpent, has_share, made_weight, shares_of}
 use Rattle.book_desk.specs.Turn.Rule.{Holds, IsKept, first_view, packed, turn_of}
@@ -29,7 +29,7 @@ pub range_cut : (first left right n : ℕ) → in_range first left n + in_range 
 range_cut first left right n = grind (arith, nat_tests)
 
 -- a pass with fewer shares
-pass_left : (z : Sizes) (log : List Event) (shares : ℕ) (v : View) → shares < v.shares → IsPass z log v → IsPass z log (shares_left shares v)
+pass_left : (z : Sizes) (log : List Event) (shares : ℕ) (v : TurnView) → shares < v.shares → IsPass z log v → IsPass z log (shares_left shares v)
 pass_left z log shares v fewer p = record {
   front = p.front;
   told = p.told;
@@ -45,7 +45,7 @@ pass_left z log shares v fewer p = record {
 }
 
 -- the pass that has them now
-pass_further : (z : Sizes) (log : List Event) (shares : ℕ) (v : View) → 1 ≤ shares → shares < v.shares → IsPass z log v
+pass_further : (z : Sizes) (log : List Event) (shares : ℕ) (v : TurnView) → 1 ≤ shares → shares < v.shares → IsPass z log v
     → (z.passes ≡ 1 → ⊥) → IsPass z log (further shares v)
 pass_further z log shares v has_some fewer p many = record {
   front = p.front;
@@ -62,22 +62,22 @@ pass_further z log shares v has_some fewer p many = record {
 }
 
 -- the shares are cut in two
-shares_cut : (n shares : ℕ) (v : View) → shares < v.shares → has_share n (shares_left shares v) + has_share n (further shares v) ≡ has_share n v
+shares_cut : (n shares : ℕ) (v : TurnView) → shares < v.shares → has_share n (shares_left shares v) + has_share n (further shares v) ≡ has_share n v
 shares_cut n shares v fewer =
     let whole : v.shares - shares + shares ≡ v.shares = omega (arith, fewer) in
     range_cut v.number (v.shares - shares) shares n ∙ ap (λ (k : ℕ). in_range v.number k n) whole
 
 -- a sum over the passes, with one that changed and a further one
-total_cut : (f : View → ℕ) (vs : List View) (i : ℕ) (v left right : View) → get_elem? vs i ≡ some v → f left + f right ≡ f v
+total_cut : (f : TurnView → ℕ) (vs : List TurnView) (i : ℕ) (v left right : TurnView) → get_elem? vs i ≡ some v → f left + f right ≡ f v
     → total f (set vs i left ++ right ∷ []) ≡ total f vs
 total_cut f vs i v left right at cut = omega (arith, total_append f (set vs i left) (right ∷ []), total_set f vs i v left at, cut)
 
 -- handing over shares keeps the rule
-pub splits : (z : Sizes) (id shares : ℕ) (v : View) → 1 ≤ shares → shares < v.shares → v.turn ≡ 0
+pub splits : (z : Sizes) (id shares : ℕ) (v : TurnView) → 1 ≤ shares → shares < v.shares → v.turn ≡ 0
     → Splits (Holds z) id v (shares_left shares v) (further shares v)
 splits z id shares v has_some fewer calm s (log, b, kept) at =
-    let left : View = shares_left shares v in
-    let right : View = further shares v in
+    let left : TurnView = shares_left shares v in
+    let right : TurnView = further shares v in
     let p : IsPass z log v = kept.passes.each id v at in
     let many : z.passes ≡ 1 → ⊥ = λ one. omega (arith, one, kept.passes.all, fewer, has_some, total_term shares_of s.views id v at) in
     let turns : total turn_of (set s.views id left ++ right ∷ []) ≡ total turn_of s.views =
@@ -110,7 +110,7 @@ splits z id shares v has_some fewer calm s (log, b, kept) at =
     )
 
 -- a pass that took in another one
-pass_joined : (z : Sizes) (log : List Event) (v w : View) → 0 < v.shares → 0 < w.shares → IsPass z log v → IsPass z log w
+pass_joined : (z : Sizes) (log : List Event) (v w : TurnView) → 0 < v.shares → 0 < w.shares → IsPass z log v → IsPass z log w
     → (z.passes ≡ 1 → ⊥) → IsPass z log (joined v w)
 pass_joined z log v w has_some other p q many = record {
   front = p.front;
@@ -152,17 +152,17 @@ pass_spent z log = record {
 }
 
 -- a sum over the passes of which two were joined
-total_joined : (f : View → ℕ) (vs : List View) (i j : ℕ) (v w both spent : View) → get_elem? vs i ≡ some v
+total_joined : (f : TurnView → ℕ) (vs : List TurnView) (i j : ℕ) (v w both spent : TurnView) → get_elem? vs i ≡ some v
     → get_elem? (set vs i both) j ≡ some w → f both + f spent ≡ f v + f w → total f (set (set vs i both) j spent) ≡ total f vs
 total_joined f vs i j v w both spent at at' same =
     omega (arith, total_set f (set vs i both) j w spent at', total_set f vs i v both at, same)
 
 -- taking in another pass keeps the rule
-pub joins : (z : Sizes) (id other : ℕ) (v w : View) → 0 < v.shares → 0 < w.shares → v.turn ≡ 0 → w.turn ≡ 0 → w.held ≡ [] → w.owed ≡ []
+pub joins : (z : Sizes) (id other : ℕ) (v w : TurnView) → 0 < v.shares → 0 < w.shares → v.turn ≡ 0 → w.turn ≡ 0 → w.held ≡ [] → w.owed ≡ []
     → Joins (Holds z) id v other w (joined v w) spent_view
 joins z id other v w has_some has_other calm calm' none_held none_owed s (log, b, kept) at apart at' =
-    let both : View = joined v w in
-    let vs : List View = set s.views id both in
+    let both : TurnView = joined v w in
+    let vs : List TurnView = set s.views id both in
     let there : get_elem? s.views other ≡ some w = sym (set_else s.views id other both apart) ∙ at' in
     let p : IsPass z log v = kept.passes.each id v at in
     let q : IsPass z log w = kept.passes.each other w there in
@@ -235,14 +235,14 @@ starts z b has_some right sizes no_record none_held none_owed = (
   },
 )
   where
-    first_is : (i : ℕ) (v : View) → get_elem? (first_view z ∷ []) i ≡ some v → first_view z ≡ v
+    first_is : (i : ℕ) (v : TurnView) → get_elem? (first_view z ∷ []) i ≡ some v → first_view z ≡ v
     first_is zero v at = some-injective (first_view z) v at
     first_is (suc i) v at = absurd (some-ne-none v (sym at))
 
-    one_only : (i : ℕ) (v : View) → get_elem? (first_view z ∷ []) i ≡ some v → v.turn ≡ 1 → ⊥
+    one_only : (i : ℕ) (v : TurnView) → get_elem? (first_view z ∷ []) i ≡ some v → v.turn ≡ 1 → ⊥
     one_only i v at has = omega (arith, has, ap turn_of (first_is i v at))
 
-    first_pass : (i : ℕ) (v : View) → get_elem? (first_view z ∷ []) i ≡ some v → IsPass z [] v
+    first_pass : (i : ℕ) (v : TurnView) → get_elem? (first_view z ∷ []) i ≡ some v → IsPass z [] v
     first_pass i v at = subst (IsPass z []) (first_is i v at) (record {
       front = ([], refl);
       told = ([], refl);
@@ -260,11 +260,11 @@ starts z b has_some right sizes no_record none_held none_owed = (
     first_apart : (n : ℕ) → total (has_share n) (first_view z ∷ []) ≤ 1
     first_apart n = grind (arith, nat_tests)
 
-    first_few : (i : ℕ) (v : View) → get_elem? (first_view z ∷ []) i ≡ some v → length v.held + length v.owed ≤ 4
+    first_few : (i : ℕ) (v : TurnView) → get_elem? (first_view z ∷ []) i ≡ some v → length v.held + length v.owed ≤ 4
     first_few i v at = subst (λ u. length u.held + length u.owed ≤ 4) (first_is i v at) (omega arith)
 
 -- what the last pass finds
-pub last_pass : (z : Sizes) (log : List Event) (b : Book) (s : State (Option Book) View) (id : ℕ) (v : View) → IsKept z log b s
+pub last_pass : (z : Sizes) (log : List Event) (b : Book) (s : State (Option Book) TurnView) (id : ℕ) (v : TurnView) → IsKept z log b s
     → get_elem? s.views id ≡ some v → 0 < v.shares → v.turn ≡ 0 → v.shares + v.returned ≡ v.sizes.passes
     → (get_elem? s.homes 0 ≡ some (some (Some b))) × IsLast v b
 last_pass z log b s id v kept at has_some calm all =

@@ -14,7 +14,7 @@ use Rattle.history_book.specs.History.{is_legal}
 use Rattle.history_book.specs.Sight.{notes_from}
 use Rattle.history_book.specs.State.{State as Live}
 use Rattle.book_desk.specs.declared.book.Book.{Book}
-use Rattle.book_desk.specs.declared.turn.view.View.{View}
+use Rattle.book_desk.specs.declared.turn.view.TurnView.{TurnView}
 use Rattle.book_desk.specs.Turn.Passes.{ArePasses, IsPass, IsSpent, has_share, made_weight, shares_of}
 use Rattle.book_desk.specs.Turn.Places.{AreOfPasses}
 use Rattle.book_desk.specs.Turn.Rule.{Holds, IsKept, packed, turn_of}
@@ -34,7 +34,7 @@ pub length-notes : (k : ℕ) (es : List Event) → length (notes_from k es) ≡ 
 length-notes k [] = refl
 length-notes k (e ∷ es) = ap suc (length-notes (k + 1) es)
 
-module _ (z : Sizes) (log : List Event) (vs : List View) (h : ArePasses z log vs) where
+module _ (z : Sizes) (log : List Event) (vs : List TurnView) (h : ArePasses z log vs) where
   -- a pass makes and gathers so many events at most
   pass_few : Each (λ v. made_weight (λ n. 1) v ≤ 2 ^ 30 * shares_of v) vs
   pass_few i v at =
@@ -46,7 +46,7 @@ module _ (z : Sizes) (log : List Event) (vs : List View) (h : ArePasses z log vs
       (cases_lt 0 v.shares)
 
   -- so there are few of them, and room for those that this pass may still make
-  pub few_events : (i : ℕ) (v : View) → get_elem? vs i ≡ some v → 0 < v.shares → length log + (2 ^ 30 - length v.own) ≤ 2 ^ 30 * z.passes
+  pub few_events : (i : ℕ) (v : TurnView) → get_elem? vs i ≡ some v → 0 < v.shares → length log + (2 ^ 30 - length v.own) ≤ 2 ^ 30 * z.passes
   few_events i v at some_shares =
       let p : IsPass z log v = h.each i v at in
       let all = h.made (λ (n : Note). 1) in
@@ -67,12 +67,12 @@ module _ (z : Sizes) (log : List Event) (vs : List View) (h : ArePasses z log vs
       )
 
   -- no other pass has a share where there is one
-  pub only_pass : z.passes ≡ 1 → (i j : ℕ) (v u : View) → get_elem? vs i ≡ some v → 0 < v.shares → get_elem? vs j ≡ some u → j ≢ i → u.shares ≡ 0
+  pub only_pass : z.passes ≡ 1 → (i j : ℕ) (v u : TurnView) → get_elem? vs i ≡ some v → 0 < v.shares → get_elem? vs j ≡ some u → j ≢ i → u.shares ≡ 0
   only_pass one i j v u at some_shares at' other =
       omega (arith, one, h.all, some_shares, total_two shares_of vs i j v u at at' other)
 
 -- a pass sees the whole history
-pass_front : (z : Sizes) (log : List Event) (v : View) → IsPass z log v → IsPass z log (record v { front = log })
+pass_front : (z : Sizes) (log : List Event) (v : TurnView) → IsPass z log v → IsPass z log (record v { front = log })
 pass_front z log v p = record {
   front = ([], sym (append-nil log));
   told = p.told;
@@ -93,9 +93,9 @@ pass_front z log v p = record {
   };
 }
 
-module _ (z : Sizes) (log : List Event) (b : Book) (s : State (Option Book) View) (kept : IsKept z log b s) where
+module _ (z : Sizes) (log : List Event) (b : Book) (s : State (Option Book) TurnView) (kept : IsKept z log b s) where
   -- what the pass sees then
-  sees : (i : ℕ) (v : View) → get_elem? s.views i ≡ some v → 0 < v.shares → AreAll v log
+  sees : (i : ℕ) (v : TurnView) → get_elem? s.views i ≡ some v → 0 < v.shares → AreAll v log
   sees i v at some_shares =
       let p : IsPass z log v = kept.passes.each i v at in
       let sized : v.sizes ≡ z = p.sized some_shares in
@@ -110,7 +110,7 @@ module _ (z : Sizes) (log : List Event) (b : Book) (s : State (Option Book) View
       }
 
   -- there are fewer events than the word can count
-  few : (i : ℕ) (v : View) → get_elem? s.views i ≡ some v → 0 < v.shares → b.events < 2 ^ 40
+  few : (i : ℕ) (v : TurnView) → get_elem? s.views i ≡ some v → 0 < v.shares → b.events < 2 ^ 40
   few i v at some_shares =
       omega (
         arith,
@@ -127,7 +127,7 @@ module _ (z : Sizes) (log : List Event) (b : Book) (s : State (Option Book) View
   same_words = subst (λ (ws : List ℕ). slice_set ws 0 (slice_index ws 0) ≡ ws) (sym kept.words) refl
 
 -- a view that changes in its front, its turn and its book alone
-record Differs (v w : View) : Type 0 where
+record Differs (v w : TurnView) : Type 0 where
   pub number : w.number ≡ v.number
   pub shares : w.shares ≡ v.shares
   pub returned : w.returned ≡ v.returned
@@ -136,7 +136,7 @@ record Differs (v w : View) : Type 0 where
   pub held : w.held ≡ v.held
   pub owed : w.owed ≡ v.owed
 
-passes_moved : (z : Sizes) (log : List Event) (vs : List View) (i : ℕ) (v w : View) → get_elem? vs i ≡ some v → Differs v w → IsPass z log w
+passes_moved : (z : Sizes) (log : List Event) (vs : List TurnView) (i : ℕ) (v w : TurnView) → get_elem? vs i ≡ some v → Differs v w → IsPass z log w
     → ArePasses z log vs → ArePasses z log (set vs i w)
 passes_moved z log vs i v w at d p h = record {
   each = each_put (IsPass z log) vs i w h.each p;
@@ -145,7 +145,7 @@ passes_moved z log vs i v w at d p h = record {
   made = λ weight. h.made weight ∙ sym (total_same (made_weight weight) vs i v w at (λ k. total weight (d.own k) + total weight (d.gathered k)));
 }
 
-places_moved : (b : Book) (vs : List View) (i : ℕ) (v w : View) → get_elem? vs i ≡ some v → Differs v w → AreOfPasses b vs → AreOfPasses b (set vs i w)
+places_moved : (b : Book) (vs : List TurnView) (i : ℕ) (v w : TurnView) → get_elem? vs i ≡ some v → Differs v w → AreOfPasses b vs → AreOfPasses b (set vs i w)
 places_moved b vs i v w at d h = record {
   held = λ weight. h.held weight ∙ sym (total_same (λ u. total weight u.held) vs i v w at (ap (total weight) d.held));
   owed = λ weight. h.owed weight ∙ sym (total_same (λ u. total weight u.owed) vs i v w at (ap (total weight) d.owed));
@@ -153,9 +153,9 @@ places_moved b vs i v w at d h = record {
 }
 
 -- a load keeps the rule, and tells the whole history
-pub loads : (z : Sizes) (slots id : ℕ) (v : View) → 0 < v.shares → Allows (Holds z) slots id (v, []) 0 (λ n. n) (Loads (step slots 0 0 0 none) (v, []))
+pub loads : (z : Sizes) (slots id : ℕ) (v : TurnView) → 0 < v.shares → Allows (Holds z) slots id (v, []) 0 (λ n. n) (Loads (step slots 0 0 0 none) (v, []))
 loads z slots id v some_shares s (log, b, kept) sized at range =
-    let w : View = record v { front = log } in
+    let w : TurnView = record v { front = log } in
     let d : Differs v w = record { number = refl; shares = refl; returned = refl; own = refl; gathered = refl; held = refl; owed = refl } in
     let turns : total turn_of (set s.views id w) ≡ total turn_of s.views = total_same turn_of s.views id v w at refl in (
       w,
@@ -191,7 +191,7 @@ loads z slots id v some_shares s (log, b, kept) sized at range =
     )
 
 -- a pass that takes the turn
-pass_turn : (z : Sizes) (log : List Event) (b : Book) (v : View) → 0 < v.shares → IsPass z log v
+pass_turn : (z : Sizes) (log : List Event) (b : Book) (v : TurnView) → 0 < v.shares → IsPass z log v
     → IsPass z log (record v { turn = 1; front = log; book = Some b })
 pass_turn z log b v some_shares p = record {
   front = ([], sym (append-nil log));
@@ -211,9 +211,9 @@ pass_turn z log b v some_shares p = record {
 even_free : (t x old : ℕ) → t ≤ 1 → t + 2 * x ≡ old → old % 2 ≡ 0 → t ≡ 0
 even_free t x old low same even = omega arith
 
-module _ (z : Sizes) (log : List Event) (b : Book) (s : State (Option Book) View) (kept : IsKept z log b s) where
+module _ (z : Sizes) (log : List Event) (b : Book) (s : State (Option Book) TurnView) (kept : IsKept z log b s) where
   -- what the pass knows that took the turn
-  has_turn : (i : ℕ) (v : View) → get_elem? s.views i ≡ some v → 0 < v.shares → HasTurn v log b
+  has_turn : (i : ℕ) (v : TurnView) → get_elem? s.views i ≡ some v → 0 < v.shares → HasTurn v log b
   has_turn i v at some_shares =
       let p : IsPass z log v = kept.passes.each i v at in
       let sized : v.sizes ≡ z = p.sized some_shares in
@@ -229,7 +229,7 @@ module _ (z : Sizes) (log : List Event) (b : Book) (s : State (Option Book) View
         held = λ weight. omega (arith, kept.places.held weight, total_term (λ u. total weight u.held) s.views i v at);
         owed = λ weight. omega (arith, kept.places.owed weight, total_term (λ u. total weight u.owed) s.views i v at);
         crowd =
-            let kept_by : View → ℕ = λ u. total (λ k. 1) u.held + total (λ k. 1) u.owed in
+            let kept_by : TurnView → ℕ = λ u. total (λ k. 1) u.held + total (λ k. 1) u.owed in
             let gap = total_gap kept_by (λ u. 4 * shares_of u) s.views i v at (kept_few z log b s kept) in
             omega (
               arith,
@@ -252,7 +252,7 @@ module _ (z : Sizes) (log : List Event) (b : Book) (s : State (Option Book) View
             (λ j u at' none_left. ap (total weight) (nobody one j u at' none_left).1);
       }
     where
-      kept_few : (z : Sizes) (log : List Event) (b : Book) (s : State (Option Book) View) → IsKept z log b s
+      kept_few : (z : Sizes) (log : List Event) (b : Book) (s : State (Option Book) TurnView) → IsKept z log b s
           → Each (λ u. total (λ k. 1) u.held + total (λ k. 1) u.owed ≤ 4 * shares_of u) s.views
       kept_few z log b s kept j u at =
           ⊎_elim
@@ -263,11 +263,11 @@ module _ (z : Sizes) (log : List Event) (b : Book) (s : State (Option Book) View
           (cases_lt 0 u.shares)
 
   -- taking the turn where it is free keeps the rule
-  turn_taken : (i old : ℕ) (v : View) → get_elem? s.views i ≡ some v → 0 < v.shares → slice_index s.words 0 ≡ old → old % 2 ≡ 0
+  turn_taken : (i old : ℕ) (v : TurnView) → get_elem? s.views i ≡ some v → 0 < v.shares → slice_index s.words 0 ≡ old → old % 2 ≡ 0
       → (get_elem? s.homes 0 ≡ some (some (Some b)))
       × IsKept z log b (stepped s 0 (old + 1) i [] (record v { turn = 1; front = log; book = Some b }) (takes 0 (Some b)))
   turn_taken i old v at some_shares found even =
-      let w : View = record v { turn = 1; front = log; book = Some b } in
+      let w : TurnView = record v { turn = 1; front = log; book = Some b } in
       let d : Differs v w = record { number = refl; shares = refl; returned = refl; own = refl; gathered = refl; held = refl; owed = refl } in
       let word : packed (total turn_of s.views) b ≡ old = sym (found_word z log b s kept) ∙ found in
       let free : total turn_of s.views ≡ 0 =
@@ -290,15 +290,15 @@ module _ (z : Sizes) (log : List Event) (b : Book) (s : State (Option Book) View
       )
 
 -- taking the turn keeps the rule; where the word is another one nothing changes
-pub taking : (z : Sizes) (slots id old : ℕ) (v : View) → 0 < v.shares → old % 2 ≡ 0
+pub taking : (z : Sizes) (slots id old : ℕ) (v : TurnView) → 0 < v.shares → old % 2 ≡ 0
     → Allows (Holds z) slots id (v, []) 0 (λ n. either (eqb n old) (old + 1) n) (Takes (step slots 0 old (old + 1) none) (v, []))
 taking z slots id old v some_shares even s (log, b, kept) sized at range =
     exchanged (slice_index s.words 0) old (old + 1)
-    (λ (n : ℕ). (w : View) × (a : Act (Option Book)) × Valid s.homes [] a × Holds z (stepped s 0 n id [] w a)
+    (λ (n : ℕ). (w : TurnView) × (a : Act (Option Book)) × Valid s.homes [] a × Holds z (stepped s 0 n id [] w a)
     × Takes (step slots 0 old (old + 1) none) (v, []) (slice_index s.words 0) (w, carried_after [] a))
     (λ (hit : slice_index s.words 0 ≡ old).
     let t = turn_taken z log b s kept id old v at some_shares hit even in
-    let w : View = record v { turn = 1; front = log; book = Some b } in (
+    let w : TurnView = record v { turn = 1; front = log; book = Some b } in (
       w,
       takes 0 (Some b),
       t.0,
@@ -313,6 +313,6 @@ taking z slots id old v some_shares even s (log, b, kept) sized at range =
       subst (λ (x : Bool). TakesOrNot x (v, []) (v, [])) (sym (ne_eqb (slice_index s.words 0) old miss)) refl,
     ))
   where
-    same_state : (s : State (Option Book) View) (i : ℕ) (v : View) → get_elem? s.views i ≡ some v → slice_set s.words 0 (slice_index s.words 0) ≡ s.words
+    same_state : (s : State (Option Book) TurnView) (i : ℕ) (v : TurnView) → get_elem? s.views i ≡ some v → slice_set s.words 0 (slice_index s.words 0) ≡ s.words
         → s ≡ stepped s 0 (slice_index s.words 0) i [] v keeps
     same_state s i v at words k = record { words = sym words k; homes = s.homes; views = sym (set_again s.views i v at) k }

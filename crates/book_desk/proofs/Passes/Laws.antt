@@ -12,7 +12,7 @@ use Rattle.book_desk.specs.declared.book.Book.{Book}
 use Rattle.book_desk.specs.declared.turn.change.Ending.{Ending}
 use Rattle.book_desk.specs.declared.turn.change.PlaceChange.{PlaceChange}
 use Rattle.book_desk.specs.declared.turn.change.PlaceChange.TheVariants.{Holds, Releases, Owes, Pays}
-use Rattle.book_desk.specs.declared.turn.view.View.{View}
+use Rattle.book_desk.specs.declared.turn.view.TurnView.{TurnView}
 use Rattle.book_desk.specs.Uses.{bit, tally, times, uses}
 use Rattle.book_desk.specs.Turn.Change.{IsRightChange}
 use Rattle.book_desk.specs.Turn.Laws.{KeepsTurnRule, MayEnd, TurnBookState, debts_of, held_at, owed_at, turn_entries, turn_part, turn_part_in, turn_uses, use_in, views_then}
@@ -30,15 +30,15 @@ tally_total p [] = refl
 tally_total p (x ∷ xs) = ap (λ (n : ℕ). bit (p x) + n) (tally_total p xs)
 
 -- the users of a place in the book are the entry and the references of all passes
-users_same : (b : Book) (views : List View) (place : ℕ) → AreOfPasses b views → uses place b.records.items b.holds.items ≡ users_of (use_in place b views)
+users_same : (b : Book) (views : List TurnView) (place : ℕ) → AreOfPasses b views → uses place b.records.items b.holds.items ≡ users_of (use_in place b views)
 users_same b views place h = ap (λ (n : ℕ). tally (has_place place) b.records.items + n)
     (tally_total (is_at place) b.holds.items ∙ h.held (λ k. bit (is_at place k)))
 
 -- the debts of the book are those of all passes
-debts_same : (b : Book) (views : List View) (place : ℕ) → AreOfPasses b views → times place b.owed.items ≡ debts_of place views
+debts_same : (b : Book) (views : List TurnView) (place : ℕ) → AreOfPasses b views → times place b.owed.items ≡ debts_of place views
 debts_same b views place h = tally_total (λ p. p == place) b.owed.items ∙ h.owed (λ p. bit (p == place))
 
-module _ (z : Sizes) (log : List Event) (b : Book) (s : State (Option Book) View) (place : ℕ) (kept : IsKept z log b s) where
+module _ (z : Sizes) (log : List Event) (b : Book) (s : State (Option Book) TurnView) (place : ℕ) (kept : IsKept z log b s) where
   pub one_use : place < z.entries → times place b.free.items + debts_of place s.views + min (users_of (use_in place b s.views)) 1 ≡ 1
   one_use below = subst (λ (n : ℕ). times place b.free.items + n + min (users_of (use_in place b s.views)) 1 ≡ 1) (debts_same b s.views place kept.places)
       (subst (λ (n : ℕ). times place b.free.items + times place b.owed.items + min n 1 ≡ 1) (users_same b s.views place kept.places)
@@ -50,7 +50,7 @@ module _ (z : Sizes) (log : List Event) (b : Book) (s : State (Option Book) View
       omega (arith, none, users_same b s.views place kept.places, debts_same b s.views place kept.places)
 
 -- one pass holds and owes no more than all
-among_all : (place : ℕ) (views : List View) (i : ℕ)
+among_all : (place : ℕ) (views : List TurnView) (i : ℕ)
     → IsPartOf (turn_part place (get_elem? views i)) (record { kept = total (λ v. held_at place v) views; owed = debts_of place views })
 among_all place [] i = record { kept = omega arith; owed = omega arith }
 among_all place (v ∷ views) zero = record { kept = omega arith; owed = omega arith }
@@ -83,7 +83,7 @@ only_first f d zero all one = omega (arith, all, one)
 only_first f d (suc n) all one = absurd (omega (arith, all, one))
 
 -- a pass with the turn ends it
-module _ (z : Sizes) (log : List Event) (b : Book) (s : State (Option Book) View) (i place : ℕ) (v : View) (e : Ending) (new : Book)
+module _ (z : Sizes) (log : List Event) (b : Book) (s : State (Option Book) TurnView) (i place : ℕ) (v : TurnView) (e : Ending) (new : Book)
     (m : MayEnd z log b s i v e new) where
   -- it knows the book
   known : v.book ≡ Some b
@@ -108,7 +108,7 @@ module _ (z : Sizes) (log : List Event) (b : Book) (s : State (Option Book) View
       (λ (beyond : z.entries ≤ place). absurd (omega (arith, free, no_other z log b s place m.kept beyond)))
       (cases_lt place z.entries)
 
-  pub not_given : (j : ℕ) (u : View) → get_elem? s.views j ≡ some u → 0 < held_at place u + owed_at place u
+  pub not_given : (j : ℕ) (u : TurnView) → get_elem? s.views j ≡ some u → 0 < held_at place u + owed_at place u
       → e.places ≢ Holds (record { place = place; id = None })
   not_given j u at has is =
       let held : held_at place u ≤ total (λ w. held_at place w) s.views = total_term (λ w. held_at place w) s.views j u at in

@@ -28,8 +28,8 @@ use Rattle.history_book.specs.Sight.{IsKnown, Sight}
 use Rattle.book_desk.specs.declared.book.Book.{Book}
 use Rattle.book_desk.specs.declared.turn.change.Ending.{Ending}
 use Rattle.book_desk.specs.declared.turn.change.PlaceChange.{PlaceChange}
-use Rattle.book_desk.specs.declared.turn.pass.Pass.{Pass}
-use Rattle.book_desk.specs.declared.turn.view.View.{View}
+use Rattle.book_desk.specs.declared.turn.pass.TurnPass.{TurnPass}
+use Rattle.book_desk.specs.declared.turn.view.TurnView.{TurnView}
 use Rattle.book_desk.specs.Fields.{IsBook}
 use Rattle.book_desk.specs.Made.{with_made, noted}
 use Rattle.book_desk.specs.Internal.Book.{spare_after, spare_before}
@@ -44,7 +44,7 @@ use Rattle.book_desk.proofs.Passes.Answers.{before, behind}
 use Rattle.book_desk.proofs.Passes.Called.{IsCall, can_end, held_among, known_after, owed_among}
 
 -- what a call did in its turn, and what its desk was before
-pub record IsTurn (p : Pass) (me : Me (Option Book) View) (b b' : Book) (places : PlaceChange) (made : Option Event) (less : ℕ) : Type 0 where
+pub record IsTurn (p : TurnPass) (me : Me (Option Book) TurnView) (b b' : Book) (places : PlaceChange) (made : Option Event) (less : ℕ) : Type 0 where
   pub seated : IsSeated p
   pub log : List Event
   pub has : HasTurn p.seat.me.0 log b
@@ -57,7 +57,7 @@ pub record IsTurn (p : Pass) (me : Me (Option Book) View) (b b' : Book) (places 
   pub right : IsRightChange places b.free.items b'
   pub room : p.spare ≡ spare_before less made
 
-module _ (p : Pass) (me : Me (Option Book) View) (b b' : Book) (places : PlaceChange) (made : Option Event) (less : ℕ)
+module _ (p : TurnPass) (me : Me (Option Book) TurnView) (b b' : Book) (places : PlaceChange) (made : Option Event) (less : ℕ)
     (t : IsTurn p me b b' places made less) where
   abbrev ending : Ending
   ending = record { places = places; made = made }
@@ -80,7 +80,7 @@ module _ (p : Pass) (me : Me (Option Book) View) (b b' : Book) (places : PlaceCh
   pub turn_ends : (q : PlaceChange) → q ≡ places → CanEnd (record { places = q; made = made }) me.0 b'
   turn_ends q is =
       subst (λ (x : PlaceChange). CanEnd (record { places = x; made = made }) me.0 b') (sym is)
-      (subst (λ (m : Me (Option Book) View). CanEnd ending m.0 b') (sym t.same)
+      (subst (λ (m : Me (Option Book) TurnView). CanEnd ending m.0 b') (sym t.same)
       (can_end (numbers_of p.seat.table_id) p.seat.me.0 t.log b b' ending p.notes.items p.spare p.taken less call t.room))
 
   -- there are few events then
@@ -90,7 +90,7 @@ module _ (p : Pass) (me : Me (Option Book) View) (b b' : Book) (places : PlaceCh
       omega (arith, k.few, t.book.events)
 
 -- the desk after the turn
-pub record IsAfter (p : Pass) (me : Me (Option Book) View) (places q : PlaceChange) (made : Option Event) (less : ℕ) (new : Pass) : Type 0 where
+pub record IsAfter (p : TurnPass) (me : Me (Option Book) TurnView) (places q : PlaceChange) (made : Option Event) (less : ℕ) (new : TurnPass) : Type 0 where
   pub change : q ≡ places
   pub table : new.seat.table_id ≡ p.seat.table_id
   pub ended : new.seat.me ≡ (ended (record { places = q; made = made }) me.0, [])
@@ -99,7 +99,7 @@ pub record IsAfter (p : Pass) (me : Me (Option Book) View) (places q : PlaceChan
   pub room : new.notes.room ≡ p.notes.room
   pub spare : new.spare ≡ less
 
-module _ (p : Pass) (me : Me (Option Book) View) (b b' : Book) (places q : PlaceChange) (made : Option Event) (less : ℕ) (new : Pass)
+module _ (p : TurnPass) (me : Me (Option Book) TurnView) (b b' : Book) (places q : PlaceChange) (made : Option Event) (less : ℕ) (new : TurnPass)
     (t : IsTurn p me b b' places made less) (a : IsAfter p me places q made less new) where
   abbrev end_of : Ending
   end_of = record { places = places; made = made }
@@ -107,16 +107,16 @@ module _ (p : Pass) (me : Me (Option Book) View) (b b' : Book) (places q : Place
   -- what the pass knows then
   knows_then : new.seat.me ≡ (ended end_of (turned p.seat.me.0 t.log b), [])
   knows_then =
-      let last : Ending → Me (Option Book) View → Me (Option Book) View = λ e m. (ended e m.0, []) in
+      let last : Ending → Me (Option Book) TurnView → Me (Option Book) TurnView = λ e m. (ended e m.0, []) in
       a.ended ∙ ap (λ (x : PlaceChange). last (record { places = x; made = made }) me) a.change ∙ ap (last end_of) t.same
 
   notes_then : new.notes.items ≡ noted p.notes.items (length t.log) made
-  notes_then = a.notes ∙ ap (λ (m : Me (Option Book) View). noted p.notes.items (length m.0.front) made) t.same
+  notes_then = a.notes ∙ ap (λ (m : Me (Option Book) TurnView). noted p.notes.items (length m.0.front) made) t.same
 
   pub sight_then : sight_at new ≡ behind (numbers_of p.seat.table_id) p.seat.me.0 t.log b b' made p.notes.items less t.has new.taken places
   sight_then =
       ap (λ tr. pass_sight (numbers_of tr) new.seat.me.0 new.notes.items new.spare new.taken) a.table
-      ∙ ap (λ (m : Me (Option Book) View). pass_sight (numbers_of p.seat.table_id) m.0 new.notes.items new.spare new.taken) knows_then
+      ∙ ap (λ (m : Me (Option Book) TurnView). pass_sight (numbers_of p.seat.table_id) m.0 new.notes.items new.spare new.taken) knows_then
       ∙ ap (λ ns. pass_sight (numbers_of p.seat.table_id) (ended end_of (turned p.seat.me.0 t.log b)) ns new.spare new.taken) notes_then
       ∙ ap (λ (k : ℕ). pass_sight (numbers_of p.seat.table_id) (ended end_of (turned p.seat.me.0 t.log b)) (noted p.notes.items (length t.log) made) k new.taken) a.spare
 
@@ -126,13 +126,13 @@ module _ (p : Pass) (me : Me (Option Book) View) (b b' : Book) (places q : Place
   -- the desk is right after it
   pub seated_then : IsSeated new
   seated_then =
-      let view : new.seat.me.0 ≡ ended end_of (turned p.seat.me.0 t.log b) = ap (λ (m : Me (Option Book) View). m.0) knows_then in
+      let view : new.seat.me.0 ≡ ended end_of (turned p.seat.me.0 t.log b) = ap (λ (m : Me (Option Book) TurnView). m.0) knows_then in
       record {
         table = subst IsTable (sym a.table) t.seated.table;
-        away = ap (λ (m : Me (Option Book) View). m.1) knows_then;
-        turn = ap (λ (v : View). v.turn) view;
-        sizes = a.sizes ∙ t.seated.sizes ∙ sym (ap (λ (v : View). v.sizes) view);
-        own = notes_then ∙ ap (λ ns. noted ns (length t.log) made) t.seated.own ∙ sym (ap (λ (v : View). v.own) view);
+        away = ap (λ (m : Me (Option Book) TurnView). m.1) knows_then;
+        turn = ap (λ (v : TurnView). v.turn) view;
+        sizes = a.sizes ∙ t.seated.sizes ∙ sym (ap (λ (v : TurnView). v.sizes) view);
+        own = notes_then ∙ ap (λ ns. noted ns (length t.log) made) t.seated.own ∙ sym (ap (λ (v : TurnView). v.own) view);
         room = omega (
           arith,
           t.seated.room,

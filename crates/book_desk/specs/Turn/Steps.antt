@@ -9,7 +9,7 @@ use Rattle.history_book.specs.declared.event.Note.{Note}
 use Rattle.history_book.specs.Sight.{AreEventsOf, notes_from}
 use Rattle.book_desk.specs.declared.book.Book.{Book}
 use Rattle.book_desk.specs.declared.turn.change.Ending.{Ending}
-use Rattle.book_desk.specs.declared.turn.view.View.{View}
+use Rattle.book_desk.specs.declared.turn.view.TurnView.{TurnView}
 use Rattle.book_desk.specs.Fields.{IsBook}
 use Rattle.book_desk.specs.Made.{with_made, noted}
 use Rattle.book_desk.specs.Turn.Change.{IsRightChange, held_after, owed_after}
@@ -26,7 +26,7 @@ live_in word = word / 2 / 2 ^ 40
 -- These are all events so far; they are no fewer than the pass had seen, or than the one had seen that it took in last. As
 -- many as there are, and as many as this pass may still make, are no more than all passes may make: of 64 passes at most,
 -- so that each event's number is below 2^40. The pass has no more shares than there are passes, returned ones among them.
-pub record AreAll (v : View) (log : List Event) : Type 0 where
+pub record AreAll (v : TurnView) (log : List Event) : Type 0 where
   pub front : StartsWith log v.front
   pub told : StartsWith log v.told
   pub legal : is_legal v.sizes log ≡ true
@@ -36,7 +36,7 @@ pub record AreAll (v : View) (log : List Event) : Type 0 where
   pub alone : v.sizes.passes ≡ 1 → v.own ≡ notes_from 0 log
 
 -- a load: the pass has seen all events, and the word is theirs
-pub record Looks (v w : View) (word : ℕ) : Type 0 where
+pub record Looks (v w : TurnView) (word : ℕ) : Type 0 where
   pub same : w ≡ record v { front = w.front }
   pub all : AreAll v w.front
   pub events : events_in word ≡ length w.front
@@ -44,7 +44,7 @@ pub record Looks (v w : View) (word : ℕ) : Type 0 where
 
 -- The turn is free for the pass, and this is the book, to which all events led. What the pass holds and owes is among what
 -- the book has; the others hold and owe four places at most each; where it is the only pass nobody else has any.
-pub record HasTurn (v : View) (log : List Event) (b : Book) : Type 0 where
+pub record HasTurn (v : TurnView) (log : List Event) (b : Book) : Type 0 where
   pub all : AreAll v log
   pub book : IsBook log b
   pub sizes : b.sizes ≡ v.sizes
@@ -55,20 +55,20 @@ pub record HasTurn (v : View) (log : List Event) (b : Book) : Type 0 where
   pub only_owed : v.sizes.passes ≡ 1 → (weight : ℕ → ℕ) → total weight b.owed.items ≡ total weight v.owed
 
 -- what the pass knows that took it
-abbrev pub turned : View → List Event → Book → View
+abbrev pub turned : TurnView → List Event → Book → TurnView
 turned v log b = record v { turn = 1; front = log; book = Some b }
 
 -- the pass took the turn, and the book
-abbrev pub TookTurn : Me (Option Book) View → Me (Option Book) View → Type 0
+abbrev pub TookTurn : Me (Option Book) TurnView → Me (Option Book) TurnView → Type 0
 TookTurn me me' = (log : List Event) × (b : Book) × HasTurn me.0 log b × (me' ≡ (turned me.0 log b, (0, Some b) ∷ me.1))
 
 -- it has them, and took the book out of its slot
-abbrev pub TookBook : View → Me (Option Book) View → Book → Type 0
+abbrev pub TookBook : TurnView → Me (Option Book) TurnView → Book → Type 0
 TookBook v me' b = (log : List Event) × HasTurn v log b × (me' ≡ (turned v log b, (0, None) ∷ []))
 
 -- The book is what all events led to, which the pass has seen in part; they stand once each among those that it made and
 -- gathered.
-pub record IsLast (v : View) (b : Book) : Type 0 where
+pub record IsLast (v : TurnView) (b : Book) : Type 0 where
   pub log : List Event
   pub front : StartsWith log v.front
   pub book : IsBook log b
@@ -79,18 +79,18 @@ pub record IsLast (v : View) (b : Book) : Type 0 where
   pub alone : v.sizes.passes ≡ 1 → v.own ≡ notes_from 0 log
 
 -- it did, or nothing changed
-abbrev pub TakesOrNot : Bool → Me (Option Book) View → Me (Option Book) View → Type 0
+abbrev pub TakesOrNot : Bool → Me (Option Book) TurnView → Me (Option Book) TurnView → Type 0
 TakesOrNot took me me' = MatchBool took (TookTurn me me') (me' ≡ me)
 
 -- it did where the word was what it was expected to be
-abbrev pub Takes : Step (Option Book) → Me (Option Book) View → ℕ → Me (Option Book) View → Type 0
+abbrev pub Takes : Step (Option Book) → Me (Option Book) TurnView → ℕ → Me (Option Book) TurnView → Type 0
 Takes step me found me' = TakesOrNot (found == step.first) me me'
 
-abbrev pub Loads : Step (Option Book) → Me (Option Book) View → ℕ → Me (Option Book) View → Type 0
+abbrev pub Loads : Step (Option Book) → Me (Option Book) TurnView → ℕ → Me (Option Book) TurnView → Type 0
 Loads step me found me' = Looks me.0 me'.0 found × (me'.1 ≡ me.1)
 
 -- what a pass knows once its turn has ended so
-abbrev pub ended : Ending → View → View
+abbrev pub ended : Ending → TurnView → TurnView
 ended e v = record v {
   turn = 0;
   front = with_made v.front e.made;
@@ -99,7 +99,7 @@ ended e v = record v {
   owed = owed_after e.places v.owed;
 }
 
-abbrev pub Ends : Ending → Step (Option Book) → Me (Option Book) View → ℕ → Me (Option Book) View → Type 0
+abbrev pub Ends : Ending → Step (Option Book) → Me (Option Book) TurnView → ℕ → Me (Option Book) TurnView → Type 0
 Ends e step me found me' = (me'.0 ≡ ended e me.0) × (me'.1 ≡ rest me.1)
 
 -- the references, the owed places and the free places of a book that is known
@@ -117,7 +117,7 @@ free_in (Some b) = b.free.items
 
 -- A turn may end so with this book: the event led to it, the references and the owed places of the book changed as those
 -- of the pass, and the change is right of the place.
-pub record CanEnd (e : Ending) (v : View) (b : Book) : Type 0 where
+pub record CanEnd (e : Ending) (v : TurnView) (b : Book) : Type 0 where
   pub some : 0 < v.shares
   pub turn : v.turn ≡ 1
   pub book : IsBook (with_made v.front e.made) b
@@ -129,14 +129,14 @@ pub record CanEnd (e : Ending) (v : View) (b : Book) : Type 0 where
   pub own_few : length (noted v.own (length v.front) e.made) ≤ 2 ^ 30
 
 -- a turn may end so, with the word of the book that the pass has
-abbrev pub CanEndHere : Ending → Me (Option Book) View → ℕ → Type 0
+abbrev pub CanEndHere : Ending → Me (Option Book) TurnView → ℕ → Type 0
 CanEndHere e me word = (b : Book) × CanEnd e me.0 b × (word ≡ packed 0 b) × (me.1 ≡ (0, Some b) ∷ [])
 
 -- a pass hands over its last shares
-abbrev pub shares_left : ℕ → View → View
+abbrev pub shares_left : ℕ → TurnView → TurnView
 shares_left shares v = record v { shares = v.shares - shares }
 
-abbrev pub further : ℕ → View → View
+abbrev pub further : ℕ → TurnView → TurnView
 further shares v = record {
   sizes = v.sizes;
   number = v.number + (v.shares - shares);
@@ -153,14 +153,14 @@ further shares v = record {
 }
 
 -- a pass takes in another one, and what is left of that one
-abbrev pub joined : View → View → View
+abbrev pub joined : TurnView → TurnView → TurnView
 joined v w = record v {
   returned = v.returned + (w.shares + w.returned);
   told = w.front;
   gathered = v.gathered ++ w.own ++ w.gathered;
 }
 
-abbrev pub spent_view : View
+abbrev pub spent_view : TurnView
 spent_view = record {
   sizes = record { entries = 0; buckets = 0; seed = 0; passes = 0; expectations = 0 };
   number = 0;

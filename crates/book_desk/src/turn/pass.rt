@@ -18,7 +18,7 @@ use std::alloc::Global;
 
 /// A pass's place at the shared book, its own events, and what it counts.
 #[derive(Drop)]
-pub struct Pass {
+pub struct TurnPass {
     pub alloc: Global,
     pub sizes: Sizes,
     pub seat: TurnSeat,
@@ -29,7 +29,7 @@ pub struct Pass {
     pub taken: u64,
 }
 
-impl Pass {
+impl TurnPass {
     /// Puts the book back and ends the turn, after a call that changed the pass's places so, and notes the event that the
     /// call made, if it made one: the last one of the book's.
     pub fn end_turn(

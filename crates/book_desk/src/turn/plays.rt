@@ -3,21 +3,21 @@
 ghost use Rattle.book_desk.specs.Turn.Steps.{Ends, Loads, Takes, further, joined, shares_left, spent_view};
 
 use crate::book::Book;
-use crate::turn::view::View;
+use crate::turn::view::TurnView;
 use atomic_table::{Join, Play, Split};
 use std::marker::{Brand, PhantomData};
 
 /// A load of the word.
 pub struct Look;
 
-impl Play<Option<Book>, View> for Look {
+impl Play<Option<Book>, TurnView> for Look {
     ghost then = { Loads };
 }
 
 /// Taking the turn.
 pub struct Take;
 
-impl Play<Option<Book>, View> for Take {
+impl Play<Option<Book>, TurnView> for Take {
     ghost then = { Takes };
 }
 
@@ -40,7 +40,7 @@ pub struct Give<J> {
     of: PhantomData<J>,
 }
 
-impl<J: Ends> Play<Option<Book>, View> for Give<J> {
+impl<J: Ends> Play<Option<Book>, TurnView> for Give<J> {
     ghost then = { Ends J.ending };
 }
 
@@ -60,7 +60,7 @@ pub struct Cut<J> {
     of: PhantomData<J>,
 }
 
-impl<J: Shares> Split<View> for Cut<J> {
+impl<J: Shares> Split<TurnView> for Cut<J> {
     ghost left = { shares_left J.shares };
 
     ghost right = { further J.shares };
@@ -69,7 +69,7 @@ impl<J: Shares> Split<View> for Cut<J> {
 /// Taking in another pass.
 pub struct Merge;
 
-impl Join<View> for Merge {
+impl Join<TurnView> for Merge {
     ghost both = { joined };
 
     ghost spent = { spent_view };

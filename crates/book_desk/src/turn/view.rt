@@ -7,7 +7,7 @@ use history_book::sizes::Sizes;
 use std::collections::LinkedList;
 
 /// What a pass knows of the shared book. No value of it is made.
-pub struct View {
+pub struct TurnView {
     pub sizes: Sizes,
     /// The first of its shares, which are consecutive numbers.
     pub number: u64,

@@ -4,7 +4,7 @@ use Rattle.history_book.specs.Held.{is_taken}
 use Rattle.book_desk.specs.Turn.Change.{confirmed_change}
 use Rattle.book_desk.proofs.Passes.Among.{taken_any}
 use Rattle.book_desk.specs.Internal.Book.{spare_after}
-use Rattle.book_desk.specs.declared.turn.pass.Pass.{Pass}
+use Rattle.book_desk.specs.declared.turn.pass.TurnPass.{TurnPass}
 use Rattle.book_desk.proofs.Passes.Turned.{IsAfter, IsTurn, room_for, some_room, seated_then, turn_ends, turn_few}
 use Rattle.book_desk.proofs.Passes.Turns.{confirm_told, confirm_turn}
 use Rattle.book_desk.proofs.turn_desk.TurnDeskDesk.confirm.Goals as goal
@@ -18,34 +18,34 @@ end_turn-requires-clause-some g c = some_room c.self.inside.pass.spare c.confirm
 
 pub end_turn-requires-clause-ends : goal.end_turn-requires-clause-ends
 end_turn-requires-clause-ends g c =
-    let p : Pass = c.self.inside.pass in
+    let p : TurnPass = c.self.inside.pass in
     let t : IsTurn p c.take_turn-book.new.seat.me c.take_turn-book.result c.confirm-outcome.new.self (confirmed_change c.args.place c.confirm-outcome.result.0) c.confirm-outcome.result.1 (spare_after p.spare c.confirm-outcome.result.1) =
     confirm_turn p c.take_turn-book.new.seat.me c.take_turn-book.result c.confirm-outcome.new.self c.confirm-outcome.result.1 (spare_after p.spare c.confirm-outcome.result.1) c.args.place c.args.flow.now c.confirm-outcome.result.0 c.self.invariant.1 c.take_turn-book.ensures.turn c.confirm-outcome.ensures.stays c.confirm-outcome.ensures.sizes c.confirm-outcome.ensures.says (ap (λ (s : Sight). is_taken c.args.place s.held) c.self.view_is ∙ c.requires.taken) (room_for p.spare c.confirm-outcome.result.1 (subst (λ (s : Sight). 1 ≤ s.spare) (sym c.self.view_is) c.requires.spare)) in
     turn_ends p c.take_turn-book.new.seat.me c.take_turn-book.result c.confirm-outcome.new.self (confirmed_change c.args.place c.confirm-outcome.result.0) c.confirm-outcome.result.1 (spare_after p.spare c.confirm-outcome.result.1) t c.confirmed_change.result c.confirmed_change.ensures
 
 pub end_turn-requires-clause-few : goal.end_turn-requires-clause-few
 end_turn-requires-clause-few g c =
-    let p : Pass = c.self.inside.pass in
+    let p : TurnPass = c.self.inside.pass in
     let t : IsTurn p c.take_turn-book.new.seat.me c.take_turn-book.result c.confirm-outcome.new.self (confirmed_change c.args.place c.confirm-outcome.result.0) c.confirm-outcome.result.1 (spare_after p.spare c.confirm-outcome.result.1) =
     confirm_turn p c.take_turn-book.new.seat.me c.take_turn-book.result c.confirm-outcome.new.self c.confirm-outcome.result.1 (spare_after p.spare c.confirm-outcome.result.1) c.args.place c.args.flow.now c.confirm-outcome.result.0 c.self.invariant.1 c.take_turn-book.ensures.turn c.confirm-outcome.ensures.stays c.confirm-outcome.ensures.sizes c.confirm-outcome.ensures.says (ap (λ (s : Sight). is_taken c.args.place s.held) c.self.view_is ∙ c.requires.taken) (room_for p.spare c.confirm-outcome.result.1 (subst (λ (s : Sight). 1 ≤ s.spare) (sym c.self.view_is) c.requires.spare)) in
     turn_few p c.take_turn-book.new.seat.me c.take_turn-book.result c.confirm-outcome.new.self (confirmed_change c.args.place c.confirm-outcome.result.0) c.confirm-outcome.result.1 (spare_after p.spare c.confirm-outcome.result.1) t
 
 pub invariant_of-self : goal.invariant_of-self
 invariant_of-self g c =
-    let p : Pass = c.self.inside.pass in
+    let p : TurnPass = c.self.inside.pass in
     let t : IsTurn p c.take_turn-book.new.seat.me c.take_turn-book.result c.confirm-outcome.new.self (confirmed_change c.args.place c.confirm-outcome.result.0) c.confirm-outcome.result.1 (spare_after p.spare c.confirm-outcome.result.1) =
     confirm_turn p c.take_turn-book.new.seat.me c.take_turn-book.result c.confirm-outcome.new.self c.confirm-outcome.result.1 (spare_after p.spare c.confirm-outcome.result.1) c.args.place c.args.flow.now c.confirm-outcome.result.0 c.self.invariant.1 c.take_turn-book.ensures.turn c.confirm-outcome.ensures.stays c.confirm-outcome.ensures.sizes c.confirm-outcome.ensures.says (ap (λ (s : Sight). is_taken c.args.place s.held) c.self.view_is ∙ c.requires.taken) (room_for p.spare c.confirm-outcome.result.1 (subst (λ (s : Sight). 1 ≤ s.spare) (sym c.self.view_is) c.requires.spare)) in
-    let new : Pass = c.end_turn.new.self in
+    let new : TurnPass = c.end_turn.new.self in
     let a : IsAfter p c.take_turn-book.new.seat.me (confirmed_change c.args.place c.confirm-outcome.result.0) c.confirmed_change.result c.confirm-outcome.result.1 (spare_after p.spare c.confirm-outcome.result.1) new =
     record { change = c.confirmed_change.ensures; table = c.end_turn.ensures.table ∙ c.take_turn-book.ensures.table; ended = c.end_turn.ensures.ended; sizes = c.end_turn.ensures.sizes; notes = c.end_turn.ensures.items; room = c.end_turn.ensures.room; spare = c.end_turn.ensures.spare } in
     (c.end_turn.ensures.table ∙ c.take_turn-book.ensures.table ∙ c.self.invariant.0, seated_then p c.take_turn-book.new.seat.me c.take_turn-book.result c.confirm-outcome.new.self (confirmed_change c.args.place c.confirm-outcome.result.0) c.confirmed_change.result c.confirm-outcome.result.1 (spare_after p.spare c.confirm-outcome.result.1) new t a)
 
 pub returns-clause-says : goal.returns-clause-says
 returns-clause-says g c =
-    let p : Pass = c.self.inside.pass in
+    let p : TurnPass = c.self.inside.pass in
     let t : IsTurn p c.take_turn-book.new.seat.me c.take_turn-book.result c.confirm-outcome.new.self (confirmed_change c.args.place c.confirm-outcome.result.0) c.confirm-outcome.result.1 (spare_after p.spare c.confirm-outcome.result.1) =
     confirm_turn p c.take_turn-book.new.seat.me c.take_turn-book.result c.confirm-outcome.new.self c.confirm-outcome.result.1 (spare_after p.spare c.confirm-outcome.result.1) c.args.place c.args.flow.now c.confirm-outcome.result.0 c.self.invariant.1 c.take_turn-book.ensures.turn c.confirm-outcome.ensures.stays c.confirm-outcome.ensures.sizes c.confirm-outcome.ensures.says (ap (λ (s : Sight). is_taken c.args.place s.held) c.self.view_is ∙ c.requires.taken) (room_for p.spare c.confirm-outcome.result.1 (subst (λ (s : Sight). 1 ≤ s.spare) (sym c.self.view_is) c.requires.spare)) in
-    let new : Pass = c.end_turn.new.self in
+    let new : TurnPass = c.end_turn.new.self in
     let a : IsAfter p c.take_turn-book.new.seat.me (confirmed_change c.args.place c.confirm-outcome.result.0) c.confirmed_change.result c.confirm-outcome.result.1 (spare_after p.spare c.confirm-outcome.result.1) new =
     record { change = c.confirmed_change.ensures; table = c.end_turn.ensures.table ∙ c.take_turn-book.ensures.table; ended = c.end_turn.ensures.ended; sizes = c.end_turn.ensures.sizes; notes = c.end_turn.ensures.items; room = c.end_turn.ensures.room; spare = c.end_turn.ensures.spare } in
     rw (← c.self.view_is) (confirm_told p c.take_turn-book.new.seat.me c.take_turn-book.result c.confirm-outcome.new.self c.confirmed_change.result c.confirm-outcome.result.1 (spare_after p.spare c.confirm-outcome.result.1) c.args.place c.args.flow.now c.confirm-outcome.result.0 new t a c.end_turn.ensures.taken c.confirm-outcome.ensures.says)

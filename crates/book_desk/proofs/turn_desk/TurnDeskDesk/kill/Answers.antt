@@ -8,7 +8,7 @@ use Rattle.book_desk.proofs.Passes.Turned.{suits_on, held_at_all}
 use Rattle.std.specs.Prelude.{◌&&◌, is_some}
 use Rattle.book_desk.specs.declared.book.Book.{Book}
 use Rattle.book_desk.specs.Internal.Book.{spare_after}
-use Rattle.book_desk.specs.declared.turn.pass.Pass.{Pass}
+use Rattle.book_desk.specs.declared.turn.pass.TurnPass.{TurnPass}
 use Rattle.book_desk.proofs.Passes.Turned.{IsAfter, IsTurn, room_for, some_room, seated_then, turn_ends, turn_few}
 use Rattle.book_desk.proofs.Passes.Turns.{kill_told, kill_turn}
 use Rattle.book_desk.proofs.turn_desk.TurnDeskDesk.kill.Goals as goal
@@ -34,34 +34,34 @@ end_turn-requires-clause-some g c = some_room c.self.inside.pass.spare c.kill-ou
 
 pub end_turn-requires-clause-ends : goal.end_turn-requires-clause-ends
 end_turn-requires-clause-ends g c =
-    let p : Pass = c.self.inside.pass in
+    let p : TurnPass = c.self.inside.pass in
     let t : IsTurn p c.take_turn-book.new.seat.me c.take_turn-book.result c.kill-outcome.new.self Same c.kill-outcome.result.1 (spare_after p.spare c.kill-outcome.result.1) =
     kill_turn p c.take_turn-book.new.seat.me c.take_turn-book.result c.kill-outcome.new.self c.kill-outcome.result.1 (spare_after p.spare c.kill-outcome.result.1) c.args.place c.args.why c.kill-outcome.result.0 c.self.invariant.1 c.take_turn-book.ensures.turn c.kill-outcome.ensures.stays c.kill-outcome.ensures.sizes c.kill-outcome.ensures.says (room_for p.spare c.kill-outcome.result.1 (subst (λ (s : Sight). 1 ≤ s.spare) (sym c.self.view_is) c.requires.spare)) in
     turn_ends p c.take_turn-book.new.seat.me c.take_turn-book.result c.kill-outcome.new.self Same c.kill-outcome.result.1 (spare_after p.spare c.kill-outcome.result.1) t Same refl
 
 pub end_turn-requires-clause-few : goal.end_turn-requires-clause-few
 end_turn-requires-clause-few g c =
-    let p : Pass = c.self.inside.pass in
+    let p : TurnPass = c.self.inside.pass in
     let t : IsTurn p c.take_turn-book.new.seat.me c.take_turn-book.result c.kill-outcome.new.self Same c.kill-outcome.result.1 (spare_after p.spare c.kill-outcome.result.1) =
     kill_turn p c.take_turn-book.new.seat.me c.take_turn-book.result c.kill-outcome.new.self c.kill-outcome.result.1 (spare_after p.spare c.kill-outcome.result.1) c.args.place c.args.why c.kill-outcome.result.0 c.self.invariant.1 c.take_turn-book.ensures.turn c.kill-outcome.ensures.stays c.kill-outcome.ensures.sizes c.kill-outcome.ensures.says (room_for p.spare c.kill-outcome.result.1 (subst (λ (s : Sight). 1 ≤ s.spare) (sym c.self.view_is) c.requires.spare)) in
     turn_few p c.take_turn-book.new.seat.me c.take_turn-book.result c.kill-outcome.new.self Same c.kill-outcome.result.1 (spare_after p.spare c.kill-outcome.result.1) t
 
 pub invariant_of-self : goal.invariant_of-self
 invariant_of-self g c =
-    let p : Pass = c.self.inside.pass in
+    let p : TurnPass = c.self.inside.pass in
     let t : IsTurn p c.take_turn-book.new.seat.me c.take_turn-book.result c.kill-outcome.new.self Same c.kill-outcome.result.1 (spare_after p.spare c.kill-outcome.result.1) =
     kill_turn p c.take_turn-book.new.seat.me c.take_turn-book.result c.kill-outcome.new.self c.kill-outcome.result.1 (spare_after p.spare c.kill-outcome.result.1) c.args.place c.args.why c.kill-outcome.result.0 c.self.invariant.1 c.take_turn-book.ensures.turn c.kill-outcome.ensures.stays c.kill-outcome.ensures.sizes c.kill-outcome.ensures.says (room_for p.spare c.kill-outcome.result.1 (subst (λ (s : Sight). 1 ≤ s.spare) (sym c.self.view_is) c.requires.spare)) in
-    let new : Pass = c.end_turn.new.self in
+    let new : TurnPass = c.end_turn.new.self in
     let a : IsAfter p c.take_turn-book.new.seat.me Same Same c.kill-outcome.result.1 (spare_after p.spare c.kill-outcome.result.1) new =
     record { change = refl; table = c.end_turn.ensures.table ∙ c.take_turn-book.ensures.table; ended = c.end_turn.ensures.ended; sizes = c.end_turn.ensures.sizes; notes = c.end_turn.ensures.items; room = c.end_turn.ensures.room; spare = c.end_turn.ensures.spare } in
     (c.end_turn.ensures.table ∙ c.take_turn-book.ensures.table ∙ c.self.invariant.0, seated_then p c.take_turn-book.new.seat.me c.take_turn-book.result c.kill-outcome.new.self Same Same c.kill-outcome.result.1 (spare_after p.spare c.kill-outcome.result.1) new t a)
 
 pub returns-clause-says : goal.returns-clause-says
 returns-clause-says g c =
-    let p : Pass = c.self.inside.pass in
+    let p : TurnPass = c.self.inside.pass in
     let t : IsTurn p c.take_turn-book.new.seat.me c.take_turn-book.result c.kill-outcome.new.self Same c.kill-outcome.result.1 (spare_after p.spare c.kill-outcome.result.1) =
     kill_turn p c.take_turn-book.new.seat.me c.take_turn-book.result c.kill-outcome.new.self c.kill-outcome.result.1 (spare_after p.spare c.kill-outcome.result.1) c.args.place c.args.why c.kill-outcome.result.0 c.self.invariant.1 c.take_turn-book.ensures.turn c.kill-outcome.ensures.stays c.kill-outcome.ensures.sizes c.kill-outcome.ensures.says (room_for p.spare c.kill-outcome.result.1 (subst (λ (s : Sight). 1 ≤ s.spare) (sym c.self.view_is) c.requires.spare)) in
-    let new : Pass = c.end_turn.new.self in
+    let new : TurnPass = c.end_turn.new.self in
     let a : IsAfter p c.take_turn-book.new.seat.me Same Same c.kill-outcome.result.1 (spare_after p.spare c.kill-outcome.result.1) new =
     record { change = refl; table = c.end_turn.ensures.table ∙ c.take_turn-book.ensures.table; ended = c.end_turn.ensures.ended; sizes = c.end_turn.ensures.sizes; notes = c.end_turn.ensures.items; room = c.end_turn.ensures.room; spare = c.end_turn.ensures.spare } in
     rw (← c.self.view_is) (kill_told p c.take_turn-book.new.seat.me c.take_turn-book.result c.kill-outcome.new.self Same c.kill-outcome.result.1 (spare_after p.spare c.kill-outcome.result.1) c.args.place c.args.why c.kill-outcome.result.0 new t a c.end_turn.ensures.taken c.kill-outcome.ensures.says (held_at_all c.args.place c.self.inside.pass.seat.me.0.held (ap (λ (s : Sight). is_held_for_entry c.args.place s.held) c.self.view_is ∙ c.requires.held)))

@@ -4,7 +4,7 @@ use Rattle.history_book.specs.Held.{is_owed}
 use Rattle.std.specs.Prelude.{◌==◌}
 use Rattle.book_desk.specs.declared.turn.change.PlaceChange.TheVariants.{Pays}
 use Rattle.book_desk.proofs.Passes.Among.{any_among}
-use Rattle.book_desk.specs.declared.turn.pass.Pass.{Pass}
+use Rattle.book_desk.specs.declared.turn.pass.TurnPass.{TurnPass}
 use Rattle.book_desk.proofs.Passes.Turned.{IsAfter, IsTurn, seated_then, turn_ends, turn_few}
 use Rattle.book_desk.proofs.Passes.Turns.{recycle_told, recycle_turn}
 use Rattle.book_desk.proofs.turn_desk.TurnDeskDesk.recycle.Goals as goal
@@ -15,34 +15,34 @@ recycle-requires-clause-owed g c =
 
 pub end_turn-requires-clause-ends : goal.end_turn-requires-clause-ends
 end_turn-requires-clause-ends g c =
-    let p : Pass = c.self.inside.pass in
+    let p : TurnPass = c.self.inside.pass in
     let t : IsTurn p c.take_turn-book.new.seat.me c.take_turn-book.result c.recycle.new.self (Pays c.args.place) None p.spare =
     recycle_turn p c.take_turn-book.new.seat.me c.take_turn-book.result c.recycle.new.self c.args.place c.self.invariant.1 c.take_turn-book.ensures.turn c.recycle.ensures.stays c.recycle.ensures.sizes c.recycle.ensures.says (ap (λ (s : Sight). is_owed c.args.place s.owed) c.self.view_is ∙ c.requires) in
     turn_ends p c.take_turn-book.new.seat.me c.take_turn-book.result c.recycle.new.self (Pays c.args.place) None p.spare t (Pays c.args.place) refl
 
 pub end_turn-requires-clause-few : goal.end_turn-requires-clause-few
 end_turn-requires-clause-few g c =
-    let p : Pass = c.self.inside.pass in
+    let p : TurnPass = c.self.inside.pass in
     let t : IsTurn p c.take_turn-book.new.seat.me c.take_turn-book.result c.recycle.new.self (Pays c.args.place) None p.spare =
     recycle_turn p c.take_turn-book.new.seat.me c.take_turn-book.result c.recycle.new.self c.args.place c.self.invariant.1 c.take_turn-book.ensures.turn c.recycle.ensures.stays c.recycle.ensures.sizes c.recycle.ensures.says (ap (λ (s : Sight). is_owed c.args.place s.owed) c.self.view_is ∙ c.requires) in
     turn_few p c.take_turn-book.new.seat.me c.take_turn-book.result c.recycle.new.self (Pays c.args.place) None p.spare t
 
 pub invariant_of-self : goal.invariant_of-self
 invariant_of-self g c =
-    let p : Pass = c.self.inside.pass in
+    let p : TurnPass = c.self.inside.pass in
     let t : IsTurn p c.take_turn-book.new.seat.me c.take_turn-book.result c.recycle.new.self (Pays c.args.place) None p.spare =
     recycle_turn p c.take_turn-book.new.seat.me c.take_turn-book.result c.recycle.new.self c.args.place c.self.invariant.1 c.take_turn-book.ensures.turn c.recycle.ensures.stays c.recycle.ensures.sizes c.recycle.ensures.says (ap (λ (s : Sight). is_owed c.args.place s.owed) c.self.view_is ∙ c.requires) in
-    let new : Pass = c.end_turn.new.self in
+    let new : TurnPass = c.end_turn.new.self in
     let a : IsAfter p c.take_turn-book.new.seat.me (Pays c.args.place) (Pays c.args.place) None p.spare new =
     record { change = refl; table = c.end_turn.ensures.table ∙ c.take_turn-book.ensures.table; ended = c.end_turn.ensures.ended; sizes = c.end_turn.ensures.sizes; notes = c.end_turn.ensures.items; room = c.end_turn.ensures.room; spare = c.end_turn.ensures.spare } in
     (c.end_turn.ensures.table ∙ c.take_turn-book.ensures.table ∙ c.self.invariant.0, seated_then p c.take_turn-book.new.seat.me c.take_turn-book.result c.recycle.new.self (Pays c.args.place) (Pays c.args.place) None p.spare new t a)
 
 pub returns-clause-says : goal.returns-clause-says
 returns-clause-says g c =
-    let p : Pass = c.self.inside.pass in
+    let p : TurnPass = c.self.inside.pass in
     let t : IsTurn p c.take_turn-book.new.seat.me c.take_turn-book.result c.recycle.new.self (Pays c.args.place) None p.spare =
     recycle_turn p c.take_turn-book.new.seat.me c.take_turn-book.result c.recycle.new.self c.args.place c.self.invariant.1 c.take_turn-book.ensures.turn c.recycle.ensures.stays c.recycle.ensures.sizes c.recycle.ensures.says (ap (λ (s : Sight). is_owed c.args.place s.owed) c.self.view_is ∙ c.requires) in
-    let new : Pass = c.end_turn.new.self in
+    let new : TurnPass = c.end_turn.new.self in
     let a : IsAfter p c.take_turn-book.new.seat.me (Pays c.args.place) (Pays c.args.place) None p.spare new =
     record { change = refl; table = c.end_turn.ensures.table ∙ c.take_turn-book.ensures.table; ended = c.end_turn.ensures.ended; sizes = c.end_turn.ensures.sizes; notes = c.end_turn.ensures.items; room = c.end_turn.ensures.room; spare = c.end_turn.ensures.spare } in
     rw (← c.self.view_is) (recycle_told p c.take_turn-book.new.seat.me c.take_turn-book.result c.recycle.new.self (Pays c.args.place) c.args.place new t a c.end_turn.ensures.taken c.recycle.ensures.says)
