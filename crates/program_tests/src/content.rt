@@ -1,6 +1,6 @@
 //! Files as data, and their bytes.
 
-use crate::packet::{Ends, Packet, Sent, push_changed, push_packet};
+use crate::packet::{Ends, IpPacket, Sent, push_changed, push_packet};
 use std::alloc::{AllocError, Global};
 
 /// The order of a capture's numbers, what its times count in, and whether its frames have an Ethernet header.
@@ -112,7 +112,7 @@ fn push_capture(
 fn push_clients(alloc: Global, bytes: &mut Vec<u8>, clients: u32) -> Result<(), AllocError> {
     push_head(bytes, &PLAIN)?;
     for client in 0..clients {
-        let query = Packet::Udp(Ends {
+        let query = IpPacket::Udp(Ends {
             src: 0x0a00_0000 + client % 0x0100_0000,
             sport: 5000,
             dst: 0x0a00_0002,
@@ -120,7 +120,7 @@ fn push_clients(alloc: Global, bytes: &mut Vec<u8>, clients: u32) -> Result<(), 
         });
         push_record(alloc, bytes, &PLAIN, &(1000, 0, query))?;
     }
-    let first = Packet::Udp(Ends {
+    let first = IpPacket::Udp(Ends {
         src: 0x0a00_0000,
         sport: 5000,
         dst: 0x0a00_0002,
@@ -138,7 +138,7 @@ fn push_ports(
 ) -> Result<(), AllocError> {
     push_head(bytes, &PLAIN)?;
     for query in 0..queries {
-        let asked = Packet::Udp(Ends {
+        let asked = IpPacket::Udp(Ends {
             src: client,
             sport: 1000 + (query % 50_000) as u16,
             dst: 0x0a09_0909,
@@ -152,7 +152,7 @@ fn push_ports(
 /// Adds a capture of one query of a client, and of a frame without a header.
 fn push_asked(alloc: Global, bytes: &mut Vec<u8>, client: u32) -> Result<(), AllocError> {
     push_ports(alloc, bytes, client, 1)?;
-    push_record(alloc, bytes, &PLAIN, &(1, 0, Packet::Raw(b"")))
+    push_record(alloc, bytes, &PLAIN, &(1, 0, IpPacket::Raw(b"")))
 }
 
 /// Adds a text so many times.

@@ -6,7 +6,7 @@ ghost use Rattle.run_inputs.specs.Ready.{IsReady};
 
 use crate::case::{Case, NONE, Text, files_of, report_of, words_of};
 use crate::content::{Content, PLAIN};
-use crate::packet::{ACK, Ends, PSH, Packet, SYN, Sent};
+use crate::packet::{ACK, Ends, IpPacket, PSH, SYN, Sent};
 use crate::reported::{are_spans, is_history};
 use command_words::read_words;
 use ct_io::{MemSink, NoGate};
@@ -133,18 +133,18 @@ const SECOND: Ends = Ends {
 /// A connection of FTP that names its data connection, which comes; two queries; one of the clients again when its entry
 /// has expired.
 const PACKETS: &[Sent<'static>] = &[
-    (1, 0, Packet::Tcp(CONTROL, SYN, b"")),
-    (2, 0, Packet::Tcp(CONTROL_BACK, SYN + ACK, b"")),
-    (3, 0, Packet::Tcp(CONTROL, ACK, b"")),
+    (1, 0, IpPacket::Tcp(CONTROL, SYN, b"")),
+    (2, 0, IpPacket::Tcp(CONTROL_BACK, SYN + ACK, b"")),
+    (3, 0, IpPacket::Tcp(CONTROL, ACK, b"")),
     (
         4,
         0,
-        Packet::Tcp(CONTROL, ACK + PSH, b"PORT 10,0,0,1,156,65\r\n"),
+        IpPacket::Tcp(CONTROL, ACK + PSH, b"PORT 10,0,0,1,156,65\r\n"),
     ),
-    (5, 0, Packet::Tcp(DATA, SYN, b"")),
-    (6, 0, Packet::Udp(FIRST)),
-    (7, 0, Packet::Udp(SECOND)),
-    (50, 0, Packet::Udp(FIRST)),
+    (5, 0, IpPacket::Tcp(DATA, SYN, b"")),
+    (6, 0, IpPacket::Udp(FIRST)),
+    (7, 0, IpPacket::Udp(SECOND)),
+    (50, 0, IpPacket::Udp(FIRST)),
 ];
 
 /// One capture, with rules and a script behind it. No command ends two entries: in which order it would is the tracker's.

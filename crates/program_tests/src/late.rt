@@ -3,7 +3,7 @@
 
 use crate::case::{Case, NONE, Text, report_of};
 use crate::content::{Content, PLAIN};
-use crate::packet::{ACK, Ends, Packet, SYN};
+use crate::packet::{ACK, Ends, IpPacket, SYN};
 use crate::reported::{are_spans, is_history};
 use history_book::answer::{Answer, Answers, Said};
 use history_book::event::{Event, Numbered};
@@ -47,8 +47,8 @@ static QUERY: Case<'static> = Case {
             Content::Capture(
                 PLAIN,
                 &[
-                    (1, 0, Packet::Udp(CALL)),
-                    (2, 0, Packet::Unreachable(CALL.src, CALL)),
+                    (1, 0, IpPacket::Udp(CALL)),
+                    (2, 0, IpPacket::Unreachable(CALL.src, CALL)),
                 ],
             ),
         ),
@@ -70,8 +70,8 @@ static OPENING: Case<'static> = Case {
             Content::Capture(
                 PLAIN,
                 &[
-                    (1, 0, Packet::Tcp(CALL, SYN, b"")),
-                    (2, 0, Packet::Tcp(BACK, SYN + ACK, b"")),
+                    (1, 0, IpPacket::Tcp(CALL, SYN, b"")),
+                    (2, 0, IpPacket::Tcp(BACK, SYN + ACK, b"")),
                 ],
             ),
         ),

@@ -24,7 +24,7 @@ pub const ACK: u8 = 0x10;
 
 /// A packet of IP.
 #[derive(Clone, Copy)]
-pub enum Packet<'p> {
+pub enum IpPacket<'p> {
     /// These bytes.
     Raw(&'p [u8]),
     /// These bytes, with others at some places.
@@ -43,10 +43,10 @@ pub enum Packet<'p> {
 }
 
 /// A packet at a time in seconds and microseconds.
-pub type Sent<'p> = (u32, u32, Packet<'p>);
+pub type Sent<'p> = (u32, u32, IpPacket<'p>);
 
 /// A query of UDP from 10.0.0.1:5000 to 10.0.0.2:53.
-pub const QUERY: Packet<'static> = Packet::Udp(Ends {
+pub const QUERY: IpPacket<'static> = IpPacket::Udp(Ends {
     src: 0x0a00_0001,
     sport: 5000,
     dst: 0x0a00_0002,
@@ -54,7 +54,7 @@ pub const QUERY: Packet<'static> = Packet::Udp(Ends {
 });
 
 /// The answer to the query.
-pub const ANSWER: Packet<'static> = Packet::Udp(Ends {
+pub const ANSWER: IpPacket<'static> = IpPacket::Udp(Ends {
     src: 0x0a00_0002,
     sport: 53,
     dst: 0x0a00_0001,
@@ -130,22 +130,22 @@ fn push_unreachable(bytes: &mut Vec<u8>, to: u32, inner: &Ends) -> Result<(), Al
 }
 
 /// Adds the packet's bytes.
-pub fn push_packet(bytes: &mut Vec<u8>, packet: &Packet<'_>) -> Result<(), AllocError> {
+pub fn push_packet(bytes: &mut Vec<u8>, packet: &IpPacket<'_>) -> Result<(), AllocError> {
     match packet {
-        Packet::Raw(from) => bytes.extend_from_slice(from),
-        Packet::Changed(from, changes) => push_changed(bytes, from, changes),
-        Packet::Udp(ends) => {
+        IpPacket::Raw(from) => bytes.extend_from_slice(from),
+        IpPacket::Changed(from, changes) => push_changed(bytes, from, changes),
+        IpPacket::Udp(ends) => {
             push_ports(bytes, 17, 32, ends)?;
             bytes.extend_from_slice(&[0, 12, 0, 0, 0, 0, 0, 0])
         }
-        Packet::Tcp(ends, flags, data) => push_segment(bytes, ends, 0, 0, *flags, data),
-        Packet::Segment(ends, seq, ack, flags, data) => {
+        IpPacket::Tcp(ends, flags, data) => push_segment(bytes, ends, 0, 0, *flags, data),
+        IpPacket::Segment(ends, seq, ack, flags, data) => {
             push_segment(bytes, ends, *seq, *ack, *flags, data)
         }
-        Packet::Echo(src, dst, kind, id) => {
+        IpPacket::Echo(src, dst, kind, id) => {
             push_ip(bytes, 1, 28, *src, *dst)?;
             bytes.extend_from_slice(&[*kind, 0, 0, 0, 0, *id, 0, 0])
         }
-        Packet::Unreachable(to, inner) => push_unreachable(bytes, *to, inner),
+        IpPacket::Unreachable(to, inner) => push_unreachable(bytes, *to, inner),
     }
 }

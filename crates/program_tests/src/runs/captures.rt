@@ -3,7 +3,7 @@
 use super::{ANSWERED, CAPTURE, NAME, REFUSED, REPLAYED};
 use crate::case::{Case, Text, all_hold, holds};
 use crate::content::{Content, Form, PLAIN};
-use crate::packet::{ANSWER, Packet, QUERY, Sent};
+use crate::packet::{ANSWER, IpPacket, QUERY, Sent};
 use std::test::Fail;
 
 /// The header of a capture, with no record.
@@ -148,9 +148,9 @@ script 0
 
 #[test]
 fn errors_about_a_flow(rt: HostRuntime) -> Result<(), Fail> {
-    const ELSEWHERE: Packet<'static> = Packet::Changed(&UNREACHABLE, &[(19, 3)]);
-    const UNKNOWN: Packet<'static> = Packet::Changed(&UNREACHABLE, &[(49, 0x89)]);
-    const ABOUT_THE_ANSWER: Packet<'static> = Packet::Changed(
+    const ELSEWHERE: IpPacket<'static> = IpPacket::Changed(&UNREACHABLE, &[(19, 3)]);
+    const UNKNOWN: IpPacket<'static> = IpPacket::Changed(&UNREACHABLE, &[(49, 0x89)]);
+    const ABOUT_THE_ANSWER: IpPacket<'static> = IpPacket::Changed(
         &UNREACHABLE,
         &[
             (19, 2),
@@ -164,7 +164,7 @@ fn errors_about_a_flow(rt: HostRuntime) -> Result<(), Fail> {
     );
     const SENT: [Sent<'static>; 5] = [
         (1000, 0, QUERY),
-        (1000, 0, Packet::Raw(&UNREACHABLE)),
+        (1000, 0, IpPacket::Raw(&UNREACHABLE)),
         (1000, 0, ELSEWHERE),
         (1000, 0, UNKNOWN),
         (1000, 0, ABOUT_THE_ANSWER),
@@ -206,18 +206,18 @@ const SYN: [u8; 40] = [
 
 #[test]
 fn headers_that_are_wrong_or_not_tracked(rt: HostRuntime) -> Result<(), Fail> {
-    const SHORT_OFFSET: Packet<'static> = Packet::Changed(&SYN, &[(32, 0x40)]);
-    const ABOUT_ANOTHER: Packet<'static> = Packet::Changed(&UNREACHABLE, &[(37, 47)]);
+    const SHORT_OFFSET: IpPacket<'static> = IpPacket::Changed(&SYN, &[(32, 0x40)]);
+    const ABOUT_ANOTHER: IpPacket<'static> = IpPacket::Changed(&UNREACHABLE, &[(37, 47)]);
     const SENT: [Sent<'static>; 9] = [
-        (1000, 0, Packet::Changed(&ASKED, &[(3, 19)])),
-        (1000, 0, Packet::Changed(&ASKED, &[(0, 0x44)])),
-        (1000, 0, Packet::Changed(&ASKED, &[(25, 7)])),
+        (1000, 0, IpPacket::Changed(&ASKED, &[(3, 19)])),
+        (1000, 0, IpPacket::Changed(&ASKED, &[(0, 0x44)])),
+        (1000, 0, IpPacket::Changed(&ASKED, &[(25, 7)])),
         (1000, 0, SHORT_OFFSET),
         (1000, 0, ABOUT_ANOTHER),
-        (1000, 0, Packet::Changed(&ASKED, &[(0, 0x65)])),
-        (1000, 0, Packet::Changed(&ASKED, &[(6, 0x20)])),
-        (1000, 0, Packet::Changed(&ASKED, &[(9, 47)])),
-        (1000, 0, Packet::Raw(b"")),
+        (1000, 0, IpPacket::Changed(&ASKED, &[(0, 0x65)])),
+        (1000, 0, IpPacket::Changed(&ASKED, &[(6, 0x20)])),
+        (1000, 0, IpPacket::Changed(&ASKED, &[(9, 47)])),
+        (1000, 0, IpPacket::Raw(b"")),
     ];
     static CASE: Case<'static> = Case {
         files: &[(NAME, Content::Capture(PLAIN, &SENT))],

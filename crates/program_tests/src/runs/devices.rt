@@ -3,7 +3,7 @@
 use super::{CAPTURE, NAME, REPLAYED, RULES, SCRIPT};
 use crate::case::{Case, Faults, NONE, Text, all_hold, holds};
 use crate::content::{Content, PLAIN};
-use crate::packet::{Ends, Packet};
+use crate::packet::{Ends, IpPacket};
 use std::process::Abort;
 use std::sync::Wait;
 use std::test::Fail;
@@ -21,11 +21,11 @@ const FIRST: Ends = Ends {
 const THREE_CLIENTS: Content<'static> = Content::Capture(
     PLAIN,
     &[
-        (1, 0, Packet::Udp(FIRST)),
+        (1, 0, IpPacket::Udp(FIRST)),
         (
             2,
             0,
-            Packet::Udp(Ends {
+            IpPacket::Udp(Ends {
                 src: 0x0a00_0002,
                 ..FIRST
             }),
@@ -33,7 +33,7 @@ const THREE_CLIENTS: Content<'static> = Content::Capture(
         (
             3,
             0,
-            Packet::Udp(Ends {
+            IpPacket::Udp(Ends {
                 src: 0x0a00_0003,
                 ..FIRST
             }),

@@ -3,7 +3,7 @@
 use super::{NAME, REPLAYED};
 use crate::case::{Case, Text, all_hold, holds};
 use crate::content::{Content, PLAIN};
-use crate::packet::{ACK, Ends, FIN, PSH, Packet, RST, SYN, Sent};
+use crate::packet::{ACK, Ends, FIN, IpPacket, PSH, RST, SYN, Sent};
 use std::test::Fail;
 
 /// A connection from 10.0.0.1:40000 to 10.0.0.2:80.
@@ -54,14 +54,14 @@ script 0
 #[test]
 fn a_connection_and_its_reopening(rt: HostRuntime) -> Result<(), Fail> {
     const SENT: [Sent<'static>; 8] = [
-        (1, 0, Packet::Tcp(ASKING, SYN, b"")),
-        (2, 0, Packet::Tcp(ANSWERING, SYN | ACK, b"")),
-        (3, 0, Packet::Tcp(ASKING, ACK, b"")),
-        (4, 0, Packet::Tcp(ASKING, ACK | PSH, &[0, 0, 0, 0])),
-        (5, 0, Packet::Tcp(ASKING, FIN | ACK, b"")),
-        (6, 0, Packet::Tcp(ANSWERING, FIN | ACK, b"")),
-        (7, 0, Packet::Tcp(ASKING, ACK, b"")),
-        (8, 0, Packet::Tcp(ASKING, SYN, b"")),
+        (1, 0, IpPacket::Tcp(ASKING, SYN, b"")),
+        (2, 0, IpPacket::Tcp(ANSWERING, SYN | ACK, b"")),
+        (3, 0, IpPacket::Tcp(ASKING, ACK, b"")),
+        (4, 0, IpPacket::Tcp(ASKING, ACK | PSH, &[0, 0, 0, 0])),
+        (5, 0, IpPacket::Tcp(ASKING, FIN | ACK, b"")),
+        (6, 0, IpPacket::Tcp(ANSWERING, FIN | ACK, b"")),
+        (7, 0, IpPacket::Tcp(ASKING, ACK, b"")),
+        (8, 0, IpPacket::Tcp(ASKING, SYN, b"")),
     ];
     static CASE: Case<'static> = Case {
         files: &[(NAME, Content::Capture(PLAIN, &SENT))],
@@ -98,8 +98,8 @@ static RESETS: [Case<'static>; 2] = [
             Content::Capture(
                 PLAIN,
                 &[
-                    (1, 0, Packet::Tcp(ASKING, SYN, b"")),
-                    (2, 0, Packet::Tcp(ANSWERING, RST | ACK, b"")),
+                    (1, 0, IpPacket::Tcp(ASKING, SYN, b"")),
+                    (2, 0, IpPacket::Tcp(ANSWERING, RST | ACK, b"")),
                 ],
             ),
         )],
@@ -112,8 +112,8 @@ static RESETS: [Case<'static>; 2] = [
             Content::Capture(
                 PLAIN,
                 &[
-                    (1, 0, Packet::Tcp(ASKING, SYN, b"")),
-                    (2, 0, Packet::Tcp(ASKING, RST | ACK, b"")),
+                    (1, 0, IpPacket::Tcp(ASKING, SYN, b"")),
+                    (2, 0, IpPacket::Tcp(ASKING, RST | ACK, b"")),
                 ],
             ),
         )],
@@ -150,8 +150,8 @@ const WITH_ITSELF: Case<'static> = Case {
         Content::Capture(
             PLAIN,
             &[
-                (1, 0, Packet::Tcp(OWN, SYN, b"")),
-                (2, 0, Packet::Tcp(OWN, SYN | ACK, b"")),
+                (1, 0, IpPacket::Tcp(OWN, SYN, b"")),
+                (2, 0, IpPacket::Tcp(OWN, SYN | ACK, b"")),
             ],
         ),
     )],
@@ -188,9 +188,9 @@ script 0
 #[test]
 fn an_echo_and_an_answer_that_nobody_asked_for(rt: HostRuntime) -> Result<(), Fail> {
     const SENT: [Sent<'static>; 3] = [
-        (1, 0, Packet::Echo(0x0a00_0001, 0x0a00_0002, 8, 7)),
-        (2, 0, Packet::Echo(0x0a00_0002, 0x0a00_0001, 0, 7)),
-        (3, 0, Packet::Echo(0x0a00_0002, 0x0a00_0001, 0, 8)),
+        (1, 0, IpPacket::Echo(0x0a00_0001, 0x0a00_0002, 8, 7)),
+        (2, 0, IpPacket::Echo(0x0a00_0002, 0x0a00_0001, 0, 7)),
+        (3, 0, IpPacket::Echo(0x0a00_0002, 0x0a00_0001, 0, 8)),
     ];
     static CASE: Case<'static> = Case {
         files: &[(NAME, Content::Capture(PLAIN, &SENT))],
@@ -211,8 +211,8 @@ script 0
 #[test]
 fn segments_that_begin_no_connection(rt: HostRuntime) -> Result<(), Fail> {
     const SENT: [Sent<'static>; 2] = [
-        (1, 0, Packet::Tcp(ASKING, SYN | FIN, b"")),
-        (2, 0, Packet::Tcp(ASKING, SYN | ACK, b"")),
+        (1, 0, IpPacket::Tcp(ASKING, SYN | FIN, b"")),
+        (2, 0, IpPacket::Tcp(ASKING, SYN | ACK, b"")),
     ];
     static CASE: Case<'static> = Case {
         files: &[(NAME, Content::Capture(PLAIN, &SENT))],
@@ -237,9 +237,9 @@ script 0
 #[test]
 fn an_expired_connection_that_its_answer_does_not_begin_anew(rt: HostRuntime) -> Result<(), Fail> {
     const SENT: [Sent<'static>; 3] = [
-        (1, 0, Packet::Tcp(ASKING, SYN, b"")),
-        (121, 0, Packet::Tcp(ANSWERING, SYN | ACK, b"")),
-        (122, 0, Packet::Tcp(ASKING, SYN, b"")),
+        (1, 0, IpPacket::Tcp(ASKING, SYN, b"")),
+        (121, 0, IpPacket::Tcp(ANSWERING, SYN | ACK, b"")),
+        (122, 0, IpPacket::Tcp(ASKING, SYN, b"")),
     ];
     static CASE: Case<'static> = Case {
         files: &[(NAME, Content::Capture(PLAIN, &SENT))],
@@ -265,10 +265,10 @@ script 0
 #[test]
 fn a_repeated_opening_is_ignored(rt: HostRuntime) -> Result<(), Fail> {
     const SENT: [Sent<'static>; 4] = [
-        (1, 0, Packet::Tcp(ASKING, SYN, b"")),
-        (2, 0, Packet::Tcp(ANSWERING, SYN | ACK, b"")),
-        (3, 0, Packet::Tcp(ASKING, SYN, b"")),
-        (4, 0, Packet::Tcp(ASKING, ACK, b"")),
+        (1, 0, IpPacket::Tcp(ASKING, SYN, b"")),
+        (2, 0, IpPacket::Tcp(ANSWERING, SYN | ACK, b"")),
+        (3, 0, IpPacket::Tcp(ASKING, SYN, b"")),
+        (4, 0, IpPacket::Tcp(ASKING, ACK, b"")),
     ];
     static CASE: Case<'static> = Case {
         files: &[(NAME, Content::Capture(PLAIN, &SENT))],

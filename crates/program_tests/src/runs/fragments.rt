@@ -3,7 +3,7 @@
 use super::{ANSWERED, NAME, REPLAYED, RULES, SECOND};
 use crate::case::{Case, Text, all_hold, holds};
 use crate::content::{Content, Form, PLAIN};
-use crate::packet::{Packet, QUERY, Sent};
+use crate::packet::{IpPacket, QUERY, Sent};
 use std::test::Fail;
 
 /// The first 24 bytes of a datagram of UDP of 32 bytes, from 10.0.0.1:5000 to 10.0.0.2:53.
@@ -18,12 +18,12 @@ const BACK: [u8; 28] = [
     23, 24,
 ];
 
-const FIRST: Packet<'static> = Packet::Raw(&FRONT);
+const FIRST: IpPacket<'static> = IpPacket::Raw(&FRONT);
 
-const LAST: Packet<'static> = Packet::Raw(&BACK);
+const LAST: IpPacket<'static> = IpPacket::Raw(&BACK);
 
 /// The last piece with another last byte.
-const CHANGED: Packet<'static> = Packet::Changed(&BACK, &[(27, 99)]);
+const CHANGED: IpPacket<'static> = IpPacket::Changed(&BACK, &[(27, 99)]);
 
 /// A run of one capture, whose fragments are put together.
 const REASSEMBLED: Case<'static> = Case {
@@ -128,8 +128,8 @@ static DATAGRAMS: [Case<'static>; 9] = [
             Content::Capture(
                 PLAIN,
                 &[
-                    (1, 0, Packet::Changed(&FRONT, &[(9, 47)])),
-                    (1, 0, Packet::Changed(&BACK, &[(9, 47)])),
+                    (1, 0, IpPacket::Changed(&FRONT, &[(9, 47)])),
+                    (1, 0, IpPacket::Changed(&BACK, &[(9, 47)])),
                 ],
             ),
         )],
@@ -152,12 +152,12 @@ fn datagrams_that_are_complete_or_not(rt: HostRuntime) -> Result<(), Fail> {
 }
 
 /// The pieces of an answer to the query, in the other direction.
-const ANSWER_FIRST: Packet<'static> = Packet::Changed(
+const ANSWER_FIRST: IpPacket<'static> = IpPacket::Changed(
     &FRONT,
     &[(15, 2), (19, 1), (20, 0), (21, 53), (22, 0x13), (23, 0x88)],
 );
 
-const ANSWER_LAST: Packet<'static> = Packet::Changed(&BACK, &[(15, 2), (19, 1)]);
+const ANSWER_LAST: IpPacket<'static> = IpPacket::Changed(&BACK, &[(15, 2), (19, 1)]);
 
 /// A query and its answer in two pieces, which is then sent again.
 const LARGE_ANSWER: [Sent<'static>; 5] = [

@@ -3,7 +3,7 @@
 use super::{NAME, REPLAYED, RULES, SCRIPT};
 use crate::case::{Case, Text, all_hold, holds};
 use crate::content::{Content, Form, PLAIN};
-use crate::packet::{ACK, Ends, FIN, PSH, Packet, SYN, Sent};
+use crate::packet::{ACK, Ends, FIN, IpPacket, PSH, SYN, Sent};
 use std::test::Fail;
 
 /// The control connection from 10.0.0.1:40000 to 10.0.0.2:21.
@@ -31,16 +31,16 @@ const DATA: Ends = Ends {
 };
 
 /// The control connection is opened, and names 10.0.0.1:40001.
-const OPENED: Sent<'static> = (1, 0, Packet::Tcp(CONTROL, SYN, b""));
+const OPENED: Sent<'static> = (1, 0, IpPacket::Tcp(CONTROL, SYN, b""));
 
-const ANSWERED: Sent<'static> = (2, 0, Packet::Tcp(CONTROL_BACK, SYN | ACK, b""));
+const ANSWERED: Sent<'static> = (2, 0, IpPacket::Tcp(CONTROL_BACK, SYN | ACK, b""));
 
-const READY: Sent<'static> = (3, 0, Packet::Tcp(CONTROL, ACK, b""));
+const READY: Sent<'static> = (3, 0, IpPacket::Tcp(CONTROL, ACK, b""));
 
 const NAMED: Sent<'static> = (
     4,
     0,
-    Packet::Tcp(CONTROL, ACK | PSH, b"PORT 10,0,0,1,156,65\r\n"),
+    IpPacket::Tcp(CONTROL, ACK | PSH, b"PORT 10,0,0,1,156,65\r\n"),
 );
 
 /// A run with a file of rules.
@@ -81,8 +81,8 @@ fn the_last_end_that_was_named_is_expected(rt: HostRuntime) -> Result<(), Fail> 
         dport: 40_002,
         ..DATA
     };
-    const AGAIN: Packet<'static> = Packet::Tcp(CONTROL, ACK | PSH, b"PORT 10,0,0,1,156,66\r\n");
-    const OF_ANOTHER: Packet<'static> = Packet::Tcp(
+    const AGAIN: IpPacket<'static> = IpPacket::Tcp(CONTROL, ACK | PSH, b"PORT 10,0,0,1,156,66\r\n");
+    const OF_ANOTHER: IpPacket<'static> = IpPacket::Tcp(
         CONTROL,
         ACK | PSH,
         b"PORT 10,0,0,3,156,67\r\n",
@@ -94,8 +94,8 @@ fn the_last_end_that_was_named_is_expected(rt: HostRuntime) -> Result<(), Fail> 
         NAMED,
         (5, 0, AGAIN),
         (6, 0, OF_ANOTHER),
-        (7, 0, Packet::Tcp(LATER, SYN, b"")),
-        (8, 0, Packet::Tcp(DATA, SYN, b"")),
+        (7, 0, IpPacket::Tcp(LATER, SYN, b"")),
+        (8, 0, IpPacket::Tcp(DATA, SYN, b"")),
     ];
     const CASE: Case<'static> = Case {
         files: &[
@@ -200,9 +200,9 @@ fn a_claim_stands_where_the_data_connection_clashes(rt: HostRuntime) -> Result<(
         ANSWERED,
         READY,
         NAMED,
-        (5, 0, Packet::Tcp(BACK, SYN, b"")),
-        (6, 0, Packet::Tcp(DATA, SYN, b"")),
-        (7, 0, Packet::Tcp(DATA, SYN, b"")),
+        (5, 0, IpPacket::Tcp(BACK, SYN, b"")),
+        (6, 0, IpPacket::Tcp(DATA, SYN, b"")),
+        (7, 0, IpPacket::Tcp(DATA, SYN, b"")),
     ];
     const LINES: &str = "snat -p tcp --dport 20 to 203.0.113.5\n";
     static CASE: Case<'static> = Case {
@@ -264,7 +264,7 @@ static DEADLINE: [Case<'static>; 2] = [
                         ANSWERED,
                         READY,
                         NAMED,
-                        (303, 999_999, Packet::Tcp(DATA, SYN, b"")),
+                        (303, 999_999, IpPacket::Tcp(DATA, SYN, b"")),
                     ],
                 ),
             ),
@@ -284,7 +284,7 @@ static DEADLINE: [Case<'static>; 2] = [
                         ANSWERED,
                         READY,
                         NAMED,
-                        (304, 0, Packet::Tcp(DATA, SYN, b"")),
+                        (304, 0, IpPacket::Tcp(DATA, SYN, b"")),
                     ],
                 ),
             ),
@@ -363,31 +363,31 @@ const PASSIVE: Ends = Ends {
 /// A query and its answer, an echo and its answer, a connection that is opened, used and closed, and a control
 /// connection with its data connection.
 const OF_ONE_HOST: [Sent<'static>; 17] = [
-    (100, 0, Packet::Udp(QUERY)),
-    (100, 20_000, Packet::Udp(QUERY_BACK)),
-    (101, 0, Packet::Echo(HOST, OUTSIDE + 9, 8, 1)),
-    (101, 10_000, Packet::Echo(OUTSIDE + 9, MASK, 0, 1)),
-    (102, 0, Packet::Tcp(WEB, SYN, b"")),
-    (102, 30_000, Packet::Tcp(WEB_BACK, SYN | ACK, b"")),
-    (102, 40_000, Packet::Tcp(WEB, ACK, b"")),
-    (102, 50_000, Packet::Tcp(WEB, ACK | PSH, b"GET /")),
-    (102, 100_000, Packet::Tcp(WEB_BACK, ACK, b"text")),
-    (103, 0, Packet::Tcp(WEB, FIN | ACK, b"")),
-    (103, 30_000, Packet::Tcp(WEB_BACK, FIN | ACK, b"")),
-    (103, 40_000, Packet::Tcp(WEB, ACK, b"")),
-    (104, 0, Packet::Tcp(FTP, SYN, b"")),
-    (104, 30_000, Packet::Tcp(FTP_BACK, SYN | ACK, b"")),
-    (104, 40_000, Packet::Tcp(FTP, ACK, b"")),
+    (100, 0, IpPacket::Udp(QUERY)),
+    (100, 20_000, IpPacket::Udp(QUERY_BACK)),
+    (101, 0, IpPacket::Echo(HOST, OUTSIDE + 9, 8, 1)),
+    (101, 10_000, IpPacket::Echo(OUTSIDE + 9, MASK, 0, 1)),
+    (102, 0, IpPacket::Tcp(WEB, SYN, b"")),
+    (102, 30_000, IpPacket::Tcp(WEB_BACK, SYN | ACK, b"")),
+    (102, 40_000, IpPacket::Tcp(WEB, ACK, b"")),
+    (102, 50_000, IpPacket::Tcp(WEB, ACK | PSH, b"GET /")),
+    (102, 100_000, IpPacket::Tcp(WEB_BACK, ACK, b"text")),
+    (103, 0, IpPacket::Tcp(WEB, FIN | ACK, b"")),
+    (103, 30_000, IpPacket::Tcp(WEB_BACK, FIN | ACK, b"")),
+    (103, 40_000, IpPacket::Tcp(WEB, ACK, b"")),
+    (104, 0, IpPacket::Tcp(FTP, SYN, b"")),
+    (104, 30_000, IpPacket::Tcp(FTP_BACK, SYN | ACK, b"")),
+    (104, 40_000, IpPacket::Tcp(FTP, ACK, b"")),
     (
         104,
         100_000,
-        Packet::Tcp(
+        IpPacket::Tcp(
             FTP_BACK,
             ACK | PSH,
             b"227 Entering Passive Mode (198,51,100,21,195,80).\r\n",
         ),
     ),
-    (105, 0, Packet::Tcp(PASSIVE, SYN, b"")),
+    (105, 0, IpPacket::Tcp(PASSIVE, SYN, b"")),
 ];
 
 const MASQUERADED: &str = "\

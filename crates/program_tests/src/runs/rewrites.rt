@@ -3,7 +3,7 @@
 use super::{NAME, REPLAYED, RULES};
 use crate::case::{Case, Faults, NONE, Text, all_hold, holds};
 use crate::content::{Content, PLAIN};
-use crate::packet::{ACK, Ends, PSH, Packet, SYN, Sent};
+use crate::packet::{ACK, Ends, IpPacket, PSH, SYN, Sent};
 use std::test::Fail;
 
 /// The control connection from 10.0.0.1:40000 to 10.0.0.2:21.
@@ -22,21 +22,21 @@ const BACK: Ends = Ends {
     dport: 40_000,
 };
 
-const SYN_SENT: Sent<'static> = (1, 0, Packet::Segment(CONTROL, 1000, 0, SYN, b""));
+const SYN_SENT: Sent<'static> = (1, 0, IpPacket::Segment(CONTROL, 1000, 0, SYN, b""));
 
-const SYN_ANSWERED: Sent<'static> = (2, 0, Packet::Segment(BACK, 5000, 1001, SYN | ACK, b""));
+const SYN_ANSWERED: Sent<'static> = (2, 0, IpPacket::Segment(BACK, 5000, 1001, SYN | ACK, b""));
 
-const OPEN: Sent<'static> = (3, 0, Packet::Segment(CONTROL, 1001, 5001, ACK, b""));
+const OPEN: Sent<'static> = (3, 0, IpPacket::Segment(CONTROL, 1001, 5001, ACK, b""));
 
 const PORT: Sent<'static> = (
     4,
     0,
-    Packet::Segment(CONTROL, 1001, 5001, ACK | PSH, b"PORT 10,0,0,1,156,65\r\n"),
+    IpPacket::Segment(CONTROL, 1001, 5001, ACK | PSH, b"PORT 10,0,0,1,156,65\r\n"),
 );
 
-const TAKEN: Sent<'static> = (5, 0, Packet::Segment(BACK, 5001, 1024, ACK, b""));
+const TAKEN: Sent<'static> = (5, 0, IpPacket::Segment(BACK, 5001, 1024, ACK, b""));
 
-const AFTER: Sent<'static> = (6, 0, Packet::Segment(CONTROL, 1023, 5001, ACK, b""));
+const AFTER: Sent<'static> = (6, 0, IpPacket::Segment(CONTROL, 1023, 5001, ACK, b""));
 
 const SESSION: [Sent<'static>; 6] = [SYN_SENT, SYN_ANSWERED, OPEN, PORT, TAKEN, AFTER];
 
@@ -82,7 +82,7 @@ const BY_EPRT: [Sent<'static>; 6] = [
     (
         4,
         0,
-        Packet::Segment(
+        IpPacket::Segment(
             CONTROL,
             1001,
             5001,
@@ -90,8 +90,8 @@ const BY_EPRT: [Sent<'static>; 6] = [
             b"EPRT |1|10.0.0.1|40001|\r\n",
         ),
     ),
-    (5, 0, Packet::Segment(BACK, 5001, 1027, ACK, b"")),
-    (6, 0, Packet::Segment(CONTROL, 1026, 5001, ACK, b"")),
+    (5, 0, IpPacket::Segment(BACK, 5001, 1027, ACK, b"")),
+    (6, 0, IpPacket::Segment(CONTROL, 1026, 5001, ACK, b"")),
 ];
 
 const EPRT_LINES: &str = "\
@@ -120,22 +120,22 @@ const DNAT: &str = "dnat -d 203.0.113.5/32 to 10.0.0.2\n";
 
 /// The server names its end by a reply 227, which gets longer by three bytes.
 const BY_227: [Sent<'static>; 6] = [
-    (1, 0, Packet::Segment(OUTSIDE, 1000, 0, SYN, b"")),
+    (1, 0, IpPacket::Segment(OUTSIDE, 1000, 0, SYN, b"")),
     (
         2,
         0,
-        Packet::Segment(FROM_INSIDE, 5000, 1001, SYN | ACK, b""),
+        IpPacket::Segment(FROM_INSIDE, 5000, 1001, SYN | ACK, b""),
     ),
-    (3, 0, Packet::Segment(OUTSIDE, 1001, 5001, ACK, b"")),
+    (3, 0, IpPacket::Segment(OUTSIDE, 1001, 5001, ACK, b"")),
     (
         4,
         0,
-        Packet::Segment(OUTSIDE, 1001, 5001, ACK | PSH, b"PASV\r\n"),
+        IpPacket::Segment(OUTSIDE, 1001, 5001, ACK | PSH, b"PASV\r\n"),
     ),
     (
         5,
         0,
-        Packet::Segment(
+        IpPacket::Segment(
             FROM_INSIDE,
             5001,
             1007,
@@ -143,7 +143,7 @@ const BY_227: [Sent<'static>; 6] = [
             b"227 Entering Passive Mode (10,0,0,2,195,80)\r\n",
         ),
     ),
-    (6, 0, Packet::Segment(OUTSIDE, 1007, 5049, ACK, b"")),
+    (6, 0, IpPacket::Segment(OUTSIDE, 1007, 5049, ACK, b"")),
 ];
 
 const LINES_OF_227: &str = "\
@@ -177,7 +177,7 @@ const PLAIN_SESSION: [Sent<'static>; 4] = [
     (
         2,
         0,
-        Packet::Segment(PLAIN_BACK, 5000, 1001, SYN | ACK, b""),
+        IpPacket::Segment(PLAIN_BACK, 5000, 1001, SYN | ACK, b""),
     ),
     OPEN,
     PORT,
@@ -198,8 +198,8 @@ const IN_FRAGMENTS: [Sent<'static>; 5] = [
     SYN_SENT,
     SYN_ANSWERED,
     OPEN,
-    (4, 0, Packet::Raw(&FRONT)),
-    (4, 1, Packet::Raw(&LAST)),
+    (4, 0, IpPacket::Raw(&FRONT)),
+    (4, 1, IpPacket::Raw(&LAST)),
 ];
 
 static REWRITES: [Case<'static>; 10] = [

@@ -3,7 +3,7 @@
 use super::{CAPTURE, NAME, REPLAYED, RULES, SCRIPT, SECOND};
 use crate::case::{Case, Faults, NONE, Text, all_hold, holds};
 use crate::content::{Content, PLAIN};
-use crate::packet::{ANSWER, Ends, Packet, QUERY, SYN};
+use crate::packet::{ANSWER, Ends, IpPacket, QUERY, SYN};
 use std::process::Abort;
 use std::sync::Wait;
 use std::test::Fail;
@@ -23,7 +23,7 @@ const ANSWERED_AND_OPENED: Content<'static> = Content::Capture(
     &[
         (1000, 0, QUERY),
         (1000, 500_000, ANSWER),
-        (1001, 0, Packet::Tcp(ASKING, SYN, b"")),
+        (1001, 0, IpPacket::Tcp(ASKING, SYN, b"")),
     ],
 );
 
@@ -144,9 +144,9 @@ udp      17 120 src=10.0.0.1 dst=10.0.0.2 sport=5000 dport=53 src=10.0.0.2 dst=1
 const ECHO: Content<'static> = Content::Capture(
     PLAIN,
     &[
-        (1, 0, Packet::Echo(0x0a00_0001, 0x0a00_0002, 8, 7)),
-        (2, 0, Packet::Echo(0x0a00_0002, 0x0a00_0001, 0, 7)),
-        (3, 0, Packet::Echo(0x0a00_0002, 0x0a00_0001, 0, 8)),
+        (1, 0, IpPacket::Echo(0x0a00_0001, 0x0a00_0002, 8, 7)),
+        (2, 0, IpPacket::Echo(0x0a00_0002, 0x0a00_0001, 0, 7)),
+        (3, 0, IpPacket::Echo(0x0a00_0002, 0x0a00_0001, 0, 8)),
     ],
 );
 
@@ -218,7 +218,7 @@ udp      17 120 src=10.0.0.1 dst=10.0.0.2 sport=5000 dport=53 src=10.0.0.2 dst=1
 ";
 
 /// A packet with nothing in it.
-const NOTHING: Content<'static> = Content::Capture(PLAIN, &[(1, 0, Packet::Raw(b""))]);
+const NOTHING: Content<'static> = Content::Capture(PLAIN, &[(1, 0, IpPacket::Raw(b""))]);
 
 /// A run of rules, a script and two captures.
 const FOUR_FILES: Case<'static> = Case {

@@ -4,7 +4,7 @@
 use super::{NAME, REPLAYED, SECOND};
 use crate::case::{Case, Text, holds};
 use crate::content::{Content, PLAIN};
-use crate::packet::{ACK, ANSWER, Ends, PSH, Packet, QUERY, SYN, Sent};
+use crate::packet::{ACK, ANSWER, Ends, IpPacket, PSH, QUERY, SYN, Sent};
 use std::process::Abort;
 use std::sync::Wait;
 use std::test::Fail;
@@ -111,13 +111,13 @@ macro_rules! control {
         Content::Capture(
             PLAIN,
             &[
-                (1, 0, Packet::Tcp(there!($port), SYN, b"")),
-                (2, 0, Packet::Tcp(back!($port), SYN | ACK, b"")),
-                (3, 0, Packet::Tcp(there!($port), ACK, b"")),
+                (1, 0, IpPacket::Tcp(there!($port), SYN, b"")),
+                (2, 0, IpPacket::Tcp(back!($port), SYN | ACK, b"")),
+                (3, 0, IpPacket::Tcp(there!($port), ACK, b"")),
                 (
                     4,
                     0,
-                    Packet::Tcp(there!($port), ACK | PSH, b"PORT 10,0,0,1,156,65\r\n"),
+                    IpPacket::Tcp(there!($port), ACK | PSH, b"PORT 10,0,0,1,156,65\r\n"),
                 ),
                 CONNECTED,
             ],
@@ -129,7 +129,7 @@ macro_rules! control {
 const CONNECTED: Sent<'static> = (
     5,
     0,
-    Packet::Tcp(
+    IpPacket::Tcp(
         Ends {
             src: 0x0a00_0002,
             sport: 20,

@@ -3,7 +3,7 @@
 use super::{CAPTURE, NAME, REPLAYED, RULES, SCRIPT, SECOND};
 use crate::case::{Case, Faults, NONE, Text, all_hold};
 use crate::content::{Content, PLAIN};
-use crate::packet::{Ends, Packet, QUERY};
+use crate::packet::{Ends, IpPacket, QUERY};
 use std::test::Fail;
 
 /// The summary of a query and its answer.
@@ -21,7 +21,7 @@ const OTHER: Content<'static> = Content::Capture(
     &[(
         1000,
         0,
-        Packet::Udp(Ends {
+        IpPacket::Udp(Ends {
             src: 0x0a00_0003,
             sport: 5000,
             dst: 0x0a00_0002,
@@ -38,7 +38,7 @@ const LATE_QUERY: Content<'static> = Content::Capture(
         (
             1000,
             0,
-            Packet::Udp(Ends {
+            IpPacket::Udp(Ends {
                 src: 0x0a00_0002,
                 sport: 53,
                 dst: 0x0a00_0003,
@@ -48,7 +48,7 @@ const LATE_QUERY: Content<'static> = Content::Capture(
         (
             1001,
             0,
-            Packet::Udp(Ends {
+            IpPacket::Udp(Ends {
                 src: 0x0a00_0003,
                 sport: 5000,
                 dst: 0x0a00_0002,

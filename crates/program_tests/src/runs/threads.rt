@@ -3,7 +3,7 @@
 use super::{CAPTURE, NAME, REPLAYED, SCRIPT, SECOND};
 use crate::case::{Case, Number, Text, holds, holds_through, report_of};
 use crate::content::{Content, PLAIN};
-use crate::packet::{ANSWER, Ends, Packet, QUERY};
+use crate::packet::{ANSWER, Ends, IpPacket, QUERY};
 use ct_io::{Crossing, Gate};
 use history_book::report::Report;
 use history_book::verdict::Class;
@@ -82,7 +82,7 @@ pub const ELSEWHERE: Content<'static> = Content::Capture(
         (
             1000,
             0,
-            Packet::Udp(Ends {
+            IpPacket::Udp(Ends {
                 src: 0x0a00_0003,
                 sport: 5000,
                 dst: 0x0a00_0002,
@@ -92,7 +92,7 @@ pub const ELSEWHERE: Content<'static> = Content::Capture(
         (
             1001,
             0,
-            Packet::Udp(Ends {
+            IpPacket::Udp(Ends {
                 src: 0x0a00_0002,
                 sport: 53,
                 dst: 0x0a00_0003,
@@ -182,7 +182,7 @@ impl Gate for Counted {
 /// Each of five captures passes the gate before each of its packets, under its own number.
 #[test]
 fn threads_have_the_numbers_of_their_captures(rt: HostRuntime) -> Result<(), Fail> {
-    const AT: (u32, u32, Packet<'static>) = (1000, 0, QUERY);
+    const AT: (u32, u32, IpPacket<'static>) = (1000, 0, QUERY);
     static CASE: Case<'static> = Case {
         words: &["ctreplay", "--summary", "0", "1", "2", "3", "4"],
         files: &[

@@ -3,7 +3,7 @@
 use super::{NAME, REPLAYED, RULES};
 use crate::case::{Case, Number, Text, all_hold, holds};
 use crate::content::{Content, PLAIN};
-use crate::packet::{Ends, Packet, SYN, Sent};
+use crate::packet::{Ends, IpPacket, SYN, Sent};
 use std::test::Fail;
 
 /// 10.0.0.1.
@@ -40,11 +40,11 @@ script 0
 
 /// A query of the client and the same of the router itself, which has the tuple that the first one is translated to.
 const OF_A_CLIENT_AND_THE_ROUTER: [Sent<'static>; 2] = [
-    (1, 0, Packet::Udp(QUERY)),
+    (1, 0, IpPacket::Udp(QUERY)),
     (
         2,
         0,
-        Packet::Udp(Ends {
+        IpPacket::Udp(Ends {
             src: ROUTER,
             ..QUERY
         }),
@@ -65,7 +65,7 @@ fn a_flow_whose_reply_tuple_is_taken(rt: HostRuntime) -> Result<(), Fail> {
 }
 
 /// The answer to the client's query, as the router gets it.
-const ANSWERED: Packet<'static> = Packet::Udp(Ends {
+const ANSWERED: IpPacket<'static> = IpPacket::Udp(Ends {
     src: SERVER,
     sport: 53,
     dst: ROUTER,
@@ -74,13 +74,13 @@ const ANSWERED: Packet<'static> = Packet::Udp(Ends {
 
 /// The client's flow goes both ways, and then there is a query of the router itself.
 const OF_AN_ASSURED_FLOW_AND_THE_ROUTER: [Sent<'static>; 4] = [
-    (1, 0, Packet::Udp(QUERY)),
+    (1, 0, IpPacket::Udp(QUERY)),
     (1, 500_000, ANSWERED),
-    (2, 0, Packet::Udp(QUERY)),
+    (2, 0, IpPacket::Udp(QUERY)),
     (
         3,
         0,
-        Packet::Udp(Ends {
+        IpPacket::Udp(Ends {
             src: ROUTER,
             ..QUERY
         }),
@@ -89,13 +89,13 @@ const OF_AN_ASSURED_FLOW_AND_THE_ROUTER: [Sent<'static>; 4] = [
 
 /// The same with a query of the client's neighbour.
 const OF_AN_ASSURED_FLOW_AND_A_NEIGHBOUR: [Sent<'static>; 4] = [
-    (1, 0, Packet::Udp(QUERY)),
+    (1, 0, IpPacket::Udp(QUERY)),
     (1, 500_000, ANSWERED),
-    (2, 0, Packet::Udp(QUERY)),
+    (2, 0, IpPacket::Udp(QUERY)),
     (
         3,
         0,
-        Packet::Udp(Ends {
+        IpPacket::Udp(Ends {
             src: CLIENT + 1,
             ..QUERY
         }),
@@ -177,11 +177,11 @@ fn errors_about_a_translated_flow(rt: HostRuntime) -> Result<(), Fail> {
         dport: 5000,
     };
     const SENT: [Sent<'static>; 5] = [
-        (1, 0, Packet::Udp(QUERY)),
-        (2, 0, Packet::Unreachable(ROUTER, TRANSLATED)),
-        (3, 0, Packet::Unreachable(ROUTER + 8, TRANSLATED)),
-        (4, 0, Packet::Unreachable(CLIENT, QUERY)),
-        (5, 0, Packet::Unreachable(SERVER, ANSWER)),
+        (1, 0, IpPacket::Udp(QUERY)),
+        (2, 0, IpPacket::Unreachable(ROUTER, TRANSLATED)),
+        (3, 0, IpPacket::Unreachable(ROUTER + 8, TRANSLATED)),
+        (4, 0, IpPacket::Unreachable(CLIENT, QUERY)),
+        (5, 0, IpPacket::Unreachable(SERVER, ANSWER)),
     ];
     static CASE: Case<'static> = Case {
         files: &[
@@ -211,7 +211,7 @@ fn a_range_of_two_ports(rt: HostRuntime) -> Result<(), Fail> {
         (
             1,
             0,
-            Packet::Udp(Ends {
+            IpPacket::Udp(Ends {
                 src: CLIENT,
                 sport: 1024,
                 ..QUERY
@@ -220,7 +220,7 @@ fn a_range_of_two_ports(rt: HostRuntime) -> Result<(), Fail> {
         (
             2,
             0,
-            Packet::Udp(Ends {
+            IpPacket::Udp(Ends {
                 src: CLIENT + 1,
                 sport: 1024,
                 ..QUERY
@@ -229,7 +229,7 @@ fn a_range_of_two_ports(rt: HostRuntime) -> Result<(), Fail> {
         (
             3,
             0,
-            Packet::Udp(Ends {
+            IpPacket::Udp(Ends {
                 src: CLIENT + 2,
                 sport: 1024,
                 ..QUERY
@@ -266,7 +266,7 @@ fn ports_of_three_kinds(rt: HostRuntime) -> Result<(), Fail> {
         (
             1,
             0,
-            Packet::Udp(Ends {
+            IpPacket::Udp(Ends {
                 src: CLIENT,
                 sport: 511,
                 ..QUERY
@@ -275,7 +275,7 @@ fn ports_of_three_kinds(rt: HostRuntime) -> Result<(), Fail> {
         (
             2,
             0,
-            Packet::Udp(Ends {
+            IpPacket::Udp(Ends {
                 src: CLIENT,
                 sport: 512,
                 ..QUERY
@@ -284,13 +284,13 @@ fn ports_of_three_kinds(rt: HostRuntime) -> Result<(), Fail> {
         (
             3,
             0,
-            Packet::Udp(Ends {
+            IpPacket::Udp(Ends {
                 src: CLIENT + 1,
                 sport: 512,
                 ..QUERY
             }),
         ),
-        (4, 0, Packet::Udp(ELSEWHERE)),
+        (4, 0, IpPacket::Udp(ELSEWHERE)),
     ];
     static CASE: Case<'static> = Case {
         files: &[
@@ -315,8 +315,8 @@ const IDENTIFIERS: [(u32, u32, Number); 4] = [
 #[test]
 fn identifiers_of_icmp_behind_one_address(rt: HostRuntime) -> Result<(), Fail> {
     const SENT: [Sent<'static>; 2] = [
-        (1, 0, Packet::Echo(CLIENT, SERVER, 8, 7)),
-        (2, 0, Packet::Echo(CLIENT + 1, SERVER, 8, 7)),
+        (1, 0, IpPacket::Echo(CLIENT, SERVER, 8, 7)),
+        (2, 0, IpPacket::Echo(CLIENT + 1, SERVER, 8, 7)),
     ];
     static CASE: Case<'static> = Case {
         files: &[
@@ -342,8 +342,8 @@ script 0
 #[test]
 fn an_echo_to_another_destination(rt: HostRuntime) -> Result<(), Fail> {
     const SENT: [Sent<'static>; 2] = [
-        (1, 0, Packet::Echo(SERVER, ROUTER, 8, 7)),
-        (2, 0, Packet::Echo(CLIENT, SERVER, 0, 7)),
+        (1, 0, IpPacket::Echo(SERVER, ROUTER, 8, 7)),
+        (2, 0, IpPacket::Echo(CLIENT, SERVER, 0, 7)),
     ];
     static CASE: Case<'static> = Case {
         files: &[
@@ -376,8 +376,8 @@ fn the_first_rule_for_a_flow(rt: HostRuntime) -> Result<(), Fail> {
     };
     const SHELL: Ends = Ends { dport: 22, ..WEB };
     const SENT: [Sent<'static>; 2] = [
-        (1, 0, Packet::Tcp(WEB, SYN, b"")),
-        (2, 0, Packet::Tcp(SHELL, SYN, b"")),
+        (1, 0, IpPacket::Tcp(WEB, SYN, b"")),
+        (2, 0, IpPacket::Tcp(SHELL, SYN, b"")),
     ];
     static CASE: Case<'static> = Case {
         files: &[
@@ -414,7 +414,7 @@ fn a_destination_port_that_stays(rt: HostRuntime) -> Result<(), Fail> {
         dst: ROUTER + 1,
         ..FIRST
     };
-    const SENT: [Sent<'static>; 2] = [(1, 0, Packet::Udp(FIRST)), (2, 0, Packet::Udp(SECOND))];
+    const SENT: [Sent<'static>; 2] = [(1, 0, IpPacket::Udp(FIRST)), (2, 0, IpPacket::Udp(SECOND))];
     static CASE: Case<'static> = Case {
         files: &[
             (RULES, Content::Text("dnat to 10.0.0.9\n")),

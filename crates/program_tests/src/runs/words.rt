@@ -3,7 +3,7 @@
 use super::{CAPTURE, NAME, REPLAYED, RULES, SCRIPT};
 use crate::case::{Case, Text, all_hold, holds};
 use crate::content::{Content, PLAIN};
-use crate::packet::{Ends, Packet, QUERY, SYN};
+use crate::packet::{Ends, IpPacket, QUERY, SYN};
 use std::process::Abort;
 use std::sync::Wait;
 use std::test::Fail;
@@ -613,7 +613,7 @@ const TWO_FLOWS: Content<'static> = Content::Capture(
         (
             1000,
             0,
-            Packet::Udp(Ends {
+            IpPacket::Udp(Ends {
                 src: 0x0a00_0003,
                 sport: 5000,
                 dst: 0x0a00_0002,
@@ -673,7 +673,7 @@ static HELPED: [Case<'static>; 6] = [
         words: &["ctreplay", "--ftp=21", NAME],
         files: &[(
             NAME,
-            Content::Capture(PLAIN, &[(1000, 0, Packet::Tcp(TO_21, SYN, b""))]),
+            Content::Capture(PLAIN, &[(1000, 0, IpPacket::Tcp(TO_21, SYN, b""))]),
         )],
         out: Text::Around("", WITH_HELPER),
         ..REPLAYED
@@ -682,7 +682,7 @@ static HELPED: [Case<'static>; 6] = [
         words: &["ctreplay", "--ftp=21", NAME],
         files: &[(
             NAME,
-            Content::Capture(PLAIN, &[(1000, 0, Packet::Tcp(TO_2121, SYN, b""))]),
+            Content::Capture(PLAIN, &[(1000, 0, IpPacket::Tcp(TO_2121, SYN, b""))]),
         )],
         out: Text::Around("", WITHOUT_HELPER),
         ..REPLAYED
@@ -691,7 +691,7 @@ static HELPED: [Case<'static>; 6] = [
         words: &["ctreplay", "--ftp=2121", NAME],
         files: &[(
             NAME,
-            Content::Capture(PLAIN, &[(1000, 0, Packet::Tcp(TO_21, SYN, b""))]),
+            Content::Capture(PLAIN, &[(1000, 0, IpPacket::Tcp(TO_21, SYN, b""))]),
         )],
         out: Text::Around("", WITHOUT_HELPER),
         ..REPLAYED
@@ -700,7 +700,7 @@ static HELPED: [Case<'static>; 6] = [
         words: &["ctreplay", "--ftp=2121", NAME],
         files: &[(
             NAME,
-            Content::Capture(PLAIN, &[(1000, 0, Packet::Tcp(TO_2121, SYN, b""))]),
+            Content::Capture(PLAIN, &[(1000, 0, IpPacket::Tcp(TO_2121, SYN, b""))]),
         )],
         out: Text::Around("", WITH_HELPER),
         ..REPLAYED
@@ -709,7 +709,7 @@ static HELPED: [Case<'static>; 6] = [
         words: &["ctreplay", "--ftp=1,2,3,4,5,6,7,2121", NAME],
         files: &[(
             NAME,
-            Content::Capture(PLAIN, &[(1000, 0, Packet::Tcp(TO_2121, SYN, b""))]),
+            Content::Capture(PLAIN, &[(1000, 0, IpPacket::Tcp(TO_2121, SYN, b""))]),
         )],
         out: Text::Around("", WITH_HELPER),
         ..REPLAYED
@@ -718,7 +718,7 @@ static HELPED: [Case<'static>; 6] = [
         words: &["ctreplay", "--ftp=1,2,3,4,5,6,7,2121", NAME],
         files: &[(
             NAME,
-            Content::Capture(PLAIN, &[(1000, 0, Packet::Tcp(TO_8, SYN, b""))]),
+            Content::Capture(PLAIN, &[(1000, 0, IpPacket::Tcp(TO_8, SYN, b""))]),
         )],
         out: Text::Around("", WITHOUT_HELPER),
         ..REPLAYED

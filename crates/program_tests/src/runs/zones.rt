@@ -3,7 +3,7 @@
 use super::{CAPTURE, NAME, REPLAYED, SCRIPT, SECOND};
 use crate::case::{Case, Text, all_hold, holds};
 use crate::content::{Content, PLAIN};
-use crate::packet::{ACK, Ends, PSH, Packet, SYN, Sent};
+use crate::packet::{ACK, Ends, IpPacket, PSH, SYN, Sent};
 use std::test::Fail;
 
 const ANSWERED_IN_7: &str = "\
@@ -142,13 +142,13 @@ tcp      6 432000 ESTABLISHED src=10.0.0.1 dst=10.0.0.2 sport=40000 dport=21 src
 #[test]
 fn what_is_expected_is_in_its_masters_zone(rt: HostRuntime) -> Result<(), Fail> {
     const SENT: [Sent<'static>; 4] = [
-        (1, 0, Packet::Tcp(CONTROL, SYN, b"")),
-        (2, 0, Packet::Tcp(CONTROL_BACK, SYN | ACK, b"")),
-        (3, 0, Packet::Tcp(CONTROL, ACK, b"")),
+        (1, 0, IpPacket::Tcp(CONTROL, SYN, b"")),
+        (2, 0, IpPacket::Tcp(CONTROL_BACK, SYN | ACK, b"")),
+        (3, 0, IpPacket::Tcp(CONTROL, ACK, b"")),
         (
             4,
             0,
-            Packet::Tcp(CONTROL, ACK | PSH, b"PORT 10,0,0,1,156,65\r\n"),
+            IpPacket::Tcp(CONTROL, ACK | PSH, b"PORT 10,0,0,1,156,65\r\n"),
         ),
     ];
     static CASE: Case<'static> = Case {
