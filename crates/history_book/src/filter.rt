@@ -24,7 +24,7 @@ pub struct Filter {
 }
 
 /// Whether no protocol is named, or this one.
-fn is_proto(named: Option<Proto>, proto: Proto) -> bool
+pub fn is_proto(named: Option<Proto>, proto: Proto) -> bool
     ensures { result ≡ is_proto named proto }
 {
     match named {
@@ -44,7 +44,7 @@ fn is_address(named: Option<u32>, address: u32) -> bool
 }
 
 /// Whether no port or zone is named, or this one.
-fn is_number(named: Option<u16>, number: u16) -> bool
+pub fn is_number(named: Option<u16>, number: u16) -> bool
     ensures { result ≡ is_number named number }
 {
     match named {

@@ -2,9 +2,9 @@
 
 ghost use Rattle.std.specs.Prelude.{◌≡◌, ◌≤◌};
 ghost use Rattle.std.specs.List.{AllByRecursion};
-ghost use Rattle.history_book.specs.Filter.{is_number, is_proto};
 ghost use Rattle.nat_setup.specs.Rule.{IsBlock, is_from, is_in_block, IsLawfulRule, matches, rule_for};
 
+use history_book::filter::{is_number, is_proto};
 use room_list::RoomList;
 use tuple_core::{Proto, Tuple};
 
@@ -72,26 +72,6 @@ fn is_from(block: &Option<Block>, address: u32) -> bool
     }
 }
 
-/// Whether the port, where there is one, is this.
-fn is_port(option: Option<u16>, number: u16) -> bool
-    ensures { result ≡ is_number option number }
-{
-    match option {
-        Some(wanted) => wanted == number,
-        None => true,
-    }
-}
-
-/// Whether the protocol, where there is one, is this.
-fn is_proto(option: Option<Proto>, proto: Proto) -> bool
-    ensures { result ≡ is_proto option proto }
-{
-    match option {
-        Some(wanted) => wanted == proto,
-        None => true,
-    }
-}
-
 /// Whether the rule is for flows with this original tuple.
 pub(crate) fn matches(rule: &Rule, t: &Tuple) -> bool
     requires { IsLawfulRule rule.now }
@@ -100,8 +80,8 @@ pub(crate) fn matches(rule: &Rule, t: &Tuple) -> bool
     is_proto(rule.proto, t.proto)
         && is_from(&rule.src, t.src)
         && is_from(&rule.dst, t.dst)
-        && is_port(rule.sport, t.a)
-        && is_port(rule.dport, t.b)
+        && is_number(rule.sport, t.a)
+        && is_number(rule.dport, t.b)
 }
 
 /// The first of the rules that is for flows with this original tuple.
