@@ -1,7 +1,7 @@
 //! That the checks of `reported.rt` tell a wrong report from a right one: changes of the report on four packets of one
 //! flow, each of which made an event. Each change is to be refused.
 
-use crate::case::{Case, NONE, Text, report_of};
+use crate::case::{Case, NONE, PLACES, Text, report_of};
 use crate::reported::{are_spans, is_history};
 use history_book::answer::Answers;
 use history_book::event::Numbered;
@@ -13,9 +13,6 @@ use std::sync::Wait;
 use std::test::Fail;
 use std::thread::Threads;
 use tuple_core::NoMemory;
-
-/// How many places the table has.
-const PLACES: u32 = 65536;
 
 /// A run of one flow of four packets.
 static ONE_FLOW: Case<'static> = Case {

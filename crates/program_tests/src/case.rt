@@ -196,7 +196,7 @@ pub fn report_of<R: Threads + Wait + Sync + AllocGlobal>(
 }
 
 /// How many places a table has where the words do not say.
-const PLACES: u32 = 65536;
+pub const PLACES: u32 = 65536;
 
 /// The number that a word's digits are.
 fn digits_of(word: &[u8]) -> u32 {

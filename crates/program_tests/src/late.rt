@@ -1,7 +1,7 @@
 //! That the checks of `reported.rt` refuse a packet that is answered behind a command behind `wait`, although the packet
 //! makes no event: two reports that are false and right in all else.
 
-use crate::case::{Case, NONE, Text, report_of};
+use crate::case::{Case, NONE, PLACES, Text, report_of};
 use crate::content::{Content, PLAIN};
 use crate::packet::{ACK, Ends, IpPacket, SYN};
 use crate::reported::{are_spans, is_history};
@@ -15,9 +15,6 @@ use std::sync::Wait;
 use std::test::Fail;
 use std::thread::Threads;
 use tuple_core::NoMemory;
-
-/// How many places the table has.
-const PLACES: u32 = 65536;
 
 /// The ends of a flow, from the client on.
 const CALL: Ends = Ends {
