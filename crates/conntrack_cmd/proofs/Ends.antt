@@ -13,7 +13,7 @@ use Rattle.history_book.specs.declared.event.Event.TheVariants.{Confirm}
 use Rattle.history_book.specs.declared.filter.Filter.{Filter}
 use Rattle.history_book.specs.declared.record.Record.{Record}
 use Rattle.history_book.specs.declared.sizes.Sizes.{Sizes}
-use Rattle.history_book.specs.Filter.{passes}
+use Rattle.history_book.specs.Filter.{selects}
 use Rattle.history_book.specs.History.{after, is_legal}
 use Rattle.history_book.specs.Laws.{EntriesKeepTheirPlace, GoneEntriesStayGone, IsConfirmed, LiveRecordsAreConfirmed, PlacesAreInThePool}
 use Rattle.history_book.specs.Record.{has_id}
@@ -164,7 +164,7 @@ module _ (have : LivedHaveRows) (keep : EntriesKeepTheirPlace) (pool : PlacesAre
       by_first (Some r) e = by_visit r e (visited_at test from to id [] visited r e)
 
 -- a filter reads the tuples alone
-pub passes_same : (filter : Filter) (r s : Record) → r.original ≡ s.original → r.reply ≡ s.reply → passes filter r ≡ passes filter s
+pub passes_same : (filter : Filter) (r s : Record) → r.original ≡ s.original → r.reply ≡ s.reply → selects filter r ≡ selects filter s
 passes_same filter r s original reply =
-    ap (λ t. passes filter (record r { original = t; reply = r.reply })) original
-    ∙ ap (λ t. passes filter (record s { original = s.original; reply = t })) reply
+    ap (λ t. selects filter (record r { original = t; reply = r.reply })) original
+    ∙ ap (λ t. selects filter (record s { original = s.original; reply = t })) reply

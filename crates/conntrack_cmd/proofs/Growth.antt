@@ -46,7 +46,7 @@ module _ (events : EventsStay) (states : StatesStay) (longer log : List Event) (
       → AllByRecursion (IsRow longer filter from to) rows
   rows_grow filter from to [] h = tt
   rows_grow filter from to (row ∷ rows) (h, hs) =
-      (record { low = h.low; high = h.high; live = at_grows states longer log _ _ starts h.live; passes = h.passes }, rows_grow filter from to rows hs)
+      (record { low = h.low; high = h.high; live = at_grows states longer log _ _ starts h.live; selects = h.selects }, rows_grow filter from to rows hs)
 
   pub destroyed_grow : (why : Why) (notes : List Note) (rows : List Row) → AreDestroyed log why notes rows → AreDestroyed longer why notes rows
   destroyed_grow why [] [] h = tt

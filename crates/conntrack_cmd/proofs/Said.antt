@@ -14,7 +14,7 @@ use Rattle.history_book.specs.declared.record.Record.{Record}
 use Rattle.history_book.specs.declared.sizes.Sizes.{Sizes}
 use Rattle.history_book.specs.SightLaws.{GoingOnAddsUp}
 use Rattle.history_book.specs.WentOn.{Looked}
-use Rattle.history_book.specs.Filter.{passes}
+use Rattle.history_book.specs.Filter.{selects}
 use Rattle.history_book.specs.History.{is_legal}
 use Rattle.history_book.specs.Laws.{EntriesKeepTheirPlace, EventsStay, GoneEntriesStayGone, LiveRecordsAreConfirmed, PlacesAreInThePool, StatesStay}
 use Rattle.history_book.specs.Notes.{Happened}
@@ -103,12 +103,12 @@ module _ (going : GoingOnAddsUp) (states : StatesStay) (old a b new : Sight) (fr
               low = omega (arith, h.low, first.fact.within);
               high = omega (arith, h.high, last.low);
               live = at_grows states new.front b.front _ _ last.saw.went.front h.live;
-              passes = h.passes;
+              selects = h.selects;
             }) l.each);
         whole = λ id lived. has_row_permuted id rows sorted.items same
-            (all_have_rows have keep pool new.sizes new.front known.legal (passes filter) from to rows
+            (all_have_rows have keep pool new.sizes new.front known.legal (selects filter) from to rows
             (omega (arith, first.fact.within, longer, last.low))
-            (visited_between stay b new (passes filter) a.sizes.entries (length a.front) (length b.front) from to rows l.known known last.saw.went.front
+            (visited_between stay b new (selects filter) a.sizes.entries (length a.front) (length b.front) from to rows l.known known last.saw.went.front
             last.saw.went.pass.sizes (ap (λ (z : Sizes). z.entries) (sym (last.saw.went.pass.sizes ∙ l.saw.went.pass.sizes))) first.fact.within longer (omega arith) last.low l.visited) id lived);
       })
 
@@ -128,8 +128,8 @@ module _ (going : GoingOnAddsUp) (states : StatesStay) (old a b new : Sight) (fr
         each = destroyed_grow events states new.front b.front last.saw.went.front (why.Deleted filter) d.notes rows d.each;
         same = same;
         order = in_order rows sorted.items same rises d.places.once;
-        left = none_left have keep pool new.sizes new.front known.legal confirmed gone (passes filter) (passes_same filter) from to
-            (visited_between stay b new (passes filter) a.sizes.entries (length a.front) (length b.front) from to [] d.known known last.saw.went.front
+        left = none_left have keep pool new.sizes new.front known.legal confirmed gone (selects filter) (passes_same filter) from to
+            (visited_between stay b new (selects filter) a.sizes.entries (length a.front) (length b.front) from to [] d.known known last.saw.went.front
             last.saw.went.pass.sizes (ap (λ (z : Sizes). z.entries) (sym (last.saw.went.pass.sizes ∙ d.made.went.pass.sizes))) first.fact.within longer (omega arith) last.low d.visited);
       })
 

@@ -15,7 +15,7 @@ use Rattle.history_book.specs.declared.record.Record.{Record}
 use Rattle.history_book.specs.declared.sizes.Sizes.{Sizes}
 use Rattle.history_book.specs.SightLaws.{GoingOnAddsUp}
 use Rattle.history_book.specs.WentOn.{Saw}
-use Rattle.history_book.specs.Filter.{passes}
+use Rattle.history_book.specs.Filter.{selects}
 use Rattle.history_book.specs.History.{is_legal}
 use Rattle.history_book.specs.Laws.{EntriesKeepTheirPlace, EventsStay, StatesStay}
 use Rattle.history_book.specs.Legality.{is_reason}
@@ -139,19 +139,19 @@ module _ (states : StatesStay) (keep : EntriesKeepTheirPlace) where
           low = h.low;
           high = omega (arith, h.high, starts_longer new.front now.front saw.went.front);
           live = at_grows states new.front now.front _ _ saw.went.front h.live;
-          passes = h.passes;
+          selects = h.selects;
         }) each
 
     pub listing_none : (filter : Filter) (rows : List Row) → IsListing filter old now count rows → Saw now new
-        → Visited new.front (passes filter) count (length now.front) (length new.front) [] → HoldsNothing new → IsKnown new
+        → Visited new.front (selects filter) count (length now.front) (length new.front) [] → HoldsNothing new → IsKnown new
         → IsListing filter old new (count + 1) rows
     listing_none filter rows l saw visit empty known = record {
       saw = going.seen old now new l.saw saw;
       few = omega (arith, l.few);
       each = rows_wider filter rows saw l.each;
       places = places_grow new.front now.front count rows saw.went.front l.places;
-      visited = subst (AreVisited new.front (passes filter) (count + 1) (length old.front) (length new.front)) (append-nil rows)
-          (visits_more (passes filter) (length new.front) rows [] l.known known l.saw.went.pass.sizes saw.went.pass.sizes l.saw.went.front saw.went.front
+      visited = subst (AreVisited new.front (selects filter) (count + 1) (length old.front) (length new.front)) (append-nil rows)
+          (visits_more (selects filter) (length new.front) rows [] l.known known l.saw.went.pass.sizes saw.went.pass.sizes l.saw.went.front saw.went.front
           (starts_longer new.front now.front saw.went.front) (omega arith) l.visited visit);
       empty = empty;
       known = known;
@@ -159,7 +159,7 @@ module _ (states : StatesStay) (keep : EntriesKeepTheirPlace) where
 
     listing_some : (filter : Filter) (rows : List Row) (row : Row) → IsListing filter old now count rows → Saw now new
         → IsRow new.front filter (length now.front) (length new.front) row → row.subject.place ≡ count
-        → Visited new.front (passes filter) count (length now.front) (length new.front) (row ∷ []) → HoldsNothing new → IsKnown new
+        → Visited new.front (selects filter) count (length now.front) (length new.front) (row ∷ []) → HoldsNothing new → IsKnown new
         → IsListing filter old new (count + 1) (rows ++ row ∷ [])
     listing_some filter rows row l saw is placed visit empty known = record {
       saw = going.seen old now new l.saw saw;
@@ -169,11 +169,11 @@ module _ (states : StatesStay) (keep : EntriesKeepTheirPlace) where
             low = omega (arith, is.low, starts_longer now.front old.front l.saw.went.front);
             high = is.high;
             live = is.live;
-            passes = is.passes;
+            selects = is.selects;
           });
       places = places_push new.sizes new.front count rows row known.legal (places_grow new.front now.front count rows saw.went.front l.places)
           l.places.below is.live placed;
-      visited = visits_more (passes filter) (length new.front) rows (row ∷ []) l.known known l.saw.went.pass.sizes saw.went.pass.sizes l.saw.went.front
+      visited = visits_more (selects filter) (length new.front) rows (row ∷ []) l.known known l.saw.went.pass.sizes saw.went.pass.sizes l.saw.went.front
           saw.went.front (starts_longer new.front now.front saw.went.front) (omega arith) l.visited visit;
       empty = empty;
       known = known;
@@ -181,7 +181,7 @@ module _ (states : StatesStay) (keep : EntriesKeepTheirPlace) where
 
     pub listing_pushed : (filter : Filter) (rows more : List Row) (row : Row) → more ≡ rows ++ row ∷ [] → IsListing filter old now count rows
         → Saw now new → IsRow new.front filter (length now.front) (length new.front) row → row.subject.place ≡ count
-        → Visited new.front (passes filter) count (length now.front) (length new.front) (row ∷ []) → HoldsNothing new → IsKnown new
+        → Visited new.front (selects filter) count (length now.front) (length new.front) (row ∷ []) → HoldsNothing new → IsKnown new
         → IsListing filter old new (count + 1) more
     listing_pushed filter rows more row pushed l saw is placed visit empty known =
         subst (IsListing filter old new (count + 1)) (sym pushed) (listing_some filter rows row l saw is placed visit empty known)

@@ -13,7 +13,7 @@ use Rattle.history_book.specs.declared.event.Why.TheVariants.{Deleted}
 use Rattle.history_book.specs.declared.filter.Filter.{Filter}
 use Rattle.history_book.specs.declared.record.Record.{Record}
 use Rattle.history_book.specs.declared.sizes.Sizes.{Sizes}
-use Rattle.history_book.specs.Filter.{is_number, passes}
+use Rattle.history_book.specs.Filter.{is_number, selects}
 use Rattle.history_book.specs.History.{after, is_legal}
 use Rattle.history_book.specs.Laws.{EventsMayHappen}
 use Rattle.history_book.specs.Legality.{may_destroy, may_happen}
@@ -30,7 +30,7 @@ use Rattle.pool_visits.specs.Row.{IsDestroyed, IsRow}
 use Rattle.conntrack_cmd.specs.Answer.{AreDestroyed}
 use Rattle.conntrack_cmd.specs.Laws.{DestroysInZone, IsRowOfZone, NamesItsZone, ZonedDeletesNameTheirZone, ZonedDeletesLeaveOtherZones, ZonedListsNameTheirZone, rows_said}
 
-has_zone : (filter : Filter) (zone : ℕ) (r : Record) → filter.zone ≡ Some zone → passes filter r ≡ true → r.original.zone ≡ zone
+has_zone : (filter : Filter) (zone : ℕ) (r : Record) → filter.zone ≡ Some zone → selects filter r ≡ true → r.original.zone ≡ zone
 has_zone filter zone r named is =
     let last : is_number filter.zone r.original.zone ≡ true = (and_parts _ (is_number filter.zone r.original.zone) is).1 in
     sym (eqb-true zone r.original.zone (subst (λ (z : Option ℕ). is_number z r.original.zone ≡ true) named last))
@@ -39,7 +39,7 @@ rows_named : (log : List Event) (filter : Filter) (zone : ℕ) (from to : ℕ) (
     → AllByRecursion (IsRow log filter from to) rows → AllByRecursion (IsRowOfZone zone) rows
 rows_named log filter zone from to [] named are = tt
 rows_named log filter zone from to (row ∷ rows) named (is, are) =
-    (has_zone filter zone row.subject named is.passes, rows_named log filter zone from to rows named are)
+    (has_zone filter zone row.subject named is.selects, rows_named log filter zone from to rows named are)
 
 pub lists : ZonedListsNameTheirZone
 lists log mark filter zone own answer from to named fits =

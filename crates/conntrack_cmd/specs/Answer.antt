@@ -14,7 +14,7 @@ use Rattle.history_book.specs.declared.event.Why.{Why}
 use Rattle.history_book.specs.declared.event.Why.TheVariants.{Expired, Deleted, Flushed}
 use Rattle.history_book.specs.declared.filter.Filter.{Filter}
 use Rattle.history_book.specs.declared.record.Record.{Record}
-use Rattle.history_book.specs.Filter.{passes}
+use Rattle.history_book.specs.Filter.{selects}
 use Rattle.history_book.specs.History.{after}
 use Rattle.history_book.specs.Notes.{Happened}
 use Rattle.history_book.specs.Point.{At}
@@ -37,7 +37,7 @@ pub record Lists (log : List Event) (filter : Filter) (own : List Note) (answer 
   pub no_event : own ≡ []
   pub order : AreInOrder rows.items
   pub each : AllByRecursion (IsRow log filter from to) rows.items
-  pub whole : (id : ℕ) → LivedThroughout log (passes filter) from to id → has_row id rows.items ≡ true
+  pub whole : (id : ℕ) → LivedThroughout log (selects filter) from to id → has_row id rows.items ≡ true
 
 -- the rows are what was expected
 pub record ListsExpectations (log : List Event) (own : List Note) (answer : Said) (from to : ℕ) : Type 0 where
@@ -80,7 +80,7 @@ pub record Deletes (log : List Event) (filter : Filter) (own : List Note) (answe
   pub each : AreDestroyed log (Deleted filter) own found
   pub same : IsPermutation found rows.items
   pub order : AreInOrder rows.items
-  pub left : NoneIsLeft log (passes filter) from to
+  pub left : NoneIsLeft log (selects filter) from to
 
 -- the event is a Destroy for this reason
 abbrev pub IsDestroyFor : Why → Note → Type 0

@@ -24,7 +24,7 @@ use Rattle.proto_rules.specs.Same.{same_part}
 use Rattle.proto_rules.specs.Protocol.{is_of_protocol, proto_of}
 use Rattle.proto_rules.specs.Step.{step_of}
 use Rattle.history_book.specs.declared.sizes.Sizes.{Sizes}
-use Rattle.history_book.specs.Filter.{passes}
+use Rattle.history_book.specs.Filter.{selects}
 use Rattle.history_book.specs.State.{State, is_free, is_unused, record_of}
 
 abbrev pub same_proto : Proto → Proto → Bool
@@ -92,7 +92,7 @@ is_reason (why.Reopened direction segment moment) r =
     is_of_protocol segment r.part.kind && is_reopen (step_of r.part direction segment moment)
 is_reason (why.Reset segment moment) r =
     is_of_protocol segment r.part.kind && is_reset (step_of r.part Original segment moment)
-is_reason (why.Deleted filter) r = passes filter r
+is_reason (why.Deleted filter) r = selects filter r
 is_reason why.Flushed r = true
 is_reason (why.Dropped moment) r = is_expired r.part moment || droppable r.part
 

@@ -1,7 +1,7 @@
-//! Which entries a command is for.
+//! Which entries a filter selects.
 
 ghost use Rattle.std.specs.Prelude.{◌≡◌};
-ghost use Rattle.history_book.specs.Filter.{is_number, is_proto, passes};
+ghost use Rattle.history_book.specs.Filter.{is_number, is_proto, selects};
 
 use crate::record::Record;
 use tuple_core::Proto;
@@ -54,8 +54,8 @@ pub fn is_number(named: Option<u16>, number: u16) -> bool
 }
 
 /// Whether an entry has all that is named.
-pub fn passes(filter: &Filter, r: &Record) -> bool
-    ensures { result ≡ passes filter.now r.now }
+pub fn selects(filter: &Filter, r: &Record) -> bool
+    ensures { result ≡ selects filter.now r.now }
 {
     is_proto(filter.proto, r.original.proto)
         && is_address(filter.src, r.original.src)

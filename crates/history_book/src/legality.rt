@@ -17,7 +17,7 @@ ghost use Rattle.history_book.specs.Record.{has_place, has_tuple};
 ghost use Rattle.history_book.specs.State.{record_of, state_of};
 
 use crate::event::{Event, Why};
-use crate::filter::passes;
+use crate::filter::selects;
 use crate::find::find_id;
 use crate::record::Record;
 use crate::sizes::Sizes;
@@ -171,7 +171,7 @@ pub fn is_reason_for(why: &Why, r: &Record) -> bool
         Why::Reset { segment, moment } => {
             is_of_protocol(segment, r.part.kind) && is_resetting(&r.part, segment, moment)
         }
-        Why::Deleted { filter } => passes(&filter, r),
+        Why::Deleted { filter } => selects(&filter, r),
         Why::Flushed => true,
         Why::Dropped { moment } => r.part.deadline <= moment || droppable(&r.part),
     }

@@ -15,7 +15,7 @@ use Rattle.history_book.specs.SightLaws.{GoingOnAddsUp, SeeingAddsUp}
 use Rattle.history_book.specs.WentOn.{Looked, MadeEvent, Saw}
 use Rattle.history_book.specs.Held.{held_id}
 use Rattle.history_book.specs.Places.{HoldsNothing, HoldsOne, OneHoldHasItsId}
-use Rattle.history_book.specs.Filter.{passes}
+use Rattle.history_book.specs.Filter.{selects}
 use Rattle.history_book.specs.History.{after}
 use Rattle.history_book.specs.Laws.{DestroyedIdsStayDead, EntriesKeepTheirPlace, EventsStay, PlacesNameEntries, StatesStay}
 use Rattle.history_book.specs.Legality.{is_reason}
@@ -191,7 +191,7 @@ module _ (states : StatesStay) (keep : EntriesKeepTheirPlace) (name : PlacesName
       (at_grows states new.front then.front seen (IsRecord id r) starts looked.fact)
 
   pub row_is : (filter : Filter) (mid then : Sight) (at seen id : ℕ) (r : Record) → Looked old mid at (IsLiveIn place id)
-      → Looked mid then seen (IsRecord id r) → StartsWith new.front then.front → passes filter r ≡ true
+      → Looked mid then seen (IsRecord id r) → StartsWith new.front then.front → selects filter r ≡ true
       → IsRow new.front filter (length old.front) (length new.front) (record { subject = r; at = seen })
   row_is filter mid then at seen id r held looked starts passed =
       let grown : At new.front seen (IsRecord id r) = at_grows states new.front then.front seen (IsRecord id r) starts looked.fact in
@@ -199,7 +199,7 @@ module _ (states : StatesStay) (keep : EntriesKeepTheirPlace) (name : PlacesName
         low = omega (arith, starts_longer mid.front old.front held.saw.went.front, looked.low);
         high = grown.within;
         live = subst (λ i. At new.front seen (IsRecord i r)) (sym (has_id_of id (after then.front seen) r looked.fact.fact)) grown;
-        passes = passed;
+        selects = passed;
       }
 
   module _ (dead : DestroyedIdsStayDead) (events : EventsStay) (why : Why) (mid then : Sight) (at number id : ℕ) (r : Record)

@@ -7,7 +7,7 @@ use Rattle.history_book.specs.declared.event.Event.TheVariants.{Destroy}
 use Rattle.history_book.specs.declared.event.Note.{Note}
 use Rattle.history_book.specs.declared.event.Why.{Why}
 use Rattle.history_book.specs.declared.filter.Filter.{Filter}
-use Rattle.history_book.specs.Filter.{passes}
+use Rattle.history_book.specs.Filter.{selects}
 use Rattle.history_book.specs.Point.{At}
 use Rattle.history_book.specs.State.{record_of}
 
@@ -19,7 +19,7 @@ pub record IsRow (log : List Event) (filter : Filter) (from to : ℕ) (row : Row
   pub low : from ≤ row.at
   pub high : row.at ≤ to
   pub live : At log row.at (λ s. record_of row.subject.id s ≡ Some row.subject)
-  pub passes : passes filter row.subject ≡ true
+  pub selects : selects filter row.subject ≡ true
 
 -- the event destroyed the row's entry for the reason; the row has its number, and the entry as it was found
 pub record IsDestroyed (log : List Event) (why : Why) (note : Note) (row : Row) : Type 0 where

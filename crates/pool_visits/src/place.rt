@@ -2,7 +2,7 @@
 
 ghost use Rattle.std.specs.Prelude.{◌≡◌, ◌+◌, ◌<◌, ◌≤◌, ◌^◌, ℕ, true, [], length, IfSome, option_to_list};
 ghost use Rattle.history_book.specs.WentOn.{Saw};
-ghost use Rattle.history_book.specs.Filter.{passes};
+ghost use Rattle.history_book.specs.Filter.{selects};
 ghost use Rattle.history_book.specs.Legality.{reason_moment_of};
 ghost use Rattle.history_book.specs.Places.{HoldsNothing};
 ghost use Rattle.history_book.specs.Sight.{IsKnown};
@@ -12,7 +12,7 @@ ghost use Rattle.pool_visits.specs.Visit.{names_no_segment, Visited, VisitSays};
 use history_book::answer::Row;
 use history_book::desk::Desk;
 use history_book::event::Why;
-use history_book::filter::{Filter, passes};
+use history_book::filter::{Filter, selects};
 use history_book::laws::{
     destroyed_ids_stay_dead, entries_keep_their_place, events_stay, places_name_entries,
     states_stay, unused_places_are_nobodys,
@@ -35,7 +35,7 @@ pub fn list_place<R: Wait, D: Desk>(
     ensures row { IfSome result (IsRow (D.sight desk.new).front filter.now
         (length (D.sight desk.old).front) (length (D.sight desk.new).front)) }
     ensures placed { IfSome result (λ r. r.subject.place ≡ place) }
-    ensures visited { Visited (D.sight desk.new).front (passes filter.now) place
+    ensures visited { Visited (D.sight desk.new).front (selects filter.now) place
         (length (D.sight desk.old).front) (length (D.sight desk.new).front) (option_to_list result) }
     ensures empty { HoldsNothing (D.sight desk.new) }
     ensures knows { IsKnown (D.sight desk.new) }
@@ -56,7 +56,7 @@ pub fn list_place<R: Wait, D: Desk>(
             }
             PeekOutcome::Seen { subject, at } => {
                 give_up(rt, desk, place);
-                if passes(filter, &subject) {
+                if selects(filter, &subject) {
                     Some(Row { subject, at })
                 } else {
                     None

@@ -7,7 +7,7 @@ use Rattle.history_book.specs.declared.event.Note.{Note}
 use Rattle.history_book.specs.declared.event.Why.{Why}
 use Rattle.history_book.specs.declared.filter.Filter.{Filter}
 use Rattle.history_book.specs.WentOn.{Saw, WentOn}
-use Rattle.history_book.specs.Filter.{passes}
+use Rattle.history_book.specs.Filter.{selects}
 use Rattle.history_book.specs.Legality.{is_reason}
 use Rattle.history_book.specs.Notes.{Happened}
 use Rattle.history_book.specs.Places.{HoldsNothing}
@@ -38,7 +38,7 @@ pub record IsListing (filter : Filter) (old now : Sight) (count : ℕ) (rows : L
   pub few : length rows ≤ count
   pub each : AllByRecursion (IsRow now.front filter (length old.front) (length now.front)) rows
   pub places : AreOfPlaces now.front count rows
-  pub visited : AreVisited now.front (passes filter) count (length old.front) (length now.front) rows
+  pub visited : AreVisited now.front (selects filter) count (length old.front) (length now.front) rows
   pub empty : HoldsNothing now
   pub known : IsKnown now
 

@@ -1,5 +1,5 @@
 use Rattle.history_book.specs.Desk.{IsRecord}
-use Rattle.history_book.specs.Filter.{passes}
+use Rattle.history_book.specs.Filter.{selects}
 use Rattle.history_book.specs.State.{record_of}
 use Rattle.std.proofs.Common.{◌≡◌, ◌∙◌, None, sym}
 use Rattle.pool_visits.proofs.Places.{empty_visited, failed_visited, gone_visited, looked_at_one, row_is, row_placed, row_visited}
@@ -8,7 +8,7 @@ use Rattle.pool_visits.proofs.place.list_place.Goals as goal
 pub returns-in-Empty-clause-visited : goal.returns-in-Empty-clause-visited
 returns-in-Empty-clause-visited g c =
     empty_visited c.states_stay.ensures c.entries_keep_their_place.ensures c.places_name_entries.ensures c.unused_places_are_nobodys.ensures
-    (g.D.Desk.sight c.args.desk.now) (g.D.Desk.sight c.hold.new.self) c.hold.ensures.knows c.args.place (passes c.args.filter.now)
+    (g.D.Desk.sight c.args.desk.now) (g.D.Desk.sight c.hold.new.self) c.hold.ensures.knows c.args.place (selects c.args.filter.now)
     c.in-Empty.at c.in-Empty.ensures.says.0
 
 pub returns-in-Gone-clause-visited : goal.returns-in-Gone-clause-visited
@@ -17,14 +17,14 @@ returns-in-Gone-clause-visited g c =
     let mid = g.D.Desk.sight c.hold.new.self in
     let then = g.D.Desk.sight c.peek.new.self in
     gone_visited c.states_stay.ensures c.entries_keep_their_place.ensures c.places_name_entries.ensures c.unused_places_are_nobodys.ensures
-    s (g.D.Desk.sight c.give_up.new.desk) c.give_up.ensures.knows c.args.place (passes c.args.filter.now) mid then
+    s (g.D.Desk.sight c.give_up.new.desk) c.give_up.ensures.knows c.args.place (selects c.args.filter.now) mid then
     c.in-Held.at c.in-Gone.at c.in-Held.id c.in-Held.ensures.says.0
     (looked_at_one c.one_hold_has_its_id.ensures s mid c.args.place c.in-Held.id c.requires.empty c.in-Held.ensures.says.1 then c.in-Gone.at
     (λ i s. record_of i s ≡ None) c.in-Gone.ensures.says.0)
     c.give_up.ensures.saw.went.front
 
-pub returns-then-passes-clause-row : goal.returns-then-passes-clause-row
-returns-then-passes-clause-row g c =
+pub returns-then-selects-clause-row : goal.returns-then-selects-clause-row
+returns-then-selects-clause-row g c =
     let s = g.D.Desk.sight c.args.desk.now in
     let mid = g.D.Desk.sight c.hold.new.self in
     let then = g.D.Desk.sight c.peek.new.self in
@@ -33,10 +33,10 @@ returns-then-passes-clause-row g c =
     c.in-Held.at c.in-Seen.at c.in-Held.id c.in-Seen.subject c.in-Held.ensures.says.0
     (looked_at_one c.one_hold_has_its_id.ensures s mid c.args.place c.in-Held.id c.requires.empty c.in-Held.ensures.says.1 then c.in-Seen.at
     (λ i. IsRecord i c.in-Seen.subject) c.in-Seen.ensures.says.0)
-    c.give_up-in-Seen.ensures.saw.went.front (sym c.passes.ensures ∙ c.if-passes.true)
+    c.give_up-in-Seen.ensures.saw.went.front (sym c.selects.ensures ∙ c.if-selects.true)
 
-pub returns-then-passes-clause-placed : goal.returns-then-passes-clause-placed
-returns-then-passes-clause-placed g c =
+pub returns-then-selects-clause-placed : goal.returns-then-selects-clause-placed
+returns-then-selects-clause-placed g c =
     let s = g.D.Desk.sight c.args.desk.now in
     let mid = g.D.Desk.sight c.hold.new.self in
     let then = g.D.Desk.sight c.peek.new.self in
@@ -47,26 +47,26 @@ returns-then-passes-clause-placed g c =
     (λ i. IsRecord i c.in-Seen.subject) c.in-Seen.ensures.says.0)
     c.give_up-in-Seen.ensures.saw.went.front
 
-pub returns-then-passes-clause-visited : goal.returns-then-passes-clause-visited
-returns-then-passes-clause-visited g c =
+pub returns-then-selects-clause-visited : goal.returns-then-selects-clause-visited
+returns-then-selects-clause-visited g c =
     let s = g.D.Desk.sight c.args.desk.now in
     let mid = g.D.Desk.sight c.hold.new.self in
     let then = g.D.Desk.sight c.peek.new.self in
     row_visited c.states_stay.ensures c.entries_keep_their_place.ensures c.places_name_entries.ensures c.unused_places_are_nobodys.ensures
-    s (g.D.Desk.sight c.give_up-in-Seen.new.desk) c.give_up-in-Seen.ensures.knows c.args.place (passes c.args.filter.now) mid then
+    s (g.D.Desk.sight c.give_up-in-Seen.new.desk) c.give_up-in-Seen.ensures.knows c.args.place (selects c.args.filter.now) mid then
     c.in-Held.at c.in-Seen.at c.in-Held.id c.in-Seen.subject c.in-Held.ensures.says.0
     (looked_at_one c.one_hold_has_its_id.ensures s mid c.args.place c.in-Held.id c.requires.empty c.in-Held.ensures.says.1 then c.in-Seen.at
     (λ i. IsRecord i c.in-Seen.subject) c.in-Seen.ensures.says.0)
     c.give_up-in-Seen.ensures.saw.went.front
 
-pub returns-else-passes-clause-visited : goal.returns-else-passes-clause-visited
-returns-else-passes-clause-visited g c =
+pub returns-else-selects-clause-visited : goal.returns-else-selects-clause-visited
+returns-else-selects-clause-visited g c =
     let s = g.D.Desk.sight c.args.desk.now in
     let mid = g.D.Desk.sight c.hold.new.self in
     let then = g.D.Desk.sight c.peek.new.self in
     failed_visited c.states_stay.ensures c.entries_keep_their_place.ensures c.places_name_entries.ensures c.unused_places_are_nobodys.ensures
-    s (g.D.Desk.sight c.give_up-in-Seen.new.desk) c.give_up-in-Seen.ensures.knows c.args.place (passes c.args.filter.now) mid then
+    s (g.D.Desk.sight c.give_up-in-Seen.new.desk) c.give_up-in-Seen.ensures.knows c.args.place (selects c.args.filter.now) mid then
     c.in-Held.at c.in-Seen.at c.in-Held.id c.in-Seen.subject c.in-Held.ensures.says.0
     (looked_at_one c.one_hold_has_its_id.ensures s mid c.args.place c.in-Held.id c.requires.empty c.in-Held.ensures.says.1 then c.in-Seen.at
     (λ i. IsRecord i c.in-Seen.subject) c.in-Seen.ensures.says.0)
-    c.give_up-in-Seen.ensures.saw.went.front (sym c.passes.ensures ∙ c.if-passes.false)
+    c.give_up-in-Seen.ensures.saw.went.front (sym c.selects.ensures ∙ c.if-selects.false)
