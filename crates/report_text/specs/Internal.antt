@@ -2,3 +2,4 @@
 pub mod Digits
 pub mod Gathered
 pub mod Counting
+pub mod Lines

@@ -7,8 +7,9 @@ ghost use Rattle.report_text.specs.Page.{Adds, HasRoom};
 ghost use Rattle.report_text.specs.Texts.{texts_from};
 ghost use Rattle.report_text.specs.Wrote.{Wrote};
 
+use crate::line::Line;
 use crate::page::{LONGEST_LINE, Page};
-use crate::write::{WriteFault, make_room, write_all};
+use crate::write::{WriteFault, write_all, write_line};
 use ct_io::Sink;
 
 /// Of so many events that a thread made, so many were heard.
@@ -21,7 +22,7 @@ pub struct HeardCount {
 impl<'b> Page<'b> {
     /// Writes the line of a thread, with a script of this number among the threads.
     #[tactic(auto, unfolding(crate::specs::Heard::heard_line))]
-    fn heard_line(&mut self, script: usize, thread: usize, count: &HeardCount)
+    pub(crate) fn heard_line(&mut self, script: usize, thread: usize, count: &HeardCount)
         requires { HasRoom LONGEST_LINE self.old }
         ensures { Adds LONGEST_LINE (heard_line script thread count.now) self.old self.new }
     {
@@ -39,23 +40,6 @@ impl<'b> Page<'b> {
     }
 }
 
-/// Writes the line of a thread, or holds it back.
-#[tactic(auto, using(crate::proofs::Gathers::sent_line, crate::proofs::Gathers::lost_line))]
-fn write_line<K: Sink>(
-    script: usize,
-    thread: usize,
-    count: &HeardCount,
-    page: &mut Page,
-    out: &mut K,
-) -> Result<(), WriteFault>
-    ensures { Gathered (heard_line script thread count.now) page.old page.new
-        (K.tape out.old) (K.tape out.new) result }
-{
-    make_room(page, out)?;
-    page.heard_line(script, thread, count);
-    Ok(())
-}
-
 /// Writes the line of each thread, or holds it back.
 #[tactic(auto, using(crate::proofs::Gathers::sent_none, crate::proofs::Gathers::sent_each))]
 fn write_lines<K: Sink>(
@@ -68,7 +52,12 @@ fn write_lines<K: Sink>(
         (K.tape out.old) (K.tape out.new) result }
 {
     'lines: for (thread, count) in counts.iter().enumerate() {
-        write_line(script, thread, count, page, out)?;
+        let line = Line::Heard {
+            script,
+            thread,
+            count,
+        };
+        write_line(line, page, out)?;
     }
     Ok(())
 }

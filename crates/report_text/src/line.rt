@@ -2,18 +2,62 @@
 
 ghost use Rattle.std.specs.Fmt.{decimal};
 ghost use Rattle.std.specs.Prelude.{◌++◌, codes};
+ghost use Rattle.report_text.specs.Internal.Lines.{line_text};
 ghost use Rattle.report_text.specs.Line.{event_line, history_head, script_head, thread_head};
 ghost use Rattle.report_text.specs.Page.{Adds, HasRoom};
 ghost use Rattle.report_text.specs.Piece.{class_text};
 
+use crate::heard::HeardCount;
 use crate::page::{LONGEST_LINE, Page};
+use expect_table::expectation::Expectation;
+use history_book::answer::{Answer, Row};
 use history_book::event::Numbered;
 use history_book::verdict::Class;
+
+/// A line with what stands in it. The lines of events and verdicts, of which there are many, are written without it.
+#[derive(Clone, Copy)]
+pub(crate) enum Line<'l> {
+    /// Before the events.
+    HistoryHead {
+        events: usize,
+    },
+    /// Before the verdicts of a thread.
+    ThreadHead {
+        thread: usize,
+        packets: usize,
+    },
+    /// Before the answers to a script.
+    ScriptHead {
+        commands: usize,
+    },
+    /// Before the rows of the answer to the command of this index.
+    AnswerHead {
+        index: usize,
+        answer: &'l Answer,
+    },
+    /// An entry at a moment.
+    EntryRow {
+        moment: u64,
+        row: &'l Row,
+    },
+    /// An expectation at a moment and a point.
+    ExpectationRow {
+        moment: u64,
+        at: u64,
+        e: &'l Expectation,
+    },
+    /// What was heard of a thread, with a script of this number among the threads.
+    Heard {
+        script: usize,
+        thread: usize,
+        count: &'l HeardCount,
+    },
+}
 
 impl<'b> Page<'b> {
     /// Writes the line before the events.
     #[tactic(auto, unfolding(crate::specs::Line::history_head))]
-    pub(crate) fn history_head(&mut self, events: usize)
+    fn history_head(&mut self, events: usize)
         requires { HasRoom LONGEST_LINE self.old }
         ensures { Adds LONGEST_LINE (history_head events) self.old self.new }
     {
@@ -35,7 +79,7 @@ impl<'b> Page<'b> {
 
     /// Writes the line before the verdicts of a thread.
     #[tactic(auto, unfolding(crate::specs::Line::thread_head))]
-    pub(crate) fn thread_head(&mut self, thread: usize, packets: usize)
+    fn thread_head(&mut self, thread: usize, packets: usize)
         requires { HasRoom LONGEST_LINE self.old }
         ensures { Adds LONGEST_LINE (thread_head thread packets) self.old self.new }
     {
@@ -68,12 +112,32 @@ impl<'b> Page<'b> {
 
     /// Writes the line before the answers to a script.
     #[tactic(auto, unfolding(crate::specs::Line::script_head))]
-    pub(crate) fn script_head(&mut self, commands: usize)
+    fn script_head(&mut self, commands: usize)
         requires { HasRoom LONGEST_LINE self.old }
         ensures { Adds LONGEST_LINE (script_head commands) self.old self.new }
     {
         self.text(b"script ");
         self.number(commands);
         self.text(b"\n");
+    }
+
+    /// Writes a line.
+    pub(crate) fn line(&mut self, line: Line<'_>)
+        requires { HasRoom LONGEST_LINE self.old }
+        ensures { Adds LONGEST_LINE (line_text line.entry) self.old self.new }
+    {
+        match line {
+            Line::HistoryHead { events } => self.history_head(events),
+            Line::ThreadHead { thread, packets } => self.thread_head(thread, packets),
+            Line::ScriptHead { commands } => self.script_head(commands),
+            Line::AnswerHead { index, answer } => self.answer_head(index, answer),
+            Line::EntryRow { moment, row } => self.row_line(moment, row),
+            Line::ExpectationRow { moment, at, e } => self.expectation_line(moment, at, e),
+            Line::Heard {
+                script,
+                thread,
+                count,
+            } => self.heard_line(script, thread, count),
+        }
     }
 }

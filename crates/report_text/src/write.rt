@@ -4,14 +4,15 @@ ghost use Rattle.std.specs.Borrow.{Bor};
 ghost use Rattle.std.specs.List.{flat_map};
 ghost use Rattle.std.specs.Prelude.{ℕ, ◌≤◌, List, [], length, IfOk};
 ghost use Rattle.report_text.specs.Internal.Gathered.{Gathered};
-ghost use Rattle.report_text.specs.Line.{history_head, script_head, thread_head, verdict_line};
+ghost use Rattle.report_text.specs.Internal.Lines.{line_text};
+ghost use Rattle.report_text.specs.Line.{verdict_line};
 ghost use Rattle.report_text.specs.Page.{HasRoom};
-ghost use Rattle.report_text.specs.Answer.{answer_head, answer_text, got_text, line_of_expectation, line_of_row, rows_text};
+ghost use Rattle.report_text.specs.Answer.{answer_text, got_text, line_of_expectation, line_of_row, rows_text};
 ghost use Rattle.report_text.specs.Report.{history_text, line_of_event, report_text, script_text, thread_text, tracking_text};
-ghost use Rattle.report_text.specs.Row.{expectation_line, row_line};
 ghost use Rattle.report_text.specs.Texts.{texts_from};
 ghost use Rattle.report_text.specs.Wrote.{Wrote};
 
+use crate::line::Line;
 use crate::page::{LONGEST_LINE, Page};
 use ct_io::{Failed, Sink};
 use expect_table::expectation::Expectation;
@@ -68,49 +69,18 @@ pub(crate) fn make_room<K: Sink>(page: &mut Page, out: &mut K) -> Result<(), Wri
     Ok(())
 }
 
-/// Writes the line before the events, or holds it back.
+/// Writes a line, or holds it back.
 #[tactic(auto, using(crate::proofs::Gathers::sent_line, crate::proofs::Gathers::lost_line))]
-fn write_history_head<K: Sink>(
-    events: usize,
+pub(crate) fn write_line<K: Sink>(
+    line: Line<'_>,
     page: &mut Page,
     out: &mut K,
 ) -> Result<(), WriteFault>
-    ensures { Gathered (history_head events) page.old page.new
+    ensures { Gathered (line_text line.entry) page.old page.new
         (K.tape out.old) (K.tape out.new) result }
 {
     make_room(page, out)?;
-    page.history_head(events);
-    Ok(())
-}
-
-/// Writes the line before the verdicts of a thread, or holds it back.
-#[tactic(auto, using(crate::proofs::Gathers::sent_line, crate::proofs::Gathers::lost_line))]
-fn write_thread_head<K: Sink>(
-    thread: usize,
-    packets: usize,
-    page: &mut Page,
-    out: &mut K,
-) -> Result<(), WriteFault>
-    ensures { Gathered (thread_head thread packets) page.old page.new
-        (K.tape out.old) (K.tape out.new) result }
-{
-    make_room(page, out)?;
-    page.thread_head(thread, packets);
-    Ok(())
-}
-
-/// Writes the line before the answers to a script, or holds it back.
-#[tactic(auto, using(crate::proofs::Gathers::sent_line, crate::proofs::Gathers::lost_line))]
-fn write_script_head<K: Sink>(
-    commands: usize,
-    page: &mut Page,
-    out: &mut K,
-) -> Result<(), WriteFault>
-    ensures { Gathered (script_head commands) page.old page.new
-        (K.tape out.old) (K.tape out.new) result }
-{
-    make_room(page, out)?;
-    page.script_head(commands);
+    page.line(line);
     Ok(())
 }
 
@@ -144,7 +114,10 @@ fn write_history<K: Sink>(
     ensures { Gathered (history_text script events.now.items) page.old page.new
         (K.tape out.old) (K.tape out.new) result }
 {
-    write_history_head(events.len(), page, out)?;
+    let head = Line::HistoryHead {
+        events: events.len(),
+    };
+    write_line(head, page, out)?;
     write_events(script, events, page, out)
 }
 
@@ -178,7 +151,11 @@ fn write_thread<K: Sink>(
     ensures { Gathered (thread_text thread verdicts.now) page.old page.new
         (K.tape out.old) (K.tape out.new) result }
 {
-    write_thread_head(thread, verdicts.len(), page, out)?;
+    let head = Line::ThreadHead {
+        thread,
+        packets: verdicts.len(),
+    };
+    write_line(head, page, out)?;
     write_verdicts(verdicts, page, out)
 }
 
@@ -209,22 +186,6 @@ fn write_tracking<K: Sink>(report: &Report, page: &mut Page, out: &mut K) -> Res
     write_threads(report.threads.as_slice(), page, out)
 }
 
-/// Writes the line of an entry at a moment, or holds it back.
-#[tactic(auto, using(crate::proofs::Gathers::sent_line, crate::proofs::Gathers::lost_line))]
-fn write_row<K: Sink>(
-    moment: u64,
-    row: &Row,
-    page: &mut Page,
-    out: &mut K,
-) -> Result<(), WriteFault>
-    ensures { Gathered (row_line moment row.now) page.old page.new
-        (K.tape out.old) (K.tape out.new) result }
-{
-    make_room(page, out)?;
-    page.row_line(moment, row);
-    Ok(())
-}
-
 /// Writes the line of each entry at a moment, or holds it back.
 #[tactic(auto, using(crate::proofs::Gathers::sent_none, crate::proofs::Gathers::sent_each))]
 fn write_rows<K: Sink>(
@@ -237,25 +198,8 @@ fn write_rows<K: Sink>(
         (K.tape out.old) (K.tape out.new) result }
 {
     'rows: for row in rows {
-        write_row(moment, row, page, out)?;
+        write_line(Line::EntryRow { moment, row }, page, out)?;
     }
-    Ok(())
-}
-
-/// Writes the line of an expectation at a moment and a point, or holds it back.
-#[tactic(auto, using(crate::proofs::Gathers::sent_line, crate::proofs::Gathers::lost_line))]
-fn write_expectation<K: Sink>(
-    moment: u64,
-    at: u64,
-    e: &Expectation,
-    page: &mut Page,
-    out: &mut K,
-) -> Result<(), WriteFault>
-    ensures { Gathered (expectation_line moment at e.now) page.old page.new
-        (K.tape out.old) (K.tape out.new) result }
-{
-    make_room(page, out)?;
-    page.expectation_line(moment, at, e);
     Ok(())
 }
 
@@ -272,7 +216,7 @@ fn write_expectations<K: Sink>(
         (K.tape out.old) (K.tape out.new) result }
 {
     'expectations: for e in expectations {
-        write_expectation(moment, at, e, page, out)?;
+        write_line(Line::ExpectationRow { moment, at, e }, page, out)?;
     }
     Ok(())
 }
@@ -296,7 +240,7 @@ fn write_got<K: Sink>(
         (K.tape out.old) (K.tape out.new) result }
 {
     match row {
-        Some(row) => write_row(moment, row, page, out),
+        Some(row) => write_line(Line::EntryRow { moment, row }, page, out),
         None => write_nothing(page, out),
     }
 }
@@ -318,22 +262,6 @@ fn write_said<K: Sink>(answer: &Answer, page: &mut Page, out: &mut K) -> Result<
     }
 }
 
-/// Writes the line of the answer to the command of this index, or holds it back.
-#[tactic(auto, using(crate::proofs::Gathers::sent_line, crate::proofs::Gathers::lost_line))]
-fn write_answer_head<K: Sink>(
-    index: usize,
-    answer: &Answer,
-    page: &mut Page,
-    out: &mut K,
-) -> Result<(), WriteFault>
-    ensures { Gathered (answer_head index answer.now) page.old page.new
-        (K.tape out.old) (K.tape out.new) result }
-{
-    make_room(page, out)?;
-    page.answer_head(index, answer);
-    Ok(())
-}
-
 /// Writes the answer to the command of this index, or holds it back.
 #[tactic(auto, using(crate::proofs::Gathers::gathered_then, crate::proofs::Gathers::lost_more), unfolding(crate::specs::Answer::answer_text))]
 fn write_answer<K: Sink>(
@@ -345,7 +273,7 @@ fn write_answer<K: Sink>(
     ensures { Gathered (answer_text index answer.now) page.old page.new
         (K.tape out.old) (K.tape out.new) result }
 {
-    write_answer_head(index, answer, page, out)?;
+    write_line(Line::AnswerHead { index, answer }, page, out)?;
     write_said(answer, page, out)
 }
 
@@ -371,7 +299,10 @@ fn write_script<K: Sink>(answers: &[Answer], page: &mut Page, out: &mut K) -> Re
     ensures { Gathered (script_text answers.now) page.old page.new
         (K.tape out.old) (K.tape out.new) result }
 {
-    write_script_head(answers.len(), page, out)?;
+    let head = Line::ScriptHead {
+        commands: answers.len(),
+    };
+    write_line(head, page, out)?;
     write_answers(answers, page, out)
 }
 
