@@ -1,30 +1,17 @@
 //! Laws that a command's way needs together, each bundle as one law: the contract of a function that does nothing but cite
 //! them.
 
-ghost use Rattle.history_book.specs.Laws.{EntriesKeepTheirPlace, EventsStay, ExpectationsAreExpected, ExpectationsAreFew, ExpectationsAreInOrder, FoundAreFoundAgain, GoneEntriesStayGone, GoneExpectationsStayGone, LiveRecordsAreConfirmed, PlacesAreInThePool, StatesStay};
+ghost use Rattle.history_book.specs.Laws.{EntriesKeepTheirPlace, ExpectationsAreExpected, ExpectationsAreFew, ExpectationsAreInOrder, FoundAreFoundAgain, GoneEntriesStayGone, GoneExpectationsStayGone, LiveRecordsAreConfirmed, PlacesAreInThePool};
 ghost use Rattle.history_book.specs.Places.{OneHoldHasItsId};
-ghost use Rattle.history_book.specs.SightLaws.{GoingOnAddsUp};
 ghost use Rattle.pool_visits.specs.Laws.{AllVisitsStay, LivedHaveRows, VisitsAddUp};
 
 use history_book::laws::{
-    entries_keep_their_place, events_stay, expectations_are_expected, expectations_are_few,
+    entries_keep_their_place, expectations_are_expected, expectations_are_few,
     expectations_are_in_order, found_are_found_again, gone_entries_stay_gone,
-    gone_expectations_stay_gone, live_records_are_confirmed, places_are_in_the_pool, states_stay,
+    gone_expectations_stay_gone, live_records_are_confirmed, places_are_in_the_pool,
 };
 use history_book::places::one_hold_has_its_id;
-use history_book::sight_laws::going_on_adds_up;
 use pool_visits::laws::{all_visits_stay, lived_have_rows, visits_add_up};
-
-/// What a desk sees stays as it goes on, and its steps add up.
-pub fn desks_go_on()
-    ensures events { EventsStay }
-    ensures states { StatesStay }
-    ensures all { GoingOnAddsUp }
-{
-    events_stay();
-    going_on_adds_up();
-    states_stay();
-}
 
 /// A sweep goes on from place to place: its looks add up, and an entry keeps its place.
 pub fn sweeps_go_on()

@@ -6,7 +6,7 @@ ghost use Rattle.history_book.specs.Sight.{IsKnown};
 ghost use Rattle.conntrack_cmd.specs.declared.command.Command.TheVariants.{Expire};
 ghost use Rattle.conntrack_cmd.specs.Internal.Spoken.{Speaks};
 
-use crate::bundles::{desks_go_on, expectations_live_once, sweeps_see_each_entry};
+use crate::bundles::{expectations_live_once, sweeps_see_each_entry};
 use crate::late::end_late;
 use crate::spoken::Spoken;
 use crate::sweep::count_destroyed;
@@ -14,6 +14,7 @@ use history_book::answer::Said;
 use history_book::desk::Desk;
 use history_book::event::Why;
 use history_book::report::Expectations;
+use history_book::sight_laws::desks_go_on;
 use std::sync::Wait;
 
 /// Destroys the entries that are expired at the moment, and then ends the expectations that are due no longer; the

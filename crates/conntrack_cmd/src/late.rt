@@ -6,12 +6,12 @@ ghost use Rattle.history_book.specs.Places.{HoldsNothing};
 ghost use Rattle.history_book.specs.Sight.{IsKnown};
 ghost use Rattle.conntrack_cmd.specs.Internal.Late.{EndsOrSaw, IsEnding, IsOverWhereLate};
 
-use crate::bundles::desks_go_on;
 use expect_table::expectation::Expectation;
 use history_book::desk::Desk;
 use history_book::laws::{expectations_are_expected, states_follow};
 use history_book::outcome::UnexpectOutcome;
 use history_book::report::Expectations;
+use history_book::sight_laws::desks_go_on;
 use std::sync::Wait;
 
 /// Ends an expectation that is due no longer at the moment, if it is still there; says whether it made an event.

@@ -6,14 +6,14 @@ ghost use Rattle.history_book.specs.Sight.{IsKnown};
 ghost use Rattle.conntrack_cmd.specs.declared.command.Command.TheVariants.{Count, Get, ListExpect};
 ghost use Rattle.conntrack_cmd.specs.Internal.Spoken.{GetsOrSaw, Speaks};
 
-use crate::bundles::{desks_go_on, found_entries_stay};
+use crate::bundles::found_entries_stay;
 use crate::spoken::Spoken;
 use history_book::answer::{Row, Said};
 use history_book::desk::Desk;
 use history_book::outcome::{FindOutcome, LiveCount, PeekOutcome};
 use history_book::places::give_up;
 use history_book::report::Expectations;
-use history_book::sight_laws::{going_on_adds_up, seeing_adds_up};
+use history_book::sight_laws::desks_go_on;
 use std::sync::Wait;
 use tuple_core::Tuple;
 
@@ -57,7 +57,6 @@ fn look_once<R: Wait, D: Desk>(rt: &R, desk: &mut D, t: &Tuple) -> Option<Spoken
 {
     desks_go_on();
     found_entries_stay();
-    seeing_adds_up();
     match desk.find(rt, t) {
         FindOutcome::Absent { at } => Some(Spoken {
             said: Said::Got(None),
@@ -89,8 +88,7 @@ pub fn look_up<R: Wait, D: Desk>(rt: &R, desk: &mut D, t: &Tuple) -> Spoken
     ensures says { Speaks (Get t.now) (D.sight desk.old) (D.sight desk.new) result }
     ensures knows { IsKnown (D.sight desk.new) }
 {
-    going_on_adds_up();
-    seeing_adds_up();
+    desks_go_on();
     'looks: for _ in rt.forever() {
         if let Some(spoken) = look_once(rt, desk, t) {
             return spoken;

@@ -10,10 +10,10 @@ ghost use Rattle.nat_setup.specs.Internal.Search.{ProbeSays, SearchSays};
 use crate::reply::reply_with;
 use crate::rule::Rule;
 use history_book::desk::Desk;
-use history_book::laws::{free_is_absent, states_stay};
+use history_book::laws::free_is_absent;
 use history_book::outcome::FindOutcome;
 use history_book::places::give_back;
-use history_book::sight_laws::seeing_adds_up;
+use history_book::sight_laws::desks_go_on;
 use std::sync::Wait;
 use tuple_core::Tuple;
 
@@ -52,8 +52,7 @@ pub fn look<R: Wait, D: Desk>(rt: &R, desk: &mut D, t: &Tuple) -> Probe
     ensures knows { IsKnown (D.sight desk.new) }
 {
     free_is_absent();
-    seeing_adds_up();
-    states_stay();
+    desks_go_on();
     match desk.find(rt, t) {
         FindOutcome::Absent { at } => Probe::Free { at },
         FindOutcome::Found { place, at, .. } => {
@@ -82,8 +81,7 @@ pub fn search_stretch<R: Wait, D: Desk>(
     ensures same { SamePlaces (D.sight desk.old) (D.sight desk.new) }
     ensures knows { IsKnown (D.sight desk.new) }
 {
-    seeing_adds_up();
-    states_stay();
+    desks_go_on();
     let mut to = stretch.since;
     for number in stretch.lowest..stretch.end {
         let port = number as u16;

@@ -15,8 +15,7 @@ use crate::reply::{Choice, choice_for, own_number, reply_with};
 use crate::rule::{Rule, Rules, rule_for};
 use crate::search::{Probe, Search, Stretch, look, search_stretch};
 use history_book::desk::Desk;
-use history_book::laws::states_stay;
-use history_book::sight_laws::seeing_adds_up;
+use history_book::sight_laws::{desks_go_on, seeing_adds_up};
 use std::sync::Wait;
 use tuple_core::{Tuple, bucket_of};
 
@@ -88,8 +87,7 @@ fn search_choice<R: Wait, D: Desk>(
     ensures same { SamePlaces (D.sight desk.old) (D.sight desk.new) }
     ensures knows { IsKnown (D.sight desk.new) }
 {
-    seeing_adds_up();
-    states_stay();
+    desks_go_on();
     let middle = first_tried(choice, t) as u32;
     let upper = Stretch {
         lowest: middle,
@@ -124,8 +122,7 @@ fn translate_by<R: Wait, D: Desk>(rt: &R, desk: &mut D, rule: &Rule, t: &Tuple) 
     ensures same { SamePlaces (D.sight desk.old) (D.sight desk.new) }
     ensures knows { IsKnown (D.sight desk.new) }
 {
-    seeing_adds_up();
-    states_stay();
+    desks_go_on();
     let own = own_number(rule, t);
     let choice = choice_for(rule, t);
     let has_own = has_own(&choice, own);

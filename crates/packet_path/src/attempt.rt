@@ -14,7 +14,7 @@ ghost use Rattle.history_book.specs.Places.{HoldsNothing};
 ghost use Rattle.packet_path.specs.Packet.{flow_packet};
 
 use crate::begin::begin_flow;
-use crate::bundles::{desks_go_on, met_entries_stay};
+use crate::bundles::met_entries_stay;
 use crate::packet::FlowView;
 use crate::payload::follow_payload;
 use crate::setup::Setup;
@@ -25,6 +25,7 @@ use history_book::laws::{entries_keep_their_helper, entries_keep_their_zone};
 use history_book::outcome::{FindOutcome, KillOutcome, TouchOutcome};
 use history_book::places::give_up;
 use history_book::record::Record;
+use history_book::sight_laws::desks_go_on;
 use history_book::verdict::{Class, Ftp};
 use std::sync::Wait;
 use tuple_core::Direction;

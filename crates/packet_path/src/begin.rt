@@ -19,7 +19,6 @@ ghost use Rattle.packet_path.specs.Made.{is_helped};
 ghost use Rattle.packet_path.specs.Taken.{taken_by};
 ghost use Rattle.proto_rules.specs.Start.{start_of};
 
-use crate::bundles::desks_go_on;
 use crate::laws::same_protocol_is_equality;
 use crate::packet::FlowView;
 use crate::scan::{Scan, drop_one};
@@ -32,6 +31,7 @@ use history_book::laws::{
 use history_book::outcome::{ClaimOutcome, ConfirmOutcome, TakeOutcome};
 use history_book::places::give_up;
 use history_book::record::Flow;
+use history_book::sight_laws::desks_go_on;
 use history_book::verdict::{Class, Translated};
 use nat_setup::translate::{TranslateOutcome, translate};
 use proto_rules::laws::entries_begin_fresh;

@@ -15,7 +15,7 @@ ghost use Rattle.packet_path.specs.Packet.{flow_packet};
 
 use crate::attempt::{Met, kill_entry, passed};
 use crate::begin::begin_flow;
-use crate::bundles::{desks_go_on, met_entries_stay};
+use crate::bundles::met_entries_stay;
 use crate::packet::FlowView;
 use crate::payload::{follow_payload, is_read};
 use crate::setup::Setup;
@@ -26,6 +26,7 @@ use history_book::outcome::{FindOutcome, TouchOutcome};
 use history_book::places::give_up;
 use history_book::record::Record;
 use history_book::report::Verdicts;
+use history_book::sight_laws::desks_go_on;
 use history_book::verdict::{Class, Ftp, Verdict};
 use std::sync::Wait;
 use tuple_core::Direction;

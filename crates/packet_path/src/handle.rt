@@ -17,14 +17,12 @@ ghost use Rattle.packet_path.specs.Taken.{taken_by};
 ghost use Rattle.packet_path.specs.Verdict.{FitsFrame};
 
 use crate::attempt::{Attempt, try_packet};
-use crate::bundles::desks_go_on;
 use crate::packet::{FlowView, flow_in};
 use crate::setup::Setup;
 use history_book::desk::Desk;
-use history_book::laws::states_stay;
 use history_book::outcome::FindOutcome;
 use history_book::places::give_up;
-use history_book::sight_laws::{going_on_adds_up, seeing_adds_up};
+use history_book::sight_laws::{desks_go_on, going_on_adds_up};
 use history_book::verdict::{Class, UntrackedWhy, Verdict};
 use packet_headers::classify::classify;
 use packet_headers::frame::Frame;
@@ -78,8 +76,7 @@ fn error_class<R: Wait, D: Desk>(
     ensures taken { (D.sight desk.new).taken ≡ taken_by result (D.sight desk.old).taken }
     ensures knows { IsKnown (D.sight desk.new) }
 {
-    seeing_adds_up();
-    states_stay();
+    desks_go_on();
     let looked_up = invert(inner);
     match desk.find(rt, &looked_up) {
         FindOutcome::Absent { at } => Class::ErrorLost { at },

@@ -13,13 +13,13 @@ ghost use Rattle.packet_path.specs.Internal.Fast.{TriedSays};
 ghost use Rattle.packet_path.specs.Packet.{flow_packet, FlowPacket, given_of, IsFlow, is_flow};
 
 use crate::attempt::{Attempt, meet_packet};
-use crate::bundles::desks_go_on;
 use crate::fast::{Tried, append, fast_packet};
 use crate::handle::other_class;
 use crate::packet::{FlowView, flow_in};
 use crate::setup::Setup;
 use history_book::desk::Desk;
 use history_book::report::Verdicts;
+use history_book::sight_laws::desks_go_on;
 use packet_headers::classify::classify;
 use packet_headers::frame::Frame;
 use packet_headers::packet::Packet;

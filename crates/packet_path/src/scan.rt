@@ -9,8 +9,8 @@ ghost use Rattle.packet_path.specs.Internal.Scan.{ScanSays};
 use history_book::answer::Row;
 use history_book::desk::Desk;
 use history_book::event::Why;
-use history_book::laws::{places_are_in_the_pool, states_stay};
-use history_book::sight_laws::{going_on_adds_up, seeing_adds_up};
+use history_book::laws::places_are_in_the_pool;
+use history_book::sight_laws::desks_go_on;
 use pool_visits::laws::{all_visits_stay, lived_have_rows, visits_add_up};
 use pool_visits::place::{Visit, destroy_place};
 use std::sync::Wait;
@@ -36,11 +36,9 @@ pub fn drop_one<R: Wait, D: Desk>(rt: &R, desk: &mut D, moment: u64, full_at: u6
     ensures knows { IsKnown (D.sight desk.new) }
 {
     all_visits_stay();
-    going_on_adds_up();
+    desks_go_on();
     lived_have_rows();
     places_are_in_the_pool();
-    seeing_adds_up();
-    states_stay();
     visits_add_up();
     let places = desk.places();
     let why = Why::Dropped { moment };

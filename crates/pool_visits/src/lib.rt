@@ -2,5 +2,6 @@
 //! all places say of every entry.
 #![tactic(auto)]
 
+mod bundles;
 pub mod laws;
 pub mod place;

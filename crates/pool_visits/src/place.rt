@@ -9,17 +9,15 @@ ghost use Rattle.history_book.specs.Sight.{IsKnown};
 ghost use Rattle.pool_visits.specs.Row.{IsRow};
 ghost use Rattle.pool_visits.specs.Visit.{names_no_segment, Visited, VisitSays};
 
+use crate::bundles::places_tell_their_entry;
 use history_book::answer::Row;
 use history_book::desk::Desk;
 use history_book::event::Why;
 use history_book::filter::{Filter, selects};
-use history_book::laws::{
-    destroyed_ids_stay_dead, entries_keep_their_place, events_stay, places_name_entries,
-    states_stay, unused_places_are_nobodys,
-};
+use history_book::laws::destroyed_ids_stay_dead;
 use history_book::outcome::{HoldOutcome, KillOutcome, PeekOutcome};
-use history_book::places::{give_up, one_hold_has_its_id};
-use history_book::sight_laws::{going_on_adds_up, seeing_adds_up};
+use history_book::places::give_up;
+use history_book::sight_laws::desks_go_on;
 use std::sync::Wait;
 
 /// The row of the entry that is live in the place, if one is and it passes the filter.
@@ -40,13 +38,8 @@ pub fn list_place<R: Wait, D: Desk>(
     ensures empty { HoldsNothing (D.sight desk.new) }
     ensures knows { IsKnown (D.sight desk.new) }
 {
-    entries_keep_their_place();
-    events_stay();
-    one_hold_has_its_id();
-    places_name_entries();
-    seeing_adds_up();
-    states_stay();
-    unused_places_are_nobodys();
+    desks_go_on();
+    places_tell_their_entry();
     match desk.hold(rt, place) {
         HoldOutcome::Empty { .. } => None,
         HoldOutcome::Held { .. } => match desk.peek(rt, place) {
@@ -87,14 +80,8 @@ pub fn destroy_place<R: Wait, D: Desk>(rt: &R, desk: &mut D, why: Why, place: u3
     ensures knows { IsKnown (D.sight desk.new) }
 {
     destroyed_ids_stay_dead();
-    entries_keep_their_place();
-    events_stay();
-    going_on_adds_up();
-    one_hold_has_its_id();
-    places_name_entries();
-    seeing_adds_up();
-    states_stay();
-    unused_places_are_nobodys();
+    desks_go_on();
+    places_tell_their_entry();
     match desk.hold(rt, place) {
         HoldOutcome::Empty { at } => Visit::Left { at },
         HoldOutcome::Held { .. } => match desk.kill(rt, place, why) {

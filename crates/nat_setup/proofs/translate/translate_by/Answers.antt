@@ -12,7 +12,7 @@ returns-in-Free-clause-says g c =
 
 pub returns-then-has_own-clause-says : goal.returns-then-has_own-clause-says
 returns-then-has_own-clause-says g c =
-    chooses_other c.states_stay.ensures c.args.rule.now c.args.t.now c.reply_with-reply.result (g.D.Desk.sight c.args.desk.now) (g.D.Desk.sight c.look.new.desk) (g.D.Desk.sight c.search_choice.new.desk)
+    chooses_other c.desks_go_on.ensures.states c.args.rule.now c.args.t.now c.reply_with-reply.result (g.D.Desk.sight c.args.desk.now) (g.D.Desk.sight c.look.new.desk) (g.D.Desk.sight c.search_choice.new.desk)
     c.choice_for-choice.result c.first_number-tried.result c.in-Taken.at c.in-Found.reply c.in-Found.at c.has_own-has_own.result c.choice_for-choice.ensures.exact
     (is_first c.args.rule.now c.args.t.now c.choice_for-choice.result c.own_number-own.result c.first_number-tried.result c.has_own-has_own.result
     c.own_number-own.ensures c.has_own-has_own.ensures c.first_number-tried.ensures.own c.first_number-tried.ensures.above c.first_number-tried.ensures.below)
@@ -28,7 +28,7 @@ returns-else-has_own-clause-says g c =
 
 pub returns-in-AllTaken-clause-says : goal.returns-in-AllTaken-clause-says
 returns-in-AllTaken-clause-says g c =
-    no_port c.states_stay.ensures c.args.rule.now c.args.t.now c.reply_with-reply.result (g.D.Desk.sight c.args.desk.now) (g.D.Desk.sight c.look.new.desk) (g.D.Desk.sight c.search_choice.new.desk)
+    no_port c.desks_go_on.ensures.states c.args.rule.now c.args.t.now c.reply_with-reply.result (g.D.Desk.sight c.args.desk.now) (g.D.Desk.sight c.look.new.desk) (g.D.Desk.sight c.search_choice.new.desk)
     c.choice_for-choice.result c.first_number-tried.result c.in-Taken.at c.in-AllTaken.to c.has_own-has_own.result c.choice_for-choice.ensures.exact
     (is_first c.args.rule.now c.args.t.now c.choice_for-choice.result c.own_number-own.result c.first_number-tried.result c.has_own-has_own.result
     c.own_number-own.ensures c.has_own-has_own.ensures c.first_number-tried.ensures.own c.first_number-tried.ensures.above c.first_number-tried.ensures.below)

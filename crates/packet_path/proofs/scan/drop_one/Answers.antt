@@ -8,7 +8,7 @@ pub places-init : goal.places-init
 places-init g c = record {
   within = omega arith;
   all = c.places-places.ensures.exact;
-  scanning = scanning_start c.seeing_adds_up.ensures.resting (Dropped c.args.moment) (g.D.Desk.sight c.args.desk.now) c.args.full_at
+  scanning = scanning_start c.desks_go_on.ensures.resting (Dropped c.args.moment) (g.D.Desk.sight c.args.desk.now) c.args.full_at
       c.requires.seen c.requires.empty c.requires.knows;
 }
 
@@ -18,14 +18,14 @@ places-preserved g c = record {
   all = c.places.invariant.all;
   scanning = scanning_more (Dropped c.args.moment) c.args.full_at (g.D.Desk.sight c.args.desk.now) (g.D.Desk.sight c.places.desk)
       (g.D.Desk.sight c.destroy_place.new.desk) c.places.next c.places.at c.destroy_place.ensures.knows c.places.invariant.scanning
-      c.seeing_adds_up.ensures.twice c.visits_add_up.ensures c.in-Left.left c.in-Left.ensures.says c.destroy_place.ensures.empty;
+      c.desks_go_on.ensures.twice c.visits_add_up.ensures c.in-Left.left c.in-Left.ensures.says c.destroy_place.ensures.empty;
 }
 
 pub returns-in-Destroyed-clause-says : goal.returns-in-Destroyed-clause-says
 returns-in-Destroyed-clause-says g c =
     scanning_dropped (Dropped c.args.moment) c.args.full_at (g.D.Desk.sight c.args.desk.now) (g.D.Desk.sight c.places.desk)
     (g.D.Desk.sight c.destroy_place.new.desk) c.places.next c.places.at c.destroy_place.ensures.knows c.places.invariant.scanning
-    c.going_on_adds_up.ensures.all c.all_visits_stay.ensures c.lived_have_rows.ensures c.in-Destroyed.row c.in-Destroyed.ensures.says
+    c.desks_go_on.ensures.all c.all_visits_stay.ensures c.lived_have_rows.ensures c.in-Destroyed.row c.in-Destroyed.ensures.says
 
 pub returns-clause-says : goal.returns-clause-says
 returns-clause-says g c =
