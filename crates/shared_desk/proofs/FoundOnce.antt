@@ -74,31 +74,31 @@ module _ (v : PassSight) (notes : Roomed Note) (spare : ℕ) (h : IsAtRest v not
   module _ (t : Tuple) (place id at : ℕ) (d : Direction) (w : PassSight) (f : FindsLive t place id d at v w) where
     rest_found : IsAtRest w notes spare
     rest_found =
-        subst (λ p. IsAtRest p notes spare) (sym f.same) (record {
+        subst (λ p. IsAtRest p notes spare) (sym f.found.same) (record {
           idle = idle_still v _ h.idle refl refl refl refl refl refl;
-          settled = settled_held place id v.view.places v.view.buckets.hooks h.settled f.untaken;
+          settled = settled_held place id v.view.places v.view.buckets.hooks h.settled f.found.untaken;
           own = h.own;
           room = h.room;
-          knows = counted _ _ (known_held (record (sight_of (clerk_at v spare)) { front = w.view.seen.front }) place id (known_seen w.view.seen.front f.all) f.below
-              (record { subject = f.was.subject; event = f.was.event; placed = f.was.its_place })
-              (all_agreed place id v.view.places.held h.settled.purposes f.untaken f.agreed) (none_of (λ p. p == place) v.view.places.owed f.owed) few);
+          knows = counted _ _ (known_held (record (sight_of (clerk_at v spare)) { front = w.view.seen.front }) place id (known_seen w.view.seen.front f.found.all) f.found.below
+              (record { subject = f.found.was.subject; event = f.found.was.event; placed = f.found.was.its_place })
+              (all_agreed place id v.view.places.held h.settled.purposes f.found.untaken f.found.agreed) (none_of (λ p. p == place) v.view.places.owed f.found.owed) few);
         })
 
     found_looked : Looked (sight_of (clerk_at v spare)) (then_of v (clerk_at w spare)) at (IsLiveUnder t place id d)
     found_looked = record {
-      saw = subst (λ p. Saw (sight_of (clerk_at v spare)) (then_of v (clerk_at p spare))) (sym f.same)
-          (saw_more (sight_of (clerk_at v spare)) _ f.all.front refl refl refl (record { tracker = refl; sizes = refl; shares = refl; returned = refl; gathered = refl }));
-      low = omega (arith, f.point, ap length f.all.front.1, length-append v.view.seen.front f.all.front.0);
+      saw = subst (λ p. Saw (sight_of (clerk_at v spare)) (then_of v (clerk_at p spare))) (sym f.found.same)
+          (saw_more (sight_of (clerk_at v spare)) _ f.found.all.front refl refl refl (record { tracker = refl; sizes = refl; shares = refl; returned = refl; gathered = refl }));
+      low = omega (arith, f.found.point, ap length f.found.all.front.1, length-append v.view.seen.front f.found.all.front.0);
       fact = record {
-        within = omega (arith, f.point);
-        fact = subst (λ (n : ℕ). IsLiveUnder t place id d (after w.view.seen.front n)) (sym f.point) f.live;
+        within = omega (arith, f.found.point);
+        fact = subst (λ (n : ℕ). IsLiveUnder t place id d (after w.view.seen.front n)) (sym f.found.point) f.live;
       };
     }
 
     found_holds : HoldsOneMore (sight_of (clerk_at v spare)) (then_of v (clerk_at w spare)) place (Some id)
     found_holds = record {
-      held = ap (λ (p : PassSight). map hold_of p.view.places.held) f.same;
-      owed = ap (λ (p : PassSight). p.view.places.owed) f.same;
+      held = ap (λ (p : PassSight). map hold_of p.view.places.held) f.found.same;
+      owed = ap (λ (p : PassSight). p.view.places.owed) f.found.same;
     }
 
   -- NOBODY

@@ -20,16 +20,7 @@ use Rattle.shared_desk.proofs.Under.{AreLaws}
 -- of a tuple that is valid
 pub looks_valid : AreLaws → LiveRecordsAreConfirmed → (t : Tuple) → is_valid t ≡ true → (r : FindOnce) (v w : PassSight) → FindOnceSays r t v w → LooksOnce r t v w
 looks_valid laws low t valid_t (Found place id d at) v w f = record {
-  same = f.same;
-  stand = f.stand;
-  own = f.own;
-  below = f.below;
-  owed = f.owed;
-  untaken = f.untaken;
-  agreed = f.agreed;
-  all = f.all;
-  point = f.point;
-  was = f.was;
+  found = f;
   live = live_there (sizes_of v) w.view.seen.front f.all.legal laws t valid_t low place id f.was f.live d f.directed;
 }
 looks_valid laws low t valid_t (Absent at) v w f = record {

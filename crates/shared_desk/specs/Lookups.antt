@@ -1,44 +1,22 @@
 -- What a pass finds that looks once for what is live under a tuple.
-use Rattle.std.specs.Prelude.{◌≡◌, ℕ, ◌<◌, true, false, None, ◌∷◌, length}
+use Rattle.std.specs.Prelude.{◌≡◌, ℕ, true, false, None, length}
 use Rattle.tuple_core.specs.declared.Direction.{Direction}
 use Rattle.tuple_core.specs.declared.Tuple.{Tuple}
 use Rattle.history_book.specs.Desk.{IsLiveUnder}
 use Rattle.history_book.specs.State.{live_under}
-use Rattle.track_rule.specs.ChangesOnly.{changes_only, is_refs_of}
 use Rattle.track_rule.specs.History.{state_after}
-use Rattle.track_rule.specs.KeptWords.{is_kept_for}
 use Rattle.track_rule.specs.Readings.{added, changes}
-use Rattle.track_rule.specs.References.{WasConfirmed, is_taken}
-use Rattle.track_rule.specs.Sights.{PassSight, looked_on, sizes_of}
-use Rattle.track_rule.specs.Steps.{AreAll, keep}
-use Rattle.track_rule.specs.Sums.{times}
-use Rattle.track_rule.specs.declared.view.Purpose.TheVariants.{For}
-use Rattle.bucket_table.specs.Finding.{HasMoved}
+use Rattle.track_rule.specs.Sights.{PassSight, looked_on}
+use Rattle.track_rule.specs.Steps.{AreAll}
+use Rattle.bucket_table.specs.Finding.{FindsEntry, HasMoved}
 use Rattle.bucket_table.specs.GoesOn.{ReadingsStand}
 use Rattle.bucket_table.specs.declared.finding.FindOnce.{FindOnce}
 use Rattle.bucket_table.specs.declared.finding.FindOnce.TheVariants.{Found, Absent, Moved}
 
 -- The entry of this id is live under the tuple, in this direction, after all events up to this point, which the pass has seen; it holds
--- the entry's place for it. Before the call it did not owe the place, had not taken it, and held it for no other id. It changed no
--- word itself but the references of the place. All else is as it was, but the note of a walk and the readings.
+-- the entry's place for it, as `FindsEntry` says.
 pub record FindsLive (t : Tuple) (place id : ℕ) (direction : Direction) (at : ℕ) (v w : PassSight) : Type 0 where
-  pub same : w ≡ record v {
-    view = record v.view {
-      seen = record v.view.seen { front = w.view.seen.front };
-      places = record v.view.places { held = keep place (For id) ∷ v.view.places.held };
-      walk = w.view.walk;
-      readings = w.view.readings;
-    };
-  }
-  pub stand : ReadingsStand v w
-  pub own : changes_only (is_refs_of place (sizes_of v)) (added v.view w.view) ≡ true
-  pub below : place < (sizes_of v).entries
-  pub owed : times place v.view.places.owed ≡ 0
-  pub untaken : is_taken place v.view.places.held ≡ false
-  pub agreed : (other : ℕ) → is_kept_for place other v.view.places.held ≡ true → other ≡ id
-  pub all : AreAll v.view w.view.seen.front
-  pub point : at ≡ length w.view.seen.front
-  pub was : WasConfirmed w.view.seen.front id place
+  pub found : FindsEntry t place id direction at v w
   pub live : IsLiveUnder t place id direction (state_after w.view.seen.front)
 
 -- Nothing is live under the tuple after all events up to this point, which the pass has seen. It changed no word. All else is as it was,
