@@ -7,7 +7,7 @@ ghost use Rattle.history_book.specs.Sight.{IsKnown};
 ghost use Rattle.conntrack_cmd.specs.declared.command.Command.TheVariants.{Delete, Flush, List};
 ghost use Rattle.conntrack_cmd.specs.Internal.Spoken.{Speaks};
 
-use crate::bundles::{entries_live_once, sweeps_see_each_entry};
+use crate::bundles::entries_live_once;
 use crate::sort::sort_rows;
 use crate::spoken::Spoken;
 use crate::sweep::{count_destroyed, destroy_all, list_all};
@@ -16,6 +16,7 @@ use history_book::desk::Desk;
 use history_book::event::Why;
 use history_book::filter::Filter;
 use history_book::sight_laws::desks_go_on;
+use pool_visits::laws::sweeps_see_each_entry;
 use std::sync::Wait;
 
 /// Lists the entries that pass the filter, in the list that it takes.

@@ -6,7 +6,7 @@ ghost use Rattle.history_book.specs.Sight.{IsKnown};
 ghost use Rattle.conntrack_cmd.specs.declared.command.Command.TheVariants.{Expire};
 ghost use Rattle.conntrack_cmd.specs.Internal.Spoken.{Speaks};
 
-use crate::bundles::{expectations_live_once, sweeps_see_each_entry};
+use crate::bundles::expectations_live_once;
 use crate::late::end_late;
 use crate::spoken::Spoken;
 use crate::sweep::count_destroyed;
@@ -15,6 +15,7 @@ use history_book::desk::Desk;
 use history_book::event::Why;
 use history_book::report::Expectations;
 use history_book::sight_laws::desks_go_on;
+use pool_visits::laws::sweeps_see_each_entry;
 use std::sync::Wait;
 
 /// Destroys the entries that are expired at the moment, and then ends the expectations that are due no longer; the

@@ -7,12 +7,12 @@ ghost use Rattle.history_book.specs.Sight.{IsKnown};
 ghost use Rattle.conntrack_cmd.specs.Internal.Loops.{IsCounting, IsDestroying, IsListing};
 ghost use Rattle.pool_visits.specs.Visit.{names_no_segment};
 
-use crate::bundles::sweeps_go_on;
 use history_book::answer::Rows;
 use history_book::desk::Desk;
 use history_book::event::Why;
 use history_book::filter::Filter;
 use history_book::sight_laws::desks_go_on;
+use pool_visits::laws::sweeps_go_on;
 use pool_visits::place::{Visit, destroy_place, list_place};
 use std::sync::Wait;
 

@@ -9,9 +9,8 @@ ghost use Rattle.packet_path.specs.Internal.Scan.{ScanSays};
 use history_book::answer::Row;
 use history_book::desk::Desk;
 use history_book::event::Why;
-use history_book::laws::places_are_in_the_pool;
 use history_book::sight_laws::desks_go_on;
-use pool_visits::laws::{all_visits_stay, lived_have_rows, visits_add_up};
+use pool_visits::laws::{sweeps_go_on, sweeps_see_each_entry};
 use pool_visits::place::{Visit, destroy_place};
 use std::sync::Wait;
 
@@ -35,11 +34,9 @@ pub fn drop_one<R: Wait, D: Desk>(rt: &R, desk: &mut D, moment: u64, full_at: u6
     ensures empty { HoldsNothing (D.sight desk.new) }
     ensures knows { IsKnown (D.sight desk.new) }
 {
-    all_visits_stay();
     desks_go_on();
-    lived_have_rows();
-    places_are_in_the_pool();
-    visits_add_up();
+    sweeps_go_on();
+    sweeps_see_each_entry();
     let places = desk.places();
     let why = Why::Dropped { moment };
     let mut at = full_at;
