@@ -19,22 +19,17 @@ ghost use Rattle.packet_path.specs.Made.{is_helped};
 ghost use Rattle.packet_path.specs.Taken.{taken_by};
 ghost use Rattle.proto_rules.specs.Start.{start_of};
 
-use crate::laws::same_protocol_is_equality;
+use crate::bundles::flows_begin_once;
 use crate::packet::FlowView;
 use crate::scan::{Scan, drop_one};
 use crate::setup::Setup;
 use history_book::desk::Desk;
-use history_book::laws::{
-    absent_tuples_are_nobodys, events_may_happen, free_is_absent, late_entries_are_new,
-    unused_places_are_room,
-};
 use history_book::outcome::{ClaimOutcome, ConfirmOutcome, TakeOutcome};
 use history_book::places::give_up;
 use history_book::record::Flow;
 use history_book::sight_laws::desks_go_on;
 use history_book::verdict::{Class, Translated};
 use nat_setup::translate::{TranslateOutcome, translate};
-use proto_rules::laws::entries_begin_fresh;
 use proto_rules::{Part, start};
 use std::sync::Wait;
 use tuple_core::{Proto, Tuple, invert};
@@ -103,13 +98,7 @@ fn confirm_flow<R: Wait, D: Desk>(
     ensures knows { IsKnown (D.sight desk.new) }
 {
     desks_go_on();
-    absent_tuples_are_nobodys();
-    entries_begin_fresh();
-    events_may_happen();
-    free_is_absent();
-    late_entries_are_new();
-    same_protocol_is_equality();
-    unused_places_are_room();
+    flows_begin_once();
     let claim = desk.claim(rt, &packet.tuple, packet.moment);
     let flow = Flow {
         original: packet.tuple,

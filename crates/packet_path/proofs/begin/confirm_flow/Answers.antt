@@ -29,7 +29,7 @@ returns-in-Confirmed-clause-answers g c = λ first killed few had.
     (answers_before c.desks_go_on.ensures.states c.desks_go_on.ensures.events c.desks_go_on.ensures.all c.desks_go_on.ensures.twice c.args.setup.now first after new (flow_packet c.args.packet.now) killed c.args.absent_at _
     (made_answer c.desks_go_on.ensures.states c.desks_go_on.ensures.events c.desks_go_on.ensures.all c.args.setup.now first s mid after (flow_packet c.args.packet.now) c.args.part c.args.found.now
     killed c.args.absent_at c.args.place c.in-Confirmed.id c.claim-claim.result few c.requires.starts had
-    (looked_for c.events_may_happen.ensures (flow_packet c.args.packet.now) s mid c.claim-claim.result c.claim-claim.ensures.knows c.claim-claim.ensures.says)
+    (looked_for c.flows_begin_once.ensures.may (flow_packet c.args.packet.now) s mid c.claim-claim.result c.claim-claim.ensures.knows c.claim-claim.ensures.says)
     (subst
     (λ (h : Bool). Confirms c.args.place (flow_of (flow_packet c.args.packet.now) c.args.part c.args.found.now.reply h (Rattle.packet_path.specs.Internal.Attempt.claimed_master c.claim-claim.result)) mid after c.in-Confirmed.id)
     c.is_helped.ensures
@@ -46,13 +46,13 @@ returns-in-Clash-clause-answers g c = λ first killed few had.
     let new = g.D.Desk.sight c.give_up-in-Clash.new.desk in
     subst (λ (k : Class). Answers c.args.setup.now first new (flow_packet c.args.packet.now) killed c.args.absent_at k) (sym c.met_winner.ensures)
     (answers_before c.desks_go_on.ensures.states c.desks_go_on.ensures.events c.desks_go_on.ensures.all c.desks_go_on.ensures.twice c.args.setup.now first after new (flow_packet c.args.packet.now) killed c.args.absent_at _
-    (winner_answer c.desks_go_on.ensures.states c.desks_go_on.ensures.events c.desks_go_on.ensures.all c.absent_tuples_are_nobodys.ensures c.free_is_absent.ensures c.late_entries_are_new.ensures
+    (winner_answer c.desks_go_on.ensures.states c.desks_go_on.ensures.events c.desks_go_on.ensures.all c.flows_begin_once.ensures.absent c.flows_begin_once.ensures.free c.flows_begin_once.ensures.late
     c.args.setup.now first s mid after (flow_packet c.args.packet.now) _ c.args.found.now c.claim-claim.result killed c.args.absent_at c.in-Clash.id c.in-Clash.at
     c.in-Clash.direction c.in-Clash.both few c.confirm.ensures.knows (subst (λ (o : Option Part). IsSome o) (sym c.requires.starts) refl) had
-    (looked_for c.events_may_happen.ensures (flow_packet c.args.packet.now) s mid c.claim-claim.result c.claim-claim.ensures.knows c.claim-claim.ensures.says)
+    (looked_for c.flows_begin_once.ensures.may (flow_packet c.args.packet.now) s mid c.claim-claim.result c.claim-claim.ensures.knows c.claim-claim.ensures.says)
     refl refl
     (winner_looked mid after _ c.args.place c.in-Clash.id c.in-Clash.at c.in-Clash.direction c.in-Clash.both c.in-Clash.ensures.says.0)
-    (had_place c.unused_places_are_room.ensures s mid after _ c.args.place c.in-Clash.id c.in-Clash.at c.in-Clash.direction c.in-Clash.both
+    (had_place c.flows_begin_once.ensures.room s mid after _ c.args.place c.in-Clash.id c.in-Clash.at c.in-Clash.direction c.in-Clash.both
     c.confirm.ensures.knows c.requires.holds (looking_keeps (flow_packet c.args.packet.now) s mid c.claim-claim.result c.claim-claim.ensures.says)
     c.in-Clash.ensures.says.1 c.in-Clash.ensures.says.0)
     (same_proto c.args.packet.now.tuple.proto proto.Udp && c.in-Clash.both) refl)
