@@ -33,7 +33,8 @@ use Rattle.shared_desk.specs.declared.rival.Rival.{Rival}
 use Rattle.shared_desk.proofs.Entering.{valid_original, valid_reply}
 use Rattle.shared_desk.proofs.Members.{IsIn}
 use Rattle.shared_desk.proofs.Naming.{AreLinked}
-use Rattle.shared_desk.proofs.Under.{AreLaws, not_original, reply_is, under, under_none, unused_place}
+use Rattle.shared_desk.proofs.Under.{not_original, reply_is, under, under_none, unused_place}
+use Rattle.shared_desk.specs.TupleLaws.{TuplesTellEntries}
 
 -- nothing is loose where no hook is up
 pub none_loose : (z : Sizes) (b : ℕ) (w : ChainLink → ℕ) (hooks : List Hook) → is_any_up hooks ≡ false
@@ -63,7 +64,7 @@ pub record IsTheRival (flow : Flow) (rival : Rival) (log : List Event) (v : View
   pub both : rival.both ≡ (has_original flow.original subject && has_reply flow.reply subject)
 
 module _ (flow : Flow) (place : ℕ) (rival : Rival) (v : PassSight) (word : ℕ) (u : PassSight) (blocked : IsBlocked place flow rival v) (looks : Looks v.view word u.view)
-    (laws : AreLaws) where
+    (laws : TuplesTellEntries) where
   linked : (t : Tuple) → bucket_in (sizes_of v) t < (sizes_of v).buckets → 0 < shuts_of (bucket_in (sizes_of v) t) v.view → AreLinked (sizes_of v) t (chain_of (sizes_of v) t v.view.buckets.shut) (records_after u.view.seen.front)
   linked t below shut weight =
       omega (
@@ -154,7 +155,7 @@ rival_phase flow place n rival log v u w blocked r word looks loads =
     (ap (λ (k : View). k.commit.middle) looks.same ∙ blocked.calm) r.named r.placed
 
 -- the answer
-pub blocks : (flow : Flow) (place n word at : ℕ) (rival : Rival) (v u w : PassSight) → IsBlocked place flow rival v → (r : IsTheRival flow rival u.view.seen.front v.view) → AreLaws
+pub blocks : (flow : Flow) (place n word at : ℕ) (rival : Rival) (v u w : PassSight) → IsBlocked place flow rival v → (r : IsTheRival flow rival u.view.seen.front v.view) → TuplesTellEntries
     → Looks v.view word u.view → u ≡ record v { view = u.view } → LoadsPhase rival.place u.view n w.view → w ≡ record u { view = w.view } → at ≡ events_in word
     → Blocks place flow (n - 3) rival.direction rival.both at v w
 blocks flow place n word at rival v u w blocked r laws looks kept loads kept' at_is =

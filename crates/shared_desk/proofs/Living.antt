@@ -29,7 +29,8 @@ use Rattle.bucket_table.specs.Following.{has_words}
 use Rattle.bucket_table.specs.LockedChain.{link_with, original_first}
 use Rattle.shared_desk.proofs.Members.{IsIn, found_none, found_only, holds_in, same_or_apart}
 use Rattle.shared_desk.proofs.Naming.{AreLinked, valid_tuples}
-use Rattle.shared_desk.proofs.Under.{AreLaws, one_original, one_reply, under_none, valid_in}
+use Rattle.shared_desk.proofs.Under.{one_original, one_reply, under_none, valid_in}
+use Rattle.shared_desk.specs.TupleLaws.{TuplesTellEntries}
 
 -- one that is found is there, and passes the test
 found_in_list : (q : Record → Bool) (rs : List Record) (x : Record) → find q rs ≡ Some x → IsIn x rs × (q x ≡ true)
@@ -51,7 +52,7 @@ no_link d a b (x ∷ xs) e =
     let parts = or_parts (has_words a b x) (list_any (has_words a b) xs) e in
     ap (λ (t : Bool). if t && side_of x.link == d then Some x.link else link_with d a b xs) parts.0 ∙ no_link d a b xs parts.1
 
-module _ (z : Sizes) (log : List Event) (legal : is_legal z log ≡ true) (laws : AreLaws) (t : Tuple) where
+module _ (z : Sizes) (log : List Event) (legal : is_legal z log ≡ true) (laws : TuplesTellEntries) (t : Tuple) where
   -- a tuple that is not valid is nobody's
   pub nobody_invalid : is_valid t ≡ false → live_under t (state_after log) ≡ None
   nobody_invalid invalid =

@@ -15,10 +15,10 @@ use Rattle.bucket_table.specs.declared.finding.FindOnce.TheVariants.{Found, Abse
 use Rattle.shared_desk.specs.Lookups.{FindsNobody, LooksOnce}
 use Rattle.shared_desk.proofs.Living.{live_there, nobody_invalid, nobody_linked}
 use Rattle.shared_desk.proofs.Readings.{drop_first}
-use Rattle.shared_desk.proofs.Under.{AreLaws}
+use Rattle.shared_desk.specs.TupleLaws.{TuplesTellEntries}
 
 -- of a tuple that is valid
-pub looks_valid : AreLaws → LiveRecordsAreConfirmed → (t : Tuple) → is_valid t ≡ true → (r : FindOnce) (v w : PassSight) → FindOnceSays r t v w → LooksOnce r t v w
+pub looks_valid : TuplesTellEntries → LiveRecordsAreConfirmed → (t : Tuple) → is_valid t ≡ true → (r : FindOnce) (v w : PassSight) → FindOnceSays r t v w → LooksOnce r t v w
 looks_valid laws low t valid_t (Found place id d at) v w f = record {
   found = f;
   live = live_there (sizes_of v) w.view.seen.front f.all.legal laws t valid_t low place id f.was f.live d f.directed;
@@ -34,7 +34,7 @@ looks_valid laws low t valid_t (Absent at) v w f = record {
 looks_valid laws low t valid_t (Moved word was now owed) v w f = f
 
 -- and of one that is not
-pub looks_invalid : AreLaws → (t : Tuple) → is_valid t ≡ false → (word at : ℕ) (v w : PassSight) → Looks v.view word w.view → w ≡ record v { view = w.view } → at ≡ events_in word
+pub looks_invalid : TuplesTellEntries → (t : Tuple) → is_valid t ≡ false → (word at : ℕ) (v w : PassSight) → Looks v.view word w.view → w ≡ record v { view = w.view } → at ≡ events_in word
     → FindsNobody t at v w
 looks_invalid laws t invalid word at v w looks kept point =
     let readings : w.view.readings ≡ v.view.readings ++ found_history word v.view ∷ [] = ap (λ (x : View). x.readings) looks.same in

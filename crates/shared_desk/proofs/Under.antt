@@ -27,20 +27,14 @@ use Rattle.track_rule.specs.Walks.{rev_onto}
 use Rattle.track_rule.specs.declared.view.ChainLink.{ChainLink}
 use Rattle.bucket_table.specs.LockedChain.{found_in, link_with, original_first, place_in}
 use Rattle.shared_desk.specs.Rival.{has_both}
+use Rattle.shared_desk.specs.TupleLaws.{TuplesTellEntries}
 use Rattle.shared_desk.proofs.Members.{IsIn, any_none, found_none, found_only, holds_in, same_or_apart, weighs_in}
 use Rattle.shared_desk.proofs.Naming.{AreLinked, original_free, original_owner, reply_free, reply_owner}
 
 some_inj : {X : Type 0} (a b : X) → Some a ≡ Some b → a ≡ b
 some_inj a b e = cc
 
--- the laws of histories that serve here
-pub record AreLaws : Type 0 where
-  pub words : WordsDetermineTheTuple
-  pub same : SameTupleIsEquality
-  pub apart : RecordsAreApart
-  pub one : RecordsAreOfOneFlow
-
-module _ (z : Sizes) (log : List Event) (legal : is_legal z log ≡ true) (laws : AreLaws) where
+module _ (z : Sizes) (log : List Event) (legal : is_legal z log ≡ true) (laws : TuplesTellEntries) where
   pub valid_in : (r : Record) → IsIn r (records_after log) → is_of_one_flow r ≡ true
   valid_in r i = holds_in (λ r. is_of_one_flow r ≡ true) r (records_after log) (recursion_from_All (λ r. is_of_one_flow r ≡ true) (records_after log) (laws.one z log (length log) legal)) i
 

@@ -4,6 +4,7 @@ pub mod Changed
 pub mod Calls
 pub mod Laws
 pub mod Tuples
+pub mod TupleLaws
 pub mod Commit
 pub mod Rival
 pub mod Confirm

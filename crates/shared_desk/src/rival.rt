@@ -9,15 +9,15 @@ ghost use Rattle.track_rule.specs.ChangesOnly.{ChangesWords, no_word};
 ghost use Rattle.shared_desk.specs.Rival.{Clashes, IsBlocked, has_both, rival_in};
 ghost use Rattle.track_rule.specs.Sights.{sizes_of};
 
+use crate::laws::tuples_tell_entries;
 use bucket_table::lock::Locked;
 use bucket_table::locked_chain::{walk_reply, walk_sized};
-use history_book::laws::{records_are_apart, records_are_of_one_flow, same_tuple_is_equality};
 use history_book::outcome::ConfirmOutcome;
 use history_book::record::Flow;
 use history_book::sizes::Sizes;
 use track_rule::history_word::events_in;
 use track_rule::pass::Pass;
-use tuple_core::{Direction, words_determine_the_tuple};
+use tuple_core::Direction;
 
 /// The place of the entry, the direction in which it has the flow's original tuple, or its reply tuple where no entry has that,
 /// and whether both its tuples are the flow's.
@@ -83,10 +83,7 @@ pub fn clash(pass: &mut Pass, place: u32, flow: &Flow, rival: &Rival) -> Confirm
 {
     let _ = place;
     let _ = flow;
-    words_determine_the_tuple();
-    same_tuple_is_equality();
-    records_are_apart();
-    records_are_of_one_flow();
+    tuples_tell_entries();
     let _sizes = pass.sizes();
     let at = events_in(pass.history_load());
     let phase = pass.phase_load(rival.place);

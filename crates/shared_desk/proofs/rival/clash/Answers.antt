@@ -1,27 +1,20 @@
 use Rattle.track_rule.proofs.Changing.{joined, look_words, phase_words}
 use Rattle.track_rule.specs.ChangesOnly.{no_word}
 use Rattle.std.proofs.Common.{◌<◌, arith, subst, sym}
-use Rattle.history_book.specs.Laws.{RecordsAreApart, RecordsAreOfOneFlow}
-use Rattle.history_book.specs.StateLaws.{SameTupleIsEquality}
-use Rattle.tuple_core.specs.Laws.{WordsDetermineTheTuple}
 use Rattle.track_rule.specs.declared.view.View.{View}
 use Rattle.shared_desk.proofs.Clashing.{blocks, rival_phase, the_rival}
-use Rattle.shared_desk.proofs.Under.{AreLaws}
 use Rattle.shared_desk.proofs.rival.clash.Goals as goal
-
-laws : WordsDetermineTheTuple → SameTupleIsEquality → RecordsAreApart → RecordsAreOfOneFlow → AreLaws
-laws w s a o = record { words = w; same = s; apart = a; one = o }
 
 pub phase_load-phase-requires : goal.phase_load-phase-requires
 phase_load-phase-requires c =
     let r = the_rival c.args.flow.now c.args.place c.args.rival.now c.args.pass.now c.history_load.result c.history_load.new.self c.requires c.history_load.ensures.looks
-    (laws c.words_determine_the_tuple.ensures c.same_tuple_is_equality.ensures c.records_are_apart.ensures c.records_are_of_one_flow.ensures) in
+    c.tuples_tell_entries.ensures in
     record { place = subst (λ (k : View). c.args.rival.now.place < k.passes.sizes.entries) (sym c.history_load.ensures.looks.same) r.low }
 
 pub overflow_sub-result : goal.overflow_sub-result
 overflow_sub-result c =
     let r = the_rival c.args.flow.now c.args.place c.args.rival.now c.args.pass.now c.history_load.result c.history_load.new.self c.requires c.history_load.ensures.looks
-    (laws c.words_determine_the_tuple.ensures c.same_tuple_is_equality.ensures c.records_are_apart.ensures c.records_are_of_one_flow.ensures) in
+    c.tuples_tell_entries.ensures in
     omega (
       arith,
       rival_phase c.args.flow.now c.args.place c.phase_load-phase.result c.args.rival.now c.history_load.new.self.view.seen.front c.args.pass.now c.history_load.new.self c.phase_load-phase.new.self
@@ -32,8 +25,8 @@ pub returns-clause-clashes : goal.returns-clause-clashes
 returns-clause-clashes c =
     blocks c.args.flow.now c.args.place c.phase_load-phase.result c.history_load.result c.events_in-at.result c.args.rival.now c.args.pass.now c.history_load.new.self c.phase_load-phase.new.self c.requires
     (the_rival c.args.flow.now c.args.place c.args.rival.now c.args.pass.now c.history_load.result c.history_load.new.self c.requires c.history_load.ensures.looks
-    (laws c.words_determine_the_tuple.ensures c.same_tuple_is_equality.ensures c.records_are_apart.ensures c.records_are_of_one_flow.ensures))
-    (laws c.words_determine_the_tuple.ensures c.same_tuple_is_equality.ensures c.records_are_apart.ensures c.records_are_of_one_flow.ensures)
+    c.tuples_tell_entries.ensures)
+    c.tuples_tell_entries.ensures
     c.history_load.ensures.looks c.history_load.ensures.kept c.phase_load-phase.ensures.loads c.phase_load-phase.ensures.kept c.events_in-at.ensures
 
 pub returns-clause-words : goal.returns-clause-words
