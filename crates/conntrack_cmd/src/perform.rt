@@ -134,8 +134,6 @@ pub fn perform<R: Wait, D: Desk>(
     ensures knows { IsKnown (D.sight desk.new) }
 {
     events_may_happen();
-    match perform_command(rt, alloc, desk, command, moment) {
-        Ok(answer) => Ok(answer),
-        Err(error) => Err(error),
-    }
+    let answer = perform_command(rt, alloc, desk, command, moment)?;
+    Ok(answer)
 }

@@ -78,10 +78,7 @@ pub fn run_script<R: Wait, G: Gate, D: Desk>(
     let base = desk.made() - first;
     'commands: for command in commands {
         shared.gate.at(number, Crossing::BeforeCommand);
-        let answer = match perform(rt, shared.alloc, desk, command, shared.moment) {
-            Ok(answer) => answer,
-            Err(error) => return Err(error),
-        };
+        let answer = perform(rt, shared.alloc, desk, command, shared.moment)?;
         thread.answers.push(Answer {
             first: answer.first - base,
             ..answer

@@ -64,10 +64,10 @@ pub fn finish<R: Wait>(
     ensures asked { IfOk result (λ heard. is_some heard ≡ is_some line) }
 {
     match (line, hearing) {
-        (Some(line), Some(hearing)) => match line.finish(rt, hearing, sendings) {
-            Ok(heard) => Ok(Some(heard)),
-            Err(error) => Err(error),
-        },
+        (Some(line), Some(hearing)) => {
+            let heard = line.finish(rt, hearing, sendings)?;
+            Ok(Some(heard))
+        }
         _ => Ok(None),
     }
 }

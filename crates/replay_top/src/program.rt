@@ -119,14 +119,9 @@ fn replay_asked<R: Threads + Wait + Sync, F: Files, G: Gate + Sync>(
     ensures no_file { files_of (asked_as asked.now) ≡ [] → F.source files.new ≡ F.source files.old }
     ensures stays { Stays (F.source files.old) (F.source files.new) }
 {
-    let inputs = match read_all(alloc, files, asked) {
-        Ok(inputs) => inputs,
-        Err(why) => return Err(why),
-    };
-    match replay_inputs(rt, alloc, asked, inputs, gate) {
-        Ok(made) => Ok(made),
-        Err(_) => Err(Refusal::NoMemory),
-    }
+    let inputs = read_all(alloc, files, asked)?;
+    let made = replay_inputs(rt, alloc, asked, inputs, gate)?;
+    Ok(made)
 }
 
 /// Writes a report's text, or its summary.

@@ -8,6 +8,7 @@ use command_words::WordsLimit;
 use conntrack_cmd::read::ScriptFault;
 use nat_setup::read::RuleFault;
 use packet_headers::capture::CaptureFault;
+use tuple_core::NoMemory;
 
 /// A kind of file that the words name.
 #[derive(Clone, Copy)]
@@ -48,6 +49,16 @@ pub enum Refusal {
     /// A read of this file failed.
     NotRead { file: usize },
     NoMemory,
+}
+
+impl From<NoMemory> for Refusal {
+    ghost use Rattle.run_inputs.specs.declared.flaw.Refusal.{Refusal};
+
+    ghost from_gives = { λ _ why. why ≡ Refusal.NoMemory };
+
+    fn from(_error: NoMemory) -> Refusal {
+        Refusal::NoMemory
+    }
 }
 
 /// The status of a run that ends with the flaw.

@@ -117,15 +117,9 @@ fn read_rule_file<F: Files>(
     ensures stays { Stays (F.source files.old) (F.source files.new) }
 {
     let Some(name) = name else {
-        return match Rules::new(alloc, 0) {
-            Ok(rules) => Ok(rules),
-            Err(_) => Err(Refusal::NoMemory),
-        };
+        return Ok(Rules::new(alloc, 0)?);
     };
-    let bytes = match read_input(alloc, files, FileKind::Rules, name, 0, &NONE_BEFORE) {
-        Ok(bytes) => bytes,
-        Err(why) => return Err(why),
-    };
+    let bytes = read_input(alloc, files, FileKind::Rules, name, 0, &NONE_BEFORE)?;
     match read_rules(alloc, bytes.as_slice()) {
         Ok(rules) => Ok(rules),
         Err(RuleError::Fault(fault)) => Err(Refusal::Flawed {
@@ -161,15 +155,9 @@ fn read_script_file<F: Files>(
 {
     commands_are_lawful();
     let Some(name) = name else {
-        return match no_script(alloc) {
-            Ok(script) => Ok(script),
-            Err(_) => Err(Refusal::NoMemory),
-        };
+        return Ok(no_script(alloc)?);
     };
-    let bytes = match read_input(alloc, files, FileKind::Script, name, file, &NONE_BEFORE) {
-        Ok(bytes) => bytes,
-        Err(why) => return Err(why),
-    };
+    let bytes = read_input(alloc, files, FileKind::Script, name, file, &NONE_BEFORE)?;
     match read_script(alloc, bytes.as_slice()) {
         Ok(script) => Ok(script),
         Err(ScriptError::Fault(fault)) => Err(Refusal::Flawed {
@@ -232,10 +220,7 @@ fn read_capture_file<F: Files>(
     ensures in_zone { IfOk result (λ capture. capture.zone ≡ zone) }
     ensures stays { Stays (F.source files.old) (F.source files.new) }
 {
-    let bytes = match read_input(alloc, files, FileKind::Capture, name, file, before) {
-        Ok(bytes) => bytes,
-        Err(why) => return Err(why),
-    };
+    let bytes = read_input(alloc, files, FileKind::Capture, name, file, before)?;
     match capture_of(alloc, bytes, zone, file, before) {
         Ok(capture) => Ok(capture),
         Err(why) => Err(why),
@@ -277,10 +262,7 @@ fn read_captures<F: Files>(
         (F.source files.old) (F.source files.new) result }
     ensures stays { Stays (F.source files.old) (F.source files.new) }
 {
-    let mut captures = match Captures::new(alloc, names.len()) {
-        Ok(captures) => captures,
-        Err(_) => return Err(Refusal::NoMemory),
-    };
+    let mut captures = Captures::new(alloc, names.len())?;
     let mut totals = NONE_BEFORE;
     'captures: for (index, name) in names.iter().enumerate() {
         let zone = zone_at(zones, index);
@@ -360,9 +342,6 @@ pub fn read_all<F: Files>(
 {
     match &asked.origin {
         Origin::Named(names) => read_named(alloc, files, names, asked.zones.as_slice()),
-        Origin::Made(workload) => match make_inputs(alloc, workload, asked.zones.as_slice()) {
-            Ok(inputs) => Ok(inputs),
-            Err(_) => Err(Refusal::NoMemory),
-        },
+        Origin::Made(workload) => Ok(make_inputs(alloc, workload, asked.zones.as_slice())?),
     }
 }

@@ -14,7 +14,7 @@ commands-init g c = record {
 
 pub tell-requires : goal.tell-requires
 tell-requires g c =
-    along_more (g.D.Desk.sight c.commands.desk).own (g.D.Desk.sight c.perform.new.desk).own c.in-Ok.ensures.performed.own c.in-Ok.ensures.performed.went.own
+    along_more (g.D.Desk.sight c.commands.desk).own (g.D.Desk.sight c.perform.new.desk).own c.in_ok-answer.ensures.performed.own c.in_ok-answer.ensures.performed.went.own
     (line_now c.args.shared.now.line) c.commands.thread.sending c.commands.invariant.told
 
 pub commands-preserved : goal.commands-preserved
@@ -24,8 +24,8 @@ commands-preserved g c = record {
   answered = answered_next c.going_on_adds_up.ensures.all c.answers_still_fit.ensures c.lower_marks_fit.ensures c.args.commands.now _
       c.args.shared.now.moment c.args.first c.commands.command-index (c.made.result - c.args.first)
       (g.D.Desk.sight c.args.desk.now) (g.D.Desk.sight c.commands.desk) (g.D.Desk.sight c.perform.new.desk)
-      c.args.thread.now.answers c.commands.thread.answers c.push.new.self c.in-Ok.answer c.commands.invariant.answered
-      c.in-Ok.ensures.performed c.in-Ok.ensures.knows (omega (arith, c.made.ensures.exact, c.requires.can.made))
+      c.args.thread.now.answers c.commands.thread.answers c.push.new.self c.in_ok-answer.answer c.commands.invariant.answered
+      c.in_ok-answer.ensures.performed c.in_ok-answer.ensures.knows (omega (arith, c.made.ensures.exact, c.requires.can.made))
       (omega (arith, c.commands-test.true)) c.requires.can.small c.push.ensures.items
       c.push.ensures.room;
 }

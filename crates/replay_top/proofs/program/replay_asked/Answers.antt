@@ -4,11 +4,11 @@ use Rattle.replay_top.proofs.program.replay_asked.Goals as goal
 
 pub replay_inputs-requires-clause-counted : goal.replay_inputs-requires-clause-counted
 replay_inputs-requires-clause-counted g c κs within =
-    captures_counted (g.F.Files.source c.args.files.now) (asked_as c.args.asked.now) c.in-Ok.inputs c.in-Ok.ensures.reads.0
+    captures_counted (g.F.Files.source c.args.files.now) (asked_as c.args.asked.now) c.in_ok-inputs.inputs c.in_ok-inputs.ensures.reads.0
 
-pub returns-in-Ok-replay_inputs-clause-replays : goal.returns-in-Ok-replay_inputs-clause-replays
-returns-in-Ok-replay_inputs-clause-replays g c = (
-  replay_made (g.F.Files.source c.args.files.now) (asked_as c.args.asked.now) c.in-Ok.inputs c.in-Ok-replay_inputs.made c.in-Ok.ensures.reads.0
-      c.in-Ok-replay_inputs.ensures,
-  c.in-Ok.ensures.reads.1,
+pub returns-clause-replays : goal.returns-clause-replays
+returns-clause-replays g c = (
+  replay_made (g.F.Files.source c.args.files.now) (asked_as c.args.asked.now) c.in_ok-inputs.inputs c.in_ok-made.made c.in_ok-inputs.ensures.reads.0
+      c.in_ok-made.ensures,
+  c.in_ok-inputs.ensures.reads.1,
 )

@@ -3,11 +3,11 @@ use Rattle.run_inputs.specs.Reading.{totals_as}
 use Rattle.run_inputs.proofs.OneByOne.{flaw_here}
 use Rattle.run_inputs.proofs.input.read_capture_file.Goals as goal
 
-pub returns-in-Err-capture_of-clause-reads : goal.returns-in-Err-capture_of-clause-reads
-returns-in-Err-capture_of-clause-reads g c =
-    let read = c.in-Ok.ensures.reads in (
+pub returns-in-Err-clause-reads : goal.returns-in-Err-clause-reads
+returns-in-Err-clause-reads g c =
+    let read = c.in_ok-bytes.ensures.reads in (
       flaw_here (totals_as c.args.before.now) c.args.file (record { kind = kind.Capture; name = c.args.name.now })
-          (g.F.Files.source c.args.files.now) (g.F.Files.source c.read_input.new.files) c.in-Ok.bytes.items c.in-Err-capture_of.why
-          read.0.given c.in-Err-capture_of.ensures.read,
+          (g.F.Files.source c.args.files.now) (g.F.Files.source c.read_input.new.files) c.in_ok-bytes.bytes.items c.in-Err.why
+          read.0.given c.in-Err.ensures.read,
       λ other. read.1,
     )

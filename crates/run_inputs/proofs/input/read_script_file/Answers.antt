@@ -9,9 +9,9 @@ use Rattle.run_inputs.proofs.input.read_script_file.Goals as goal
 
 pub returns-in-Err-Fault-clause-reads : goal.returns-in-Err-Fault-clause-reads
 returns-in-Err-Fault-clause-reads g c =
-    let bytes = c.in-Ok-read_input.bytes.items in
+    let bytes = c.in_ok-bytes.bytes.items in
     let has : HasFault bytes c.in-Err-Fault.fault = search rules in
-    let read = c.in-Ok-read_input.ensures.reads in
+    let read = c.in_ok-bytes.ensures.reads in
     rw c.in-Some.is (
       flaw_here no_totals c.args.file (record { kind = kind.Script; name = c.in-Some.name.now }) (g.F.Files.source c.args.files.now)
           (g.F.Files.source c.read_input.new.files) bytes (Flawed c.args.file (flaw.Script c.in-Err-Fault.fault)) read.0.given
