@@ -231,7 +231,7 @@ impl<'t, G: Gate> Desk for TurnDesk<'t, G> {
         let mut book = steps::take_turn(rt, self.shared, &mut self.pass.seat);
         let outcome = book.find(t);
         self.pass
-            .end_turn(self.shared, book, found_change(&outcome), None);
+            .put_back(self.shared, book, found_change(&outcome), None);
         outcome
     }
 
@@ -248,7 +248,7 @@ impl<'t, G: Gate> Desk for TurnDesk<'t, G> {
         let outcome = book.take();
         self.pass.taken = count_taken(self.pass.taken, &outcome);
         self.pass
-            .end_turn(self.shared, book, taken_change(&outcome), None);
+            .put_back(self.shared, book, taken_change(&outcome), None);
         outcome
     }
 
@@ -256,7 +256,7 @@ impl<'t, G: Gate> Desk for TurnDesk<'t, G> {
         let mut book = steps::take_turn(rt, self.shared, &mut self.pass.seat);
         let (outcome, made) = book.confirm(place, flow);
         self.pass
-            .end_turn(self.shared, book, confirmed_change(place, &outcome), made);
+            .put_back(self.shared, book, confirmed_change(place, &outcome), made);
         outcome
     }
 
@@ -271,7 +271,7 @@ impl<'t, G: Gate> Desk for TurnDesk<'t, G> {
         let mut book = steps::take_turn(rt, self.shared, &mut self.pass.seat);
         let (outcome, made) = book.touch(place, direction, segment, moment);
         self.pass
-            .end_turn(self.shared, book, PlaceChange::Same, made);
+            .put_back(self.shared, book, PlaceChange::Same, made);
         outcome
     }
 
@@ -279,7 +279,7 @@ impl<'t, G: Gate> Desk for TurnDesk<'t, G> {
         let book = steps::take_turn(rt, self.shared, &mut self.pass.seat);
         let outcome = book.peek(place);
         self.pass
-            .end_turn(self.shared, book, PlaceChange::Same, None);
+            .put_back(self.shared, book, PlaceChange::Same, None);
         outcome
     }
 
@@ -287,7 +287,7 @@ impl<'t, G: Gate> Desk for TurnDesk<'t, G> {
         let mut book = steps::take_turn(rt, self.shared, &mut self.pass.seat);
         let (outcome, made) = book.kill(place, why);
         self.pass
-            .end_turn(self.shared, book, PlaceChange::Same, made);
+            .put_back(self.shared, book, PlaceChange::Same, made);
         outcome
     }
 
@@ -295,7 +295,7 @@ impl<'t, G: Gate> Desk for TurnDesk<'t, G> {
         let mut book = steps::take_turn(rt, self.shared, &mut self.pass.seat);
         let (outcome, made) = book.expect(place, want, moment);
         self.pass
-            .end_turn(self.shared, book, PlaceChange::Same, made);
+            .put_back(self.shared, book, PlaceChange::Same, made);
         outcome
     }
 
@@ -303,7 +303,7 @@ impl<'t, G: Gate> Desk for TurnDesk<'t, G> {
         let mut book = steps::take_turn(rt, self.shared, &mut self.pass.seat);
         let (outcome, made) = book.claim(t, moment);
         self.pass
-            .end_turn(self.shared, book, PlaceChange::Same, made);
+            .put_back(self.shared, book, PlaceChange::Same, made);
         outcome
     }
 
@@ -311,7 +311,7 @@ impl<'t, G: Gate> Desk for TurnDesk<'t, G> {
         let mut book = steps::take_turn(rt, self.shared, &mut self.pass.seat);
         let (outcome, made) = book.unexpect(id, moment);
         self.pass
-            .end_turn(self.shared, book, PlaceChange::Same, made);
+            .put_back(self.shared, book, PlaceChange::Same, made);
         outcome
     }
 
@@ -319,7 +319,7 @@ impl<'t, G: Gate> Desk for TurnDesk<'t, G> {
         let book = steps::take_turn(rt, self.shared, &mut self.pass.seat);
         let at = book.list_expected(listed);
         self.pass
-            .end_turn(self.shared, book, PlaceChange::Same, None);
+            .put_back(self.shared, book, PlaceChange::Same, None);
         at
     }
 
@@ -327,7 +327,7 @@ impl<'t, G: Gate> Desk for TurnDesk<'t, G> {
         let mut book = steps::take_turn(rt, self.shared, &mut self.pass.seat);
         let outcome = book.hold(place);
         self.pass
-            .end_turn(self.shared, book, held_change(place, &outcome), None);
+            .put_back(self.shared, book, held_change(place, &outcome), None);
         outcome
     }
 
@@ -335,7 +335,7 @@ impl<'t, G: Gate> Desk for TurnDesk<'t, G> {
         let mut book = steps::take_turn(rt, self.shared, &mut self.pass.seat);
         let outcome = book.release(place);
         self.pass
-            .end_turn(self.shared, book, released_change(place, &outcome), None);
+            .put_back(self.shared, book, released_change(place, &outcome), None);
         outcome
     }
 
@@ -343,7 +343,7 @@ impl<'t, G: Gate> Desk for TurnDesk<'t, G> {
         let mut book = steps::take_turn(rt, self.shared, &mut self.pass.seat);
         book.recycle(place);
         self.pass
-            .end_turn(self.shared, book, PlaceChange::Pays { place }, None);
+            .put_back(self.shared, book, PlaceChange::Pays { place }, None);
     }
 }
 

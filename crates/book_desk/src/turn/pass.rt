@@ -32,7 +32,7 @@ pub struct TurnPass {
 impl TurnPass {
     /// Puts the book back and ends the turn, after a call that changed the pass's places so, and notes the event that the
     /// call made, if it made one: the last one of the book's.
-    pub fn end_turn(
+    pub fn put_back(
         &mut self,
         shared: &TurnShared,
         book: Book,

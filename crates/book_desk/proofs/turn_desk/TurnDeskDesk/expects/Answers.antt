@@ -5,15 +5,15 @@ use Rattle.book_desk.proofs.Passes.Turned.{IsAfter, IsTurn, seated_then, turn_en
 use Rattle.book_desk.proofs.Passes.Turns.{lists_told, lists_turn}
 use Rattle.book_desk.proofs.turn_desk.TurnDeskDesk.expects.Goals as goal
 
-pub end_turn-requires-clause-ends : goal.end_turn-requires-clause-ends
-end_turn-requires-clause-ends g c =
+pub put_back-requires-clause-ends : goal.put_back-requires-clause-ends
+put_back-requires-clause-ends g c =
     let p : TurnPass = c.self.inside.pass in
     let t : IsTurn p c.take_turn-book.new.seat.me c.take_turn-book.result c.take_turn-book.result Same None p.spare =
     lists_turn p c.take_turn-book.new.seat.me c.take_turn-book.result c.list_expected-at.new.listed.items c.list_expected-at.result c.self.invariant.1 c.take_turn-book.ensures.turn c.list_expected-at.ensures.says in
     turn_ends p c.take_turn-book.new.seat.me c.take_turn-book.result c.take_turn-book.result Same None p.spare t Same refl
 
-pub end_turn-requires-clause-few : goal.end_turn-requires-clause-few
-end_turn-requires-clause-few g c =
+pub put_back-requires-clause-few : goal.put_back-requires-clause-few
+put_back-requires-clause-few g c =
     let p : TurnPass = c.self.inside.pass in
     let t : IsTurn p c.take_turn-book.new.seat.me c.take_turn-book.result c.take_turn-book.result Same None p.spare =
     lists_turn p c.take_turn-book.new.seat.me c.take_turn-book.result c.list_expected-at.new.listed.items c.list_expected-at.result c.self.invariant.1 c.take_turn-book.ensures.turn c.list_expected-at.ensures.says in
@@ -24,20 +24,20 @@ invariant_of-self g c =
     let p : TurnPass = c.self.inside.pass in
     let t : IsTurn p c.take_turn-book.new.seat.me c.take_turn-book.result c.take_turn-book.result Same None p.spare =
     lists_turn p c.take_turn-book.new.seat.me c.take_turn-book.result c.list_expected-at.new.listed.items c.list_expected-at.result c.self.invariant.1 c.take_turn-book.ensures.turn c.list_expected-at.ensures.says in
-    let new : TurnPass = c.end_turn.new.self in
+    let new : TurnPass = c.put_back.new.self in
     let a : IsAfter p c.take_turn-book.new.seat.me Same Same None p.spare new =
-    record { change = refl; table = c.end_turn.ensures.table ∙ c.take_turn-book.ensures.table; ended = c.end_turn.ensures.ended; sizes = c.end_turn.ensures.sizes; notes = c.end_turn.ensures.items; room = c.end_turn.ensures.room; spare = c.end_turn.ensures.spare } in
-    (c.end_turn.ensures.table ∙ c.take_turn-book.ensures.table ∙ c.self.invariant.0, seated_then p c.take_turn-book.new.seat.me c.take_turn-book.result c.take_turn-book.result Same Same None p.spare new t a)
+    record { change = refl; table = c.put_back.ensures.table ∙ c.take_turn-book.ensures.table; ended = c.put_back.ensures.ended; sizes = c.put_back.ensures.sizes; notes = c.put_back.ensures.items; room = c.put_back.ensures.room; spare = c.put_back.ensures.spare } in
+    (c.put_back.ensures.table ∙ c.take_turn-book.ensures.table ∙ c.self.invariant.0, seated_then p c.take_turn-book.new.seat.me c.take_turn-book.result c.take_turn-book.result Same Same None p.spare new t a)
 
 pub returns-clause-says : goal.returns-clause-says
 returns-clause-says g c =
     let p : TurnPass = c.self.inside.pass in
     let t : IsTurn p c.take_turn-book.new.seat.me c.take_turn-book.result c.take_turn-book.result Same None p.spare =
     lists_turn p c.take_turn-book.new.seat.me c.take_turn-book.result c.list_expected-at.new.listed.items c.list_expected-at.result c.self.invariant.1 c.take_turn-book.ensures.turn c.list_expected-at.ensures.says in
-    let new : TurnPass = c.end_turn.new.self in
+    let new : TurnPass = c.put_back.new.self in
     let a : IsAfter p c.take_turn-book.new.seat.me Same Same None p.spare new =
-    record { change = refl; table = c.end_turn.ensures.table ∙ c.take_turn-book.ensures.table; ended = c.end_turn.ensures.ended; sizes = c.end_turn.ensures.sizes; notes = c.end_turn.ensures.items; room = c.end_turn.ensures.room; spare = c.end_turn.ensures.spare } in
-    rw (← c.self.view_is) (lists_told p c.take_turn-book.new.seat.me c.take_turn-book.result Same c.list_expected-at.new.listed.items c.list_expected-at.result new t a c.end_turn.ensures.taken c.list_expected-at.ensures.says)
+    record { change = refl; table = c.put_back.ensures.table ∙ c.take_turn-book.ensures.table; ended = c.put_back.ensures.ended; sizes = c.put_back.ensures.sizes; notes = c.put_back.ensures.items; room = c.put_back.ensures.room; spare = c.put_back.ensures.spare } in
+    rw (← c.self.view_is) (lists_told p c.take_turn-book.new.seat.me c.take_turn-book.result Same c.list_expected-at.new.listed.items c.list_expected-at.result new t a c.put_back.ensures.taken c.list_expected-at.ensures.says)
 
 pub returns-clause-knows : goal.returns-clause-knows
 returns-clause-knows g c = (invariant_of-self g c).1.knows

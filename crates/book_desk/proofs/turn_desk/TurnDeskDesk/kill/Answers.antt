@@ -29,18 +29,18 @@ pub kill-outcome-requires-clause-held : goal.kill-outcome-requires-clause-held
 kill-outcome-requires-clause-held g c =
     any_among (λ h. is_at c.args.place h && is_some h.id) c.self.inside.pass.seat.me.0.held c.take_turn-book.result.holds.items c.take_turn-book.ensures.turn.1.held (ap (λ (s : Sight). is_held_for_entry c.args.place s.held) c.self.view_is ∙ c.requires.held)
 
-pub end_turn-requires-clause-some : goal.end_turn-requires-clause-some
-end_turn-requires-clause-some g c = some_room c.self.inside.pass.spare c.kill-outcome.result.1 (subst (λ (s : Sight). 1 ≤ s.spare) (sym c.self.view_is) c.requires.spare)
+pub put_back-requires-clause-some : goal.put_back-requires-clause-some
+put_back-requires-clause-some g c = some_room c.self.inside.pass.spare c.kill-outcome.result.1 (subst (λ (s : Sight). 1 ≤ s.spare) (sym c.self.view_is) c.requires.spare)
 
-pub end_turn-requires-clause-ends : goal.end_turn-requires-clause-ends
-end_turn-requires-clause-ends g c =
+pub put_back-requires-clause-ends : goal.put_back-requires-clause-ends
+put_back-requires-clause-ends g c =
     let p : TurnPass = c.self.inside.pass in
     let t : IsTurn p c.take_turn-book.new.seat.me c.take_turn-book.result c.kill-outcome.new.self Same c.kill-outcome.result.1 (spare_after p.spare c.kill-outcome.result.1) =
     kill_turn p c.take_turn-book.new.seat.me c.take_turn-book.result c.kill-outcome.new.self c.kill-outcome.result.1 (spare_after p.spare c.kill-outcome.result.1) c.args.place c.args.why c.kill-outcome.result.0 c.self.invariant.1 c.take_turn-book.ensures.turn c.kill-outcome.ensures.stays c.kill-outcome.ensures.sizes c.kill-outcome.ensures.says (room_for p.spare c.kill-outcome.result.1 (subst (λ (s : Sight). 1 ≤ s.spare) (sym c.self.view_is) c.requires.spare)) in
     turn_ends p c.take_turn-book.new.seat.me c.take_turn-book.result c.kill-outcome.new.self Same c.kill-outcome.result.1 (spare_after p.spare c.kill-outcome.result.1) t Same refl
 
-pub end_turn-requires-clause-few : goal.end_turn-requires-clause-few
-end_turn-requires-clause-few g c =
+pub put_back-requires-clause-few : goal.put_back-requires-clause-few
+put_back-requires-clause-few g c =
     let p : TurnPass = c.self.inside.pass in
     let t : IsTurn p c.take_turn-book.new.seat.me c.take_turn-book.result c.kill-outcome.new.self Same c.kill-outcome.result.1 (spare_after p.spare c.kill-outcome.result.1) =
     kill_turn p c.take_turn-book.new.seat.me c.take_turn-book.result c.kill-outcome.new.self c.kill-outcome.result.1 (spare_after p.spare c.kill-outcome.result.1) c.args.place c.args.why c.kill-outcome.result.0 c.self.invariant.1 c.take_turn-book.ensures.turn c.kill-outcome.ensures.stays c.kill-outcome.ensures.sizes c.kill-outcome.ensures.says (room_for p.spare c.kill-outcome.result.1 (subst (λ (s : Sight). 1 ≤ s.spare) (sym c.self.view_is) c.requires.spare)) in
@@ -51,20 +51,20 @@ invariant_of-self g c =
     let p : TurnPass = c.self.inside.pass in
     let t : IsTurn p c.take_turn-book.new.seat.me c.take_turn-book.result c.kill-outcome.new.self Same c.kill-outcome.result.1 (spare_after p.spare c.kill-outcome.result.1) =
     kill_turn p c.take_turn-book.new.seat.me c.take_turn-book.result c.kill-outcome.new.self c.kill-outcome.result.1 (spare_after p.spare c.kill-outcome.result.1) c.args.place c.args.why c.kill-outcome.result.0 c.self.invariant.1 c.take_turn-book.ensures.turn c.kill-outcome.ensures.stays c.kill-outcome.ensures.sizes c.kill-outcome.ensures.says (room_for p.spare c.kill-outcome.result.1 (subst (λ (s : Sight). 1 ≤ s.spare) (sym c.self.view_is) c.requires.spare)) in
-    let new : TurnPass = c.end_turn.new.self in
+    let new : TurnPass = c.put_back.new.self in
     let a : IsAfter p c.take_turn-book.new.seat.me Same Same c.kill-outcome.result.1 (spare_after p.spare c.kill-outcome.result.1) new =
-    record { change = refl; table = c.end_turn.ensures.table ∙ c.take_turn-book.ensures.table; ended = c.end_turn.ensures.ended; sizes = c.end_turn.ensures.sizes; notes = c.end_turn.ensures.items; room = c.end_turn.ensures.room; spare = c.end_turn.ensures.spare } in
-    (c.end_turn.ensures.table ∙ c.take_turn-book.ensures.table ∙ c.self.invariant.0, seated_then p c.take_turn-book.new.seat.me c.take_turn-book.result c.kill-outcome.new.self Same Same c.kill-outcome.result.1 (spare_after p.spare c.kill-outcome.result.1) new t a)
+    record { change = refl; table = c.put_back.ensures.table ∙ c.take_turn-book.ensures.table; ended = c.put_back.ensures.ended; sizes = c.put_back.ensures.sizes; notes = c.put_back.ensures.items; room = c.put_back.ensures.room; spare = c.put_back.ensures.spare } in
+    (c.put_back.ensures.table ∙ c.take_turn-book.ensures.table ∙ c.self.invariant.0, seated_then p c.take_turn-book.new.seat.me c.take_turn-book.result c.kill-outcome.new.self Same Same c.kill-outcome.result.1 (spare_after p.spare c.kill-outcome.result.1) new t a)
 
 pub returns-clause-says : goal.returns-clause-says
 returns-clause-says g c =
     let p : TurnPass = c.self.inside.pass in
     let t : IsTurn p c.take_turn-book.new.seat.me c.take_turn-book.result c.kill-outcome.new.self Same c.kill-outcome.result.1 (spare_after p.spare c.kill-outcome.result.1) =
     kill_turn p c.take_turn-book.new.seat.me c.take_turn-book.result c.kill-outcome.new.self c.kill-outcome.result.1 (spare_after p.spare c.kill-outcome.result.1) c.args.place c.args.why c.kill-outcome.result.0 c.self.invariant.1 c.take_turn-book.ensures.turn c.kill-outcome.ensures.stays c.kill-outcome.ensures.sizes c.kill-outcome.ensures.says (room_for p.spare c.kill-outcome.result.1 (subst (λ (s : Sight). 1 ≤ s.spare) (sym c.self.view_is) c.requires.spare)) in
-    let new : TurnPass = c.end_turn.new.self in
+    let new : TurnPass = c.put_back.new.self in
     let a : IsAfter p c.take_turn-book.new.seat.me Same Same c.kill-outcome.result.1 (spare_after p.spare c.kill-outcome.result.1) new =
-    record { change = refl; table = c.end_turn.ensures.table ∙ c.take_turn-book.ensures.table; ended = c.end_turn.ensures.ended; sizes = c.end_turn.ensures.sizes; notes = c.end_turn.ensures.items; room = c.end_turn.ensures.room; spare = c.end_turn.ensures.spare } in
-    rw (← c.self.view_is) (kill_told p c.take_turn-book.new.seat.me c.take_turn-book.result c.kill-outcome.new.self Same c.kill-outcome.result.1 (spare_after p.spare c.kill-outcome.result.1) c.args.place c.args.why c.kill-outcome.result.0 new t a c.end_turn.ensures.taken c.kill-outcome.ensures.says (held_at_all c.args.place c.self.inside.pass.seat.me.0.held (ap (λ (s : Sight). is_held_for_entry c.args.place s.held) c.self.view_is ∙ c.requires.held)))
+    record { change = refl; table = c.put_back.ensures.table ∙ c.take_turn-book.ensures.table; ended = c.put_back.ensures.ended; sizes = c.put_back.ensures.sizes; notes = c.put_back.ensures.items; room = c.put_back.ensures.room; spare = c.put_back.ensures.spare } in
+    rw (← c.self.view_is) (kill_told p c.take_turn-book.new.seat.me c.take_turn-book.result c.kill-outcome.new.self Same c.kill-outcome.result.1 (spare_after p.spare c.kill-outcome.result.1) c.args.place c.args.why c.kill-outcome.result.0 new t a c.put_back.ensures.taken c.kill-outcome.ensures.says (held_at_all c.args.place c.self.inside.pass.seat.me.0.held (ap (λ (s : Sight). is_held_for_entry c.args.place s.held) c.self.view_is ∙ c.requires.held)))
 
 pub returns-clause-knows : goal.returns-clause-knows
 returns-clause-knows g c = (invariant_of-self g c).1.knows

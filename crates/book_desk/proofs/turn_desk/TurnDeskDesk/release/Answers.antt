@@ -12,15 +12,15 @@ pub release-outcome-requires-clause-held : goal.release-outcome-requires-clause-
 release-outcome-requires-clause-held g c =
     any_among (is_at c.args.place) c.self.inside.pass.seat.me.0.held c.take_turn-book.result.holds.items c.take_turn-book.ensures.turn.1.held (ap (λ (s : Sight). is_held c.args.place s.held) c.self.view_is ∙ c.requires)
 
-pub end_turn-requires-clause-ends : goal.end_turn-requires-clause-ends
-end_turn-requires-clause-ends g c =
+pub put_back-requires-clause-ends : goal.put_back-requires-clause-ends
+put_back-requires-clause-ends g c =
     let p : TurnPass = c.self.inside.pass in
     let t : IsTurn p c.take_turn-book.new.seat.me c.take_turn-book.result c.release-outcome.new.self (released_change c.args.place c.release-outcome.result) None p.spare =
     release_turn p c.take_turn-book.new.seat.me c.take_turn-book.result c.release-outcome.new.self c.args.place c.release-outcome.result c.self.invariant.1 c.take_turn-book.ensures.turn c.release-outcome.ensures.stays c.release-outcome.ensures.sizes c.release-outcome.ensures.says (ap (λ (s : Sight). is_held c.args.place s.held) c.self.view_is ∙ c.requires) in
     turn_ends p c.take_turn-book.new.seat.me c.take_turn-book.result c.release-outcome.new.self (released_change c.args.place c.release-outcome.result) None p.spare t c.released_change.result c.released_change.ensures
 
-pub end_turn-requires-clause-few : goal.end_turn-requires-clause-few
-end_turn-requires-clause-few g c =
+pub put_back-requires-clause-few : goal.put_back-requires-clause-few
+put_back-requires-clause-few g c =
     let p : TurnPass = c.self.inside.pass in
     let t : IsTurn p c.take_turn-book.new.seat.me c.take_turn-book.result c.release-outcome.new.self (released_change c.args.place c.release-outcome.result) None p.spare =
     release_turn p c.take_turn-book.new.seat.me c.take_turn-book.result c.release-outcome.new.self c.args.place c.release-outcome.result c.self.invariant.1 c.take_turn-book.ensures.turn c.release-outcome.ensures.stays c.release-outcome.ensures.sizes c.release-outcome.ensures.says (ap (λ (s : Sight). is_held c.args.place s.held) c.self.view_is ∙ c.requires) in
@@ -31,20 +31,20 @@ invariant_of-self g c =
     let p : TurnPass = c.self.inside.pass in
     let t : IsTurn p c.take_turn-book.new.seat.me c.take_turn-book.result c.release-outcome.new.self (released_change c.args.place c.release-outcome.result) None p.spare =
     release_turn p c.take_turn-book.new.seat.me c.take_turn-book.result c.release-outcome.new.self c.args.place c.release-outcome.result c.self.invariant.1 c.take_turn-book.ensures.turn c.release-outcome.ensures.stays c.release-outcome.ensures.sizes c.release-outcome.ensures.says (ap (λ (s : Sight). is_held c.args.place s.held) c.self.view_is ∙ c.requires) in
-    let new : TurnPass = c.end_turn.new.self in
+    let new : TurnPass = c.put_back.new.self in
     let a : IsAfter p c.take_turn-book.new.seat.me (released_change c.args.place c.release-outcome.result) c.released_change.result None p.spare new =
-    record { change = c.released_change.ensures; table = c.end_turn.ensures.table ∙ c.take_turn-book.ensures.table; ended = c.end_turn.ensures.ended; sizes = c.end_turn.ensures.sizes; notes = c.end_turn.ensures.items; room = c.end_turn.ensures.room; spare = c.end_turn.ensures.spare } in
-    (c.end_turn.ensures.table ∙ c.take_turn-book.ensures.table ∙ c.self.invariant.0, seated_then p c.take_turn-book.new.seat.me c.take_turn-book.result c.release-outcome.new.self (released_change c.args.place c.release-outcome.result) c.released_change.result None p.spare new t a)
+    record { change = c.released_change.ensures; table = c.put_back.ensures.table ∙ c.take_turn-book.ensures.table; ended = c.put_back.ensures.ended; sizes = c.put_back.ensures.sizes; notes = c.put_back.ensures.items; room = c.put_back.ensures.room; spare = c.put_back.ensures.spare } in
+    (c.put_back.ensures.table ∙ c.take_turn-book.ensures.table ∙ c.self.invariant.0, seated_then p c.take_turn-book.new.seat.me c.take_turn-book.result c.release-outcome.new.self (released_change c.args.place c.release-outcome.result) c.released_change.result None p.spare new t a)
 
 pub returns-clause-says : goal.returns-clause-says
 returns-clause-says g c =
     let p : TurnPass = c.self.inside.pass in
     let t : IsTurn p c.take_turn-book.new.seat.me c.take_turn-book.result c.release-outcome.new.self (released_change c.args.place c.release-outcome.result) None p.spare =
     release_turn p c.take_turn-book.new.seat.me c.take_turn-book.result c.release-outcome.new.self c.args.place c.release-outcome.result c.self.invariant.1 c.take_turn-book.ensures.turn c.release-outcome.ensures.stays c.release-outcome.ensures.sizes c.release-outcome.ensures.says (ap (λ (s : Sight). is_held c.args.place s.held) c.self.view_is ∙ c.requires) in
-    let new : TurnPass = c.end_turn.new.self in
+    let new : TurnPass = c.put_back.new.self in
     let a : IsAfter p c.take_turn-book.new.seat.me (released_change c.args.place c.release-outcome.result) c.released_change.result None p.spare new =
-    record { change = c.released_change.ensures; table = c.end_turn.ensures.table ∙ c.take_turn-book.ensures.table; ended = c.end_turn.ensures.ended; sizes = c.end_turn.ensures.sizes; notes = c.end_turn.ensures.items; room = c.end_turn.ensures.room; spare = c.end_turn.ensures.spare } in
-    rw (← c.self.view_is) (release_told p c.take_turn-book.new.seat.me c.take_turn-book.result c.release-outcome.new.self c.released_change.result c.args.place c.release-outcome.result new t a c.end_turn.ensures.taken c.release-outcome.ensures.says (ap (λ (s : Sight). is_held c.args.place s.held) c.self.view_is ∙ c.requires))
+    record { change = c.released_change.ensures; table = c.put_back.ensures.table ∙ c.take_turn-book.ensures.table; ended = c.put_back.ensures.ended; sizes = c.put_back.ensures.sizes; notes = c.put_back.ensures.items; room = c.put_back.ensures.room; spare = c.put_back.ensures.spare } in
+    rw (← c.self.view_is) (release_told p c.take_turn-book.new.seat.me c.take_turn-book.result c.release-outcome.new.self c.released_change.result c.args.place c.release-outcome.result new t a c.put_back.ensures.taken c.release-outcome.ensures.says (ap (λ (s : Sight). is_held c.args.place s.held) c.self.view_is ∙ c.requires))
 
 pub returns-clause-knows : goal.returns-clause-knows
 returns-clause-knows g c = (invariant_of-self g c).1.knows

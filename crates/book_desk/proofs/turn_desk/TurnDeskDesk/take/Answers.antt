@@ -6,15 +6,15 @@ use Rattle.book_desk.proofs.Passes.Turned.{IsAfter, IsTurn, seated_then, turn_en
 use Rattle.book_desk.proofs.Passes.Turns.{take_told, take_turn}
 use Rattle.book_desk.proofs.turn_desk.TurnDeskDesk.take.Goals as goal
 
-pub end_turn-requires-clause-ends : goal.end_turn-requires-clause-ends
-end_turn-requires-clause-ends g c =
+pub put_back-requires-clause-ends : goal.put_back-requires-clause-ends
+put_back-requires-clause-ends g c =
     let p : TurnPass = c.self.inside.pass in
     let t : IsTurn p c.take_turn-book.new.seat.me c.take_turn-book.result c.take-outcome.new.self (taken_change c.take-outcome.result) None p.spare =
     take_turn p c.take_turn-book.new.seat.me c.take_turn-book.result c.take-outcome.new.self c.take-outcome.result c.self.invariant.1 c.take_turn-book.ensures.turn c.take-outcome.ensures.stays c.take-outcome.ensures.sizes c.take-outcome.ensures.says (subst (λ (s : Sight). length s.held + length s.owed ≤ 3) (sym c.self.view_is) c.requires) in
     turn_ends p c.take_turn-book.new.seat.me c.take_turn-book.result c.take-outcome.new.self (taken_change c.take-outcome.result) None p.spare t c.taken_change.result c.taken_change.ensures
 
-pub end_turn-requires-clause-few : goal.end_turn-requires-clause-few
-end_turn-requires-clause-few g c =
+pub put_back-requires-clause-few : goal.put_back-requires-clause-few
+put_back-requires-clause-few g c =
     let p : TurnPass = c.self.inside.pass in
     let t : IsTurn p c.take_turn-book.new.seat.me c.take_turn-book.result c.take-outcome.new.self (taken_change c.take-outcome.result) None p.spare =
     take_turn p c.take_turn-book.new.seat.me c.take_turn-book.result c.take-outcome.new.self c.take-outcome.result c.self.invariant.1 c.take_turn-book.ensures.turn c.take-outcome.ensures.stays c.take-outcome.ensures.sizes c.take-outcome.ensures.says (subst (λ (s : Sight). length s.held + length s.owed ≤ 3) (sym c.self.view_is) c.requires) in
@@ -25,20 +25,20 @@ invariant_of-self g c =
     let p : TurnPass = c.self.inside.pass in
     let t : IsTurn p c.take_turn-book.new.seat.me c.take_turn-book.result c.take-outcome.new.self (taken_change c.take-outcome.result) None p.spare =
     take_turn p c.take_turn-book.new.seat.me c.take_turn-book.result c.take-outcome.new.self c.take-outcome.result c.self.invariant.1 c.take_turn-book.ensures.turn c.take-outcome.ensures.stays c.take-outcome.ensures.sizes c.take-outcome.ensures.says (subst (λ (s : Sight). length s.held + length s.owed ≤ 3) (sym c.self.view_is) c.requires) in
-    let new : TurnPass = c.end_turn.new.self in
+    let new : TurnPass = c.put_back.new.self in
     let a : IsAfter p c.take_turn-book.new.seat.me (taken_change c.take-outcome.result) c.taken_change.result None p.spare new =
-    record { change = c.taken_change.ensures; table = c.end_turn.ensures.table ∙ c.take_turn-book.ensures.table; ended = c.end_turn.ensures.ended; sizes = c.end_turn.ensures.sizes; notes = c.end_turn.ensures.items; room = c.end_turn.ensures.room; spare = c.end_turn.ensures.spare } in
-    (c.end_turn.ensures.table ∙ c.take_turn-book.ensures.table ∙ c.self.invariant.0, seated_then p c.take_turn-book.new.seat.me c.take_turn-book.result c.take-outcome.new.self (taken_change c.take-outcome.result) c.taken_change.result None p.spare new t a)
+    record { change = c.taken_change.ensures; table = c.put_back.ensures.table ∙ c.take_turn-book.ensures.table; ended = c.put_back.ensures.ended; sizes = c.put_back.ensures.sizes; notes = c.put_back.ensures.items; room = c.put_back.ensures.room; spare = c.put_back.ensures.spare } in
+    (c.put_back.ensures.table ∙ c.take_turn-book.ensures.table ∙ c.self.invariant.0, seated_then p c.take_turn-book.new.seat.me c.take_turn-book.result c.take-outcome.new.self (taken_change c.take-outcome.result) c.taken_change.result None p.spare new t a)
 
 pub returns-clause-says : goal.returns-clause-says
 returns-clause-says g c =
     let p : TurnPass = c.self.inside.pass in
     let t : IsTurn p c.take_turn-book.new.seat.me c.take_turn-book.result c.take-outcome.new.self (taken_change c.take-outcome.result) None p.spare =
     take_turn p c.take_turn-book.new.seat.me c.take_turn-book.result c.take-outcome.new.self c.take-outcome.result c.self.invariant.1 c.take_turn-book.ensures.turn c.take-outcome.ensures.stays c.take-outcome.ensures.sizes c.take-outcome.ensures.says (subst (λ (s : Sight). length s.held + length s.owed ≤ 3) (sym c.self.view_is) c.requires) in
-    let new : TurnPass = c.end_turn.new.self in
+    let new : TurnPass = c.put_back.new.self in
     let a : IsAfter p c.take_turn-book.new.seat.me (taken_change c.take-outcome.result) c.taken_change.result None p.spare new =
-    record { change = c.taken_change.ensures; table = c.end_turn.ensures.table ∙ c.take_turn-book.ensures.table; ended = c.end_turn.ensures.ended; sizes = c.end_turn.ensures.sizes; notes = c.end_turn.ensures.items; room = c.end_turn.ensures.room; spare = c.end_turn.ensures.spare } in
-    rw (← c.self.view_is) (take_told p c.take_turn-book.new.seat.me c.take_turn-book.result c.take-outcome.new.self c.taken_change.result c.take-outcome.result new t a (c.end_turn.ensures.taken ∙ c.count_taken-self-inside.ensures) c.take-outcome.ensures.says)
+    record { change = c.taken_change.ensures; table = c.put_back.ensures.table ∙ c.take_turn-book.ensures.table; ended = c.put_back.ensures.ended; sizes = c.put_back.ensures.sizes; notes = c.put_back.ensures.items; room = c.put_back.ensures.room; spare = c.put_back.ensures.spare } in
+    rw (← c.self.view_is) (take_told p c.take_turn-book.new.seat.me c.take_turn-book.result c.take-outcome.new.self c.taken_change.result c.take-outcome.result new t a (c.put_back.ensures.taken ∙ c.count_taken-self-inside.ensures) c.take-outcome.ensures.says)
 
 pub returns-clause-knows : goal.returns-clause-knows
 returns-clause-knows g c = (invariant_of-self g c).1.knows

@@ -24,18 +24,18 @@ touch-outcome-requires-clause-right g c =
           (ap (λ (s : Sight). is_of_entry c.args.segment (held_id c.args.place s.held) s.front) c.self.view_is ∙ c.requires.protocol),
     )
 
-pub end_turn-requires-clause-some : goal.end_turn-requires-clause-some
-end_turn-requires-clause-some g c = some_room c.self.inside.pass.spare c.touch-outcome.result.1 (subst (λ (s : Sight). 1 ≤ s.spare) (sym c.self.view_is) c.requires.spare)
+pub put_back-requires-clause-some : goal.put_back-requires-clause-some
+put_back-requires-clause-some g c = some_room c.self.inside.pass.spare c.touch-outcome.result.1 (subst (λ (s : Sight). 1 ≤ s.spare) (sym c.self.view_is) c.requires.spare)
 
-pub end_turn-requires-clause-ends : goal.end_turn-requires-clause-ends
-end_turn-requires-clause-ends g c =
+pub put_back-requires-clause-ends : goal.put_back-requires-clause-ends
+put_back-requires-clause-ends g c =
     let p : TurnPass = c.self.inside.pass in
     let t : IsTurn p c.take_turn-book.new.seat.me c.take_turn-book.result c.touch-outcome.new.self Same c.touch-outcome.result.1 (spare_after p.spare c.touch-outcome.result.1) =
     touch_turn p c.take_turn-book.new.seat.me c.take_turn-book.result c.touch-outcome.new.self c.touch-outcome.result.1 (spare_after p.spare c.touch-outcome.result.1) c.args.place c.args.direction c.args.segment c.args.moment c.touch-outcome.result.0 c.self.invariant.1 c.take_turn-book.ensures.turn c.touch-outcome.ensures.stays c.touch-outcome.ensures.sizes c.touch-outcome.ensures.says (room_for p.spare c.touch-outcome.result.1 (subst (λ (s : Sight). 1 ≤ s.spare) (sym c.self.view_is) c.requires.spare)) in
     turn_ends p c.take_turn-book.new.seat.me c.take_turn-book.result c.touch-outcome.new.self Same c.touch-outcome.result.1 (spare_after p.spare c.touch-outcome.result.1) t Same refl
 
-pub end_turn-requires-clause-few : goal.end_turn-requires-clause-few
-end_turn-requires-clause-few g c =
+pub put_back-requires-clause-few : goal.put_back-requires-clause-few
+put_back-requires-clause-few g c =
     let p : TurnPass = c.self.inside.pass in
     let t : IsTurn p c.take_turn-book.new.seat.me c.take_turn-book.result c.touch-outcome.new.self Same c.touch-outcome.result.1 (spare_after p.spare c.touch-outcome.result.1) =
     touch_turn p c.take_turn-book.new.seat.me c.take_turn-book.result c.touch-outcome.new.self c.touch-outcome.result.1 (spare_after p.spare c.touch-outcome.result.1) c.args.place c.args.direction c.args.segment c.args.moment c.touch-outcome.result.0 c.self.invariant.1 c.take_turn-book.ensures.turn c.touch-outcome.ensures.stays c.touch-outcome.ensures.sizes c.touch-outcome.ensures.says (room_for p.spare c.touch-outcome.result.1 (subst (λ (s : Sight). 1 ≤ s.spare) (sym c.self.view_is) c.requires.spare)) in
@@ -46,20 +46,20 @@ invariant_of-self g c =
     let p : TurnPass = c.self.inside.pass in
     let t : IsTurn p c.take_turn-book.new.seat.me c.take_turn-book.result c.touch-outcome.new.self Same c.touch-outcome.result.1 (spare_after p.spare c.touch-outcome.result.1) =
     touch_turn p c.take_turn-book.new.seat.me c.take_turn-book.result c.touch-outcome.new.self c.touch-outcome.result.1 (spare_after p.spare c.touch-outcome.result.1) c.args.place c.args.direction c.args.segment c.args.moment c.touch-outcome.result.0 c.self.invariant.1 c.take_turn-book.ensures.turn c.touch-outcome.ensures.stays c.touch-outcome.ensures.sizes c.touch-outcome.ensures.says (room_for p.spare c.touch-outcome.result.1 (subst (λ (s : Sight). 1 ≤ s.spare) (sym c.self.view_is) c.requires.spare)) in
-    let new : TurnPass = c.end_turn.new.self in
+    let new : TurnPass = c.put_back.new.self in
     let a : IsAfter p c.take_turn-book.new.seat.me Same Same c.touch-outcome.result.1 (spare_after p.spare c.touch-outcome.result.1) new =
-    record { change = refl; table = c.end_turn.ensures.table ∙ c.take_turn-book.ensures.table; ended = c.end_turn.ensures.ended; sizes = c.end_turn.ensures.sizes; notes = c.end_turn.ensures.items; room = c.end_turn.ensures.room; spare = c.end_turn.ensures.spare } in
-    (c.end_turn.ensures.table ∙ c.take_turn-book.ensures.table ∙ c.self.invariant.0, seated_then p c.take_turn-book.new.seat.me c.take_turn-book.result c.touch-outcome.new.self Same Same c.touch-outcome.result.1 (spare_after p.spare c.touch-outcome.result.1) new t a)
+    record { change = refl; table = c.put_back.ensures.table ∙ c.take_turn-book.ensures.table; ended = c.put_back.ensures.ended; sizes = c.put_back.ensures.sizes; notes = c.put_back.ensures.items; room = c.put_back.ensures.room; spare = c.put_back.ensures.spare } in
+    (c.put_back.ensures.table ∙ c.take_turn-book.ensures.table ∙ c.self.invariant.0, seated_then p c.take_turn-book.new.seat.me c.take_turn-book.result c.touch-outcome.new.self Same Same c.touch-outcome.result.1 (spare_after p.spare c.touch-outcome.result.1) new t a)
 
 pub returns-clause-says : goal.returns-clause-says
 returns-clause-says g c =
     let p : TurnPass = c.self.inside.pass in
     let t : IsTurn p c.take_turn-book.new.seat.me c.take_turn-book.result c.touch-outcome.new.self Same c.touch-outcome.result.1 (spare_after p.spare c.touch-outcome.result.1) =
     touch_turn p c.take_turn-book.new.seat.me c.take_turn-book.result c.touch-outcome.new.self c.touch-outcome.result.1 (spare_after p.spare c.touch-outcome.result.1) c.args.place c.args.direction c.args.segment c.args.moment c.touch-outcome.result.0 c.self.invariant.1 c.take_turn-book.ensures.turn c.touch-outcome.ensures.stays c.touch-outcome.ensures.sizes c.touch-outcome.ensures.says (room_for p.spare c.touch-outcome.result.1 (subst (λ (s : Sight). 1 ≤ s.spare) (sym c.self.view_is) c.requires.spare)) in
-    let new : TurnPass = c.end_turn.new.self in
+    let new : TurnPass = c.put_back.new.self in
     let a : IsAfter p c.take_turn-book.new.seat.me Same Same c.touch-outcome.result.1 (spare_after p.spare c.touch-outcome.result.1) new =
-    record { change = refl; table = c.end_turn.ensures.table ∙ c.take_turn-book.ensures.table; ended = c.end_turn.ensures.ended; sizes = c.end_turn.ensures.sizes; notes = c.end_turn.ensures.items; room = c.end_turn.ensures.room; spare = c.end_turn.ensures.spare } in
-    rw (← c.self.view_is) (touch_told p c.take_turn-book.new.seat.me c.take_turn-book.result c.touch-outcome.new.self Same c.touch-outcome.result.1 (spare_after p.spare c.touch-outcome.result.1) c.args.place c.args.direction c.args.segment c.args.moment c.touch-outcome.result.0 new t a c.end_turn.ensures.taken c.touch-outcome.ensures.says (held_at_all c.args.place c.self.inside.pass.seat.me.0.held (ap (λ (s : Sight). is_held_for_entry c.args.place s.held) c.self.view_is ∙ c.requires.held)))
+    record { change = refl; table = c.put_back.ensures.table ∙ c.take_turn-book.ensures.table; ended = c.put_back.ensures.ended; sizes = c.put_back.ensures.sizes; notes = c.put_back.ensures.items; room = c.put_back.ensures.room; spare = c.put_back.ensures.spare } in
+    rw (← c.self.view_is) (touch_told p c.take_turn-book.new.seat.me c.take_turn-book.result c.touch-outcome.new.self Same c.touch-outcome.result.1 (spare_after p.spare c.touch-outcome.result.1) c.args.place c.args.direction c.args.segment c.args.moment c.touch-outcome.result.0 new t a c.put_back.ensures.taken c.touch-outcome.ensures.says (held_at_all c.args.place c.self.inside.pass.seat.me.0.held (ap (λ (s : Sight). is_held_for_entry c.args.place s.held) c.self.view_is ∙ c.requires.held)))
 
 pub returns-clause-knows : goal.returns-clause-knows
 returns-clause-knows g c = (invariant_of-self g c).1.knows
