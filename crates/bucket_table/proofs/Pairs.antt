@@ -8,7 +8,7 @@ use Rattle.history_book.specs.declared.sizes.Sizes.{Sizes}
 use Rattle.tuple_core.specs.declared.Direction.{Direction}
 use Rattle.tuple_core.specs.declared.Direction.TheVariants.{Original, Reply}
 use Rattle.track_rule.specs.BucketSteps.{IsChainOf, IsShutAt, LoadsLink, lower, put_in, raise, taken_from, with_chain, without_link}
-use Rattle.track_rule.specs.Chains.{bucket_of, chain_in, entry_of, shuts_of}
+use Rattle.track_rule.specs.Chains.{bucket_of, chain_in, chain_link, shuts_of}
 use Rattle.track_rule.specs.Layout.{head_word, next_word, place_of, side_of}
 use Rattle.track_rule.specs.Links.{hook_of, is_down, is_raised, last_link}
 use Rattle.track_rule.specs.Sights.{PassSight, sizes_of}
@@ -63,7 +63,7 @@ other_hook f links x y same other (h ∷ hs) =
 
 pub put_keeps : (z : Sizes) (b x y : ℕ) (s : HeldBuckets) → y ≢ x → KeepsOther z y s (put_in b x s) is_down
 put_keeps z b x y s other = record {
-  shuts = λ c. shuts_with b (entry_of (hook_of x s.hooks) ∷ chain_in b s.shut) c s.shut;
+  shuts = λ c. shuts_with b (chain_link (hook_of x s.hooks) ∷ chain_in b s.shut) c s.shut;
   passes = test_map (raise x) (raise_link x) (λ (h : Hook). not h.up) y (λ h e. ap (λ (k : Hook). not k.up) (raise_else x h (λ k. other (sym e ∙ k)))) s.hooks;
   bucket = ap (λ (h : Hook). bucket_of z h.pair) (other_hook (raise x) (raise_link x) x y (raise_else x) other s.hooks);
 }

@@ -4,7 +4,7 @@ use Rattle.std.specs.Prelude.{◌||◌, not}
 use Rattle.std.proofs.lemmas.Bool.{false≢true, ne_eqb}
 use Rattle.std.proofs.lemmas.List.{append-nil}
 use Rattle.history_book.specs.declared.sizes.Sizes.{Sizes}
-use Rattle.track_rule.specs.BucketSteps.{IsChainOf, IsEntryOf, IsShutAt, LoadsLink, MayString, Strings, end_word, first_of, has_link, strung, taken_from}
+use Rattle.track_rule.specs.BucketSteps.{IsChainOf, IsLinkIn, IsShutAt, LoadsLink, MayString, Strings, end_word, first_of, has_link, strung, taken_from}
 use Rattle.track_rule.specs.Chains.{chain_in, shuts_of}
 use Rattle.track_rule.specs.Layout.{head_word, next_word}
 use Rattle.track_rule.specs.Links.{is_link_word, is_raised, last_link}
@@ -141,7 +141,7 @@ passing_on b link left n e passed rest v w below p loads kept =
 -- what is there of the next link
 pub passing_some : (b link left : ℕ) (e : ChainLink) (passed rest : List ChainLink) (v : PassSight) → IsPassing b v link left passed (e ∷ rest) → (0 < link) × (0 < left)
 passing_some b link left e passed rest v p =
-    let each = each_behind (IsEntryOf (sizes_of v) b) passed (e ∷ rest) (subst (Each (IsEntryOf (sizes_of v) b)) p.at.all p.right.each) in (
+    let each = each_behind (IsLinkIn (sizes_of v) b) passed (e ∷ rest) (subst (Each (IsLinkIn (sizes_of v) b)) p.at.all p.right.each) in (
       omega (arith, p.link_is, (each 0 e refl).some),
       omega (arith, p.count, p.right.few, ap (λ (es : List ChainLink). length es) p.at.all, length_rev passed (e ∷ rest)),
     )

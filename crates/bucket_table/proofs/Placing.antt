@@ -8,7 +8,7 @@ use Rattle.history_book.specs.declared.sizes.Sizes.{Sizes}
 use Rattle.tuple_core.specs.Tuple.{is_valid}
 use Rattle.tuple_core.specs.declared.Tuple.{Tuple}
 use Rattle.track_rule.specs.BucketSteps.{is_own_tuple, lower, put_in, raise, taken_from, tuple_in, tuple_stored}
-use Rattle.track_rule.specs.Chains.{bucket_of, each_link, entry_of, loose_of, pair_of, shuts_of, side}
+use Rattle.track_rule.specs.Chains.{bucket_of, each_link, chain_link, loose_of, pair_of, shuts_of, side}
 use Rattle.track_rule.specs.Free.{is_among}
 use Rattle.track_rule.specs.Layout.{first_word, place_of, second_word}
 use Rattle.track_rule.specs.Links.{hook_of, is_down, is_raised, is_up}
@@ -227,8 +227,8 @@ module _ (place : ℕ) (v : PassSight) (h : HasLinks false place v) where
   -- nothing that is not of a live entry is in the chains
   pub whole_links : (b : ℕ) → loose_of (sizes_of v) b each_link v.view ≡ 0
   whole_links b =
-      ap (total (λ (k : Hook). (if k.up then side (sizes_of v) b each_link (entry_of k) else 0))) h.all
-      ∙ (λ i. (if h.ups.0 i then side (sizes_of v) b each_link (entry_of h.original) else 0) + ((if h.ups.1 i then side (sizes_of v) b each_link (entry_of h.reply) else 0) + 0))
+      ap (total (λ (k : Hook). (if k.up then side (sizes_of v) b each_link (chain_link k) else 0))) h.all
+      ∙ (λ i. (if h.ups.0 i then side (sizes_of v) b each_link (chain_link h.original) else 0) + ((if h.ups.1 i then side (sizes_of v) b each_link (chain_link h.reply) else 0) + 0))
 
 -- the only bucket
 only_one : (z : Sizes) (p : Pair) → z.buckets ≡ 1 → has_bucket only_bucket (bucket_of z p) ≡ true

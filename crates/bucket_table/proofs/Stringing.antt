@@ -6,7 +6,7 @@ use Rattle.std.proofs.lemmas.Bool.{and_parts, cases_Bool, cond_both, eq-eqb, eqb
 use Rattle.std.proofs.Math.Bool.{or-true}
 use Rattle.history_book.specs.declared.sizes.Sizes.{Sizes}
 use Rattle.track_rule.specs.BucketSteps.{LoadsLink, MayString, Strings, aim, aimed, first_of, lower, put_in, raise, strung, with_chain}
-use Rattle.track_rule.specs.Chains.{bucket_of, chain_in, entry_of, shuts_of}
+use Rattle.track_rule.specs.Chains.{bucket_of, chain_in, chain_link, shuts_of}
 use Rattle.track_rule.specs.Layout.{head_word, place_of, next_word, side_of}
 use Rattle.track_rule.specs.Free.{is_among}
 use Rattle.track_rule.specs.Links.{hook_of, hooks_of, is_down, is_link_word, is_up}
@@ -58,8 +58,8 @@ aim_link x to h = cond_both (h.link == x) (record h { next = Some to }) h (λ (t
 aim_up : (x to : ℕ) (h : Hook) → (aim x to h).up ≡ h.up
 aim_up x to h = cond_both (h.link == x) (record h { next = Some to }) h (λ (t : Hook). t.up ≡ h.up) (λ e. refl) (λ e. refl)
 
-aim_entry : (x to : ℕ) (h : Hook) → entry_of (aim x to h) ≡ entry_of h
-aim_entry x to h = cond_both (h.link == x) (record h { next = Some to }) h (λ (t : Hook). entry_of t ≡ entry_of h) (λ e. refl) (λ e. refl)
+aim_same : (x to : ℕ) (h : Hook) → chain_link (aim x to h) ≡ chain_link h
+aim_same x to h = cond_both (h.link == x) (record h { next = Some to }) h (λ (t : Hook). chain_link t ≡ chain_link h) (λ e. refl) (λ e. refl)
 
 pub raise_link : (x : ℕ) (h : Hook) → (raise x h).link ≡ h.link
 raise_link x h = cond_both (h.link == x) (record h { next = None; up = true }) h (λ (t : Hook). t.link ≡ h.link) (λ e. refl) (λ e. refl)
@@ -122,7 +122,7 @@ raise_aim x to (h ∷ hs) = (λ i. one (h.link == x) refl i ∷ raise_aim x to h
 
 pub put_aimed : (b x to : ℕ) (s : HeldBuckets) → 0 < hooks_of x s.hooks → put_in b x (aimed x to s) ≡ put_in b x s
 put_aimed b x to s any = (λ i. record {
-  shut = with_chain b ((ap entry_of (hook_map (aim x to) (aim_link x to) x s.hooks any) ∙ aim_entry x to (hook_of x s.hooks)) i ∷ chain_in b s.shut) s.shut;
+  shut = with_chain b ((ap chain_link (hook_map (aim x to) (aim_link x to) x s.hooks any) ∙ aim_same x to (hook_of x s.hooks)) i ∷ chain_in b s.shut) s.shut;
   hooks = raise_aim x to s.hooks i;
 })
 
@@ -142,7 +142,7 @@ put_may z b x first head word v u w sizes below head_is word_is loads kept strin
     let z'' : w.view.passes.sizes ≡ sizes_of v = ap (λ (k : View). k.passes.sizes) aims ∙ z' in
     let any : 0 < hooks_of x v.view.buckets.hooks = some_there (λ (h : Hook). not h.up) x v.view.buckets.hooks down in
     let hook : hook_of x (map (aim x first) v.view.buckets.hooks) ≡ aim x first (hook_of x v.view.buckets.hooks) = hook_map (aim x first) (aim_link x first) x v.view.buckets.hooks any in
-    let entry = ap entry_of hook ∙ aim_entry x first (hook_of x v.view.buckets.hooks) in
+    let entry = ap chain_link hook ∙ aim_same x first (hook_of x v.view.buckets.hooks) in
     let is_first : first ≡ first_of (chain_in b v.view.buckets.shut) =
     loads.next b [] (chain_in b v.view.buckets.shut) below (record { mine = mine; all = refl }) (head_is ∙ ap (λ (y : Sizes). head_word y b) sizes) in (
       inr (inl (record {

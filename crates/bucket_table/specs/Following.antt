@@ -62,7 +62,7 @@ walk_through bucket generation met = record { bucket = bucket; generation = gene
 abbrev pub walk_seen : ℕ → ℕ → List MetLink → ℕ → Walk
 walk_seen bucket generation met point = record (walk_through bucket generation met) { at = Some point }
 
--- an entry has these two words
+-- a link has these two words
 abbrev pub has_words : ℕ → ℕ → ChainLink → Bool
 has_words first second e = e.pair.first == first && e.pair.second == second
 

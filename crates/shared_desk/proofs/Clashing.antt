@@ -13,8 +13,8 @@ use Rattle.tuple_core.specs.Words.{address_word, flow_word}
 use Rattle.tuple_core.specs.declared.Direction.{Direction}
 use Rattle.tuple_core.specs.declared.Direction.TheVariants.{Original, Reply}
 use Rattle.tuple_core.specs.declared.Tuple.{Tuple}
-use Rattle.track_rule.specs.BucketSteps.{IsChainOf, IsEntryOf, IsShutAt}
-use Rattle.track_rule.specs.Chains.{chain_in, entry_of, shuts_of, side}
+use Rattle.track_rule.specs.BucketSteps.{IsChainOf, IsLinkIn, IsShutAt}
+use Rattle.track_rule.specs.Chains.{chain_in, chain_link, shuts_of, side}
 use Rattle.track_rule.specs.History.{events_in, records_after, state_after}
 use Rattle.track_rule.specs.Layout.{place_of}
 use Rattle.track_rule.specs.PhaseSteps.{LoadsPhase, holds_open}
@@ -38,11 +38,11 @@ use Rattle.shared_desk.specs.TupleLaws.{TuplesTellEntries}
 
 -- nothing is loose where no hook is up
 pub none_loose : (z : Sizes) (b : ℕ) (w : ChainLink → ℕ) (hooks : List Hook) → is_any_up hooks ≡ false
-    → total (λ (h : Hook). (if h.up then side z b w (entry_of h) else 0)) hooks ≡ 0
+    → total (λ (h : Hook). (if h.up then side z b w (chain_link h) else 0)) hooks ≡ 0
 none_loose z b w [] e = refl
 none_loose z b w (h ∷ hs) e =
     let parts = or_parts h.up (is_any_up hs) e in
-    omega (arith, none_loose z b w hs parts.1, ap (λ (k : Bool). if k then side z b w (entry_of h) else 0) parts.0)
+    omega (arith, none_loose z b w hs parts.1, ap (λ (k : Bool). if k then side z b w (chain_link h) else 0) parts.0)
 
 each_rest : (F : ChainLink → Type 0) (passed rest : List ChainLink) → Each F (rev_onto passed rest) → Each F rest
 each_rest F [] rest h = h
@@ -76,8 +76,8 @@ module _ (flow : Flow) (place : ℕ) (rival : Rival) (v : PassSight) (word : ℕ
   low_place : (t : Tuple) (passed rest : List ChainLink) (e : ChainLink) (p : ℕ) → IsChainOf (sizes_of v) (bucket_in (sizes_of v) t) (chain_of (sizes_of v) t v.view.buckets.shut)
       → chain_of (sizes_of v) t v.view.buckets.shut ≡ rev_onto passed (e ∷ rest) → place_of e.link ≡ p → p < (sizes_of v).entries
   low_place t passed rest e p right all at =
-      let entry : IsEntryOf (sizes_of v) (bucket_in (sizes_of v) t) e =
-      each_rest (IsEntryOf (sizes_of v) (bucket_in (sizes_of v) t)) passed (e ∷ rest) (subst (Each (IsEntryOf (sizes_of v) (bucket_in (sizes_of v) t))) all right.each) 0 e refl in
+      let entry : IsLinkIn (sizes_of v) (bucket_in (sizes_of v) t) e =
+      each_rest (IsLinkIn (sizes_of v) (bucket_in (sizes_of v) t)) passed (e ∷ rest) (subst (Each (IsLinkIn (sizes_of v) (bucket_in (sizes_of v) t))) all right.each) 0 e refl in
       omega (arith, entry.some, entry.below, at)
 
   by_found : (o : Option (ℕ × Direction)) (q : Option (ℕ × Direction)) → found_for (sizes_of v) flow.original v.view.buckets.shut ≡ o → found_for (sizes_of v) flow.reply v.view.buckets.shut ≡ q

@@ -15,7 +15,7 @@ use Rattle.tuple_core.specs.Words.{address_word, flow_word}
 use Rattle.tuple_core.specs.declared.Tuple.{Tuple}
 use Rattle.track_rule.specs.History.{IsNumber}
 use Rattle.track_rule.specs.BucketSteps.{put_in, raise}
-use Rattle.track_rule.specs.Chains.{bucket_of, chain_in, entry_of, pair_of, shuts_of, side}
+use Rattle.track_rule.specs.Chains.{bucket_of, chain_in, chain_link, pair_of, shuts_of, side}
 use Rattle.track_rule.specs.CommitSteps.{CanConfirm, HasLink, MakesConfirm, confirmed, has_pair, held_for, shown_live, told_in}
 use Rattle.track_rule.specs.Free.{taken_out, unlisted}
 use Rattle.track_rule.specs.Layout.{side_of}
@@ -149,7 +149,7 @@ abbrev shuts_at : ℕ → List Shut → ℕ
 shuts_at b shut = total (λ (k : Shut). bit (k.bucket == b)) shut
 
 abbrev standing_weight : Sizes → ℕ → (ChainLink → ℕ) → List Hook → ℕ
-standing_weight z c w hooks = total (λ (h : Hook). (if h.up then side z c w (entry_of h) else 0)) hooks
+standing_weight z c w hooks = total (λ (h : Hook). (if h.up then side z c w (chain_link h) else 0)) hooks
 
 -- both links of a place, which are in no chain, each with a tuple of a bucket that is shut
 record TwoLinks (z : Sizes) (place : ℕ) (flow : Flow) (s : HeldBuckets) : Type 0 where
@@ -179,17 +179,17 @@ linked_balance z place flow s two c w =
     (raised_count (reply_link place) (original_link place) s.hooks ∙ two.original)
     (still_down (reply_link place) (original_link place) s.hooks (apart place) ∙ two.original_down)
     (subst (λ (n : ℕ). 0 < n) (sym (same_shuts (hook_bucket z (original_link place) s.hooks) (put_in (hook_bucket z (reply_link place) s.hooks) (reply_link place) s).shut s.shut
-    (same_buckets (hook_bucket z (reply_link place) s.hooks) (entry_of (hook_of (reply_link place) s.hooks) ∷ chain_in (hook_bucket z (reply_link place) s.hooks) s.shut) s.shut)))
+    (same_buckets (hook_bucket z (reply_link place) s.hooks) (chain_link (hook_of (reply_link place) s.hooks) ∷ chain_in (hook_bucket z (reply_link place) s.hooks) s.shut) s.shut)))
     (subst (λ (p : Pair). 0 < shuts_at (bucket_of z p) s.shut) (sym two.original_pair) two.original_shut)) in
     omega (arith, first, second)
 
 linked_shut : (z : Sizes) (place : ℕ) (s : HeldBuckets) → shut_buckets (linked_buckets z place s).shut ≡ shut_buckets s.shut
 linked_shut z place s =
     same_buckets (hook_bucket z (original_link place) s.hooks)
-    (entry_of (hook_of (original_link place) (map (raise (reply_link place)) s.hooks))
+    (chain_link (hook_of (original_link place) (map (raise (reply_link place)) s.hooks))
     ∷ chain_in (hook_bucket z (original_link place) s.hooks) (put_in (hook_bucket z (reply_link place) s.hooks) (reply_link place) s).shut)
     (put_in (hook_bucket z (reply_link place) s.hooks) (reply_link place) s).shut
-    ∙ same_buckets (hook_bucket z (reply_link place) s.hooks) (entry_of (hook_of (reply_link place) s.hooks) ∷ chain_in (hook_bucket z (reply_link place) s.hooks) s.shut) s.shut
+    ∙ same_buckets (hook_bucket z (reply_link place) s.hooks) (chain_link (hook_of (reply_link place) s.hooks) ∷ chain_in (hook_bucket z (reply_link place) s.hooks) s.shut) s.shut
 
 linked_pair : (z : Sizes) (place x : ℕ) (s : HeldBuckets) → pair_at x (linked_buckets z place s).hooks ≡ pair_at x s.hooks
 linked_pair z place x s = raised_pair (original_link place) x (map (raise (reply_link place)) s.hooks) ∙ raised_pair (reply_link place) x s.hooks

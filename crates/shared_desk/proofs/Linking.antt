@@ -4,7 +4,7 @@ use Rattle.std.specs.Prelude.{◌==◌, ◌&&◌, ◌||◌, not, if◌then◌els
 use Rattle.std.proofs.lemmas.Bool.{cases_Bool, cond_both, eq-eqb, eqb-true, false≢true, ne_eqb, or_parts}
 use Rattle.history_book.specs.declared.sizes.Sizes.{Sizes}
 use Rattle.track_rule.specs.BucketSteps.{put_in, raise, with_chain}
-use Rattle.track_rule.specs.Chains.{bucket_of, chain_in, entry_of, side}
+use Rattle.track_rule.specs.Chains.{bucket_of, chain_in, chain_link, side}
 use Rattle.track_rule.specs.CommitSteps.{dropped}
 use Rattle.track_rule.specs.Links.{hook_of, hooks_of, is_down, is_raised, is_up}
 use Rattle.track_rule.specs.Sums.{bit, total}
@@ -125,8 +125,8 @@ raise_none x (h ∷ hs) e =
 
 -- what stands weighs more by the link that came up
 pub raised_weight : (z : Sizes) (c x : ℕ) (w : ChainLink → ℕ) (hooks : List Hook) → hooks_of x hooks ≡ 1 → is_down x hooks ≡ true
-    → total (λ (h : Hook). (if h.up then side z c w (entry_of h) else 0)) (map (raise x) hooks)
-    ≡ total (λ (h : Hook). (if h.up then side z c w (entry_of h) else 0)) hooks + side z c w (entry_of (hook_of x hooks))
+    → total (λ (h : Hook). (if h.up then side z c w (chain_link h) else 0)) (map (raise x) hooks)
+    ≡ total (λ (h : Hook). (if h.up then side z c w (chain_link h) else 0)) hooks + side z c w (chain_link (hook_of x hooks))
 raised_weight z c x w [] one down = absurd (omega (arith, one))
 raised_weight z c x w (h ∷ hs) one down =
     ⊎_elim
@@ -135,17 +135,17 @@ raised_weight z c x w (h ∷ hs) one down =
     let low : h.up ≡ false = first_down (h.link == x) h.up e (down_else e) down in
     omega (
       arith,
-      ap (λ (t : Hook). (if t.up then side z c w (entry_of t) else 0)) (raise_here x h e),
-      ap (total (λ (h : Hook). (if h.up then side z c w (entry_of h) else 0))) rest,
-      ap (λ (b : Bool). (if b then side z c w (entry_of h) else 0)) low,
-      ap (λ (b : Bool). side z c w (entry_of (if b then h else hook_of x hs))) e,
+      ap (λ (t : Hook). (if t.up then side z c w (chain_link t) else 0)) (raise_here x h e),
+      ap (total (λ (h : Hook). (if h.up then side z c w (chain_link h) else 0))) rest,
+      ap (λ (b : Bool). (if b then side z c w (chain_link h) else 0)) low,
+      ap (λ (b : Bool). side z c w (chain_link (if b then h else hook_of x hs))) e,
     ))
     (λ (e : (h.link == x) ≡ false).
     omega (
       arith,
-      ap (λ (t : Hook). (if t.up then side z c w (entry_of t) else 0)) (raise_else x h e),
+      ap (λ (t : Hook). (if t.up then side z c w (chain_link t) else 0)) (raise_else x h e),
       raised_weight z c x w hs (omega (arith, one, ap bit e)) (sym (ap (λ (b : Bool). (b && not h.up) || is_down x hs) e) ∙ down),
-      ap (λ (b : Bool). side z c w (entry_of (if b then h else hook_of x hs))) e,
+      ap (λ (b : Bool). side z c w (chain_link (if b then h else hook_of x hs))) e,
     ))
     (cases_Bool (h.link == x))
   where
@@ -214,27 +214,27 @@ chain_else b c es (s ∷ rest) other =
 -- A link comes into the chain of its bucket: the chain, and what of the pass stands there, weigh more by the same.
 pub put_balance : (z : Sizes) (b x c : ℕ) (w : ChainLink → ℕ) (s : HeldBuckets) → b ≡ bucket_of z (hook_of x s.hooks).pair → hooks_of x s.hooks ≡ 1 → is_down x s.hooks ≡ true
     → 0 < total (λ (k : Shut). bit (k.bucket == b)) s.shut
-    → total w (chain_in c (put_in b x s).shut) + total (λ (h : Hook). (if h.up then side z c w (entry_of h) else 0)) s.hooks
-    ≡ total w (chain_in c s.shut) + total (λ (h : Hook). (if h.up then side z c w (entry_of h) else 0)) (put_in b x s).hooks
+    → total w (chain_in c (put_in b x s).shut) + total (λ (h : Hook). (if h.up then side z c w (chain_link h) else 0)) s.hooks
+    ≡ total w (chain_in c s.shut) + total (λ (h : Hook). (if h.up then side z c w (chain_link h) else 0)) (put_in b x s).hooks
 put_balance z b x c w s placed one down mine =
-    let e : ChainLink = entry_of (hook_of x s.hooks) in
+    let e : ChainLink = chain_link (hook_of x s.hooks) in
     ⊎_elim
     (λ (t : (b == c) ≡ true).
     let same : b ≡ c = eqb-true b c t in
     omega (
       arith,
       raised_weight z c x w s.hooks one down,
-      ap (total w) (subst (λ (k : ℕ). chain_in k (with_chain b (entry_of (hook_of x s.hooks) ∷ chain_in b s.shut) s.shut) ≡ entry_of (hook_of x s.hooks) ∷ chain_in k s.shut) same
-          (chain_here b (entry_of (hook_of x s.hooks) ∷ chain_in b s.shut) s.shut mine)),
-      ap (λ (k : Bool). if k then w (entry_of (hook_of x s.hooks)) else 0) (eq-eqb (bucket_of z (hook_of x s.hooks).pair) c (sym placed ∙ same)),
+      ap (total w) (subst (λ (k : ℕ). chain_in k (with_chain b (chain_link (hook_of x s.hooks) ∷ chain_in b s.shut) s.shut) ≡ chain_link (hook_of x s.hooks) ∷ chain_in k s.shut) same
+          (chain_here b (chain_link (hook_of x s.hooks) ∷ chain_in b s.shut) s.shut mine)),
+      ap (λ (k : Bool). if k then w (chain_link (hook_of x s.hooks)) else 0) (eq-eqb (bucket_of z (hook_of x s.hooks).pair) c (sym placed ∙ same)),
     ))
     (λ (t : (b == c) ≡ false).
     let other : c ≢ b = λ k. false≢true (sym t ∙ eq-eqb b c (sym k)) in
     omega (
       arith,
       raised_weight z c x w s.hooks one down,
-      ap (total w) (chain_else b c (entry_of (hook_of x s.hooks) ∷ chain_in b s.shut) s.shut other),
-      ap (λ (k : Bool). if k then w (entry_of (hook_of x s.hooks)) else 0) (ne_eqb (bucket_of z (hook_of x s.hooks).pair) c (λ k. other (sym k ∙ sym placed))),
+      ap (total w) (chain_else b c (chain_link (hook_of x s.hooks) ∷ chain_in b s.shut) s.shut other),
+      ap (λ (k : Bool). if k then w (chain_link (hook_of x s.hooks)) else 0) (ne_eqb (bucket_of z (hook_of x s.hooks).pair) c (λ k. other (sym k ∙ sym placed))),
     ))
     (cases_Bool (b == c))
 

@@ -66,8 +66,8 @@ total_onto f [] rest = omega arith
 total_onto f (p ∷ ps) rest = omega (arith, total_onto f ps (p ∷ rest))
 
 -- this very entry: its link, its tuple and its id
-abbrev is_entry : ChainLink → ChainLink → Bool
-is_entry e y = (y.link == e.link && has_words e.pair.first e.pair.second y) && same_id y.id e.id
+abbrev is_link : ChainLink → ChainLink → Bool
+is_link e y = (y.link == e.link && has_words e.pair.first e.pair.second y) && same_id y.id e.id
 
 id_self : (o : Option ℕ) → same_id o o ≡ true
 id_self None = refl
@@ -77,8 +77,8 @@ id_named : (n : ℕ) (o : Option ℕ) → same_id (Some n) o ≡ true → o ≡ 
 id_named n None e = absurd (false≢true e)
 id_named n (Some m) e = ap (λ (k : ℕ). Some k) (sym (eqb-true n m e))
 
-entry_self : (e : ChainLink) → is_entry e e ≡ true
-entry_self e =
+link_self : (e : ChainLink) → is_link e e ≡ true
+link_self e =
     and_from (e.link == e.link && has_words e.pair.first e.pair.second e) (same_id e.id e.id)
     (and_from (e.link == e.link) (has_words e.pair.first e.pair.second e) (eq-eqb e.link e.link refl)
     (and_from (e.pair.first == e.pair.first) (e.pair.second == e.pair.second) (eq-eqb e.pair.first e.pair.first refl) (eq-eqb e.pair.second e.pair.second refl)))
@@ -113,19 +113,19 @@ module _ (z : Sizes) (t : Tuple) (chain : List ChainLink) (rs : List Record) (su
     (valid : (r : Record) → IsIn r rs → is_of_one_flow r ≡ true) (valid_t : is_valid t ≡ true) (words : WordsDetermineTheTuple) where
   -- the record of an entry of the chain
   owner : (passed : List ChainLink) (e : ChainLink) (rest : List ChainLink) → chain ≡ rev_onto passed (e ∷ rest)
-      → (r : Record) × IsIn r rs × ((is_entry e (original_of r) ≡ true) ⊎ (is_entry e (reply_of r) ≡ true))
+      → (r : Record) × IsIn r rs × ((is_link e (original_of r) ≡ true) ⊎ (is_link e (reply_of r) ≡ true))
   owner passed e rest all =
-      let w : ChainLink → ℕ = λ y. bit (is_entry e y) in
-      let found = some_weighs (links_in z (bucket_in z t) (λ y. bit (is_entry e y))) rs
-      (omega (arith, sums (λ y. bit (is_entry e y)), ap (total (λ y. bit (is_entry e y))) all, total_onto (λ y. bit (is_entry e y)) passed (e ∷ rest), ap bit (entry_self e))) in
+      let w : ChainLink → ℕ = λ y. bit (is_link e y) in
+      let found = some_weighs (links_in z (bucket_in z t) (λ y. bit (is_link e y))) rs
+      (omega (arith, sums (λ y. bit (is_link e y)), ap (total (λ y. bit (is_link e y))) all, total_onto (λ y. bit (is_link e y)) passed (e ∷ rest), ap bit (link_self e))) in
       (found.0, found.1, by_side found.0 found.2)
     where
-      by_side : (r : Record) → 0 < links_in z (bucket_in z t) (λ y. bit (is_entry e y)) r → (is_entry e (original_of r) ≡ true) ⊎ (is_entry e (reply_of r) ≡ true)
-      by_side r any = first (side z (bucket_in z t) (λ y. bit (is_entry e y)) (original_of r)) refl
+      by_side : (r : Record) → 0 < links_in z (bucket_in z t) (λ y. bit (is_link e y)) r → (is_link e (original_of r) ≡ true) ⊎ (is_link e (reply_of r) ≡ true)
+      by_side r any = first (side z (bucket_in z t) (λ y. bit (is_link e y)) (original_of r)) refl
         where
-          first : (n : ℕ) → side z (bucket_in z t) (λ y. bit (is_entry e y)) (original_of r) ≡ n → (is_entry e (original_of r) ≡ true) ⊎ (is_entry e (reply_of r) ≡ true)
-          first zero k = inr (bit_set (is_entry e (reply_of r)) (side_some z (bucket_in z t) (λ y. bit (is_entry e y)) (reply_of r) (omega (arith, any, k))))
-          first (suc n) k = inl (bit_set (is_entry e (original_of r)) (side_some z (bucket_in z t) (λ y. bit (is_entry e y)) (original_of r) (omega (arith, k))))
+          first : (n : ℕ) → side z (bucket_in z t) (λ y. bit (is_link e y)) (original_of r) ≡ n → (is_link e (original_of r) ≡ true) ⊎ (is_link e (reply_of r) ≡ true)
+          first zero k = inr (bit_set (is_link e (reply_of r)) (side_some z (bucket_in z t) (λ y. bit (is_link e y)) (reply_of r) (omega (arith, any, k))))
+          first (suc n) k = inl (bit_set (is_link e (original_of r)) (side_some z (bucket_in z t) (λ y. bit (is_link e y)) (original_of r) (omega (arith, k))))
 
   -- the tuple of the words
   by_words : (u : Tuple) (e : ChainLink) → is_valid u ≡ true → has_words (address_word t) (flow_word t) e ≡ true → has_words e.pair.first e.pair.second (record { link = 0; pair = pair_of u; id = None }) ≡ true → u ≡ t
@@ -149,7 +149,7 @@ module _ (z : Sizes) (t : Tuple) (chain : List ChainLink) (rs : List Record) (su
 
   -- an entry of a record is this link, so the record is that of the link
   owns : (tuple_of : Record → Tuple) (d x : ℕ) (l : IsLinkOf (address_word t) (flow_word t) d chain x) (r : Record) → IsIn r rs → (e : ChainLink)
-      → is_entry l.entry e ≡ true → e.pair ≡ pair_of (tuple_of r) → e.id ≡ Some r.id → place_of e.link ≡ r.place → is_valid (tuple_of r) ≡ true → Owns tuple_of x
+      → is_link l.entry e ≡ true → e.pair ≡ pair_of (tuple_of r) → e.id ≡ Some r.id → place_of e.link ≡ r.place → is_valid (tuple_of r) ≡ true → Owns tuple_of x
   owns tuple_of d x l r there e here pair id place valid_u =
       let parts = and_parts (e.link == l.entry.link && has_words l.entry.pair.first l.entry.pair.second e) (same_id e.id l.entry.id) here in
       let inner = and_parts (e.link == l.entry.link) (has_words l.entry.pair.first l.entry.pair.second e) parts.0 in
@@ -169,7 +169,7 @@ module _ (z : Sizes) (t : Tuple) (chain : List ChainLink) (rs : List Record) (su
       }
 
   -- an entry on the other side is not this link
-  other_side : (d : ℕ) (e y : ChainLink) → is_entry e y ≡ true → side_of e.link ≡ d → side_of y.link ≢ d → ⊥
+  other_side : (d : ℕ) (e y : ChainLink) → is_link e y ≡ true → side_of e.link ≡ d → side_of y.link ≢ d → ⊥
   other_side d e y here side other =
       let parts = and_parts (y.link == e.link && has_words e.pair.first e.pair.second y) (same_id y.id e.id) here in
       other (ap side_of (eqb-true y.link e.link (and_parts (y.link == e.link) (has_words e.pair.first e.pair.second y) parts.0).0) ∙ side)
@@ -179,9 +179,9 @@ module _ (z : Sizes) (t : Tuple) (chain : List ChainLink) (rs : List Record) (su
       let l = link_there (address_word t) (flow_word t) 0 x chain e in
       let o = owner l.passed l.entry l.rest l.all in
       ⊎_elim
-      (λ (k : is_entry l.entry (original_of o.0) ≡ true).
+      (λ (k : is_link l.entry (original_of o.0) ≡ true).
       owns (λ r. r.original) 0 x l o.0 o.1 (original_of o.0) k refl refl (omega arith) (valid_tuples o.0 (valid o.0 o.1)).0)
-      (λ (k : is_entry l.entry (reply_of o.0) ≡ true). absurd (other_side 0 l.entry (reply_of o.0) k l.sided (λ i. omega (arith, i))))
+      (λ (k : is_link l.entry (reply_of o.0) ≡ true). absurd (other_side 0 l.entry (reply_of o.0) k l.sided (λ i. omega (arith, i))))
       o.2
 
   pub reply_owner : (x : ℕ) → link_with 1 (address_word t) (flow_word t) chain ≡ Some x → Owns (λ r. r.reply) x
@@ -189,8 +189,8 @@ module _ (z : Sizes) (t : Tuple) (chain : List ChainLink) (rs : List Record) (su
       let l = link_there (address_word t) (flow_word t) 1 x chain e in
       let o = owner l.passed l.entry l.rest l.all in
       ⊎_elim
-      (λ (k : is_entry l.entry (original_of o.0) ≡ true). absurd (other_side 1 l.entry (original_of o.0) k l.sided (λ i. omega (arith, i))))
-      (λ (k : is_entry l.entry (reply_of o.0) ≡ true).
+      (λ (k : is_link l.entry (original_of o.0) ≡ true). absurd (other_side 1 l.entry (original_of o.0) k l.sided (λ i. omega (arith, i))))
+      (λ (k : is_link l.entry (reply_of o.0) ≡ true).
       owns (λ r. r.reply) 1 x l o.0 o.1 (reply_of o.0) k refl refl (omega arith) (valid_tuples o.0 (valid o.0 o.1)).1)
       o.2
 

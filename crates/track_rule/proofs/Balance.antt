@@ -21,7 +21,7 @@ use Rattle.track_rule.specs.declared.view.Shares.{Shares}
 use Rattle.track_rule.specs.declared.view.HeldBuckets.{HeldBuckets}
 use Rattle.track_rule.specs.declared.view.View.{View}
 use Rattle.track_rule.specs.declared.view.Walk.{Walk}
-use Rattle.track_rule.specs.Chains.{each_link, entry_of, hooks_at, loose_of, shuts_of, side}
+use Rattle.track_rule.specs.Chains.{each_link, chain_link, hooks_at, loose_of, shuts_of, side}
 use Rattle.track_rule.specs.Commits.{IsMiddleOf, shuts_in}
 use Rattle.track_rule.specs.Free.{IsFreeList, IsHome, has_turn, owes, turn_of}
 use Rattle.track_rule.specs.History.{records_after}
@@ -70,7 +70,7 @@ bucket_lines z l s id v w h at buckets more owned walk =
     let hooks = h.links.hooks id v at in
     record {
       shut = ap (λ (x : HeldBuckets). x.shut) buckets;
-      loose = λ b weight. ap (λ (x : HeldBuckets). total (λ (y : Hook). (if y.up then side z b weight (entry_of y) else 0)) x.hooks) buckets;
+      loose = λ b weight. ap (λ (x : HeldBuckets). total (λ (y : Hook). (if y.up then side z b weight (chain_link y) else 0)) x.hooks) buckets;
       lone = λ link some. omega (
         arith,
         h.chains.lone link some,

@@ -23,7 +23,7 @@ use Rattle.track_rule.specs.declared.view.Middle.{Middle}
 use Rattle.track_rule.specs.declared.view.Middle.TheVariants.{Calm, Born, Dying}
 use Rattle.track_rule.specs.declared.view.Pair.{Pair}
 use Rattle.track_rule.specs.declared.view.View.{View}
-use Rattle.track_rule.specs.Chains.{AreChains, bucket_of, each_link, entry_of, hooks_at, links_in, loose_of, original_of, pair_of, reply_of, shuts_of, side}
+use Rattle.track_rule.specs.Chains.{AreChains, bucket_of, each_link, chain_link, hooks_at, links_in, loose_of, original_of, pair_of, reply_of, shuts_of, side}
 use Rattle.track_rule.specs.CommitSteps.{CanConfirm, HasLink, born, confirmed, dropped, named, with_confirm}
 use Rattle.track_rule.specs.Commits.{IsMiddle, IsMiddleOf}
 use Rattle.track_rule.specs.Expected.{has_expected}
@@ -151,10 +151,10 @@ module _ (l : Ledger) (s : State Slot View) (id : ℕ) (v : View) (r : Record) (
 
   -- a link of the place weighs, once it is told the id, what that of the record weighs
   weighs_up : (b : ℕ) (f : ChainLink → ℕ) (k : Hook) (e : ChainLink) → k.up ≡ true → k.link ≡ e.link → k.pair ≡ e.pair → e.id ≡ Some (length l.log) → place_of e.link ≡ r.place
-      → (if k.up then side v.passes.sizes b (λ x. f (named r.place (length l.log) x)) (entry_of k) else 0) ≡ side v.passes.sizes b f e
+      → (if k.up then side v.passes.sizes b (λ x. f (named r.place (length l.log) x)) (chain_link k) else 0) ≡ side v.passes.sizes b f e
   weighs_up b f k e up link pair its_id here =
-      ap (λ (t : Bool). if t then side v.passes.sizes b (λ x. f (named r.place (length l.log) x)) (entry_of k) else 0) up
-      ∙ ap (λ (x : ChainLink). if bucket_of v.passes.sizes k.pair == b then f x else 0) (named_here r.place (Some (length l.log)) (entry_of k) (ap place_of link ∙ here))
+      ap (λ (t : Bool). if t then side v.passes.sizes b (λ x. f (named r.place (length l.log) x)) (chain_link k) else 0) up
+      ∙ ap (λ (x : ChainLink). if bucket_of v.passes.sizes k.pair == b then f x else 0) (named_here r.place (Some (length l.log)) (chain_link k) (ap place_of link ∙ here))
       ∙ (λ i. side v.passes.sizes b f (record { link = link i; pair = pair i; id = sym its_id i }))
 
   loose_left : (b : ℕ) (f : ChainLink → ℕ)
@@ -162,7 +162,7 @@ module _ (l : Ledger) (s : State Slot View) (id : ℕ) (v : View) (r : Record) (
       ≡ loose_of v.passes.sizes b (λ x. f (named r.place (length l.log) x)) v
   loose_left b f = omega (
     arith,
-    total_left (λ (k : Hook). (if k.up then side v.passes.sizes b (λ x. f (named r.place (length l.log) x)) (entry_of k) else 0)),
+    total_left (λ (k : Hook). (if k.up then side v.passes.sizes b (λ x. f (named r.place (length l.log) x)) (chain_link k) else 0)),
     weighs_up b f (hook_of (1 + 2 * r.place) v.buckets.hooks) (original_of subject) one_hook.2 one_hook.3 can.original.pair refl (omega arith),
     weighs_up b f (hook_of (2 + 2 * r.place) v.buckets.hooks) (reply_of subject) two_hook.2 two_hook.3 can.reply.pair refl (omega arith),
   )
@@ -255,11 +255,11 @@ module _ (l : Ledger) (s : State Slot View) (id : ℕ) (v : View) (r : Record) (
         weighs (links_in z b f),
         shut_else z b r.original v can.original.shut off f (original_of subject) refl,
         shut_else z b r.reply v can.reply.shut off f (reply_of subject) refl,
-        total_left (λ (k : Hook). (if k.up then side z b f (entry_of k) else 0)),
-        up_weighs (hook_of (1 + 2 * r.place) v.buckets.hooks).up (side z b f (entry_of (hook_of (1 + 2 * r.place) v.buckets.hooks)))
-            (shut_else z b r.original v can.original.shut off f (entry_of (hook_of (1 + 2 * r.place) v.buckets.hooks)) can.original.pair),
-        up_weighs (hook_of (2 + 2 * r.place) v.buckets.hooks).up (side z b f (entry_of (hook_of (2 + 2 * r.place) v.buckets.hooks)))
-            (shut_else z b r.reply v can.reply.shut off f (entry_of (hook_of (2 + 2 * r.place) v.buckets.hooks)) can.reply.pair),
+        total_left (λ (k : Hook). (if k.up then side z b f (chain_link k) else 0)),
+        up_weighs (hook_of (1 + 2 * r.place) v.buckets.hooks).up (side z b f (chain_link (hook_of (1 + 2 * r.place) v.buckets.hooks)))
+            (shut_else z b r.original v can.original.shut off f (chain_link (hook_of (1 + 2 * r.place) v.buckets.hooks)) can.original.pair),
+        up_weighs (hook_of (2 + 2 * r.place) v.buckets.hooks).up (side z b f (chain_link (hook_of (2 + 2 * r.place) v.buckets.hooks)))
+            (shut_else z b r.reply v can.reply.shut off f (chain_link (hook_of (2 + 2 * r.place) v.buckets.hooks)) can.reply.pair),
         total_set (loose_of z b f) s.views id v after_it at,
       )
     where
@@ -293,7 +293,7 @@ module _ (l : Ledger) (s : State Slot View) (id : ℕ) (v : View) (r : Record) (
               h.chains.home id v at c below (omega (
                 arith,
                 some_loose,
-                total_left (λ (k : Hook). (if k.up then side z c each_link (entry_of k) else 0)),
+                total_left (λ (k : Hook). (if k.up then side z c each_link (chain_link k) else 0)),
               )),
             ));
         lone = λ link some_link. omega (

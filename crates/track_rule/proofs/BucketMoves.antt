@@ -21,7 +21,7 @@ use Rattle.track_rule.specs.declared.view.Shut.{Shut}
 use Rattle.track_rule.specs.declared.view.View.{View}
 use Rattle.track_rule.specs.declared.view.Walk.{Walk}
 use Rattle.track_rule.specs.BucketSteps.{IsChainOf, OpenGenStep, OpensGen, ShutGenStep, ShutsGen, ShutsOrMisses, opened_of, shut_now}
-use Rattle.track_rule.specs.Chains.{AreChains, IsChain, chain_in, entry_of, hooks_at, links_in, loose_of, shuts_of, side, each_link}
+use Rattle.track_rule.specs.Chains.{AreChains, IsChain, chain_in, chain_link, hooks_at, links_in, loose_of, shuts_of, side, each_link}
 use Rattle.track_rule.specs.History.{records_after}
 use Rattle.track_rule.specs.Layout.{first_word, gen_at, gen_word, head_word, next_word, phase_word, refs_at, refs_word, second_word, turn_word}
 use Rattle.track_rule.specs.Links.{AreLinks, HasHooks, last_gen}
@@ -199,7 +199,7 @@ module _ (l : Ledger) (s : State Slot View) (id b : ℕ) (v : View) (h : IsKept 
         chained = λ c under weight.
             h.chains.chained c under weight
             ∙ ap (λ (k : ℕ). total (links_in z c weight) (records_after l.log) + k)
-            (sym (total_same (loose_of z c weight) s.views id v w at (ap (λ (xs : List Hook). total (λ (x : Hook). (if x.up then side z c weight (entry_of x) else 0)) xs) hooks)));
+            (sym (total_same (loose_of z c weight) s.views id v w at (ap (λ (xs : List Hook). total (λ (x : Hook). (if x.up then side z c weight (chain_link x) else 0)) xs) hooks)));
         lone = λ link any. omega (
           arith,
           h.chains.lone link any,

@@ -12,7 +12,7 @@ use Rattle.track_rule.specs.declared.view.ChainLink.{ChainLink}
 use Rattle.track_rule.specs.declared.view.Hook.{Hook}
 use Rattle.track_rule.specs.declared.view.View.{View}
 use Rattle.track_rule.specs.BucketSteps.{IsShutAt, end_word, first_of, lower, strung, taken_from, without_link}
-use Rattle.track_rule.specs.Chains.{IsChain, IsLinked, IsOrdered, bucket_of, chain_in, entry_of, hooks_at, is_at_link, loose_of, side}
+use Rattle.track_rule.specs.Chains.{IsChain, IsLinked, IsOrdered, bucket_of, chain_in, chain_link, hooks_at, is_at_link, loose_of, side}
 use Rattle.track_rule.specs.Layout.{first_word, head_word, next_word, place_of, second_word}
 use Rattle.track_rule.specs.Links.{IsHook, IsOwned, hook_of, hooks_of, is_raised, last_link}
 use Rattle.track_rule.specs.Rule.{IsKept, Ledger}
@@ -141,8 +141,8 @@ module _ (l : Ledger) (s : State Slot View) (id b : ℕ) (v : View) (h : IsKept 
     its_hook : IsHook v.passes.sizes s.words (hook_of e.link v.buckets.hooks) × ((hook_of e.link v.buckets.hooks).link ≡ e.link)
     its_hook = hook_there e.link (IsHook v.passes.sizes s.words) v.buckets.hooks own.0 (h.links.hooks id v at).each
 
-    its_entry : entry_of (hook_of e.link v.buckets.hooks) ≡ e
-    its_entry = entry_same (hook_of e.link v.buckets.hooks) its_hook.1
+    its_link : chain_link (hook_of e.link v.buckets.hooks) ≡ e
+    its_link = link_same (hook_of e.link v.buckets.hooks) its_hook.1
         (sym its_hook.0.first ∙ ap (λ (x : ℕ). slice_index s.words (first_word v.passes.sizes x)) its_hook.1 ∙ parts.1.1.first)
         (sym its_hook.0.second ∙ ap (λ (x : ℕ). slice_index s.words (second_word v.passes.sizes x)) its_hook.1 ∙ parts.1.1.second) (no_id e.id its_id)
       where
@@ -159,8 +159,8 @@ module _ (l : Ledger) (s : State Slot View) (id b : ℕ) (v : View) (h : IsKept 
         no_id None t = refl
         no_id (Some i) t = absurd (omega (arith, t, ap (λ (k : Bool). bit (k && true)) (eq-eqb e.link e.link refl)))
 
-        entry_same : (k : Hook) → k.link ≡ e.link → k.pair.first ≡ e.pair.first → k.pair.second ≡ e.pair.second → None ≡ e.id → entry_of k ≡ e
-        entry_same k p q r o = λ i. record { link = p i; pair = record { first = q i; second = r i }; id = o i }
+        link_same : (k : Hook) → k.link ≡ e.link → k.pair.first ≡ e.pair.first → k.pair.second ≡ e.pair.second → None ≡ e.id → chain_link k ≡ e
+        link_same k p q r o = λ i. record { link = p i; pair = record { first = q i; second = r i }; id = o i }
 
     lowered_hook : (k : Hook) → k.link ≡ e.link → lower e.link k ≡ record k { next = None; up = false }
     lowered_hook k p = ap (λ (t : Bool). if t then record k { next = None; up = false } else k) (eq-eqb k.link e.link p)
@@ -175,10 +175,10 @@ module _ (l : Ledger) (s : State Slot View) (id b : ℕ) (v : View) (h : IsKept 
         let k : Hook = hook_of e.link v.buckets.hooks in
         omega (
           arith,
-          total_change e.link (lower e.link) (λ (y : Hook). (if y.up then side v.passes.sizes c g (entry_of y) else 0)) v.buckets.hooks (λ i y at'. lowered_other y) own.0 own.1,
-          ap (λ (u : Bool). if u then side v.passes.sizes c g (entry_of k) else 0) (hook_test e.link (λ (y : Hook). y.up) v.buckets.hooks own.1 up),
-          ap (side v.passes.sizes c g) its_entry,
-          ap (λ (y : Hook). (if y.up then side v.passes.sizes c g (entry_of y) else 0)) (lowered_hook k its_hook.1),
+          total_change e.link (lower e.link) (λ (y : Hook). (if y.up then side v.passes.sizes c g (chain_link y) else 0)) v.buckets.hooks (λ i y at'. lowered_other y) own.0 own.1,
+          ap (λ (u : Bool). if u then side v.passes.sizes c g (chain_link k) else 0) (hook_test e.link (λ (y : Hook). y.up) v.buckets.hooks own.1 up),
+          ap (side v.passes.sizes c g) its_link,
+          ap (λ (y : Hook). (if y.up then side v.passes.sizes c g (chain_link y) else 0)) (lowered_hook k its_hook.1),
         )
 
     pub cuts_kept : IsKept v.passes.sizes (record l { chains = rechained l.chains b (without_link e.link (chain_in b v.buckets.shut)) })

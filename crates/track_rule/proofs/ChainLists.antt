@@ -10,8 +10,8 @@ use Rattle.history_book.specs.declared.sizes.Sizes.{Sizes}
 use Rattle.track_rule.specs.declared.view.ChainLink.{ChainLink}
 use Rattle.track_rule.specs.declared.view.Hook.{Hook}
 use Rattle.track_rule.specs.declared.view.View.{View}
-use Rattle.track_rule.specs.BucketSteps.{IsChainOf, IsEntryOf, end_word, first_of, has_link, is_up_in}
-use Rattle.track_rule.specs.Chains.{AreChains, IsChain, IsLinked, bucket_of, entry_of, hooks_at, is_at_link, links_in, loose_of, original_of, reply_of, side}
+use Rattle.track_rule.specs.BucketSteps.{IsChainOf, IsLinkIn, end_word, first_of, has_link, is_up_in}
+use Rattle.track_rule.specs.Chains.{AreChains, IsChain, IsLinked, bucket_of, chain_link, hooks_at, is_at_link, links_in, loose_of, original_of, reply_of, side}
 use Rattle.track_rule.specs.History.{records_after}
 use Rattle.track_rule.specs.Layout.{next_word, place_of}
 use Rattle.track_rule.specs.Links.{is_down, last_link}
@@ -48,8 +48,8 @@ module _ (z : Sizes) (ws : List ℕ) (b : ℕ) where
   chain_each link (e ∷ es) h zero x at = subst (IsLinked z ws b) (some-injective e x at) h.1
   chain_each link (e ∷ es) h (suc i) x at = chain_each (slice_index ws (next_word z e.link)) es h.2 i x at
 
-  pub entry_each : (es : List ChainLink) → Each (IsLinked z ws b) es → Each (IsEntryOf z b) es
-  entry_each es h i x at =
+  pub links_each : (es : List ChainLink) → Each (IsLinked z ws b) es → Each (IsLinkIn z b) es
+  links_each es h i x at =
       let k = h i x at in
       record { some = k.some; below = low_link x.link k.some k.below; placed = k.placed }
     where
@@ -70,8 +70,8 @@ length_links f [] = refl
 length_links f (e ∷ es) = omega (arith, length_links f es)
 
 -- a chain in which each link stands once at most is no longer than there are links
-pub few_entries : (z : Sizes) (b : ℕ) (es : List ChainLink) → Each (IsEntryOf z b) es → ((x : ℕ) → 0 < x → total (is_at_link x) es ≤ 1) → length es ≤ last_link z
-few_entries z b es each lone =
+pub few_links : (z : Sizes) (b : ℕ) (es : List ChainLink) → Each (IsLinkIn z b) es → ((x : ℕ) → 0 < x → total (is_at_link x) es ≤ 1) → length es ≤ last_link z
+few_links z b es each lone =
     omega (
       arith,
       few_places (last_link z) (map (λ (e : ChainLink). e.link - 1) es) []
@@ -129,9 +129,9 @@ record_links z b x any r =
 
 -- a hook counts in a chain where it is up, and of this bucket
 hook_weight : Sizes → ℕ → ℕ → Hook → ℕ
-hook_weight z b x h = (if h.up then side z b (is_at_link x) (entry_of h) else 0)
+hook_weight z b x h = (if h.up then side z b (is_at_link x) (chain_link h) else 0)
 
-hook_low : (z : Sizes) (b x : ℕ) (h : Hook) → (if h.up then side z b (is_at_link x) (entry_of h) else 0) ≤ bit (h.link == x)
+hook_low : (z : Sizes) (b x : ℕ) (h : Hook) → (if h.up then side z b (is_at_link x) (chain_link h) else 0) ≤ bit (h.link == x)
 hook_low z b x h = pick h.up (bucket_of z h.pair == b) (bit (h.link == x))
   where
     pick : (u b : Bool) (n : ℕ) → (if u then (if b then n else 0) else 0) ≤ n
@@ -140,12 +140,12 @@ hook_low z b x h = pick h.up (bucket_of z h.pair == b) (bit (h.link == x))
     pick false b n = omega arith
 
 pub loose_low : (z : Sizes) (b x : ℕ) (v : View) → loose_of z b (is_at_link x) v ≤ hooks_at x v
-loose_low z b x v = total_le (λ (h : Hook). (if h.up then side z b (is_at_link x) (entry_of h) else 0)) (λ (h : Hook). bit (h.link == x)) v.buckets.hooks
+loose_low z b x v = total_le (λ (h : Hook). (if h.up then side z b (is_at_link x) (chain_link h) else 0)) (λ (h : Hook). bit (h.link == x)) v.buckets.hooks
     (λ i h at. hook_low z b x h)
 
 -- one that is down counts less
 down_low : (z : Sizes) (b x : ℕ) (hooks : List Hook) → is_down x hooks ≡ true
-    → total (λ (h : Hook). (if h.up then side z b (is_at_link x) (entry_of h) else 0)) hooks + 1 ≤ total (λ (h : Hook). bit (h.link == x)) hooks
+    → total (λ (h : Hook). (if h.up then side z b (is_at_link x) (chain_link h) else 0)) hooks + 1 ≤ total (λ (h : Hook). bit (h.link == x)) hooks
 down_low z b x [] e = cc
 down_low z b x (h ∷ hs) e =
     ⊎_elim
@@ -154,8 +154,8 @@ down_low z b x (h ∷ hs) e =
     omega (
       arith,
       ap bit parts.0,
-      off h.up (side z b (is_at_link x) (entry_of h)) parts.1,
-      total_le (λ (h : Hook). (if h.up then side z b (is_at_link x) (entry_of h) else 0)) (λ (h : Hook). bit (h.link == x)) hs (λ i h at. hook_low z b x h),
+      off h.up (side z b (is_at_link x) (chain_link h)) parts.1,
+      total_le (λ (h : Hook). (if h.up then side z b (is_at_link x) (chain_link h) else 0)) (λ (h : Hook). bit (h.link == x)) hs (λ i h at. hook_low z b x h),
     ))
     (λ (t : (h.link == x && not h.up) ≡ false).
     omega (arith, hook_low z b x h, down_low z b x hs (sym (ap (λ (k : Bool). k || is_down x hs) t) ∙ e)))
@@ -167,7 +167,7 @@ down_low z b x (h ∷ hs) e =
 
 -- and one that is up in this bucket counts
 up_some : (z : Sizes) (b x : ℕ) (hooks : List Hook) → is_up_in z b x hooks ≡ true
-    → 1 ≤ total (λ (h : Hook). (if h.up then side z b (is_at_link x) (entry_of h) else 0)) hooks
+    → 1 ≤ total (λ (h : Hook). (if h.up then side z b (is_at_link x) (chain_link h) else 0)) hooks
 up_some z b x [] e = cc
 up_some z b x (h ∷ hs) e =
     ⊎_elim
@@ -190,10 +190,10 @@ side_le z b f g e le = low (bucket_of z e.pair == b)
     low true = le
     low false = omega arith
 
-pub loose_zero : (z : Sizes) (b : ℕ) (f : ChainLink → ℕ) (hooks : List Hook) → Each (λ h. f (entry_of h) ≡ 0) hooks
-    → total (λ (h : Hook). (if h.up then side z b f (entry_of h) else 0)) hooks ≡ 0
+pub loose_zero : (z : Sizes) (b : ℕ) (f : ChainLink → ℕ) (hooks : List Hook) → Each (λ h. f (chain_link h) ≡ 0) hooks
+    → total (λ (h : Hook). (if h.up then side z b f (chain_link h) else 0)) hooks ≡ 0
 loose_zero z b f hooks none =
-    total_zero (λ (h : Hook). (if h.up then side z b f (entry_of h) else 0)) hooks (λ i h at. off h.up (bucket_of z h.pair == b) (f (entry_of h)) (none i h at))
+    total_zero (λ (h : Hook). (if h.up then side z b f (chain_link h) else 0)) hooks (λ i h at. off h.up (bucket_of z h.pair == b) (f (chain_link h)) (none i h at))
   where
     off : (u k : Bool) (n : ℕ) → n ≡ 0 → (if u then (if k then n else 0) else 0) ≡ 0
     off true true n e = e
@@ -255,5 +255,5 @@ module _ (z : Sizes) (log : List Event) (ws : List ℕ) (vs : List View) (chains
 
   pub chain_of : IsChainOf z b (chains b)
   chain_of =
-      let each = entry_each z ws b (chains b) (chain_each z ws b (slice_index ws (end_word z b [])) (chains b) (h.linked b below)) in
-      record { each = each; few = few_entries z b (chains b) each alone; ordered = h.ordered b below }
+      let each = links_each z ws b (chains b) (chain_each z ws b (slice_index ws (end_word z b [])) (chains b) (h.linked b below)) in
+      record { each = each; few = few_links z b (chains b) each alone; ordered = h.ordered b below }

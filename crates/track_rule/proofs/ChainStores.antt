@@ -16,7 +16,7 @@ use Rattle.track_rule.specs.declared.view.HeldBuckets.{HeldBuckets}
 use Rattle.track_rule.specs.declared.view.View.{View}
 use Rattle.track_rule.specs.declared.view.Walk.{Walk}
 use Rattle.track_rule.specs.BucketSteps.{first_of, put_in, raise, strung}
-use Rattle.track_rule.specs.Chains.{IsChain, IsOrdered, bucket_of, chain_in, entry_of, hooks_at, is_at_link, links_in, loose_of, shuts_of, side, each_link}
+use Rattle.track_rule.specs.Chains.{IsChain, IsOrdered, bucket_of, chain_in, chain_link, hooks_at, is_at_link, links_in, loose_of, shuts_of, side, each_link}
 use Rattle.track_rule.specs.History.{records_after}
 use Rattle.track_rule.specs.KeptWords.{link_of}
 use Rattle.track_rule.specs.Layout.{first_word, gen_at, head_word, next_word, place_of, second_word, side_of}
@@ -220,7 +220,7 @@ module _ (l : Ledger) (s : State Slot View) (id b x : ℕ) (v : View) (h : IsKep
 
   put_chain : IsChain v.passes.sizes (slice_set s.words (head_word v.passes.sizes b) x) b
       (slice_index (slice_set s.words (head_word v.passes.sizes b) x) (head_word v.passes.sizes b))
-      (entry_of (hook_of x v.buckets.hooks) ∷ chain_in b v.buckets.shut)
+      (chain_link (hook_of x v.buckets.hooks) ∷ chain_in b v.buckets.shut)
   put_chain =
       let z : Sizes = v.passes.sizes in
       let new : List ℕ = slice_set s.words (head_word z b) x in
@@ -256,7 +256,7 @@ module _ (l : Ledger) (s : State Slot View) (id b x : ℕ) (v : View) (h : IsKep
 
   put_loose : (c : ℕ) (g : ChainLink → ℕ)
       → loose_of v.passes.sizes c g (strung (head_word v.passes.sizes b) x (put_in b x v.buckets) v)
-      ≡ loose_of v.passes.sizes c g v + side v.passes.sizes c g (entry_of (hook_of x v.buckets.hooks))
+      ≡ loose_of v.passes.sizes c g v + side v.passes.sizes c g (chain_link (hook_of x v.buckets.hooks))
   put_loose c g =
       let z : Sizes = v.passes.sizes in
       let own = own_link l s id v h at has_some x down in
@@ -264,12 +264,12 @@ module _ (l : Ledger) (s : State Slot View) (id b x : ℕ) (v : View) (h : IsKep
       let there = hook_there x (IsHook z s.words) v.buckets.hooks own.2 (h.links.hooks id v at).each in
       omega (
         arith,
-        total_change x (raise x) (λ (y : Hook). (if y.up then side z c g (entry_of y) else 0)) v.buckets.hooks (λ i y at'. raised_other y) own.2 own.3,
-        ap (λ (u : Bool). if u then side z c g (entry_of k) else 0) own.4,
-        ap (λ (y : Hook). (if y.up then side z c g (entry_of y) else 0)) (raised_hook k there.1),
+        total_change x (raise x) (λ (y : Hook). (if y.up then side z c g (chain_link y) else 0)) v.buckets.hooks (λ i y at'. raised_other y) own.2 own.3,
+        ap (λ (u : Bool). if u then side z c g (chain_link k) else 0) own.4,
+        ap (λ (y : Hook). (if y.up then side z c g (chain_link y) else 0)) (raised_hook k there.1),
       )
 
-  pub puts_kept : IsKept v.passes.sizes (record l { chains = rechained l.chains b (entry_of (hook_of x v.buckets.hooks) ∷ chain_in b v.buckets.shut) })
+  pub puts_kept : IsKept v.passes.sizes (record l { chains = rechained l.chains b (chain_link (hook_of x v.buckets.hooks) ∷ chain_in b v.buckets.shut) })
       (record {
         words = slice_set s.words (head_word v.passes.sizes b) x;
         homes = s.homes;
@@ -280,7 +280,7 @@ module _ (l : Ledger) (s : State Slot View) (id b x : ℕ) (v : View) (h : IsKep
       let new : List ℕ = slice_set s.words (head_word z b) x in
       let own = own_link l s id v h at has_some x down in
       let k : Hook = hook_of x v.buckets.hooks in
-      let es : List ChainLink = entry_of (hook_of x v.buckets.hooks) ∷ chain_in b v.buckets.shut in
+      let es : List ChainLink = chain_link (hook_of x v.buckets.hooks) ∷ chain_in b v.buckets.shut in
       let there = hook_there x (IsHook z s.words) v.buckets.hooks own.2 (h.links.hooks id v at).each in
       let known : chain_in b v.buckets.shut ≡ l.chains b = h.chains.mine b below id v at mine in
       restrung l s id b v h at has_some below mine (head_word z b) x (put_in b x v.buckets) es (record {
@@ -334,12 +334,12 @@ module _ (l : Ledger) (s : State Slot View) (id b x : ℕ) (v : View) (h : IsKep
       behind : (y : ℕ) → 0 < y → side_of y ≡ 1 → 0 < y - 1
       behind y any e = omega (arith, any, e)
 
-      in_bucket : (g : ChainLink → ℕ) → side v.passes.sizes b g (entry_of (hook_of x v.buckets.hooks)) ≡ g (entry_of (hook_of x v.buckets.hooks))
+      in_bucket : (g : ChainLink → ℕ) → side v.passes.sizes b g (chain_link (hook_of x v.buckets.hooks)) ≡ g (chain_link (hook_of x v.buckets.hooks))
       in_bucket g =
-          ap (λ (t : Bool). if t then g (entry_of (hook_of x v.buckets.hooks)) else 0)
+          ap (λ (t : Bool). if t then g (chain_link (hook_of x v.buckets.hooks)) else 0)
           (eq-eqb (bucket_of v.passes.sizes (hook_of x v.buckets.hooks).pair) b placed)
 
-      not_in : (c : ℕ) → c ≢ b → (g : ChainLink → ℕ) → side v.passes.sizes c g (entry_of (hook_of x v.buckets.hooks)) ≡ 0
+      not_in : (c : ℕ) → c ≢ b → (g : ChainLink → ℕ) → side v.passes.sizes c g (chain_link (hook_of x v.buckets.hooks)) ≡ 0
       not_in c other g =
-          ap (λ (t : Bool). if t then g (entry_of (hook_of x v.buckets.hooks)) else 0)
+          ap (λ (t : Bool). if t then g (chain_link (hook_of x v.buckets.hooks)) else 0)
           (ne_eqb (bucket_of v.passes.sizes (hook_of x v.buckets.hooks).pair) c (λ e. other (sym e ∙ placed)))

@@ -25,7 +25,7 @@ use Rattle.track_rule.specs.declared.view.Middle.{Middle}
 use Rattle.track_rule.specs.declared.view.Middle.TheVariants.{Dying}
 use Rattle.track_rule.specs.declared.view.Pair.{Pair}
 use Rattle.track_rule.specs.declared.view.View.{View}
-use Rattle.track_rule.specs.Chains.{AreChains, bucket_of, each_link, entry_of, hooks_at, links_in, loose_of, original_of, pair_of, reply_of, shuts_of, side}
+use Rattle.track_rule.specs.Chains.{AreChains, bucket_of, each_link, chain_link, hooks_at, links_in, loose_of, original_of, pair_of, reply_of, shuts_of, side}
 use Rattle.track_rule.specs.CommitSteps.{told}
 use Rattle.track_rule.specs.Commits.{AreCommits, HasItsTurn, IsCommitting, IsMiddle}
 use Rattle.track_rule.specs.Expected.{AreExpected, expected_turn, has_expected}
@@ -75,15 +75,15 @@ its_list i (Some before) list e = (before, refl, one_list list (without_master i
     one_list a b k = cc
 
 -- it is the entry of this link, with this tuple
-abbrev is_entry_at : ℕ → Pair → ChainLink → Bool
-is_entry_at link p e = e.link == link && (e.pair.first == p.first && e.pair.second == p.second)
+abbrev is_link_at : ℕ → Pair → ChainLink → Bool
+is_link_at link p e = e.link == link && (e.pair.first == p.first && e.pair.second == p.second)
 
-abbrev is_entry : ℕ → Pair → ChainLink → ℕ
-is_entry link p e = bit (is_entry_at link p e)
+abbrev is_link : ℕ → Pair → ChainLink → ℕ
+is_link link p e = bit (is_link_at link p e)
 
-entry_weighs : (z : Sizes) (e : ChainLink) → side z (bucket_of z e.pair) (is_entry e.link e.pair) e ≡ 1
-entry_weighs z e =
-    ap (λ (k : Bool). if k then is_entry e.link e.pair e else 0) (eq-eqb (bucket_of z e.pair) (bucket_of z e.pair) refl)
+link_weighs : (z : Sizes) (e : ChainLink) → side z (bucket_of z e.pair) (is_link e.link e.pair) e ≡ 1
+link_weighs z e =
+    ap (λ (k : Bool). if k then is_link e.link e.pair e else 0) (eq-eqb (bucket_of z e.pair) (bucket_of z e.pair) refl)
     ∙ ap bit (λ i. eq-eqb e.link e.link refl i && (eq-eqb e.pair.first e.pair.first refl i && eq-eqb e.pair.second e.pair.second refl i))
 
 each_two : (F : Hook → Type 0) (a b : Hook) (hooks : List Hook) → F a → F b → Each F hooks → Each F (a ∷ b ∷ hooks)
@@ -340,7 +340,7 @@ module _ (l : Ledger) (s : State Slot View) (id : ℕ) (v : View) (d : Destroyin
   -- a link weighs, once it names no id, what that of the pass weighs
   weighs_loose : (b : ℕ) (f : ChainLink → ℕ)
       → links_in v.passes.sizes b (λ x. f (told r.place None x)) r
-      ≡ side v.passes.sizes b f (entry_of (loose_hook (1 + 2 * r.place) r.original)) + side v.passes.sizes b f (entry_of (loose_hook (2 + 2 * r.place) r.reply))
+      ≡ side v.passes.sizes b f (chain_link (loose_hook (1 + 2 * r.place) r.original)) + side v.passes.sizes b f (chain_link (loose_hook (2 + 2 * r.place) r.reply))
   weighs_loose b f = omega (
     arith,
     ap (λ (x : ChainLink). if bucket_of v.passes.sizes (pair_of r.original) == b then f x else 0) (named_here r.place None (original_of r) (omega arith)),
@@ -375,8 +375,8 @@ module _ (l : Ledger) (s : State Slot View) (id : ℕ) (v : View) (d : Destroyin
         weighs (links_in z b f),
         shut_else z b r.original v commit.original off f (original_of r) refl,
         shut_else z b r.reply v commit.reply off f (reply_of r) refl,
-        shut_else z b r.original v commit.original off f (entry_of (loose_hook (1 + 2 * r.place) r.original)) refl,
-        shut_else z b r.reply v commit.reply off f (entry_of (loose_hook (2 + 2 * r.place) r.reply)) refl,
+        shut_else z b r.original v commit.original off f (chain_link (loose_hook (1 + 2 * r.place) r.original)) refl,
+        shut_else z b r.reply v commit.reply off f (chain_link (loose_hook (2 + 2 * r.place) r.reply)) refl,
         total_set (loose_of z b f) s.views id v after_it at,
       )
 
@@ -424,15 +424,15 @@ module _ (l : Ledger) (s : State Slot View) (id : ℕ) (v : View) (d : Destroyin
 
   -- a link of the record stands in its chain, and the words of its tuple are there
   loose_stands : (link : ℕ) (t : Tuple) → 0 < link → link ≤ last_link v.passes.sizes
-      → 1 ≤ links_in v.passes.sizes (bucket_of v.passes.sizes (pair_of t)) (is_entry link (pair_of t)) r → IsHook v.passes.sizes s.words (loose_hook link t)
+      → 1 ≤ links_in v.passes.sizes (bucket_of v.passes.sizes (pair_of t)) (is_link link (pair_of t)) r → IsHook v.passes.sizes s.words (loose_hook link t)
   loose_stands link t any below_last weight =
       let z : Sizes = v.passes.sizes in
       let b : ℕ = bucket_of z (pair_of t) in
       let below : b < z.buckets = bucket_low z (pair_of t) h.limits in
-      let found = counted_there (is_entry_at link (pair_of t)) (l.chains b) (omega (
+      let found = counted_there (is_link_at link (pair_of t)) (l.chains b) (omega (
         arith,
-        h.chains.chained b below (is_entry link (pair_of t)),
-        total_term (links_in z b (is_entry link (pair_of t))) (records_after l.log) there.0 r there.1,
+        h.chains.chained b below (is_link link (pair_of t)),
+        total_term (links_in z b (is_link link (pair_of t))) (records_after l.log) there.0 r there.1,
         weight,
       )) in
       let e : ChainLink = found.1 in
@@ -451,12 +451,12 @@ module _ (l : Ledger) (s : State Slot View) (id : ℕ) (v : View) (d : Destroyin
   first_stands : IsHook v.passes.sizes s.words (loose_hook (1 + 2 * r.place) r.original)
   first_stands =
       loose_stands (1 + 2 * r.place) r.original (omega arith) (omega (arith, place_below))
-      (omega (arith, entry_weighs v.passes.sizes (original_of r)))
+      (omega (arith, link_weighs v.passes.sizes (original_of r)))
 
   second_stands : IsHook v.passes.sizes s.words (loose_hook (2 + 2 * r.place) r.reply)
   second_stands =
       loose_stands (2 + 2 * r.place) r.reply (omega arith) (omega (arith, place_below))
-      (omega (arith, entry_weighs v.passes.sizes (reply_of r)))
+      (omega (arith, link_weighs v.passes.sizes (reply_of r)))
 
   ended_hooks : HasHooks v.passes.sizes s.words after_it.places after_it.buckets.hooks
   ended_hooks =

@@ -15,7 +15,7 @@ use Rattle.track_rule.specs.declared.view.Hook.{Hook}
 use Rattle.track_rule.specs.declared.view.Places.{Places}
 use Rattle.track_rule.specs.declared.view.View.{View}
 use Rattle.track_rule.specs.declared.view.Walk.{Walk}
-use Rattle.track_rule.specs.Chains.{AreChains, each_link, entry_of, hooks_at, links_in, loose_of, shuts_of, side}
+use Rattle.track_rule.specs.Chains.{AreChains, each_link, chain_link, hooks_at, links_in, loose_of, shuts_of, side}
 use Rattle.track_rule.specs.Commits.{AreCommits, shuts_in}
 use Rattle.track_rule.specs.Expected.{AreExpected}
 use Rattle.track_rule.specs.History.{packed, records_after}
@@ -159,7 +159,7 @@ module _ (l : Ledger) (s : State Slot View) (id : ℕ) (v w : View) (e : Event) 
       same_shuts c = ap (λ (x : HeldBuckets). shuts_in c x.shut) parts.buckets
 
       same_loose : (b : ℕ) (f : ChainLink → ℕ) → loose_of v.passes.sizes b f w ≡ loose_of v.passes.sizes b f v
-      same_loose b f = ap (λ (x : HeldBuckets). total (λ (k : Hook). (if k.up then side v.passes.sizes b f (entry_of k) else 0)) x.hooks) parts.buckets
+      same_loose b f = ap (λ (x : HeldBuckets). total (λ (k : Hook). (if k.up then side v.passes.sizes b f (chain_link k) else 0)) x.hooks) parts.buckets
 
   event_hooks : HasHooks v.passes.sizes words w.places w.buckets.hooks
   event_hooks =

@@ -50,8 +50,8 @@ module _ (z : Sizes) (l : Ledger) (s : State Slot View) (h : IsKept z l s) where
       omega (arith, present, total_add held (owes p) s.views)
 
   -- so there are no more places than are free, live, held and owed
-  few_entries : z.entries ≤ length l.free + total kept_places s.views + length (records_after l.log)
-  few_entries =
+  few_links : z.entries ≤ length l.free + total kept_places s.views + length (records_after l.log)
+  few_links =
       let n : ℕ = z.entries in
       let rs : List Record = records_after l.log in
       omega (
@@ -91,7 +91,7 @@ module _ (z : Sizes) (l : Ledger) (s : State Slot View) (h : IsKept z l s) where
   full id v at =
       omega (
         arith,
-        few_entries,
+        few_links,
         total_gap kept_places (λ u. 4 * shares_of u) s.views id v at places_low,
         total_times 4 shares_of s.views,
         h.passes.all,

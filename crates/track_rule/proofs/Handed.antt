@@ -22,7 +22,7 @@ use Rattle.track_rule.specs.declared.view.HeldBuckets.{HeldBuckets}
 use Rattle.track_rule.specs.declared.view.View.{View}
 use Rattle.track_rule.specs.declared.view.Walk.{Walk}
 use Rattle.track_rule.specs.declared.view.Commit.{Commit}
-use Rattle.track_rule.specs.Chains.{each_link, entry_of, side}
+use Rattle.track_rule.specs.Chains.{each_link, chain_link, side}
 use Rattle.track_rule.specs.Commits.{IsMiddle, shuts_in}
 use Rattle.track_rule.specs.Free.{IsFreeList, owes, turn_of}
 use Rattle.track_rule.specs.History.{events_in, live_in, records_after}
@@ -106,9 +106,9 @@ handed z l s vs' h passes leaves places free buckets commits walk readings =
     h.references.carried_for) h.references)
     (free_carry z s.words s.homes s.views vs' l.free places free h.free_list)
     (chains_stay z s.words s.words same l.log s.views vs' l.chains shut
-    (λ b weight. buckets.sums (λ (x : Places × HeldBuckets). total (λ (y : Hook). (if y.up then side z b weight (entry_of y) else 0)) x.1.hooks) refl)
+    (λ b weight. buckets.sums (λ (x : Places × HeldBuckets). total (λ (y : Hook). (if y.up then side z b weight (chain_link y) else 0)) x.1.hooks) refl)
     (buckets.each (λ (x : Places × HeldBuckets). (b : ℕ) → b < z.buckets
-    → 0 < total (λ (y : Hook). (if y.up then side z b each_link (entry_of y) else 0)) x.1.hooks → 0 < shuts_in b x.1.shut)
+    → 0 < total (λ (y : Hook). (if y.up then side z b each_link (chain_link y) else 0)) x.1.hooks → 0 < shuts_in b x.1.shut)
     (λ b below any. absurd (omega (arith, any))) h.chains.home)
     (λ link some. omega (arith, h.chains.lone link some, buckets.sums (λ (x : Places × HeldBuckets). hooks_of link x.1.hooks) refl)) h.chains)
     (links_stay z s.words s.words same s.views vs'

@@ -14,7 +14,7 @@ use Rattle.track_rule.specs.declared.slot.Slot.{Slot}
 use Rattle.track_rule.specs.declared.view.Hook.{Hook}
 use Rattle.track_rule.specs.declared.view.Keep.{Keep}
 use Rattle.track_rule.specs.declared.view.View.{View}
-use Rattle.track_rule.specs.Chains.{entry_of, hooks_at, loose_of, side}
+use Rattle.track_rule.specs.Chains.{chain_link, hooks_at, loose_of, side}
 use Rattle.track_rule.specs.Free.{is_among, unlisted}
 use Rattle.track_rule.specs.declared.view.Middle.{Middle}
 use Rattle.track_rule.specs.declared.view.Middle.TheVariants.{Calm, Born, Dying}
@@ -297,8 +297,8 @@ lowered_lines z l s id p n v h at any less others down =
     record {
       shut = refl;
       loose = λ b weight. cond_both (held_times p v.places.held == 1) (filter (λ (h : Hook). not (place_of h.link == p)) v.buckets.hooks) v.buckets.hooks
-          (λ xs. total (λ (h : Hook). (if h.up then side z b weight (entry_of h) else 0)) xs ≡ loose_of z b weight v)
-          (λ t. loose_kept p (λ (h : Hook). side z b weight (entry_of h)) v.buckets.hooks down) (λ t. refl);
+          (λ xs. total (λ (h : Hook). (if h.up then side z b weight (chain_link h) else 0)) xs ≡ loose_of z b weight v)
+          (λ t. loose_kept p (λ (h : Hook). side z b weight (chain_link h)) v.buckets.hooks down) (λ t. refl);
       lone = λ link some_link. omega (
         arith,
         h.chains.lone link some_link,
@@ -351,8 +351,8 @@ ended_lines z l s id p n v h at down =
     record {
       shut = refl;
       loose = λ b weight. cond_both (is_among p v.places.ended) (filter (λ (h : Hook). not (place_of h.link == p)) v.buckets.hooks) v.buckets.hooks
-          (λ xs. total (λ (h : Hook). (if h.up then side z b weight (entry_of h) else 0)) xs ≡ loose_of z b weight v)
-          (λ t. loose_kept p (λ (h : Hook). side z b weight (entry_of h)) v.buckets.hooks down) (λ t. refl);
+          (λ xs. total (λ (h : Hook). (if h.up then side z b weight (chain_link h) else 0)) xs ≡ loose_of z b weight v)
+          (λ t. loose_kept p (λ (h : Hook). side z b weight (chain_link h)) v.buckets.hooks down) (λ t. refl);
       lone = λ link some_link. omega (
         arith,
         h.chains.lone link some_link,

@@ -20,7 +20,7 @@ use Rattle.track_rule.specs.declared.view.ChainLink.{ChainLink}
 use Rattle.track_rule.specs.declared.view.Hook.{Hook}
 use Rattle.track_rule.specs.declared.view.Shut.{Shut}
 use Rattle.track_rule.specs.declared.view.View.{View}
-use Rattle.track_rule.specs.Chains.{IsChain, IsOrdered, bucket_of, chain_in, entry_of, is_at_link, links_in, original_of, pair_of, reply_of, shuts_of, side}
+use Rattle.track_rule.specs.Chains.{IsChain, IsOrdered, bucket_of, chain_in, chain_link, is_at_link, links_in, original_of, pair_of, reply_of, shuts_of, side}
 use Rattle.track_rule.specs.CommitSteps.{told, told_in, with_confirm}
 use Rattle.track_rule.specs.Layout.{gen_at, head_word, next_word, place_of}
 use Rattle.track_rule.specs.Rule.{IsKept, Ledger}
@@ -72,11 +72,11 @@ module _ (p : ℕ) (o : Option ℕ) where
     ))
 
     pub hooks_else : (hooks : List Hook) → Each (λ h. place_of h.link ≢ p) hooks
-        → total (λ (h : Hook). (if h.up then side z b (λ x. f (told p o x)) (entry_of h) else 0)) hooks
-        ≡ total (λ (h : Hook). (if h.up then side z b f (entry_of h) else 0)) hooks
+        → total (λ (h : Hook). (if h.up then side z b (λ x. f (told p o x)) (chain_link h) else 0)) hooks
+        ≡ total (λ (h : Hook). (if h.up then side z b f (chain_link h) else 0)) hooks
     hooks_else hooks others =
-        total_alike (λ (h : Hook). (if h.up then side z b (λ x. f (told p o x)) (entry_of h) else 0)) (λ (h : Hook). (if h.up then side z b f (entry_of h) else 0)) hooks
-        (λ j h at. ap (λ (n : ℕ). if h.up then n else 0) (side_else (entry_of h) (others j h at)))
+        total_alike (λ (h : Hook). (if h.up then side z b (λ x. f (told p o x)) (chain_link h) else 0)) (λ (h : Hook). (if h.up then side z b f (chain_link h) else 0)) hooks
+        (λ j h at. ap (λ (n : ℕ). if h.up then n else 0) (side_else (chain_link h) (others j h at)))
 
 -- in a bucket that a pass has not shut, a tuple of which it has shut the bucket weighs nothing
 pub shut_else : (z : Sizes) (b : ℕ) (t : Tuple) (v : View) → 0 < shuts_of (bucket_of z (pair_of t)) v → shuts_of b v ≡ 0 → (f : ChainLink → ℕ) (e : ChainLink)

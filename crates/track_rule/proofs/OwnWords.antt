@@ -15,7 +15,7 @@ use Rattle.track_rule.specs.declared.view.Hook.{Hook}
 use Rattle.track_rule.specs.declared.view.View.{View}
 use Rattle.track_rule.specs.declared.view.Walk.{Walk}
 use Rattle.track_rule.specs.BucketSteps.{StoreTupleStep, aim, aimed, is_own_tuple, strung, tuple_in, tuple_stored}
-use Rattle.track_rule.specs.Chains.{IsChain, chain_in, entry_of, hooks_at, links_in, loose_of, shuts_of, side, each_link}
+use Rattle.track_rule.specs.Chains.{IsChain, chain_in, chain_link, hooks_at, links_in, loose_of, shuts_of, side, each_link}
 use Rattle.track_rule.specs.History.{records_after}
 use Rattle.track_rule.specs.Free.{is_among}
 use Rattle.track_rule.specs.KeptWords.{link_of, shows_held}
@@ -181,17 +181,17 @@ module _ (l : Ledger) (s : State Slot View) (id : ℕ) (v : View) (h : IsKept v.
       (h.commits id v at)
     where
       loose_stays : (b : ℕ) (weight : ChainLink → ℕ)
-          → total (λ (k : Hook). (if k.up then side v.passes.sizes b weight (entry_of k) else 0)) (map f v.buckets.hooks)
-          ≡ total (λ (k : Hook). (if k.up then side v.passes.sizes b weight (entry_of k) else 0)) v.buckets.hooks
+          → total (λ (k : Hook). (if k.up then side v.passes.sizes b weight (chain_link k) else 0)) (map f v.buckets.hooks)
+          ≡ total (λ (k : Hook). (if k.up then side v.passes.sizes b weight (chain_link k) else 0)) v.buckets.hooks
       loose_stays b weight =
           let own = own_link in
           let k : Hook = hook_of x v.buckets.hooks in
-          let F : Hook → ℕ = λ (k : Hook). (if k.up then side v.passes.sizes b weight (entry_of k) else 0) in
+          let F : Hook → ℕ = λ (k : Hook). (if k.up then side v.passes.sizes b weight (chain_link k) else 0) in
           omega (
             arith,
-            total_change x f (λ (k : Hook). (if k.up then side v.passes.sizes b weight (entry_of k) else 0)) v.buckets.hooks others own.2 own.3,
-            ap (λ (u : Bool). if u then side v.passes.sizes b weight (entry_of k) else 0) own.4,
-            ap (λ (u : Bool). if u then side v.passes.sizes b weight (entry_of (f k)) else 0) ((keeps_link k).1 ∙ own.4),
+            total_change x f (λ (k : Hook). (if k.up then side v.passes.sizes b weight (chain_link k) else 0)) v.buckets.hooks others own.2 own.3,
+            ap (λ (u : Bool). if u then side v.passes.sizes b weight (chain_link k) else 0) own.4,
+            ap (λ (u : Bool). if u then side v.passes.sizes b weight (chain_link (f k)) else 0) ((keeps_link k).1 ∙ own.4),
           )
 
 -- the next link of a link in no chain

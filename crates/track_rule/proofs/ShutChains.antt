@@ -19,7 +19,7 @@ use Rattle.track_rule.specs.declared.view.Middle.TheVariants.{Calm, Born, Dying}
 use Rattle.track_rule.specs.declared.view.Shut.{Shut}
 use Rattle.track_rule.specs.declared.view.View.{View}
 use Rattle.track_rule.specs.BucketSteps.{IsShutAt}
-use Rattle.track_rule.specs.Chains.{bucket_of, chain_in, each_link, entry_of, links_in, loose_of, original_of, pair_of, reply_of, shuts_of, side}
+use Rattle.track_rule.specs.Chains.{bucket_of, chain_in, each_link, chain_link, links_in, loose_of, original_of, pair_of, reply_of, shuts_of, side}
 use Rattle.track_rule.specs.Commits.{IsCommitting, IsMiddle, shuts_in}
 use Rattle.track_rule.specs.History.{records_after}
 use Rattle.track_rule.specs.Layout.{gen_at, phase_at, place_of}
@@ -32,11 +32,11 @@ use Rattle.track_rule.proofs.Sums.{total_alike, total_le, total_only, total_term
 
 -- links that are not in a bucket weigh nothing there
 loose_none : (z : Sizes) (b : ℕ) (f : ChainLink → ℕ) (hooks : List Hook)
-    → total (λ (h : Hook). (if h.up then side z b each_link (entry_of h) else 0)) hooks ≡ 0
-    → total (λ (h : Hook). (if h.up then side z b f (entry_of h) else 0)) hooks ≡ 0
+    → total (λ (h : Hook). (if h.up then side z b each_link (chain_link h) else 0)) hooks ≡ 0
+    → total (λ (h : Hook). (if h.up then side z b f (chain_link h) else 0)) hooks ≡ 0
 loose_none z b f [] none_there = refl
 loose_none z b f (h ∷ hs) none_there =
-    omega (arith, off h.up (bucket_of z h.pair == b) 1 (f (entry_of h)) (omega arith) (omega (arith, none_there)), loose_none z b f hs (omega (arith, none_there)))
+    omega (arith, off h.up (bucket_of z h.pair == b) 1 (f (chain_link h)) (omega arith) (omega (arith, none_there)), loose_none z b f hs (omega (arith, none_there)))
   where
     off : (u k : Bool) (m n : ℕ) → 0 < m → (if u then (if k then m else 0) else 0) ≡ 0 → (if u then (if k then n else 0) else 0) ≡ 0
     off true true m n any e = absurd (omega (arith, any, e))

@@ -15,7 +15,7 @@ use Rattle.track_rule.specs.declared.view.HeldBuckets.{HeldBuckets}
 use Rattle.track_rule.specs.declared.view.Pair.{Pair}
 use Rattle.track_rule.specs.declared.view.View.{View}
 use Rattle.track_rule.specs.declared.view.Walk.{Walk}
-use Rattle.track_rule.specs.Chains.{IsOrdered, bucket_of, chain_in, entry_of, shuts_of}
+use Rattle.track_rule.specs.Chains.{IsOrdered, bucket_of, chain_in, chain_link, shuts_of}
 use Rattle.track_rule.specs.KeptWords.{is_kept_for, link_of, pair_in}
 use Rattle.track_rule.specs.Layout.{first_word, gen_word, head_word, next_word, place_of, second_word, side_of}
 use Rattle.track_rule.specs.Free.{is_among}
@@ -29,14 +29,14 @@ use Rattle.track_rule.specs.Walks.{HasLive, Stands, rev_onto}
 -- GENERATIONS
 
 -- a link of a place below the entries, whose tuple belongs to the bucket
-pub record IsEntryOf (z : Sizes) (bucket : ℕ) (e : ChainLink) : Type 0 where
+pub record IsLinkIn (z : Sizes) (bucket : ℕ) (e : ChainLink) : Type 0 where
   pub some : 0 < e.link
   pub below : e.link ≤ last_link z
   pub placed : bucket_of z e.pair ≡ bucket
 
 -- A chain of a bucket: it is no longer than there are links, and an original link comes before the reply link of its place.
 pub record IsChainOf (z : Sizes) (bucket : ℕ) (chain : List ChainLink) : Type 0 where
-  pub each : Each (IsEntryOf z bucket) chain
+  pub each : Each (IsLinkIn z bucket) chain
   pub few : length chain ≤ last_link z
   pub ordered : IsOrdered chain
 
@@ -103,17 +103,17 @@ pub record OpensGen (bucket : ℕ) (v : View) (w : View) : Type 0 where
 
 -- LOADS OF LINKS AND OF TUPLES
 
--- the word that has the link after these entries of a chain, the newest first
+-- the word that has the number of the link after these links of a chain, the newest first
 abbrev pub end_word : Sizes → ℕ → List ChainLink → ℕ
 end_word z bucket [] = head_word z bucket
 end_word z bucket (e ∷ es) = next_word z e.link
 
--- the link with which entries begin
+-- the number of the link with which links begin
 abbrev pub first_of : List ChainLink → ℕ
 first_of [] = 0
 first_of (e ∷ es) = e.link
 
--- the chain of a bucket that the pass has shut is these entries, the first of them passed
+-- the chain of a bucket that the pass has shut is these links, the first of them passed
 pub record IsShutAt (bucket : ℕ) (v : View) (passed rest : List ChainLink) : Type 0 where
   pub mine : 0 < shuts_of bucket v
   pub all : chain_in bucket v.buckets.shut ≡ rev_onto passed rest
@@ -194,7 +194,7 @@ raise link h = (if h.link == link then record h { next = None; up = true } else 
 -- the link begins the chain of the bucket
 abbrev pub put_in : ℕ → ℕ → HeldBuckets → HeldBuckets
 put_in bucket link s = record {
-  shut = with_chain bucket (entry_of (hook_of link s.hooks) ∷ chain_in bucket s.shut) s.shut;
+  shut = with_chain bucket (chain_link (hook_of link s.hooks) ∷ chain_in bucket s.shut) s.shut;
   hooks = map (raise link) s.hooks;
 }
 

@@ -36,7 +36,7 @@ pub record IsLinked (z : Sizes) (words : List ℕ) (bucket : ℕ) (e : ChainLink
   pub second : slice_index words (second_word z e.link) ≡ e.pair.second
   pub placed : bucket_of z e.pair ≡ bucket
 
--- 1 where it is the entry of this link
+-- 1 where it is the link of this number
 abbrev pub is_at_link : ℕ → ChainLink → ℕ
 is_at_link link e = bit (e.link == link)
 
@@ -45,23 +45,23 @@ abbrev pub IsOrdered : List ChainLink → Type 0
 IsOrdered [] = Unit {0}
 IsOrdered (e ∷ es) = (side_of e.link ≡ 1 → total (is_at_link (e.link - 1)) es ≡ 0) × IsOrdered es
 
--- from this link on these entries follow, to the end
+-- from the link of this number on these links follow, to the end
 abbrev pub IsChain : Sizes → List ℕ → ℕ → ℕ → List ChainLink → Type 0
 IsChain z words bucket link [] = link ≡ 0
 IsChain z words bucket link (e ∷ es) =
     (link ≡ e.link) × IsLinked z words bucket e × IsChain z words bucket (slice_index words (next_word z e.link)) es
 
--- the two entries of a record, and that of a hook
+-- the two links of a record, and that of a hook
 abbrev pub original_of : Record → ChainLink
 original_of r = record { link = 1 + 2 * r.place; pair = pair_of r.original; id = Some r.id }
 
 abbrev pub reply_of : Record → ChainLink
 reply_of r = record { link = 2 + 2 * r.place; pair = pair_of r.reply; id = Some r.id }
 
-abbrev pub entry_of : Hook → ChainLink
-entry_of h = record { link = h.link; pair = h.pair; id = None }
+abbrev pub chain_link : Hook → ChainLink
+chain_link h = record { link = h.link; pair = h.pair; id = None }
 
--- what an entry weighs in a bucket
+-- what a link weighs in a bucket
 abbrev pub side : Sizes → ℕ → (ChainLink → ℕ) → ChainLink → ℕ
 side z bucket weight e = (if bucket_of z e.pair == bucket then weight e else 0)
 
@@ -71,7 +71,7 @@ links_in z bucket weight r = side z bucket weight (original_of r) + side z bucke
 
 -- what the links of a pass weigh that stand and are not those of a live record
 abbrev pub loose_of : Sizes → ℕ → (ChainLink → ℕ) → View → ℕ
-loose_of z bucket weight v = total (λ (h : Hook). (if h.up then side z bucket weight (entry_of h) else 0)) v.buckets.hooks
+loose_of z bucket weight v = total (λ (h : Hook). (if h.up then side z bucket weight (chain_link h) else 0)) v.buckets.hooks
 
 -- each link weighs one
 abbrev pub each_link : ChainLink → ℕ

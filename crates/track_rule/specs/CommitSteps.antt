@@ -30,7 +30,7 @@ use Rattle.track_rule.specs.Sums.{bit, times, total}
 
 -- CONFIRM
 
--- 1 where the entry of a chain has this tuple
+-- 1 where the link of a chain has this tuple
 abbrev pub has_pair : Pair → ChainLink → ℕ
 has_pair p e = bit (e.pair.first == p.first && e.pair.second == p.second)
 

@@ -14,7 +14,7 @@ use Rattle.track_rule.specs.History.{records_after}
 use Rattle.track_rule.specs.Layout.{gen_at}
 use Rattle.track_rule.specs.Sums.{Each, total}
 
--- entries that were passed, the newest first, and those after them
+-- links that were passed, the newest first, and those after them
 abbrev pub rev_onto : List ChainLink → List ChainLink → List ChainLink
 rev_onto [] es = es
 rev_onto (p ∷ ps) es = rev_onto ps (p ∷ es)
@@ -24,7 +24,7 @@ abbrev pub IsRead : Option ℕ → ℕ → Type 0
 IsRead None n = Unit {0}
 IsRead (Some m) n = m ≡ n
 
--- what was met is these entries, as far as it was read
+-- what was met is these links, as far as it was read
 abbrev pub Matches : List MetLink → List ChainLink → Type 0
 Matches [] [] = Unit {0}
 Matches [] (e ∷ es) = ⊥
