@@ -7,7 +7,7 @@ ghost use Rattle.report_text.specs.Page.{Adds, HasRoom};
 ghost use Rattle.report_text.specs.Texts.{texts_from};
 ghost use Rattle.report_text.specs.Wrote.{Wrote};
 
-use crate::line::Line;
+use crate::line::ReportLine;
 use crate::page::{LONGEST_LINE, Page};
 use crate::write::{WriteFault, write_all, write_line};
 use ct_io::Sink;
@@ -52,7 +52,7 @@ fn write_lines<K: Sink>(
         (K.tape out.old) (K.tape out.new) result }
 {
     'lines: for (thread, count) in counts.iter().enumerate() {
-        let line = Line::Heard {
+        let line = ReportLine::Heard {
             script,
             thread,
             count,

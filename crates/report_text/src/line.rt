@@ -2,7 +2,7 @@
 
 ghost use Rattle.std.specs.Fmt.{decimal};
 ghost use Rattle.std.specs.Prelude.{◌++◌, codes};
-ghost use Rattle.report_text.specs.Internal.Lines.{line_text};
+ghost use Rattle.report_text.specs.Internal.Lines.{report_line};
 ghost use Rattle.report_text.specs.Line.{event_line, history_head, script_head, thread_head};
 ghost use Rattle.report_text.specs.Page.{Adds, HasRoom};
 ghost use Rattle.report_text.specs.Piece.{class_text};
@@ -16,7 +16,7 @@ use history_book::verdict::Class;
 
 /// A line with what stands in it. The lines of events and verdicts, of which there are many, are written without it.
 #[derive(Clone, Copy)]
-pub(crate) enum Line<'l> {
+pub(crate) enum ReportLine<'l> {
     /// Before the events.
     HistoryHead {
         events: usize,
@@ -122,18 +122,18 @@ impl<'b> Page<'b> {
     }
 
     /// Writes a line.
-    pub(crate) fn line(&mut self, line: Line<'_>)
+    pub(crate) fn line(&mut self, line: ReportLine<'_>)
         requires { HasRoom LONGEST_LINE self.old }
-        ensures { Adds LONGEST_LINE (line_text line.entry) self.old self.new }
+        ensures { Adds LONGEST_LINE (report_line line.entry) self.old self.new }
     {
         match line {
-            Line::HistoryHead { events } => self.history_head(events),
-            Line::ThreadHead { thread, packets } => self.thread_head(thread, packets),
-            Line::ScriptHead { commands } => self.script_head(commands),
-            Line::AnswerHead { index, answer } => self.answer_head(index, answer),
-            Line::EntryRow { moment, row } => self.row_line(moment, row),
-            Line::ExpectationRow { moment, at, e } => self.expectation_line(moment, at, e),
-            Line::Heard {
+            ReportLine::HistoryHead { events } => self.history_head(events),
+            ReportLine::ThreadHead { thread, packets } => self.thread_head(thread, packets),
+            ReportLine::ScriptHead { commands } => self.script_head(commands),
+            ReportLine::AnswerHead { index, answer } => self.answer_head(index, answer),
+            ReportLine::EntryRow { moment, row } => self.row_line(moment, row),
+            ReportLine::ExpectationRow { moment, at, e } => self.expectation_line(moment, at, e),
+            ReportLine::Heard {
                 script,
                 thread,
                 count,

@@ -4,7 +4,7 @@ ghost use Rattle.std.specs.Borrow.{Bor};
 ghost use Rattle.std.specs.List.{flat_map};
 ghost use Rattle.std.specs.Prelude.{ℕ, ◌≤◌, List, [], length, IfOk};
 ghost use Rattle.report_text.specs.Internal.Gathered.{Gathered};
-ghost use Rattle.report_text.specs.Internal.Lines.{line_text};
+ghost use Rattle.report_text.specs.Internal.Lines.{report_line};
 ghost use Rattle.report_text.specs.Line.{verdict_line};
 ghost use Rattle.report_text.specs.Page.{HasRoom};
 ghost use Rattle.report_text.specs.Answer.{answer_text, got_text, line_of_expectation, line_of_row, rows_text};
@@ -12,7 +12,7 @@ ghost use Rattle.report_text.specs.Report.{history_text, line_of_event, report_t
 ghost use Rattle.report_text.specs.Texts.{texts_from};
 ghost use Rattle.report_text.specs.Wrote.{Wrote};
 
-use crate::line::Line;
+use crate::line::ReportLine;
 use crate::page::{LONGEST_LINE, Page};
 use ct_io::{Failed, Sink};
 use expect_table::expectation::Expectation;
@@ -72,11 +72,11 @@ pub(crate) fn make_room<K: Sink>(page: &mut Page, out: &mut K) -> Result<(), Wri
 /// Writes a line, or holds it back.
 #[tactic(auto, using(crate::proofs::Gathers::sent_line, crate::proofs::Gathers::lost_line))]
 pub(crate) fn write_line<K: Sink>(
-    line: Line<'_>,
+    line: ReportLine<'_>,
     page: &mut Page,
     out: &mut K,
 ) -> Result<(), WriteFault>
-    ensures { Gathered (line_text line.entry) page.old page.new
+    ensures { Gathered (report_line line.entry) page.old page.new
         (K.tape out.old) (K.tape out.new) result }
 {
     make_room(page, out)?;
@@ -114,7 +114,7 @@ fn write_history<K: Sink>(
     ensures { Gathered (history_text script events.now.items) page.old page.new
         (K.tape out.old) (K.tape out.new) result }
 {
-    let head = Line::HistoryHead {
+    let head = ReportLine::HistoryHead {
         events: events.len(),
     };
     write_line(head, page, out)?;
@@ -151,7 +151,7 @@ fn write_thread<K: Sink>(
     ensures { Gathered (thread_text thread verdicts.now) page.old page.new
         (K.tape out.old) (K.tape out.new) result }
 {
-    let head = Line::ThreadHead {
+    let head = ReportLine::ThreadHead {
         thread,
         packets: verdicts.len(),
     };
@@ -198,7 +198,7 @@ fn write_rows<K: Sink>(
         (K.tape out.old) (K.tape out.new) result }
 {
     'rows: for row in rows {
-        write_line(Line::EntryRow { moment, row }, page, out)?;
+        write_line(ReportLine::EntryRow { moment, row }, page, out)?;
     }
     Ok(())
 }
@@ -216,7 +216,7 @@ fn write_expectations<K: Sink>(
         (K.tape out.old) (K.tape out.new) result }
 {
     'expectations: for e in expectations {
-        write_line(Line::ExpectationRow { moment, at, e }, page, out)?;
+        write_line(ReportLine::ExpectationRow { moment, at, e }, page, out)?;
     }
     Ok(())
 }
@@ -240,7 +240,7 @@ fn write_got<K: Sink>(
         (K.tape out.old) (K.tape out.new) result }
 {
     match row {
-        Some(row) => write_line(Line::EntryRow { moment, row }, page, out),
+        Some(row) => write_line(ReportLine::EntryRow { moment, row }, page, out),
         None => write_nothing(page, out),
     }
 }
@@ -273,7 +273,7 @@ fn write_answer<K: Sink>(
     ensures { Gathered (answer_text index answer.now) page.old page.new
         (K.tape out.old) (K.tape out.new) result }
 {
-    write_line(Line::AnswerHead { index, answer }, page, out)?;
+    write_line(ReportLine::AnswerHead { index, answer }, page, out)?;
     write_said(answer, page, out)
 }
 
@@ -299,7 +299,7 @@ fn write_script<K: Sink>(answers: &[Answer], page: &mut Page, out: &mut K) -> Re
     ensures { Gathered (script_text answers.now) page.old page.new
         (K.tape out.old) (K.tape out.new) result }
 {
-    let head = Line::ScriptHead {
+    let head = ReportLine::ScriptHead {
         commands: answers.len(),
     };
     write_line(head, page, out)?;
