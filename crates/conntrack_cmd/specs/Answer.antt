@@ -72,7 +72,7 @@ abbrev pub NoneIsLeft : List Event → (Record → Bool) → ℕ → ℕ → Typ
 NoneIsLeft log test from to =
     (id : ℕ) → is_live_and test (record_of id (after log from)) ≡ true → record_of id (after log to) ≡ None
 
--- the events are Destroys of entries that pass the filter, and the rows, in order of id, are what they found
+-- the events are Destroys of entries that the filter selects, and the rows, in order of id, are what they found
 pub record Deletes (log : List Event) (filter : Filter) (own : List Note) (answer : Said) (from to : ℕ) : Type 0 where
   pub rows : Roomed Row
   pub is : answer ≡ said.Deleted rows

@@ -7,13 +7,13 @@ use tuple_core::Tuple;
 /// A command.
 #[derive(Clone, Copy)]
 pub enum Command {
-    /// Lists the entries that pass the filter.
+    /// Lists the entries that the filter selects.
     List(Filter),
     /// Lists the expectations.
     ListExpect,
     /// Looks up what is live under this tuple, in either direction.
     Get(Tuple),
-    /// Deletes the entries that pass the filter.
+    /// Deletes the entries that the filter selects.
     Delete(Filter),
     /// Deletes all entries.
     Flush,

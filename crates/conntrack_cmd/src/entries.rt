@@ -19,7 +19,7 @@ use history_book::sight_laws::desks_go_on;
 use pool_visits::laws::sweeps_see_each_entry;
 use std::sync::Wait;
 
-/// Lists the entries that pass the filter, in the list that it takes.
+/// Lists the entries that the filter selects, in the list that it takes.
 pub fn list_entries<R: Wait, D: Desk>(rt: &R, desk: &mut D, filter: &Filter, rows: Rows) -> Spoken
     requires none { rows.items ≡ [] }
     requires room { (D.sight desk.old).sizes.entries ≤ rows.room }
@@ -42,7 +42,7 @@ pub fn list_entries<R: Wait, D: Desk>(rt: &R, desk: &mut D, filter: &Filter, row
     }
 }
 
-/// Destroys the entries that pass the filter, and lists them in the list that it takes.
+/// Destroys the entries that the filter selects, and lists them in the list that it takes.
 pub fn delete_entries<R: Wait, D: Desk>(rt: &R, desk: &mut D, filter: &Filter, rows: Rows) -> Spoken
     requires none { rows.items ≡ [] }
     requires room { (D.sight desk.old).sizes.entries ≤ rows.room }

@@ -134,6 +134,5 @@ pub fn perform<R: Wait, D: Desk>(
     ensures knows { IsKnown (D.sight desk.new) }
 {
     events_may_happen();
-    let answer = perform_command(rt, alloc, desk, command, moment)?;
-    Ok(answer)
+    perform_command(rt, alloc, desk, command, moment)
 }

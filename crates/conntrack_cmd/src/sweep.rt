@@ -16,7 +16,7 @@ use pool_visits::laws::sweeps_go_on;
 use pool_visits::place::{Visit, destroy_place, list_place};
 use std::sync::Wait;
 
-/// Lists the entries that pass the filter, in the order of their places.
+/// Lists the entries that the filter selects, in the order of their places.
 pub fn list_all<R: Wait, D: Desk>(rt: &R, desk: &mut D, filter: &Filter, rows: &mut Rows)
     requires none { rows.old.items ≡ [] }
     requires room { (D.sight desk.old).sizes.entries ≤ rows.old.room }

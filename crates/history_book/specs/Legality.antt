@@ -84,7 +84,7 @@ may_touch (Some r) direction segment moment after =
     is_of_protocol segment r.part.kind && accepts (step_of r.part direction segment moment) after
 
 -- The reason holds of the record: it was expired at the moment, or a segment of its protocol reopened or
--- reset it then, or it passes the filter of a command; one that flushes all needs no more. One that makes room in a
+-- reset it then, or the filter of a command selects it; one that flushes all needs no more. One that makes room in a
 -- full table needs a record that was expired at the moment or may be dropped. A reset is the same in both directions.
 abbrev pub is_reason : Why → Record → Bool
 is_reason (why.Expired moment) r = is_expired r.part moment

@@ -195,7 +195,7 @@ pub fn expectation_at(number: u64, master: u64, zone: u16, want: Want, moment: u
 }
 
 /// Whether the entry of this id is live, has the helper, and is in the zone.
-fn has_helper_in(records: &[Record], id: u64, zone: u16) -> bool
+fn helps_in(records: &[Record], id: u64, zone: u16) -> bool
     ensures { result ≡ helps_in zone (record_of id (state_of records.now)) }
 {
     match find_id(records, id) {
@@ -248,7 +248,7 @@ fn is_expectable(
 {
     e.id == number
         && is_expected_from(moment, e.deadline)
-        && has_helper_in(records, e.master, e.zone)
+        && helps_in(records, e.master, e.zone)
         && is_added(outcome_of(expects, sizes.expectations, e, moment), replaced)
 }
 

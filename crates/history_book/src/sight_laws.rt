@@ -16,7 +16,8 @@ pub fn seeing_adds_up()
     ensures resting { RestingIsSeeing }
 {}
 
-/// What a desk sees stays as it goes on, and its steps add up: the laws that a caller of several calls needs together.
+/// What a desk sees stays as it goes on, and its steps add up: the laws that a caller of several calls needs together. The last
+/// two are parts of `all` that most callers need alone.
 pub fn desks_go_on()
     ensures events { EventsStay }
     ensures states { StatesStay }

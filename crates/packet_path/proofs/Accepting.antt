@@ -11,7 +11,7 @@ use Rattle.packet_path.specs.declared.fast.Tried.{Tried}
 use Rattle.packet_path.specs.declared.fast.Tried.TheVariants.{Done, Killed, Left}
 use Rattle.packet_path.specs.declared.setup.Setup.{Setup}
 use Rattle.packet_path.specs.Internal.Attempt.{KilledOne}
-use Rattle.packet_path.specs.Internal.Fast.{Answered, Appended, TriedSays, Trying}
+use Rattle.packet_path.specs.Internal.Fast.{Answered, Appended, TriedSays, TryAt}
 use Rattle.packet_path.specs.Packet.{FlowPacket}
 use Rattle.packet_path.specs.Taken.{taken_by}
 use Rattle.packet_path.proofs.Attempts.{answers_after, answers_before, answers_from, killed_after, killed_before, starts_longer}
@@ -43,7 +43,7 @@ lower_kill a b packet kills lower from le one = record {
 
 module _ (states : StatesStay) (events : EventsStay) (going : GoingOnAddsUp) (twice : SeeingAddsUp) where
   -- the desk had seen more before, and sees more behind it
-  answered_along : (setup : Setup) (a b c d : Sight) (packet : FlowPacket) (t : Trying) (before after : Roomed Verdict) → Saw a b
+  answered_along : (setup : Setup) (a b c d : Sight) (packet : FlowPacket) (t : TryAt) (before after : Roomed Verdict) → Saw a b
       → Answered setup packet t b c before after → Saw c d → Answered setup packet t a d before after
   answered_along setup a b c d packet t before after saw answered more = record {
     class = answered.class;
@@ -56,7 +56,7 @@ module _ (states : StatesStay) (events : EventsStay) (going : GoingOnAddsUp) (tw
     appended = appended_stays answered.class t.counting.first t.counting.base c d before after more answered.appended;
   }
 
-  pub tried_along : (setup : Setup) (a b c d : Sight) (packet : FlowPacket) (t : Trying) (before after : Roomed Verdict) (tried : Tried) → Saw a b
+  pub tried_along : (setup : Setup) (a b c d : Sight) (packet : FlowPacket) (t : TryAt) (before after : Roomed Verdict) (tried : Tried) → Saw a b
       → TriedSays setup packet t b c before after tried → Saw c d → TriedSays setup packet t a d before after tried
   tried_along setup a b c d packet t before after Done saw answered more =
       answered_along setup a b c d packet t before after saw answered more

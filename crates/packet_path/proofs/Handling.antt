@@ -29,7 +29,7 @@ use Rattle.packet_headers.specs.declared.packet.Packet.{Packet}
 use Rattle.packet_headers.specs.declared.packet.Packet.TheVariants as packet
 use Rattle.tuple_core.specs.declared.Segment.{Segment}
 use Rattle.packet_path.specs.Internal.Attempt.{Answers, GoesOnKilling, IsKilling, KilledOne}
-use Rattle.packet_path.specs.Internal.Fast.{Answered, Appended, Trying}
+use Rattle.packet_path.specs.Internal.Fast.{Answered, Appended, TryAt}
 use Rattle.packet_path.specs.Handled.{Handled, HandledInto}
 use Rattle.packet_path.specs.Packet.{Given, IsFlow, is_flow, packet_in}
 use Rattle.packet_path.specs.declared.setup.Setup.{Setup}
@@ -130,7 +130,7 @@ module _ (states : StatesStay) (events : EventsStay) (going : GoingOnAddsUp) (ol
       }
 
   -- a packet was answered after so many kills, and its verdict is appended
-  pub answered_into : (setup : Setup) (t : Trying) (now new : Sight) (before after : Roomed Verdict) → IsKilling old now packet t.kills
+  pub answered_into : (setup : Setup) (t : TryAt) (now new : Sight) (before after : Roomed Verdict) → IsKilling old now packet t.kills
       → HoldsNothing new → t.counting.first ≡ length old.own → Answered setup packet t now new before after
       → (given : Given) → IsFlow given packet → HandledInto t.counting.base setup given old new before after
   answered_into setup t now new before after killing empty starts a given flow =

@@ -34,7 +34,7 @@ pub fn met_entries_stay()
 }
 
 /// A flow begins once: what is absent is nobody's, free and absent are one, an entry that is met later was confirmed since, an
-/// unused place is room, and an entry begins fresh, with the protocol of its packet.
+/// unused place is room, an event may happen where its history is legal, and an entry begins fresh, with its packet's protocol.
 pub fn flows_begin_once()
     ensures absent { AbsentTuplesAreNobodys }
     ensures fresh { EntriesBeginFresh }

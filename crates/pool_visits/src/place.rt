@@ -20,7 +20,7 @@ use history_book::places::give_up;
 use history_book::sight_laws::desks_go_on;
 use std::sync::Wait;
 
-/// The row of the entry that is live in the place, if one is and it passes the filter.
+/// The row of the entry that is live in the place, if one is and the filter selects it.
 pub fn list_place<R: Wait, D: Desk>(
     rt: &R,
     desk: &mut D,

@@ -7,7 +7,7 @@ ghost use Rattle.shared_desk.specs.Laws.{FirstRefsStandAlone, LowWordsAreNot, Ot
 use history_book::laws::{records_are_apart, records_are_of_one_flow, same_tuple_is_equality};
 use tuple_core::words_determine_the_tuple;
 
-/// A tuple's words tell the entry that is live under it.
+/// Four laws by which a tuple's words tell the entry that is live under it.
 pub(crate) fn tuples_tell_entries()
     ensures { TuplesTellEntries }
 {

@@ -23,7 +23,7 @@ pub record Counting : Type 0 where
   pub base : ℕ
 
 -- a try of a packet behind so many kills, whose verdict counts its events so
-pub record Trying : Type 0 where
+pub record TryAt : Type 0 where
   pub kills : ℕ
   pub counting : Counting
 
@@ -41,7 +41,7 @@ pub record ReadInto (packet : FlowPacket) (found : Found) (touched : ℕ) (n : C
   pub appended : Appended (Passed (label_of found.subject found.direction) found.subject.id (touched + 1) ftp) n.first n.base new.own before after
 
 -- the packet was answered, and its verdict appended
-pub record Answered (setup : Setup) (packet : FlowPacket) (t : Trying) (old new : Sight) (before after : Roomed Verdict) : Type 0 where
+pub record Answered (setup : Setup) (packet : FlowPacket) (t : TryAt) (old new : Sight) (before after : Roomed Verdict) : Type 0 where
   pub class : Class
   pub answers : Answers setup old new packet t.kills (length old.front) class
   pub taken : new.taken ≡ taken_by class old.taken
@@ -59,7 +59,7 @@ pub record Ended (packet : FlowPacket) (kills : ℕ) (old new : Sight) (before a
   pub kept : after ≡ before
 
 -- what came of a try
-abbrev pub TriedSays : Setup → FlowPacket → Trying → Sight → Sight → Roomed Verdict → Roomed Verdict → Tried → Type 0
+abbrev pub TriedSays : Setup → FlowPacket → TryAt → Sight → Sight → Roomed Verdict → Roomed Verdict → Tried → Type 0
 TriedSays setup packet t old new before after Done = Answered setup packet t old new before after
 TriedSays setup packet t old new before after Killed = Ended packet t.kills old new before after
 TriedSays setup packet t old new before after Left = LeftIt old new before after
