@@ -1,7 +1,7 @@
 -- The words that are changed where links are put in and taken out, and where buckets are locked.
 use Rattle.std.specs.Prelude.{◌==◌, ◌||◌, is_some, nat_le, nat_lt, not}
 use Rattle.std.proofs.Common.{◌≡◌, ℕ, ◌+◌, ◌*◌, ◌<◌, ◌≤◌, Bool, true, false, Some, None, List, [], ◌∷◌, refl, sym, ap, ◌∙◌, subst, arith}
-use Rattle.std.proofs.lemmas.Bool.{and_from, and_parts, eq-eqb, eqb-true, false≢true, le-leb, lt-ltb, or_left, or_right}
+use Rattle.std.proofs.lemmas.Bool.{and_from, and_parts, eq-eqb, eqb-true, false≢true, le-leb, lt-ltb, not-false, or_left, or_right}
 use Rattle.history_book.specs.declared.sizes.Sizes.{Sizes}
 use Rattle.track_rule.specs.BucketSteps.{LoadsLink, Strings, end_word}
 use Rattle.track_rule.specs.ChangesOnly.{ChangesWords, changes_only, either, is_gen_of, is_head_of, is_next_of, is_of_kind, is_refs_of, is_some_next, is_some_refs, no_word}
@@ -19,7 +19,7 @@ use Rattle.track_rule.specs.declared.view.View.{View}
 use Rattle.bucket_table.specs.GoesOn.{ReadingsStand}
 use Rattle.bucket_table.specs.LockedChain.{OnlyLoads, heads_of, link_words, unlink_words}
 use Rattle.bucket_table.specs.Locks.{Buckets, is_else}
-use Rattle.track_rule.proofs.Changing.{by_loads, by_own, by_reading, in_either, in_one, in_other, joined, weaker, word_is}
+use Rattle.track_rule.specs.ChangeLaws.{by_loads, by_own, by_reading, in_either, in_one, in_other, joined, weaker}
 
 -- one load
 pub load_words : (f : Sizes → Reading → Bool) (word n : ℕ) (v w : View) → LoadsLink word v n w → ChangesWords f v w
@@ -148,7 +148,7 @@ one_lock_words lower upper v w low sizes stand own =
     by_own (λ word. not (word == gen_word (sizes_of v) lower)) (either (is_gen_of lower) (is_gen_of upper)) v.view w.view sizes stand own
     (λ r e.
     or_left (is_gen_of lower (sizes_of v) r) (is_gen_of upper (sizes_of v) r)
-    (and_from (nat_lt lower (sizes_of v).buckets) (r.word == gen_word (sizes_of v) lower) (lt-ltb lower (sizes_of v).buckets low) (word_is (gen_word (sizes_of v) lower) r.word e)))
+    (and_from (nat_lt lower (sizes_of v).buckets) (r.word == gen_word (sizes_of v) lower) (lt-ltb lower (sizes_of v).buckets low) (not-false (r.word == gen_word (sizes_of v) lower) e)))
 
 -- LOOKING
 

@@ -2,9 +2,9 @@
 use Rattle.std.specs.Prelude.{◌==◌, ◌&&◌, ◌||◌, ◌*◌, nat_le, not, drop, if◌then◌else◌}
 use Rattle.std.specs.List.{list_any}
 use Rattle.std.proofs.Common.{◌≡◌, ◌≢◌, ℕ, ◌+◌, ◌<◌, ◌≤◌, Bool, true, false, Option, Some, None, List, [], ◌∷◌, ◌++◌, length, refl, sym, ap, subst, ◌∙◌, ⊎_elim, arith, append-nil, append_assoc}
-use Rattle.std.proofs.lemmas.Bool.{and_from, and_left, and_right, cases_Bool, cases_eq, cases_lt, eq-eqb, eqb-true, le-leb, lt-leb, ne_eqb, or_left, or_parts}
+use Rattle.std.proofs.lemmas.Bool.{and_from, and_left, and_right, cases_Bool, cases_eq, cases_lt, eq-eqb, eqb-true, le-leb, lt-leb, ne_eqb, not-false, or_left, or_parts}
 use Rattle.history_book.specs.declared.sizes.Sizes.{Sizes}
-use Rattle.track_rule.proofs.Changing.{by_own, by_pass, by_view, joined, weaker, word_is}
+use Rattle.track_rule.specs.ChangeLaws.{by_own, by_pass, by_view, joined, weaker}
 use Rattle.track_rule.specs.ChangesOnly.{ChangesWords, either, is_first_of, is_free_turn, is_phase_of, places_taken}
 use Rattle.entry_pool.specs.GoesOn.{ReadingsStand}
 use Rattle.history_book.specs.declared.outcome.TakeOutcome.TheVariants as outcome
@@ -186,7 +186,7 @@ module _ (v u : PassSight) (list : Roomed ℕ) (h : HasList v u list) where
           let waited : ChangesWords may v.view u.view =
           by_own (λ word. not (word == 1)) may v.view u.view sizes_same (stands_before v.view.readings u.view.readings h.waits.more h.waits.all)
           (ap (list_any not_turn) (ap (drop (length v.view.readings)) h.waits.all ∙ drop_first v.view.readings h.waits.more) ∙ h.waits.own)
-          (λ r k. or_left (is_free_turn (sizes_of v) r) (is_first_of place (sizes_of v) r) (word_is 1 r.word k)) in
+          (λ r k. or_left (is_free_turn (sizes_of v) r) (is_first_of place (sizes_of v) r) (not-false (r.word == 1) k)) in
           let first : ChangesWords may u.view t.view =
           by_view may (first_ref place u.view) u.view t.view _ view_is refl refl (its_first (refs_word (sizes_of u) place)) in
           joined may v.view u.view w.view waited (joined may u.view t.view w.view first (by_pass may (stored 1 0) t w _ e refl refl refl))
@@ -569,7 +569,7 @@ recycled_is place v u w e g =
 
 turn_only : (f : Sizes → Reading → Bool) (v w : PassSight) → sizes_of w ≡ sizes_of v → ReadingsStand v w → changes (λ word. not (word == 1)) (added v.view w.view) ≡ false
     → ((r : Reading) → is_free_turn (sizes_of v) r ≡ true → f (sizes_of v) r ≡ true) → ChangesWords f v.view w.view
-turn_only f v w sizes stand own inside = by_own (λ word. not (word == 1)) f v.view w.view sizes stand own (λ r e. inside r (word_is 1 r.word e))
+turn_only f v w sizes stand own inside = by_own (λ word. not (word == 1)) f v.view w.view sizes stand own (λ r e. inside r (not-false (r.word == 1) e))
 
 pub full_words : (at : ℕ) (v w : PassSight) → IsFull at v w → ChangesWords is_free_turn v.view w.view
 full_words at v w f = turn_only is_free_turn v w (ap sizes_of f.same) f.stand f.own (λ r e. e)

@@ -1,7 +1,7 @@
 -- A call that makes no phase OWNED takes no place.
 use Rattle.std.specs.Prelude.{◌==◌, ◌&&◌, ◌||◌, ◌-◌, ◌^◌, is_some, min, nat_le, nat_lt, not}
-use Rattle.std.proofs.Common.{◌≡◌, ◌≢◌, ℕ, ◌+◌, ◌*◌, ◌<◌, ◌≤◌, Bool, true, false, Some, None, List, [], ◌∷◌, ◌++◌, refl, sym, ap, ◌∙◌, arith}
-use Rattle.std.proofs.lemmas.Bool.{and_left, and_parts, and_right, eqb-true, false≢true, leb-true, ltb-true, ne_eqb}
+use Rattle.std.proofs.Common.{◌≡◌, ◌≢◌, ℕ, ◌+◌, ◌*◌, ◌<◌, ◌≤◌, Bool, true, false, Some, None, List, [], ◌∷◌, ◌++◌, refl, sym, ap, ◌∙◌, arith, ⊎_elim}
+use Rattle.std.proofs.lemmas.Bool.{and_left, and_parts, and_right, eqb-true, false≢true, leb-true, ltb-true, ne_eqb, or_cases}
 use Rattle.history_book.specs.declared.outcome.ClaimOutcome.{ClaimOutcome}
 use Rattle.history_book.specs.declared.outcome.ConfirmOutcome.{ConfirmOutcome}
 use Rattle.history_book.specs.declared.outcome.ConfirmOutcome.TheVariants as confirm
@@ -19,7 +19,7 @@ use Rattle.track_rule.specs.Links.{kind_of}
 use Rattle.track_rule.specs.Sights.{PassSight, sizes_of}
 use Rattle.track_rule.specs.Sums.{bit}
 use Rattle.track_rule.specs.declared.view.Reading.{Reading}
-use Rattle.track_rule.proofs.Changing.{NamesNo, below_places, of_kind, or_elim}
+use Rattle.shared_desk.proofs.WordKinds.{NamesNo, below_places, of_kind}
 use Rattle.bucket_table.specs.Finding.{once_words}
 use Rattle.bucket_table.specs.Following.{bucket_in}
 use Rattle.bucket_table.specs.declared.finding.FindOnce.{FindOnce}
@@ -59,7 +59,7 @@ no_kind : (f : Sizes → Reading → Bool) (place n : ℕ) → n < 9 → n ≢ 1
 no_kind f place n low other is z r e = and_left (is_of_kind 1 z r) (r.value == 1) (of_kind z 1 0 place n r low other (is z r e))
 
 pub no_either : (f g : Sizes → Reading → Bool) → NamesNo 1 f → NamesNo 1 g → NamesNo 1 (either f g)
-no_either f g one other z r e = or_elim (f z r) (g z r) (one z r) (other z r) e
+no_either f g one other z r e = ⊎_elim (one z r) (other z r) (or_cases (f z r) (g z r) e)
 
 pub no_where : (so : Bool) (f : Sizes → Reading → Bool) → NamesNo 1 f → NamesNo 1 (where_so so f)
 no_where so f clean z r e = clean z r (and_parts so (f z r) e).1
@@ -133,7 +133,7 @@ pub no_some_refs : NamesNo 1 is_some_refs
 no_some_refs z r e = no_other 0 (λ k. omega (arith, k)) z r (and_parts (is_of_kind 0 z r) (not (is_some r.free)) e).0
 
 pub no_some_next : NamesNo 1 is_some_next
-no_some_next z r e = or_elim (is_of_kind 7 z r) (is_of_kind 8 z r) (no_other 7 (λ k. omega (arith, k)) z r) (no_other 8 (λ k. omega (arith, k)) z r) e
+no_some_next z r e = ⊎_elim (no_other 7 (λ k. omega (arith, k)) z r) (no_other 8 (λ k. omega (arith, k)) z r) (or_cases (is_of_kind 7 z r) (is_of_kind 8 z r) e)
 
 pub no_once : (r : FindOnce) → NamesNo 1 (once_words r)
 no_once (Found place id direction at) = no_refs place

@@ -32,7 +32,7 @@ use Rattle.shared_desk.proofs.Places.{held_below, in_use, is_unused_after, owed_
 use Rattle.track_rule.specs.ChangesOnly.{ChangesWords, is_refs_of}
 use Rattle.track_rule.specs.Layout.{refs_word}
 use Rattle.track_rule.specs.Readings.{stored}
-use Rattle.track_rule.proofs.Changing.{by_pass}
+use Rattle.track_rule.specs.ChangeLaws.{by_pass}
 use Rattle.shared_desk.proofs.Wording.{refs_in}
 use Rattle.shared_desk.proofs.Resting.{clerk_at, holds_held, holds_without, idle_still, paid_taken_out, saw_none, then_of}
 use Rattle.shared_desk.proofs.Settled.{settled_recycled, settled_released}

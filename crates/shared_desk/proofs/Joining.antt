@@ -1,6 +1,6 @@
 -- The first clerk of a tracker, one that took in another one, and the end.
 use Rattle.track_rule.specs.ChangesOnly.{no_word}
-use Rattle.track_rule.proofs.Changing.{by_pass}
+use Rattle.track_rule.specs.ChangeLaws.{by_pass}
 use Rattle.shared_desk.proofs.Counting.{no_none, still_taken}
 use Rattle.shared_desk.specs.Sights.{taken_by}
 use Rattle.std.specs.List.{count_by, slice_get}

@@ -1,4 +1,5 @@
 pub mod Lists
+pub mod WordKinds
 pub mod Wording
 pub mod Counting
 pub mod Settled

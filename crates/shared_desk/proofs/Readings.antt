@@ -8,7 +8,7 @@ use Rattle.track_rule.specs.Layout.{phase_word, refs_word, turn_word}
 use Rattle.track_rule.specs.Links.{kind_of}
 use Rattle.track_rule.specs.Readings.{stored}
 use Rattle.track_rule.specs.declared.view.Reading.{Reading}
-use Rattle.track_rule.proofs.Changing.{below_places, of_kind}
+use Rattle.shared_desk.proofs.WordKinds.{below_places, of_kind}
 use Rattle.shared_desk.specs.Laws.{FirstRefsStandAlone, IsNoPlaceWord, LowWordsAreNot, OthersAreNot, PlacesAreNamed, TuplesAreNot}
 
 -- what was added

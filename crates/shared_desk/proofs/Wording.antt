@@ -1,9 +1,8 @@
 -- The words that the steps and the calls of a pass change, for the clauses of the clerk's calls.
 use Rattle.std.specs.Prelude.{◌==◌, ◌&&◌, ◌||◌, is_some, nat_le, nat_lt, not, drop}
-use Rattle.std.proofs.lemmas.List.Folds.{list_any-append}
 use Rattle.std.proofs.Math.Seq.{drop-append_seam}
-use Rattle.std.proofs.Common.{◌≡◌, ℕ, ◌+◌, ◌*◌, ◌<◌, ◌≤◌, Bool, true, false, Option, Some, None, List, [], ◌∷◌, ◌++◌, length, refl, sym, ap, ◌∙◌, subst, arith, append-nil}
-use Rattle.std.proofs.lemmas.Bool.{and_from, and_left, and_parts, and_right, eq-eqb, eqb-true, false≢true, le-leb, leb-false, leb-true, lt-ltb, ne_eqb, or_from, or_left, or_right}
+use Rattle.std.proofs.Common.{◌≡◌, ℕ, ◌+◌, ◌*◌, ◌<◌, ◌≤◌, Bool, true, false, Option, Some, None, List, [], ◌∷◌, ◌++◌, length, refl, sym, ap, ◌∙◌, subst, arith, append-nil, ⊎_elim}
+use Rattle.std.proofs.lemmas.Bool.{and_from, and_left, and_parts, and_right, eq-eqb, eqb-true, false≢true, le-leb, leb-false, leb-true, lt-ltb, ne_eqb, or_cases, or_from, or_left}
 use Rattle.history_book.specs.declared.event.Event.{Event}
 use Rattle.history_book.specs.declared.event.Event.TheVariants.{Confirm, Touch, Destroy, Expect, Claim, Unexpect}
 use Rattle.history_book.specs.declared.record.Flow.{Flow}
@@ -26,7 +25,8 @@ use Rattle.track_rule.specs.declared.view.Middle.{Middle}
 use Rattle.track_rule.specs.declared.view.Middle.TheVariants.{Calm, Born, Dying}
 use Rattle.track_rule.specs.declared.view.Reading.{Reading}
 use Rattle.track_rule.specs.declared.view.View.{View}
-use Rattle.track_rule.proofs.Changing.{Within, or_elim, by_loads, by_pass, by_reading, by_view, freeing_none, frees_weaker, of_kind, in_none, in_one, in_other, joined, weaker, weaker_at}
+use Rattle.track_rule.specs.ChangeLaws.{Within, by_loads, by_pass, by_reading, by_view, freeing_none, frees_after, frees_weaker, in_none, in_one, in_other, joined, weaker, weaker_at}
+use Rattle.shared_desk.proofs.WordKinds.{of_kind}
 use Rattle.bucket_table.specs.Finding.{once_words}
 use Rattle.bucket_table.specs.Following.{bucket_in}
 use Rattle.bucket_table.specs.declared.finding.FindOnce.{FindOnce}
@@ -260,16 +260,12 @@ give_some place left v w x e sizes more =
 
 pub give_last : (place : ℕ) (v u w : View) → u.passes.sizes ≡ v.passes.sizes → u.readings ≡ v.readings ++ stored (refs_word v.passes.sizes place) 0 ∷ []
     → ChangesWords (recycle_words place) u w → ChangesAndFrees (give_words place) v w
-unfolding joined by_reading weaker_at
-give_last place v u w sizes more c = record {
-  words = joined (give_words place) v u w
-      (by_reading (give_words place) (stored (refs_word v.passes.sizes place) 0) v u sizes more
-      (or_left (is_refs_of place v.passes.sizes (stored (refs_word v.passes.sizes place) 0)) (recycle_words place v.passes.sizes (stored (refs_word v.passes.sizes place) 0)) (refs_in v.passes.sizes place 0)))
-      (weaker_at (recycle_words place) (give_words place) u w (in_other (is_refs_of place) (recycle_words place) u.passes.sizes) c);
-  gave = or_right (not (has_change is_freeing v.passes.sizes (stored (refs_word v.passes.sizes place) 0 ∷ c.only.more)))
-      (has_change is_last_given v.passes.sizes (stored (refs_word v.passes.sizes place) 0 ∷ c.only.more))
-      (or_left (true && is_last_given v.passes.sizes (stored (refs_word v.passes.sizes place) 0)) (has_change is_last_given v.passes.sizes c.only.more) (last_is v.passes.sizes));
-}
+give_last place v u w sizes more c =
+    frees_after (is_refs_of place) (recycle_words place) (give_words place) v u w
+    (in_one (is_refs_of place) (recycle_words place)) (in_other (is_refs_of place) (recycle_words place))
+    (by_reading (is_refs_of place) (stored (refs_word v.passes.sizes place) 0) v u sizes more (refs_in v.passes.sizes place 0))
+    (ap (has_change is_last_given v.passes.sizes) (ap (drop (length v.readings)) more ∙ drop-append_seam v.readings (stored (refs_word v.passes.sizes place) 0 ∷ []))
+    ∙ or_left (true && is_last_given v.passes.sizes (stored (refs_word v.passes.sizes place) 0)) (has_change is_last_given v.passes.sizes []) (last_is v.passes.sizes)) c
   where
     last_is : (z : Sizes) → is_last_given z (stored (refs_word z place) 0) ≡ true
     last_is z =
@@ -314,24 +310,18 @@ find_none v w c = find_refs v w (none_in is_some_refs v w c)
 
 some_free : (place : ℕ) → Within (recycle_words place) (either is_free_turn (is_some_phase 0))
 some_free place z r e =
-    or_elim (is_free_turn z r) (is_phase_of place 0 z r) (in_one is_free_turn (is_some_phase 0) z r)
-    (λ k.
+    ⊎_elim (in_one is_free_turn (is_some_phase 0) z r)
+    (λ (k : is_phase_of place 0 z r ≡ true).
     let p = and_parts (r.word == phase_word z place) (r.value == 0) k in
     let here : r.word ≡ phase_word z place = eqb-true r.word (phase_word z place) p.0 in
     in_other is_free_turn (is_some_phase 0) z r
     (and_from (is_of_kind 1 z r) (r.value == 0)
     (and_from (nat_le (3 + 2 * z.buckets) r.word) (kind_of z r.word == 1) (le-leb (3 + 2 * z.buckets) r.word (omega (arith, here))) (eq-eqb (kind_of z r.word) 1 (omega (arith, here))))
-    p.1)) e
+    p.1)) (or_cases (is_free_turn z r) (is_phase_of place 0 z r) e)
 
 -- the place that was given up is made free
 pub look_frees : (place : ℕ) (u v w : View) → ChangesWords is_some_refs u v → has_change is_last_given u.passes.sizes (added u v) ≡ true → ChangesWords (recycle_words place) v w
     → ChangesAndFrees find_words u w
-unfolding joined weaker_at
-look_frees place u v w c last d = record {
-  words = joined find_words u v w (weaker_at is_some_refs find_words u v (in_one is_some_refs (either is_free_turn (is_some_phase 0)) u.passes.sizes) c)
-      (weaker_at (recycle_words place) find_words v w (λ r e. in_other is_some_refs (either is_free_turn (is_some_phase 0)) v.passes.sizes r (some_free place v.passes.sizes r e)) d);
-  gave = or_right (not (has_change is_freeing u.passes.sizes (c.only.more ++ d.only.more))) (has_change is_last_given u.passes.sizes (c.only.more ++ d.only.more))
-      (list_any-append (λ (r : Reading). r.own && is_last_given u.passes.sizes r) c.only.more d.only.more
-      ∙ or_left (has_change is_last_given u.passes.sizes c.only.more) (has_change is_last_given u.passes.sizes d.only.more)
-      (sym (ap (has_change is_last_given u.passes.sizes) (ap (drop (length u.readings)) c.only.all ∙ drop-append_seam u.readings c.only.more)) ∙ last));
-}
+look_frees place u v w c last d =
+    frees_after is_some_refs (recycle_words place) find_words u v w (in_one is_some_refs (either is_free_turn (is_some_phase 0)))
+    (λ z r e. in_other is_some_refs (either is_free_turn (is_some_phase 0)) z r (some_free place z r e)) c last d

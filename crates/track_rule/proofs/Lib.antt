@@ -1,4 +1,3 @@
-pub mod Changing
 pub mod Sums
 pub mod Carried
 pub mod Frames

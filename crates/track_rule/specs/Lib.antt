@@ -30,3 +30,4 @@ pub mod BucketSteps
 pub mod PhaseSteps
 pub mod KillSteps
 pub mod Laws
+pub mod ChangeLaws

@@ -1,5 +1,5 @@
 use Rattle.track_rule.specs.ChangesOnly.{no_word}
-use Rattle.track_rule.proofs.Changing.{joined, look_words, phase_words}
+use Rattle.track_rule.specs.ChangeLaws.{joined, look_words, phase_words}
 use Rattle.bucket_table.proofs.Showing.{shows_live, shows_no_more, shows_none}
 use Rattle.bucket_table.proofs.finding.live_at.Goals as goal
 

@@ -5,7 +5,7 @@ use Rattle.track_rule.specs.Links.{hooks_of}
 use Rattle.track_rule.specs.Sights.{PassSight, sizes_of}
 use Rattle.track_rule.specs.declared.view.Hook.{Hook}
 use Rattle.bucket_table.specs.LockedChain.{hook_bucket, link_words, linked_buckets, original_link, reply_link}
-use Rattle.track_rule.proofs.Changing.{joined}
+use Rattle.track_rule.specs.ChangeLaws.{joined}
 use Rattle.bucket_table.proofs.Chaining.{only_words}
 use Rattle.bucket_table.proofs.Passing.{changes_after, loads_join}
 use Rattle.bucket_table.proofs.Stringing.{some_there}

@@ -10,7 +10,7 @@ use Rattle.track_rule.specs.Sights.{PassSight, sizes_of}
 use Rattle.track_rule.specs.declared.view.Hook.{Hook}
 use Rattle.bucket_table.specs.LockedChain.{hook_bucket, original_link, reply_link}
 use Rattle.bucket_table.specs.LockedChain.{link_words}
-use Rattle.track_rule.proofs.Changing.{joined}
+use Rattle.track_rule.specs.ChangeLaws.{joined}
 use Rattle.bucket_table.proofs.Chaining.{only_words, put_one, put_other}
 use Rattle.bucket_table.proofs.Pairs.{bucket_shut, put_keeps, second_of}
 use Rattle.bucket_table.proofs.Passing.{changes_join, no_loads}

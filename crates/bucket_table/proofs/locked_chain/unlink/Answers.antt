@@ -8,7 +8,7 @@ use Rattle.track_rule.specs.declared.view.Hook.{Hook}
 use Rattle.bucket_table.specs.LockedChain.{hook_bucket, original_link, reply_link}
 use Rattle.bucket_table.specs.LockedChain.{unlink_words}
 use Rattle.track_rule.specs.Sights.{PassSight}
-use Rattle.track_rule.proofs.Changing.{joined}
+use Rattle.track_rule.specs.ChangeLaws.{joined}
 use Rattle.bucket_table.proofs.Chaining.{only_words, take_one, take_other}
 use Rattle.bucket_table.proofs.Pairs.{bucket_shut, take_keeps, second_of}
 use Rattle.bucket_table.proofs.Passing.{changes_join, loads_join}

@@ -7,7 +7,7 @@ use Rattle.track_rule.specs.Sights.{PassSight, sizes_of}
 use Rattle.bucket_table.specs.Following.{bucket_in}
 use Rattle.bucket_table.specs.LockedChain.{link_with, place_in}
 use Rattle.track_rule.specs.ChangesOnly.{no_word}
-use Rattle.track_rule.proofs.Changing.{joined}
+use Rattle.track_rule.specs.ChangeLaws.{joined}
 use Rattle.bucket_table.proofs.Chaining.{only_words}
 use Rattle.bucket_table.proofs.Pairs.{bucket_shut}
 use Rattle.bucket_table.proofs.Passing.{load_only, loads_join}

@@ -10,7 +10,7 @@ use Rattle.track_rule.specs.Sights.{sizes_of}
 use Rattle.bucket_table.specs.Following.{bucket_in}
 use Rattle.bucket_table.specs.LockedChain.{IsWalking, found_in}
 use Rattle.track_rule.specs.ChangesOnly.{no_word}
-use Rattle.track_rule.proofs.Changing.{joined}
+use Rattle.track_rule.specs.ChangeLaws.{joined}
 use Rattle.bucket_table.proofs.Chaining.{only_words}
 use Rattle.bucket_table.proofs.Pairs.{bucket_shut, walk_end, walk_finds, walk_found, walk_on, walk_some, walk_start}
 use Rattle.bucket_table.proofs.Passing.{load_only, loads_join}

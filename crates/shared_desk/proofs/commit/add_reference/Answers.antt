@@ -1,6 +1,6 @@
 use Rattle.std.proofs.Common.{◌+◌}
 use Rattle.std.proofs.Common.{refl}
-use Rattle.track_rule.proofs.Changing.{by_view, joined}
+use Rattle.track_rule.specs.ChangeLaws.{by_view, joined}
 use Rattle.track_rule.specs.ChangesOnly.{is_refs_of, no_word}
 use Rattle.track_rule.specs.Readings.{found, stored}
 use Rattle.track_rule.specs.Layout.{refs_word}

@@ -1,6 +1,6 @@
 use Rattle.track_rule.specs.declared.view.View.{View}
 use Rattle.std.proofs.Common.{◌+◌}
-use Rattle.track_rule.proofs.Changing.{by_pass, in_one, in_other, joined, weaker}
+use Rattle.track_rule.specs.ChangeLaws.{by_pass, in_one, in_other, joined, weaker}
 use Rattle.track_rule.specs.ChangesOnly.{either, is_history, is_live_of, is_next_of, is_refs_of}
 use Rattle.track_rule.specs.Readings.{stored}
 use Rattle.track_rule.specs.Layout.{phase_word}

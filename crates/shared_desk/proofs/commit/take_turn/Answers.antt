@@ -1,5 +1,5 @@
 use Rattle.std.proofs.Common.{refl, rules}
-use Rattle.track_rule.proofs.Changing.{by_view, joined}
+use Rattle.track_rule.specs.ChangeLaws.{by_view, joined}
 use Rattle.track_rule.specs.ChangesOnly.{is_turn_of, no_word}
 use Rattle.track_rule.specs.Readings.{found, stored}
 use Rattle.track_rule.specs.Layout.{turn_word}

@@ -1,4 +1,4 @@
-use Rattle.track_rule.proofs.Changing.{in_one, in_other, joined, weaker}
+use Rattle.track_rule.specs.ChangeLaws.{in_one, in_other, joined, weaker}
 use Rattle.track_rule.specs.ChangesOnly.{either, is_tuple_of, is_turn_of}
 use Rattle.shared_desk.specs.Changed.{confirm_words, enter_words}
 use Rattle.shared_desk.proofs.Wording.{around, gave_words}

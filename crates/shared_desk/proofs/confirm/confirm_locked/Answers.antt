@@ -1,4 +1,4 @@
-use Rattle.track_rule.proofs.Changing.{joined, weaker, in_one}
+use Rattle.track_rule.specs.ChangeLaws.{joined, weaker, in_one}
 use Rattle.shared_desk.specs.Changed.{commit_words, enter_words, flow_gens}
 use Rattle.history_book.specs.declared.outcome.ConfirmOutcome.TheVariants.{Confirmed}
 use Rattle.shared_desk.proofs.Wording.{gens_in, then_none}

@@ -1,5 +1,5 @@
 use Rattle.std.proofs.Common.{ap, refl, sym, ◌∙◌}
-use Rattle.track_rule.proofs.Changing.{by_none, in_one, in_other, joined, weaker}
+use Rattle.track_rule.specs.ChangeLaws.{by_none, in_one, in_other, joined, weaker}
 use Rattle.track_rule.specs.ChangesOnly.{either}
 use Rattle.shared_desk.specs.Changed.{commit_words, flow_gens}
 use Rattle.bucket_table.specs.Locks.{buckets_of}

@@ -1,5 +1,5 @@
 use Rattle.track_rule.specs.ChangesOnly.{is_turn_of}
-use Rattle.track_rule.proofs.Changing.{joined}
+use Rattle.track_rule.specs.ChangeLaws.{joined}
 use Rattle.shared_desk.proofs.Wording.{gave_words, then_none}
 use Rattle.shared_desk.proofs.Looking.{has_record, peeked, record_whole, still_out}
 use Rattle.shared_desk.proofs.entry.peek.Goals as goal

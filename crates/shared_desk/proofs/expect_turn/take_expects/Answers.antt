@@ -1,5 +1,5 @@
 use Rattle.std.proofs.Common.{refl}
-use Rattle.track_rule.proofs.Changing.{by_none, joined}
+use Rattle.track_rule.specs.ChangeLaws.{by_none, joined}
 use Rattle.track_rule.specs.ChangesOnly.{is_expect_turn}
 use Rattle.shared_desk.proofs.ExpectTurn.{in_hands}
 use Rattle.shared_desk.proofs.expect_turn.take_expects.Goals as goal

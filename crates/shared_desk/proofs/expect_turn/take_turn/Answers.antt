@@ -1,5 +1,5 @@
 use Rattle.std.proofs.Common.{refl, rules}
-use Rattle.track_rule.proofs.Changing.{by_view, joined}
+use Rattle.track_rule.specs.ChangeLaws.{by_view, joined}
 use Rattle.track_rule.specs.ChangesOnly.{is_expect_turn, no_word}
 use Rattle.track_rule.specs.Readings.{found, stored}
 use Rattle.shared_desk.proofs.Wording.{none_then}

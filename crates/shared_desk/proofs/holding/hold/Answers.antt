@@ -1,5 +1,5 @@
 use Rattle.std.proofs.Common.{refl}
-use Rattle.track_rule.proofs.Changing.{frees_joined, unchanged}
+use Rattle.track_rule.specs.ChangeLaws.{frees_joined, unchanged}
 use Rattle.track_rule.specs.ChangesOnly.{no_word}
 use Rattle.shared_desk.specs.Changed.{hold_words}
 use Rattle.shared_desk.proofs.Wording.{hold_none}

@@ -1,4 +1,4 @@
-use Rattle.track_rule.proofs.Changing.{frees_joined}
+use Rattle.track_rule.specs.ChangeLaws.{frees_joined}
 use Rattle.shared_desk.specs.Changed.{hold_words}
 use Rattle.shared_desk.proofs.Wording.{hold_more, hold_reads, hold_turn}
 use Rattle.shared_desk.proofs.holding.try_once.Goals as goal

@@ -1,5 +1,5 @@
 use Rattle.std.proofs.Common.{ap}
-use Rattle.track_rule.proofs.Changing.{by_view, in_one, in_other, joined, weaker}
+use Rattle.track_rule.specs.ChangeLaws.{by_view, in_one, in_other, joined, weaker}
 use Rattle.track_rule.specs.ChangesOnly.{either, is_history, is_phase_of, is_some_next}
 use Rattle.track_rule.specs.Readings.{stored}
 use Rattle.track_rule.specs.Layout.{phase_word}

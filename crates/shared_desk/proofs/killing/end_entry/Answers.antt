@@ -1,5 +1,5 @@
 use Rattle.std.proofs.Common.{ap, refl, sym, subst, ◌∙◌, ◌-◌}
-use Rattle.track_rule.proofs.Changing.{by_view, in_one, in_other, joined, weaker}
+use Rattle.track_rule.specs.ChangeLaws.{by_view, in_one, in_other, joined, weaker}
 use Rattle.track_rule.specs.ChangesOnly.{ChangesWords, either, is_refs_of}
 use Rattle.track_rule.specs.Readings.{stored}
 use Rattle.track_rule.specs.Layout.{refs_word}

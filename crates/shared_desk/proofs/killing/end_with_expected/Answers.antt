@@ -1,5 +1,5 @@
 use Rattle.std.proofs.Common.{refl}
-use Rattle.track_rule.proofs.Changing.{by_pass, in_one, in_other, joined, weaker}
+use Rattle.track_rule.specs.ChangeLaws.{by_pass, in_one, in_other, joined, weaker}
 use Rattle.track_rule.specs.ChangesOnly.{either, is_expect_turn, where_so}
 use Rattle.track_rule.specs.Readings.{stored}
 use Rattle.shared_desk.specs.Changed.{end_words}

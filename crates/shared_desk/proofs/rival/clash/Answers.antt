@@ -1,4 +1,4 @@
-use Rattle.track_rule.proofs.Changing.{joined, look_words, phase_words}
+use Rattle.track_rule.specs.ChangeLaws.{joined, look_words, phase_words}
 use Rattle.track_rule.specs.ChangesOnly.{no_word}
 use Rattle.std.proofs.Common.{◌<◌, arith, subst, sym}
 use Rattle.track_rule.specs.declared.view.View.{View}

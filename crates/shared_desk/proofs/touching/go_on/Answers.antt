@@ -1,5 +1,5 @@
 use Rattle.std.proofs.Common.{Some, refl}
-use Rattle.track_rule.proofs.Changing.{joined, unchanged}
+use Rattle.track_rule.specs.ChangeLaws.{joined, unchanged}
 use Rattle.track_rule.specs.ChangesOnly.{is_history}
 use Rattle.track_rule.specs.TurnSteps.{with_subject}
 use Rattle.history_book.specs.declared.record.Record.{Record}

@@ -1,5 +1,5 @@
 use Rattle.std.proofs.Common.{refl, sym}
-use Rattle.track_rule.proofs.Changing.{by_pass, joined}
+use Rattle.track_rule.specs.ChangeLaws.{by_pass, joined}
 use Rattle.track_rule.specs.ChangesOnly.{is_tuple_of}
 use Rattle.track_rule.specs.Readings.{stored}
 use Rattle.track_rule.specs.Layout.{place_of}

@@ -1,7 +1,7 @@
 use Rattle.shared_desk.proofs.Counting.{no_none, still_taken}
 use Rattle.history_book.specs.Desk.{CountSays}
 use Rattle.track_rule.specs.ChangesOnly.{no_word}
-use Rattle.track_rule.proofs.Changing.{look_words}
+use Rattle.track_rule.specs.ChangeLaws.{look_words}
 use Rattle.shared_desk.specs.Sights.{sight_of}
 use Rattle.history_book.specs.Sight.{Sight}
 use Rattle.shared_desk.proofs.Resting.{clerk_at, now_of}

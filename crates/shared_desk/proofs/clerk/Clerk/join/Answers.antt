@@ -1,6 +1,6 @@
 use Rattle.std.proofs.Common.{refl, subst, sym}
 use Rattle.track_rule.specs.ChangesOnly.{no_word}
-use Rattle.track_rule.proofs.Changing.{joined, look_words}
+use Rattle.track_rule.specs.ChangeLaws.{joined, look_words}
 use Rattle.shared_desk.proofs.Wording.{readings_stay}
 use Rattle.history_book.specs.Places.{HoldsNothing}
 use Rattle.shared_desk.specs.Sights.{ClerkSight, sight_of}

@@ -1,7 +1,7 @@
 use Rattle.shared_desk.specs.Sights.{sight_of}
 use Rattle.std.proofs.Common.{refl, rules}
 use Rattle.track_rule.specs.ChangesOnly.{no_word}
-use Rattle.track_rule.proofs.Changing.{frees_joined, unchanged}
+use Rattle.track_rule.specs.ChangeLaws.{frees_joined, unchanged}
 use Rattle.shared_desk.specs.Changed.{find_words}
 use Rattle.shared_desk.proofs.Wording.{find_none}
 use Rattle.shared_desk.proofs.clerk.Clerk.look_on.Goals as goal

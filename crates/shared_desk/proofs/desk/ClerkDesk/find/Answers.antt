@@ -1,4 +1,4 @@
-use Rattle.track_rule.proofs.Changing.{frees_joined}
+use Rattle.track_rule.specs.ChangeLaws.{frees_joined}
 use Rattle.shared_desk.specs.Changed.{find_words}
 use Rattle.shared_desk.proofs.desk.ClerkDesk.find.Goals as goal
 

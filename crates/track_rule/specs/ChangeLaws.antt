@@ -1,12 +1,13 @@
--- The words that calls change, one call after the other.
-use Rattle.std.specs.Prelude.{◌==◌, ◌&&◌, ◌||◌, nat_le, not, drop}
-use Rattle.std.proofs.Common.{◌≡◌, ℕ, ◌+◌, ◌*◌, ◌<◌, Bool, true, false, List, [], ◌∷◌, ◌++◌, length, refl, sym, ap, ◌∙◌, append_assoc, arith}
-use Rattle.std.proofs.lemmas.Bool.{and_from, and_left, and_parts, and_right, false≢true, lt-leb, ne_eqb, or_from, or_left, or_parts, or_right}
+-- How the words add up that calls change, one call after the other. Each law stands with the term that shows it, so that the crates
+-- above cite it where they prove what their own calls change, and need not call an empty function for it.
+use Rattle.std.specs.Prelude.{◌==◌, ◌&&◌, ◌||◌, not, drop}
+use Rattle.std.proofs.Common.{◌≡◌, ℕ, Bool, true, false, List, [], ◌∷◌, ◌++◌, length, refl, sym, ap, ◌∙◌, append_assoc, append-nil, ⊎_elim}
+use Rattle.std.proofs.Math.Seq.{drop-append_seam}
+use Rattle.std.proofs.lemmas.Bool.{and_from, and_parts, false≢true, or_cases, or_from, or_left, or_parts, or_right}
 use Rattle.std.proofs.lemmas.List.Folds.{list_all-append, list_any-append}
 use Rattle.history_book.specs.declared.sizes.Sizes.{Sizes}
-use Rattle.track_rule.specs.ChangesOnly.{ChangesAndFrees, ChangesWords, changes_only, either, frees_what_it_gave, has_change, is_freeing, is_last_given, is_of_kind, is_some_phase, no_word, where_so}
-use Rattle.track_rule.specs.Layout.{phase_word, refs_word}
-use Rattle.track_rule.specs.Links.{kind_of}
+use Rattle.track_rule.specs.ChangesOnly.{ChangesAndFrees, ChangesWords, changes_only, either, frees_what_it_gave, has_change, is_freeing, is_last_given, no_word}
+use Rattle.track_rule.specs.Layout.{phase_word}
 use Rattle.track_rule.specs.PhaseSteps.{LoadsPhase}
 use Rattle.track_rule.specs.Readings.{changes, found}
 use Rattle.track_rule.specs.Sights.{PassSight}
@@ -18,45 +19,35 @@ use Rattle.track_rule.specs.declared.view.View.{View}
 abbrev pub Within : (Sizes → Reading → Bool) → (Sizes → Reading → Bool) → Type 0
 Within f g = (z : Sizes) (r : Reading) → f z r ≡ true → g z r ≡ true
 
--- both tests of two
-pub or_elim : (a b : Bool) {P : Type 0} → (a ≡ true → P) → (b ≡ true → P) → (a || b) ≡ true → P
-or_elim true b f g e = f refl
-or_elim false b f g e = g e
-
-or_true : (b : Bool) → (b || true) ≡ true
-or_true true = refl
-or_true false = refl
-
+-- what one of two tests passes, either passes
 pub in_one : (f g : Sizes → Reading → Bool) → Within f (either f g)
 in_one f g z r e = or_left (f z r) (g z r) e
 
 pub in_other : (f g : Sizes → Reading → Bool) → Within g (either f g)
 in_other f g z r e = or_right (f z r) (g z r) e
 
+-- a test that passes what each of two does
 pub in_either : (f g h : Sizes → Reading → Bool) → Within f h → Within g h → Within (either f g) h
-in_either f g h one other z r e = or_elim (f z r) (g z r) (one z r) (other z r) e
+in_either f g h one other z r e = ⊎_elim (one z r) (other z r) (or_cases (f z r) (g z r) e)
 
 pub in_none : (h : Sizes → Reading → Bool) → Within no_word h
 in_none h z r e = absurd (false≢true e)
 
-pub in_where : (so : Bool) (f h : Sizes → Reading → Bool) → Within f h → Within (where_so so f) h
-in_where so f h inside z r e = inside z r (and_parts so (f z r) e).1
-
--- lists of readings
+-- of lists of readings
 pub only_weak : (f g : Reading → Bool) (rs : List Reading) → ((r : Reading) → f r ≡ true → g r ≡ true) → changes_only f rs ≡ true → changes_only g rs ≡ true
 only_weak f g [] inside e = refl
 only_weak f g (r ∷ rs) inside e =
     let p = and_parts (not r.own || f r) (changes_only f rs) e in
     and_from (not r.own || g r) (changes_only g rs)
-    (or_elim (not r.own) (f r) (λ k. or_left (not r.own) (g r) k) (λ k. or_right (not r.own) (g r) (inside r k)) p.0)
+    (⊎_elim (or_left (not r.own) (g r)) (λ k. or_right (not r.own) (g r) (inside r k)) (or_cases (not r.own) (f r) p.0))
     (only_weak f g rs inside p.1)
 
 pub only_append : (f : Reading → Bool) (xs ys : List Reading) → changes_only f xs ≡ true → changes_only f ys ≡ true → changes_only f (xs ++ ys) ≡ true
 only_append f xs ys e h = list_all-append (λ (r : Reading). not r.own || f r) xs ys ∙ and_from (changes_only f xs) (changes_only f ys) e h
 
--- CALLS
+-- WHAT CALLS CHANGE
 
--- a weaker test, for the table at hand, and for each
+-- a test that passes more says less: for the table at hand, and for each
 unfoldable pub weaker_at : (f g : Sizes → Reading → Bool) (v w : View) → ((r : Reading) → f v.passes.sizes r ≡ true → g v.passes.sizes r ≡ true)
     → ChangesWords f v w → ChangesWords g v w
 weaker_at f g v w inside c = record {
@@ -67,6 +58,7 @@ weaker_at f g v w inside c = record {
 pub weaker : (f g : Sizes → Reading → Bool) (v w : View) → Within f g → ChangesWords f v w → ChangesWords g v w
 weaker f g v w inside c = weaker_at f g v w (inside v.passes.sizes) c
 
+-- one call and then another
 unfoldable pub joined : (f : Sizes → Reading → Bool) (u v w : View) → ChangesWords f u v → ChangesWords f v w → ChangesWords f u w
 joined f u v w c d = record {
   sizes = d.sizes ∙ c.sizes;
@@ -77,25 +69,22 @@ joined f u v w c d = record {
   };
 }
 
+-- no reading more
 pub unchanged : (f : Sizes → Reading → Bool) (v w : View) → w ≡ v → ChangesWords f v w
 unchanged f v w e = record {
   sizes = ap (λ (x : View). x.passes.sizes) e;
-  only = record { more = []; all = ap (λ (x : View). x.readings) e ∙ sym (append_nil v.readings); own = refl };
+  only = record { more = []; all = ap (λ (x : View). x.readings) e ∙ sym (append-nil v.readings); own = refl };
 }
-  where
-    append_nil : (rs : List Reading) → rs ++ [] ≡ rs
-    append_nil [] = refl
-    append_nil (r ∷ rs) = ap (λ (k : List Reading). r ∷ k) (append_nil rs)
 
 -- one reading more
-unfoldable pub by_reading : (f : Sizes → Reading → Bool) (r : Reading) (v w : View) → w.passes.sizes ≡ v.passes.sizes → w.readings ≡ v.readings ++ r ∷ []
+pub by_reading : (f : Sizes → Reading → Bool) (r : Reading) (v w : View) → w.passes.sizes ≡ v.passes.sizes → w.readings ≡ v.readings ++ r ∷ []
     → (not r.own || f v.passes.sizes r) ≡ true → ChangesWords f v w
 by_reading f r v w sizes more own = record {
   sizes = sizes;
   only = record { more = r ∷ []; all = more; own = and_from (not r.own || f v.passes.sizes r) true own refl };
 }
 
--- the same, where the pass is known by what it was before
+-- the same, where a contract says of the pass afterwards that it is this one
 pub by_view : (f : Sizes → Reading → Bool) (r : Reading) (v w x : View) → w ≡ x → x.passes.sizes ≡ v.passes.sizes → x.readings ≡ v.readings ++ r ∷ []
     → (not r.own || f v.passes.sizes r) ≡ true → ChangesWords f v w
 by_view f r v w x e sizes more own = by_reading f r v w (ap (λ (k : View). k.passes.sizes) e ∙ sizes) (ap (λ (k : View). k.readings) e ∙ more) own
@@ -104,18 +93,18 @@ pub by_pass : (f : Sizes → Reading → Bool) (r : Reading) (v w x : PassSight)
     → (not r.own || f v.view.passes.sizes r) ≡ true → ChangesWords f v.view w.view
 by_pass f r v w x e sizes more own = by_view f r v.view w.view x.view (ap (λ (k : PassSight). k.view) e) sizes more own
 
--- no reading more
+-- no reading more, where a contract says so
 pub by_none : (f : Sizes → Reading → Bool) (v w x : PassSight) → w ≡ x → x.view ≡ v.view → ChangesWords f v.view w.view
 by_none f v w x e same = unchanged f v.view w.view (ap (λ (k : PassSight). k.view) e ∙ same)
 
--- loads
+-- a load of a phase, and of the history word
 pub phase_words : (f : Sizes → Reading → Bool) (place n : ℕ) (v w : View) → LoadsPhase place v n w → ChangesWords f v w
 phase_words f place n v w loads = by_view f (found (phase_word v.passes.sizes place) n) v w _ loads.view refl refl refl
 
 pub look_words : (f : Sizes → Reading → Bool) (word : ℕ) (v w : View) → Looks v word w → ChangesWords f v w
 look_words f word v w looks = by_view f (found_history word v) v w _ looks.same refl refl refl
 
--- as older contracts say it
+-- where a contract says which words no own change is of
 pub by_own : (test : ℕ → Bool) (f : Sizes → Reading → Bool) (v w : View) → w.passes.sizes ≡ v.passes.sizes
     → w.readings ≡ v.readings ++ drop (length v.readings) w.readings → changes test (drop (length v.readings) w.readings) ≡ false
     → ((r : Reading) → test r.word ≡ false → f v.passes.sizes r ≡ true) → ChangesWords f v w
@@ -138,27 +127,22 @@ pub by_loads : (f : Sizes → Reading → Bool) (v w : View) → w.passes.sizes 
     → w.readings ≡ v.readings ++ drop (length v.readings) w.readings → changes (λ word. true) (drop (length v.readings) w.readings) ≡ false → ChangesWords f v w
 by_loads f v w sizes stand none = by_own (λ word. true) f v w sizes stand none (λ r e. absurd (false≢true (sym e)))
 
-pub word_is : (n word : ℕ) → not (word == n) ≡ false → (word == n) ≡ true
-word_is n word e = by_case (word == n) e
-  where
-    by_case : (b : Bool) → not b ≡ false → b ≡ true
-    by_case true e = refl
-    by_case false e = absurd (false≢true (sym e))
-
 -- MAKING PLACES FREE
 
 imp_both : (a b c d : Bool) → (not a || c) ≡ true → (not b || d) ≡ true → (not (a || b) || (c || d)) ≡ true
 imp_both true b true d e h = refl
 imp_both true b false d e h = absurd (false≢true e)
-imp_both false true c true e h = or_true c
+imp_both false true true true e h = refl
+imp_both false true false true e h = refl
 imp_both false true c false e h = absurd (false≢true h)
 imp_both false false c d e h = refl
 
-pub frees_append : (z : Sizes) (xs ys : List Reading) → frees_what_it_gave z xs ≡ true → frees_what_it_gave z ys ≡ true → frees_what_it_gave z (xs ++ ys) ≡ true
+frees_append : (z : Sizes) (xs ys : List Reading) → frees_what_it_gave z xs ≡ true → frees_what_it_gave z ys ≡ true → frees_what_it_gave z (xs ++ ys) ≡ true
 frees_append z xs ys e h =
     (λ i. not (list_any-append (λ (r : Reading). r.own && is_freeing z r) xs ys i) || list_any-append (λ (r : Reading). r.own && is_last_given z r) xs ys i)
     ∙ imp_both (has_change is_freeing z xs) (has_change is_freeing z ys) (has_change is_last_given z xs) (has_change is_last_given z ys) e h
 
+-- one call and then another
 pub frees_joined : (f : Sizes → Reading → Bool) (u v w : View) → ChangesAndFrees f u v → ChangesAndFrees f v w → ChangesAndFrees f u w
 unfolding joined
 frees_joined f u v w c d = record {
@@ -166,8 +150,8 @@ frees_joined f u v w c d = record {
   gave = frees_append u.passes.sizes c.words.only.more d.words.only.more c.gave (ap (λ (z : Sizes). frees_what_it_gave z d.words.only.more) (sym c.words.sizes) ∙ d.gave);
 }
 
--- a call that makes no place free
-pub none_freed : (f : Sizes → Reading → Bool) (z : Sizes) (rs : List Reading) → ((r : Reading) → f z r ≡ true → is_freeing z r ≡ false) → changes_only (f z) rs ≡ true
+-- no own change makes a place free
+none_freed : (f : Sizes → Reading → Bool) (z : Sizes) (rs : List Reading) → ((r : Reading) → f z r ≡ true → is_freeing z r ≡ false) → changes_only (f z) rs ≡ true
     → has_change is_freeing z rs ≡ false
 none_freed f z [] other e = refl
 none_freed f z (r ∷ rs) other e =
@@ -178,6 +162,7 @@ none_freed f z (r ∷ rs) other e =
     by_own_of false may frees o h = refl
     by_own_of true may frees o h = o h
 
+-- a call that makes no place free
 pub freeing_none : (f g : Sizes → Reading → Bool) (v w : View) → Within f g → ((z : Sizes) (r : Reading) → f z r ≡ true → is_freeing z r ≡ false)
     → ChangesWords f v w → ChangesAndFrees g v w
 unfolding weaker_at
@@ -186,20 +171,19 @@ freeing_none f g v w inside other c = record {
   gave = ap (λ (b : Bool). not b || has_change is_last_given v.passes.sizes c.only.more) (none_freed f v.passes.sizes c.only.more (other v.passes.sizes) c.only.own);
 }
 
+-- a test that passes more says less
 pub frees_weaker : (f g : Sizes → Reading → Bool) (v w : View) → Within f g → ChangesAndFrees f v w → ChangesAndFrees g v w
 unfolding weaker_at
 frees_weaker f g v w inside c = record { words = weaker_at f g v w (inside v.passes.sizes) c.words; gave = c.gave }
 
--- THE WORDS OF TESTS
-
--- a word of a place, by its kind
-pub of_kind : (z : Sizes) (kind other place n : ℕ) (r : Reading) → n < 9 → (n ≡ kind → ⊥) → r.word ≡ refs_word z place + n → is_of_kind kind z r ≡ false
-of_kind z kind other place n r low differs here =
-    and_right (nat_le (3 + 2 * z.buckets) r.word) (kind_of z r.word == kind) (ne_eqb (kind_of z r.word) kind (λ e. differs (omega (arith, e, here, low))))
-
-pub below_places : (z : Sizes) (kind : ℕ) (r : Reading) → r.word < 3 + 2 * z.buckets → is_of_kind kind z r ≡ false
-below_places z kind r low = and_left (nat_le (3 + 2 * z.buckets) r.word) (kind_of z r.word == kind) (lt-leb (3 + 2 * z.buckets) r.word low)
-
--- no test but that of a phase names one that became OWNED, or FREE
-abbrev pub NamesNo : ℕ → (Sizes → Reading → Bool) → Type 0
-NamesNo value f = (z : Sizes) (r : Reading) → f z r ≡ true → is_some_phase value z r ≡ false
+-- a call that gave up the last reference to a place, and then one that may make it free
+pub frees_after : (f g h : Sizes → Reading → Bool) (u v w : View) → Within f h → Within g h → ChangesWords f u v
+    → has_change is_last_given u.passes.sizes (drop (length u.readings) v.readings) ≡ true → ChangesWords g v w → ChangesAndFrees h u w
+unfolding joined weaker_at
+frees_after f g h u v w one other c last d = record {
+  words = joined h u v w (weaker_at f h u v (one u.passes.sizes) c) (weaker_at g h v w (other v.passes.sizes) d);
+  gave = or_right (not (has_change is_freeing u.passes.sizes (c.only.more ++ d.only.more))) (has_change is_last_given u.passes.sizes (c.only.more ++ d.only.more))
+      (list_any-append (λ (r : Reading). r.own && is_last_given u.passes.sizes r) c.only.more d.only.more
+      ∙ or_left (has_change is_last_given u.passes.sizes c.only.more) (has_change is_last_given u.passes.sizes d.only.more)
+      (sym (ap (has_change is_last_given u.passes.sizes) (ap (drop (length u.readings)) c.only.all ∙ drop-append_seam u.readings c.only.more)) ∙ last));
+}
