@@ -124,9 +124,9 @@ stores_link slots id word to v c may has_some s (l, h) long at range =
     (λ (t : Cuts word to v).
     subst (λ (k : ℕ). Told k to) (sym t.word_is)
     (subst (λ (n : ℕ). Told (end_word z t.bucket t.passed) n) (sym t.to_is) (
-      strung (end_word z t.bucket t.passed) (first_of t.rest) (taken_from t.bucket t.entry.link v.buckets) v,
-      (_, cuts_kept l s id t.bucket v h at has_some t.below t.passed t.entry t.rest t.at t.up),
-      cuts_told l s id v h at has_some t.bucket t.passed t.entry t.rest t.below t.at,
+      strung (end_word z t.bucket t.passed) (first_of t.rest) (taken_from t.bucket t.link.link v.buckets) v,
+      (_, cuts_kept l s id t.bucket v h at has_some t.below t.passed t.link t.rest t.at t.up),
+      cuts_told l s id v h at has_some t.bucket t.passed t.link t.rest t.below t.at,
     )))
     u)
     may in

@@ -242,12 +242,12 @@ pub record Cuts (word to : ℕ) (v : View) : Type 0 where
   pub bucket : ℕ
   pub below : bucket < v.passes.sizes.buckets
   pub passed : List ChainLink
-  pub entry : ChainLink
+  pub link : ChainLink
   pub rest : List ChainLink
-  pub at : IsShutAt bucket v passed (entry ∷ rest)
+  pub at : IsShutAt bucket v passed (link ∷ rest)
   pub word_is : word ≡ end_word v.passes.sizes bucket passed
   pub to_is : to ≡ first_of rest
-  pub up : is_raised entry.link v.buckets.hooks ≡ true
+  pub up : is_raised link.link v.buckets.hooks ≡ true
 
 -- what a pass may store in a head, or as the next link of a link
 abbrev pub MayString : ℕ → ℕ → View → Type 0
