@@ -22,9 +22,9 @@ use history_book::desk::Hold;
 use history_book::event::{Event, Why};
 use history_book::find::{find, find_id};
 use history_book::laws::{
-    destroys_take_one, entries_keep_their_helper, entries_keep_their_protocol,
-    entries_keep_their_zone, expectations_are_in_order, free_is_absent, live_records_are_confirmed,
-    states_stay, touches_change_one,
+    destroys_take_one, entries_keep_helper_and_zone, entries_keep_their_protocol,
+    expectations_are_in_order, free_is_absent, live_records_are_confirmed, states_stay,
+    touches_change_one,
 };
 use history_book::legality::{expectation_at, is_reason_for};
 use history_book::outcome::{
@@ -236,8 +236,7 @@ impl Book {
         ensures says { Tells self.old self.new result.1 (λ old new. ExpectSays place want moment old new result.0) }
         ensures sizes { self.new.sizes ≡ self.old.sizes }
     {
-        entries_keep_their_helper();
-        entries_keep_their_zone();
+        entries_keep_helper_and_zone();
         expectations_are_in_order();
         histories_go_on();
         let at = self.events;

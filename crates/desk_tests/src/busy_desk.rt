@@ -10,7 +10,7 @@ use book_desk::desk::PlainDesk;
 use expect_table::expectation::Want;
 use history_book::desk::Desk;
 use history_book::event::{Event, Note, Why};
-use history_book::laws::entries_keep_their_zone;
+use history_book::laws::entries_keep_helper_and_zone;
 use history_book::legality::expectation_at;
 use history_book::outcome::{
     ClaimOutcome, ConfirmOutcome, ExpectOutcome, FindOutcome, HoldOutcome, KillOutcome, LiveCount,
@@ -226,7 +226,7 @@ impl Desk for BusyDesk {
 
     fn expect<R: Wait>(&mut self, rt: &R, place: u32, want: Want, moment: u64) -> ExpectOutcome {
         self.stage.other_meets(rt, Call::Expect, place);
-        entries_keep_their_zone();
+        entries_keep_helper_and_zone();
         // The event names the entry and its zone, which this call gives by its place alone.
         let (master, zone) = match self.stage.desk.peek(rt, place) {
             PeekOutcome::Gone { at } => return ExpectOutcome::MasterGone { at },

@@ -120,14 +120,11 @@ pub fn expectations_are_in_order()
     removing_keeps_order();
 }
 
-/// A live record has the helper exactly where the Confirm that made it gave it the helper.
-pub fn entries_keep_their_helper()
-    ensures { EntriesKeepTheirHelper }
-{}
-
-/// A live record is in the zone in which its entry was confirmed.
-pub fn entries_keep_their_zone()
-    ensures { EntriesKeepTheirZone }
+/// A live record has the helper exactly where the Confirm that made it gave it the helper, and is in the zone in which its entry
+/// was confirmed.
+pub fn entries_keep_helper_and_zone()
+    ensures helper { EntriesKeepTheirHelper }
+    ensures zone { EntriesKeepTheirZone }
 {}
 
 /// An entry that is gone stays gone.

@@ -21,7 +21,7 @@ use crate::setup::Setup;
 use history_book::desk::Desk;
 use history_book::event::Why;
 use history_book::find::label;
-use history_book::laws::{entries_keep_their_helper, entries_keep_their_zone};
+use history_book::laws::entries_keep_helper_and_zone;
 use history_book::outcome::{FindOutcome, KillOutcome, TouchOutcome};
 use history_book::places::give_up;
 use history_book::record::Record;
@@ -184,8 +184,7 @@ fn meet_entry<R: Wait, D: Desk>(
 {
     desks_go_on();
     met_entries_stay();
-    entries_keep_their_helper();
-    entries_keep_their_zone();
+    entries_keep_helper_and_zone();
     let (segment, moment) = (packet.segment, packet.moment);
     let (id, direction) = (met.id, met.direction);
     match desk.touch(rt, met.place, direction, segment, moment) {

@@ -21,7 +21,7 @@ use crate::payload::{follow_payload, is_read};
 use crate::setup::Setup;
 use history_book::desk::Desk;
 use history_book::event::Why;
-use history_book::laws::{entries_keep_their_helper, entries_keep_their_zone};
+use history_book::laws::entries_keep_helper_and_zone;
 use history_book::outcome::{FindOutcome, TouchOutcome};
 use history_book::places::give_up;
 use history_book::record::Record;
@@ -129,8 +129,7 @@ fn touch_entry<R: Wait, D: Desk>(
 {
     desks_go_on();
     met_entries_stay();
-    entries_keep_their_helper();
-    entries_keep_their_zone();
+    entries_keep_helper_and_zone();
     let Met {
         place,
         direction,

@@ -16,9 +16,7 @@ use crate::expect_turn::{give_expects, take_expects};
 use expect_table::expectation::{Expectation, Want};
 use expect_table::table::{AddOutcome, ExpectTable};
 use history_book::event::{Event, Note};
-use history_book::laws::{
-    entries_keep_their_helper, entries_keep_their_zone, expectations_are_in_order,
-};
+use history_book::laws::{entries_keep_helper_and_zone, expectations_are_in_order};
 use history_book::legality::expectation_at;
 use history_book::outcome::ExpectOutcome;
 use std::sync::Wait;
@@ -84,8 +82,7 @@ fn expect_known(
     ensures knows { CanGiveExpected pass.new.view table.new }
     ensures noted { Notes result.1 pass.old.view.seen.own pass.new.view.seen.own }
 {
-    entries_keep_their_helper();
-    entries_keep_their_zone();
+    entries_keep_helper_and_zone();
     let phase = pass.phase_load(place);
     let at = events_in(pass.history_load());
     if phase < LIVE {

@@ -11,7 +11,7 @@ use book_desk::desk::PlainDesk;
 use expect_table::expectation::Want;
 use history_book::desk::Desk;
 use history_book::event::Why;
-use history_book::laws::{entries_keep_their_helper, entries_keep_their_protocol};
+use history_book::laws::{entries_keep_helper_and_zone, entries_keep_their_protocol};
 use history_book::outcome::{FindOutcome, PeekOutcome, TakeOutcome};
 use history_book::places::give_back;
 use history_book::record::Flow;
@@ -299,7 +299,7 @@ fn expect_for<R: Wait>(
     requires held { is_held_for_entry place desk.old.held ≡ true }
     ensures { Went desk.old desk.new 1 0 }
 {
-    entries_keep_their_helper();
+    entries_keep_helper_and_zone();
     let PeekOutcome::Seen { subject, .. } = desk.peek(rt, place) else {
         return;
     };

@@ -36,12 +36,12 @@ read_payload-requires-clause-named g c =
 pub read_payload-requires-clause-helper : goal.read_payload-requires-clause-helper
 read_payload-requires-clause-helper g c = λ helper.
     let s = g.D.Desk.sight c.args.desk.now in
-    helped_entry c.entries_keep_their_helper.ensures (g.D.Desk.sight c.touch.new.self) c.in-Touched.number
+    helped_entry c.entries_keep_helper_and_zone.ensures.helper (g.D.Desk.sight c.touch.new.self) c.in-Touched.number
     (held_id c.args.met.now.place s.held) c.in-Touched.before c.touch.ensures.knows c.in-Touched.ensures.says.found.fact helper
 
 pub read_payload-requires-clause-zone : goal.read_payload-requires-clause-zone
 read_payload-requires-clause-zone g c =
-    zone_entry c.entries_keep_their_zone.ensures (g.D.Desk.sight c.touch.new.self) c.in-Touched.number
+    zone_entry c.entries_keep_helper_and_zone.ensures.zone (g.D.Desk.sight c.touch.new.self) c.in-Touched.number
     (held_id c.args.met.now.place (g.D.Desk.sight c.args.desk.now).held) c.in-Touched.before c.touch.ensures.knows
     c.in-Touched.ensures.says.found.fact
 

@@ -24,7 +24,7 @@ returns-in-Added-clause-stays c log h =
     let b = c.args.self.now in
     let e = c.expectation_at-e.result in
     let can : CanExpect log b c.args.place c.held_id-id.result c.zone_at-zone.result =
-    can_expect c.entries_keep_their_helper.ensures c.entries_keep_their_zone.ensures c.requires.right.0 log b c.as_slice.result.now
+    can_expect c.entries_keep_helper_and_zone.ensures.helper c.entries_keep_helper_and_zone.ensures.zone c.requires.right.0 log b c.as_slice.result.now
     c.as_slice-2.result.now c.as_slice-3.result.now c.args.place c.held_id-id.result c.in-Some.index c.zone_at-zone.result
     c.requires.right.1 h c.as_slice.ensures c.as_slice-2.ensures c.as_slice-3.ensures c.held_id-id.ensures c.in-Some.ensures.found
     c.zone_at-zone.ensures c.requires.right.2 in
@@ -38,7 +38,7 @@ pub returns-in-Added-clause-says : goal.returns-in-Added-clause-says
 returns-in-Added-clause-says c log spare taken h =
     let b = c.args.self.now in
     let can : CanExpect log b c.args.place c.held_id-id.result c.zone_at-zone.result =
-    can_expect c.entries_keep_their_helper.ensures c.entries_keep_their_zone.ensures c.requires.right.0 log b c.as_slice.result.now
+    can_expect c.entries_keep_helper_and_zone.ensures.helper c.entries_keep_helper_and_zone.ensures.zone c.requires.right.0 log b c.as_slice.result.now
     c.as_slice-2.result.now c.as_slice-3.result.now c.args.place c.held_id-id.result c.in-Some.index c.zone_at-zone.result
     c.requires.right.1 h c.as_slice.ensures c.as_slice-2.ensures c.as_slice-3.ensures c.held_id-id.ensures c.in-Some.ensures.found
     c.zone_at-zone.ensures c.requires.right.2 in
@@ -55,7 +55,7 @@ pub returns-in-Clash-clause-says : goal.returns-in-Clash-clause-says
 returns-in-Clash-clause-says c log spare taken h =
     let b = c.args.self.now in
     let can : CanExpect log b c.args.place c.held_id-id.result c.zone_at-zone.result =
-    can_expect c.entries_keep_their_helper.ensures c.entries_keep_their_zone.ensures c.requires.right.0 log b c.as_slice.result.now
+    can_expect c.entries_keep_helper_and_zone.ensures.helper c.entries_keep_helper_and_zone.ensures.zone c.requires.right.0 log b c.as_slice.result.now
     c.as_slice-2.result.now c.as_slice-3.result.now c.args.place c.held_id-id.result c.in-Some.index c.zone_at-zone.result
     c.requires.right.1 h c.as_slice.ensures c.as_slice-2.ensures c.as_slice-3.ensures c.held_id-id.ensures c.in-Some.ensures.found
     c.zone_at-zone.ensures c.requires.right.2 in
@@ -66,7 +66,7 @@ pub returns-in-Full-clause-says : goal.returns-in-Full-clause-says
 returns-in-Full-clause-says c log spare taken h =
     let b = c.args.self.now in
     let can : CanExpect log b c.args.place c.held_id-id.result c.zone_at-zone.result =
-    can_expect c.entries_keep_their_helper.ensures c.entries_keep_their_zone.ensures c.requires.right.0 log b c.as_slice.result.now
+    can_expect c.entries_keep_helper_and_zone.ensures.helper c.entries_keep_helper_and_zone.ensures.zone c.requires.right.0 log b c.as_slice.result.now
     c.as_slice-2.result.now c.as_slice-3.result.now c.args.place c.held_id-id.result c.in-Some.index c.zone_at-zone.result
     c.requires.right.1 h c.as_slice.ensures c.as_slice-2.ensures c.as_slice-3.ensures c.held_id-id.ensures c.in-Some.ensures.found
     c.zone_at-zone.ensures c.requires.right.2 in

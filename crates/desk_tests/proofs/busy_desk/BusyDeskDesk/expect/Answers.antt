@@ -25,7 +25,7 @@ invariant_of-self-in-Expected g c =
     c.self.inside.stage.others c.other_meets.new.self.others c.in-Expected.id
     (Expect (expectation_at c.in-Expected.id c.in-Seen.subject.id c.in-Seen.subject.original.zone c.args.want c.args.moment) c.in-Expected.replaced c.args.moment) c.self.invariant (went_then c.self.inside.stage.desk c.other_meets.new.self.desk c.peek.new.self c.self.inside.stage.others c.other_meets.new.self.others c.other_meets.ensures
     c.in-Seen.ensures.says.0.saw c.in-Seen.ensures.says.1 c.peek.ensures.knows)
-    (expect_made c.entries_keep_their_zone.ensures c.args.place c.args.want c.args.moment c.other_meets.new.self.desk c.peek.new.self c.expect-outcome.new.self c.in-Seen.subject c.in-Seen.at c.in-Expected.id c.in-Expected.replaced
+    (expect_made c.entries_keep_helper_and_zone.ensures.zone c.args.place c.args.want c.args.moment c.other_meets.new.self.desk c.peek.new.self c.expect-outcome.new.self c.in-Seen.subject c.in-Seen.at c.in-Expected.id c.in-Expected.replaced
     c.peek.ensures.knows c.in-Seen.ensures.says c.in-Expected.ensures.says) c.expect-outcome.ensures.knows
     (expect_noted c.push.new.self.items c.self.inside.notes.items c.in-Expected.id c.expectation_at.result
     (expectation_at c.in-Expected.id c.in-Seen.subject.id c.in-Seen.subject.original.zone c.args.want c.args.moment) c.in-Expected.replaced c.args.moment
@@ -38,7 +38,7 @@ returns-in-Expected-clause-knows g c =
     c.self.inside.stage.others c.other_meets.new.self.others c.in-Expected.id
     (Expect (expectation_at c.in-Expected.id c.in-Seen.subject.id c.in-Seen.subject.original.zone c.args.want c.args.moment) c.in-Expected.replaced c.args.moment) c.self.invariant (went_then c.self.inside.stage.desk c.other_meets.new.self.desk c.peek.new.self c.self.inside.stage.others c.other_meets.new.self.others c.other_meets.ensures
     c.in-Seen.ensures.says.0.saw c.in-Seen.ensures.says.1 c.peek.ensures.knows)
-    (expect_made c.entries_keep_their_zone.ensures c.args.place c.args.want c.args.moment c.other_meets.new.self.desk c.peek.new.self c.expect-outcome.new.self c.in-Seen.subject c.in-Seen.at c.in-Expected.id c.in-Expected.replaced
+    (expect_made c.entries_keep_helper_and_zone.ensures.zone c.args.place c.args.want c.args.moment c.other_meets.new.self.desk c.peek.new.self c.expect-outcome.new.self c.in-Seen.subject c.in-Seen.at c.in-Expected.id c.in-Expected.replaced
     c.peek.ensures.knows c.in-Seen.ensures.says c.in-Expected.ensures.says) c.expect-outcome.ensures.knows
     (expect_noted c.push.new.self.items c.self.inside.notes.items c.in-Expected.id c.expectation_at.result
     (expectation_at c.in-Expected.id c.in-Seen.subject.id c.in-Seen.subject.original.zone c.args.want c.args.moment) c.in-Expected.replaced c.args.moment
@@ -47,7 +47,7 @@ returns-in-Expected-clause-knows g c =
 pub returns-in-Expected-clause-says : goal.returns-in-Expected-clause-says
 returns-in-Expected-clause-says g c =
     rw (← c.self.view_is)
-    (expected_went c.entries_keep_their_zone.ensures c.self.inside.taken c.args.place c.args.want c.args.moment c.self.inside.stage.desk c.other_meets.new.self.desk c.peek.new.self c.expect-outcome.new.self c.self.inside.notes.items c.push.new.self.items
+    (expected_went c.entries_keep_helper_and_zone.ensures.zone c.self.inside.taken c.args.place c.args.want c.args.moment c.self.inside.stage.desk c.other_meets.new.self.desk c.peek.new.self c.expect-outcome.new.self c.self.inside.notes.items c.push.new.self.items
     c.self.inside.spare (c.self.inside.spare - 1) c.self.inside.stage.others c.other_meets.new.self.others c.in-Seen.subject c.in-Seen.at c.in-Expected.id c.in-Expected.replaced
     c.other_meets.ensures c.peek.ensures.knows c.in-Seen.ensures.says c.in-Expected.ensures.says
     (subst (λ (s : Sight). is_helped_entry (held_id c.args.place s.held) s.front ≡ true) (sym c.self.view_is) c.requires.helper)
