@@ -11,7 +11,6 @@ use Rattle.history_book.specs.declared.record.Record.{Record}
 use Rattle.history_book.specs.Laws.{AreApart}
 use Rattle.history_book.specs.Record.{has_original, has_place, has_reply, has_tuple}
 use Rattle.history_book.specs.State.{Found, State, is_free, live_under, next, original_first}
-use Rattle.history_book.specs.StateLaws.{IsGone}
 use Rattle.history_book.proofs.Entries.{each_fails}
 use Rattle.history_book.proofs.Pairs.{pairs_of}
 use Rattle.history_book.proofs.Passing.{fails_by, found_passes, none_found}
@@ -86,29 +85,3 @@ apart_absent t r q has apart =
     (fails_by (has_original t q) (λ k. apart.reply_original (same ∙ sym (same_tuple-true q.original t k))))
     (fails_by (has_reply t q) (λ k. apart.replies (same ∙ sym (same_tuple-true q.reply t k)))))
     (or_cases (has_original t r) (has_reply t r) has)
-
-all_absent : (t : Tuple) (r : Record) (qs : List Record) → has_tuple t r ≡ true → AllByRecursion (AreApart r) qs
-    → list_any (has_tuple t) qs ≡ false
-all_absent t r [] has h = refl
-all_absent t r (q ∷ qs) has (h, hs) =
-    or_from (has_tuple t q) (list_any (has_tuple t) qs) (apart_absent t r q has h) (all_absent t r qs has hs)
-
-all_elsewhere : (r : Record) (qs : List Record) → AllByRecursion (AreApart r) qs → list_any (has_place r.place) qs ≡ false
-all_elsewhere r [] h = refl
-all_elsewhere r (q ∷ qs) (h, hs) =
-    or_from (has_place r.place q) (list_any (has_place r.place) qs)
-    (ne_eqb q.place r.place (λ e. h.places (sym e))) (all_elsewhere r qs hs)
-
-pub destroyed_gone : (s : State) (i : ℕ) (found : Found) (t : Tuple) (why : Why) → AllPairs AreApart s.records
-    → slice_get s.records i ≡ Some found.subject → live_under t s ≡ Some found
-    → IsGone t found.subject.place (next s (Destroy found.subject.id why))
-destroyed_gone s i found t why apart item live =
-    let pairs = pairs_of s.records apart in
-    let left = remove-filter s.records i found.subject pairs item in
-    let others = others_apart s.records i found.subject pairs item in
-    record {
-      free = ap not (subst (λ (rs : List Record). list_any (has_tuple t) rs ≡ false) left
-          (all_absent t found.subject (remove s.records i) (live_has t s found live) others));
-      unused = ap not (subst (λ (rs : List Record). list_any (has_place found.subject.place) rs ≡ false) left
-          (all_elsewhere found.subject (remove s.records i) others));
-    }

@@ -50,17 +50,6 @@ DestroysTakeOne =
     (s : State) (i : ℕ) (r : Record) (why : Why) → AllPairs AreApart s.records → slice_get s.records i ≡ Some r
     → (next s (Destroy r.id why)).records ≡ remove s.records i
 
--- a destroyed entry leaves its place unused, and the tuple that it was live under free
-pub record IsGone (t : Tuple) (place : ℕ) (s : State) : Type 0 where
-  pub free : is_free t s ≡ true
-  pub unused : is_unused place s ≡ true
-
-abbrev pub DestroysFree : Type 0
-DestroysFree =
-    (s : State) (i : ℕ) (found : Found) (t : Tuple) (why : Why) → AllPairs AreApart s.records
-    → slice_get s.records i ≡ Some found.subject → live_under t s ≡ Some found
-    → IsGone t found.subject.place (next s (Destroy found.subject.id why))
-
 -- where each record is of one flow, what is live under a tuple is of that tuple's
 abbrev pub LiveRecordsHaveTheProtocol : Type 0
 LiveRecordsHaveTheProtocol =

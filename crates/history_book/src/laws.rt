@@ -15,7 +15,7 @@ ghost use Rattle.history_book.specs.Laws.{MastersHelpInTheirZone};
 ghost use Rattle.history_book.specs.StateLaws.{SameTupleIsEquality};
 ghost use Rattle.history_book.specs.StateLaws.{AbsentTuplesAreNobodys, FreeIsAbsent};
 ghost use Rattle.history_book.specs.StateLaws.{IdsNameRecords, TouchesChangeOne};
-ghost use Rattle.history_book.specs.StateLaws.{DestroysTakeOne, DestroysFree};
+ghost use Rattle.history_book.specs.StateLaws.{DestroysTakeOne};
 ghost use Rattle.history_book.specs.StateLaws.{LiveRecordsHaveTheProtocol, UnusedPlacesAreNobodys};
 
 use expect_table::laws::{adding_keeps_order, removing_keeps_order};
@@ -185,11 +185,6 @@ pub fn touches_change_one()
 /// A Destroy takes one record out, and leaves each other as it is.
 pub fn destroys_take_one()
     ensures { DestroysTakeOne }
-{}
-
-/// A destroyed entry leaves its place unused, and the tuple that it was live under free.
-pub fn destroys_free()
-    ensures { DestroysFree }
 {}
 
 /// Where each record is of one flow, what is live under a tuple is of that tuple's.
