@@ -21,12 +21,12 @@ ghost use Rattle.replay_runs.specs.Run.{CanReport, HasEnded, IsRun, left_with};
 
 use crate::beside::run_threads;
 use crate::desks::{Joined, join_in, split_off};
+use crate::laws::what_fits_still_fits;
 use crate::listened::{Listened, counted};
 use crate::script_run::{ScriptThread, latest_moment, run_script};
 use crate::shared::Shared;
 use crate::telling::{Telling, finish, put_back};
 use conntrack_cmd::command::Command;
-use conntrack_cmd::laws::answers_still_fit;
 use conntrack_cmd::read::Script;
 use ct_io::Gate;
 use event_listen::hearing::Hearing;
@@ -37,7 +37,6 @@ use history_book::many_threads::SharedDesk;
 use history_book::merge::merge;
 use history_book::report::{Closed, Report};
 use packet_headers::frame::Capture;
-use packet_path::laws::verdicts_still_fit;
 use packet_path::setup::Setup;
 use std::alloc::Global;
 use std::sync::Wait;
@@ -81,8 +80,7 @@ fn run_to_wait<R: Threads + Wait + Sync, G: Gate + Sync, D: SharedDesk + Send>(
     ensures ends { IfOk result (λ joined. CanFinish (line_now shared.now.line) hearing.new sendings.new.items) }
     ensures told { IfOk result (λ joined. AreTold (lists_with joined (D.sight desk.new).own) (line_now shared.now.line) sendings.new.items) }
 {
-    verdicts_still_fit();
-    answers_still_fit();
+    what_fits_still_fits();
     let mut jobs = split_off(shared.alloc, desk, captures, sendings)?;
     thread.sending = sendings.take_first();
     run_threads(
@@ -175,8 +173,7 @@ fn run_all<R: Threads + Wait + Sync, G: Gate + Sync, D: SharedDesk + Send>(
         (work_of captures.now script.now) (D.sight desk.old).tracker (left_with (D.sight desk.new) outcome)) }
     ensures asked { IfOk result (λ outcome. is_some outcome.heard ≡ listen) }
 {
-    answers_still_fit();
-    verdicts_still_fit();
+    what_fits_still_fits();
     let commands = script.commands.as_slice();
     let (before, behind) = commands.split_at(commands.len().min(script.wait as usize));
     let answers = Answers::new(shared.alloc, commands.len())?;
@@ -251,8 +248,7 @@ pub fn report(
         IfOk result (λ made. AreHeard (made_before_join work made.0) made.1) }
     ensures asked { IfOk result (λ made. is_some made.1 ≡ is_some outcome.heard) }
 {
-    verdicts_still_fit();
-    answers_still_fit();
+    what_fits_still_fits();
     let RunOutcome {
         joined,
         answers,

@@ -41,7 +41,7 @@ run_script-requires-clause-told g c =
 pub returns-clause-run : goal.returns-clause-run
 returns-clause-run g c =
     let count : c.min.result ≡ min (length c.args.script.now.commands.items) c.args.script.now.wait = search rules in
-    run_done c.verdicts_still_fit.ensures c.answers_still_fit.ensures c.args.shared.now c.args.captures.now c.args.script.now (g.D.Desk.sight c.args.desk.now)
+    run_done c.what_fits_still_fits.ensures.verdicts c.what_fits_still_fits.ensures.answers c.args.shared.now c.args.captures.now c.args.script.now (g.D.Desk.sight c.args.desk.now)
     (g.D.Desk.sight c.run_told.new.desk) (g.D.Desk.sight c.run_script.new.desk) c.in_ok-joined.joined c.split_at.result.0.now c.split_at.result.1.now
     c.run_told.new.thread.answers.items c.run_script.new.thread.answers c.min.result
     c.requires.fresh c.in_ok-joined.ensures.run

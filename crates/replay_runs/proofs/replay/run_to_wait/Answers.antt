@@ -38,7 +38,7 @@ returns-clause-run g c =
     let all : length done ≡ c.in_ok-jobs.jobs.len = search rules in
     let ran : AllRan g.D.Desk.sight c.args.shared.now.setup.now c.args.captures.now c.in_ok-jobs.jobs.items done =
     subst (λ os. AllRan g.D.Desk.sight c.args.shared.now.setup.now c.args.captures.now os done) c.as_mut_slice.ensures.value c.run_threads.ensures.run.ran in
-    run_together g.D.Desk.sight c.verdicts_still_fit.ensures c.answers_still_fit.ensures c.args.shared.now c.args.captures.now c.args.commands.now (g.D.Desk.sight c.args.desk.now)
+    run_together g.D.Desk.sight c.what_fits_still_fits.ensures.verdicts c.what_fits_still_fits.ensures.answers c.args.shared.now c.args.captures.now c.args.commands.now (g.D.Desk.sight c.args.desk.now)
     (g.D.Desk.sight c.split_off.new.desk) (g.D.Desk.sight c.run_threads.new.desk) (g.D.Desk.sight c.join_in.new.desk) c.in_ok-jobs.jobs.items done
     c.in_ok-joined.joined c.args.thread.now.answers.items c.run_threads.new.thread.answers.items
     c.requires.fresh c.in_ok-jobs.ensures.split ran c.in_ok-run_threads.ensures.run.performed
