@@ -10,14 +10,6 @@ use Rattle.conntrack_cmd.specs.declared.read.ScriptKind.{ScriptKind}
 use Rattle.conntrack_cmd.specs.declared.read.ScriptKind.TheVariants as kind
 use Rattle.conntrack_cmd.specs.Options.{filter_of, tuple_of}
 
--- the kinds of faults in order, from 1
-abbrev pub number_of_kind : ScriptKind → ℕ
-number_of_kind kind.Command = 1
-number_of_kind kind.Option = 2
-number_of_kind kind.Value = 3
-number_of_kind kind.Repeat = 4
-number_of_kind kind.TooMany = 5
-
 -- no word stands behind this
 abbrev pub alone : {A : Type 0} → A → List (List ℕ) → Result A ScriptKind
 alone x [] = Ok x

@@ -2,7 +2,6 @@
 
 ghost use Rattle.std.specs.Prelude.{◌≡◌, ◌<◌, ◌≤◌, ◌^◌, ◌++◌, ◌∷◌, [], length, IfErr, IfOk, OnOk};
 ghost use Rattle.conntrack_cmd.specs.Internal.{wait_after};
-ghost use Rattle.conntrack_cmd.specs.Line.{number_of_kind};
 ghost use Rattle.conntrack_cmd.specs.Script.{commands_of, IsReason, IsScript};
 
 use crate::command::{Commands, LineMeaning};
@@ -36,19 +35,6 @@ pub enum ScriptKind {
     Repeat,
     /// It is a further line behind 256 commands.
     TooMany,
-}
-
-/// The number of a kind, from 1 in the order of the variants.
-pub fn kind_number(kind: ScriptKind) -> u8
-    ensures { result ≡ number_of_kind kind }
-{
-    match kind {
-        ScriptKind::Command => 1,
-        ScriptKind::Option => 2,
-        ScriptKind::Value => 3,
-        ScriptKind::Repeat => 4,
-        ScriptKind::TooMany => 5,
-    }
 }
 
 /// The first fault of a script: on which line, from 1, and what it is.

@@ -12,14 +12,6 @@ use Rattle.file_text.specs.Protocols.{has_ports, proto_named}
 use Rattle.file_text.specs.Reading.{◌>>=◌, once, required}
 use Rattle.file_text.specs.Text.{address_of, halves_at, number_in, port_of}
 
--- the kinds of faults in order, from 1
-abbrev pub number_of_kind : RuleKind → ℕ
-number_of_kind Word = 1
-number_of_kind Address = 2
-number_of_kind Prefix = 3
-number_of_kind Range = 4
-number_of_kind TooMany = 5
-
 -- `snat` changes the source, `dnat` the destination
 unfoldable pub side_of : List ℕ → Option Side
 side_of word = if bytes_eq word (codes "snat") then Some Source else (if bytes_eq word (codes "dnat") then Some Destination else None)

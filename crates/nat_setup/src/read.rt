@@ -5,7 +5,7 @@ ghost use Rattle.std.specs.List.{AllByRecursion};
 ghost use Rattle.file_text.specs.Text.{words_of, words_of_line};
 ghost use Rattle.nat_setup.specs.Rule.{IsLawfulRule};
 ghost use Rattle.nat_setup.specs.RuleFile.{IsReason, IsRulesFile};
-ghost use Rattle.nat_setup.specs.RuleText.{block_of, ended, length_of, line_of, new_rule, number_of_kind, ports_of, rule_from, side_of, with_option, with_target};
+ghost use Rattle.nat_setup.specs.RuleText.{block_of, ended, length_of, line_of, new_rule, ports_of, rule_from, side_of, with_option, with_target};
 
 use crate::laws::rules_are_lawful;
 use crate::rule::{Block, PortRange, Rule, Rules, Side};
@@ -32,19 +32,6 @@ pub enum RuleKind {
     Range,
     /// It is the 257th rule.
     TooMany,
-}
-
-/// The number of a kind, from 1 in the order of the variants.
-pub fn kind_number(kind: RuleKind) -> u8
-    ensures { result ≡ number_of_kind kind }
-{
-    match kind {
-        RuleKind::Word => 1,
-        RuleKind::Address => 2,
-        RuleKind::Prefix => 3,
-        RuleKind::Range => 4,
-        RuleKind::TooMany => 5,
-    }
 }
 
 /// The first fault of a file: on which line, from 1, and what it is.

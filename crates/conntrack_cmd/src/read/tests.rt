@@ -15,12 +15,23 @@ fn read(alloc: Global, bytes: &[u8]) -> Result<Script, ScriptError> {
     read_script(alloc, bytes)
 }
 
+/// The number of a kind in the tables below, from 1 in the order of the variants.
+fn kind_number(kind: ScriptKind) -> usize {
+    match kind {
+        ScriptKind::Command => 1,
+        ScriptKind::Option => 2,
+        ScriptKind::Value => 3,
+        ScriptKind::Repeat => 4,
+        ScriptKind::TooMany => 5,
+    }
+}
+
 /// The fault's line and the number of its kind. Where there is none: 0 and the number of commands.
 fn answer(alloc: Global, bytes: &[u8]) -> Result<(u32, usize), NoMemory> {
     match read(alloc, bytes) {
         Ok(script) => Ok((0, script.commands.len())),
         Err(ScriptError::NoMemory) => Err(NoMemory),
-        Err(ScriptError::Fault(fault)) => Ok((fault.line, usize::from(kind_number(fault.kind)))),
+        Err(ScriptError::Fault(fault)) => Ok((fault.line, kind_number(fault.kind))),
     }
 }
 

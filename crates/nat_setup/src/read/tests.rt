@@ -11,12 +11,23 @@ fn read(alloc: Global, bytes: &[u8]) -> Result<Rules, RuleError> {
     read_rules(alloc, bytes)
 }
 
+/// The number of a kind in the tables below, from 1 in the order of the variants.
+fn kind_number(kind: RuleKind) -> usize {
+    match kind {
+        RuleKind::Word => 1,
+        RuleKind::Address => 2,
+        RuleKind::Prefix => 3,
+        RuleKind::Range => 4,
+        RuleKind::TooMany => 5,
+    }
+}
+
 /// The fault's line and the number of its kind. Where there is none: 0 and the number of rules.
 fn answer(alloc: Global, bytes: &[u8]) -> Result<(u32, usize), NoMemory> {
     match read(alloc, bytes) {
         Ok(rules) => Ok((0, rules.len())),
         Err(RuleError::NoMemory) => Err(NoMemory),
-        Err(RuleError::Fault(fault)) => Ok((fault.line, usize::from(kind_number(fault.kind)))),
+        Err(RuleError::Fault(fault)) => Ok((fault.line, kind_number(fault.kind))),
     }
 }
 
