@@ -291,7 +291,7 @@ impl Book {
         )
     }
 
-    /// Ends the expectation of this id, where it is due no longer at a moment in microseconds. Gives the event, if there
+    /// Ends the expectation of this id, where it is awaited no longer at a moment in microseconds. Gives the event, if there
     /// is one.
     pub fn unexpect(&mut self, id: u64, moment: u64) -> (UnexpectOutcome, Option<Event>)
         requires few { self.old.events < 2 ^ 40 }

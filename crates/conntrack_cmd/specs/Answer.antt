@@ -30,7 +30,7 @@ use Rattle.conntrack_cmd.specs.declared.command.Command.TheVariants as command
 abbrev pub AreInOrder : List Row → Type 0
 AreInOrder rows = AllPairs (λ r s. r.subject.id < s.subject.id) rows
 
--- the rows are entries that were live and passed; each that did so throughout has a row
+-- the rows are entries that were live and that the filter selects; each that was so throughout has a row
 pub record Lists (log : List Event) (filter : Filter) (own : List Note) (answer : Said) (from to : ℕ) : Type 0 where
   pub rows : Roomed Row
   pub is : answer ≡ said.Listed rows
@@ -102,7 +102,7 @@ pub record Counts (log : List Event) (own : List Note) (answer : Said) (from to 
 abbrev pub IsUnexpectAt : ℕ → Note → Type 0
 IsUnexpectAt moment note = (id : ℕ) × (note.event ≡ Unexpect id moment)
 
--- an expectation is there, and is not due at the moment
+-- an expectation is there, and is awaited no longer at the moment
 abbrev pub is_there_and_late : ℕ → Option Expectation → Bool
 is_there_and_late moment None = false
 is_there_and_late moment (Some e) = not (expected.is_awaited moment e)

@@ -18,7 +18,7 @@ use history_book::sight_laws::desks_go_on;
 use pool_visits::laws::sweeps_see_each_entry;
 use std::sync::Wait;
 
-/// Destroys the entries that are expired at the moment, and then ends the expectations that are due no longer; the
+/// Destroys the entries that are expired at the moment, and then ends the expectations that are awaited no longer; the
 /// list is for those.
 pub fn expire<R: Wait, D: Desk>(rt: &R, desk: &mut D, listed: Expectations, moment: u64) -> Spoken
     requires room { (D.sight desk.old).sizes.expectations ≤ listed.room }

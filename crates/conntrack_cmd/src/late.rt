@@ -14,7 +14,7 @@ use history_book::report::Expectations;
 use history_book::sight_laws::desks_go_on;
 use std::sync::Wait;
 
-/// Ends an expectation that is due no longer at the moment, if it is still there; says whether it made an event.
+/// Ends an expectation that is awaited no longer at the moment, if it is still there; says whether it made an event.
 fn end_one<R: Wait, D: Desk>(rt: &R, desk: &mut D, e: &Expectation, moment: u64) -> bool
     requires expected { IsExpected (D.sight desk.old).front e.now }
     requires empty { HoldsNothing (D.sight desk.old) }
@@ -40,7 +40,7 @@ fn end_one<R: Wait, D: Desk>(rt: &R, desk: &mut D, e: &Expectation, moment: u64)
     }
 }
 
-/// Ends the listed expectations that are due no longer at the moment, and counts them.
+/// Ends the listed expectations that are awaited no longer at the moment, and counts them.
 pub fn end_late<R: Wait, D: Desk>(rt: &R, desk: &mut D, listed: &Expectations, moment: u64) -> u32
     requires expected { All (IsExpected (D.sight desk.old).front) listed.now.items }
     requires empty { HoldsNothing (D.sight desk.old) }

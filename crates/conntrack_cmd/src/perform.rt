@@ -75,7 +75,7 @@ fn speak<R: Wait, D: Desk>(
     }
 }
 
-/// Performs a command at a moment in microseconds, as `perform` does.
+/// Performs a command at a moment in microseconds, as `perform` does, which proves besides what it says of zones.
 fn perform_command<R: Wait, D: Desk>(
     rt: &R,
     alloc: Global,

@@ -5,7 +5,7 @@ ghost use Rattle.std.specs.List.Sorted.{IsNonDecreasingBy};
 
 use history_book::answer::Rows;
 
-/// Puts the rows in order of id.
+/// Puts the rows in order of id: by itself, so that its clauses are those of the sort.
 fn order_rows(rows: &mut Rows)
     ensures permutation { IsPermutation rows.old.items rows.new.items }
     ensures sorted { IsNonDecreasingBy (λ r. r.subject.id) rows.new.items }

@@ -19,7 +19,7 @@ mod tests;
 pub enum AddOutcome {
     /// It is in the table, in the place of the older one of its master with this id, where it had one.
     Added { replaced: Option<u64> },
-    /// Another master's expectation with this id has the same zone and want and is still due; it is the first such one.
+    /// Another master's expectation with this id has the same zone and want and is still awaited; it is the first such one.
     Clash { id: u64 },
     /// The table has no room.
     Full,

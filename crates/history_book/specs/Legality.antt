@@ -140,7 +140,7 @@ abbrev pub may_claim : Option Expectation → ℕ → ℕ → Bool
 may_claim None id master = false
 may_claim (Some e) id master = has_id id e && e.master == master
 
--- an expectation may end where there is one that is due no longer
+-- an expectation may end where there is one that is awaited no longer
 abbrev pub may_unexpect : Option Expectation → ℕ → Bool
 may_unexpect None moment = false
 may_unexpect (Some e) moment = not (is_awaited moment e)

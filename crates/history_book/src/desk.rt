@@ -146,7 +146,7 @@ pub trait Desk {
         ensures says { ClaimSays t.now moment (sight self.old) (sight self.new) result }
         ensures knows { IsKnown (sight self.new) };
 
-    /// Ends the expectation of this id, where it is due no longer at a moment in microseconds.
+    /// Ends the expectation of this id, where it is awaited no longer at a moment in microseconds.
     fn unexpect<R: Wait>(&mut self, rt: &R, id: u64, moment: u64) -> UnexpectOutcome
         requires { 1 ≤ (sight self.old).spare }
         ensures says { UnexpectSays id moment (sight self.old) (sight self.new) result }

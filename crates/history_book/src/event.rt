@@ -24,7 +24,7 @@ pub enum Why {
         segment: Segment,
         moment: u64,
     },
-    /// A command was to delete the entries that this filter selects, and it does so.
+    /// A command was to delete the entries that this filter selects, and it selects this one.
     Deleted {
         filter: Filter,
     },

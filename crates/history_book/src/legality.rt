@@ -262,7 +262,7 @@ fn is_claimable(expects: &[Expectation], t: &Tuple, moment: u64, id: u64, master
     }
 }
 
-/// Whether there is an expectation of this id that is due no longer.
+/// Whether there is an expectation of this id that is awaited no longer.
 fn is_overdue(expects: &[Expectation], id: u64, moment: u64) -> bool
     ensures { result ≡ may_unexpect (find (has_id id) expects.now) moment }
 {

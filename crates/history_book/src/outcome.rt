@@ -117,7 +117,7 @@ pub enum ExpectOutcome {
     Expected { id: u64, replaced: Option<u64> },
     /// The entry was no longer live.
     MasterGone { at: u64 },
-    /// Another entry expects the same connection, and that is still due: this is the first such
+    /// Another entry expects the same connection, and that is still awaited: this is the first such
     /// expectation.
     Clash { id: u64, at: u64 },
     /// The entry had none to replace, and there was no room for another.
@@ -146,6 +146,6 @@ pub enum UnexpectOutcome {
     Removed { number: u64 },
     /// There was none of that id.
     Gone { at: u64 },
-    /// It was still due at the moment.
+    /// It was still awaited at the moment.
     Not { deadline: u64, at: u64 },
 }

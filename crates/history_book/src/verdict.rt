@@ -24,7 +24,7 @@ pub enum Ftp {
     Expected { id: u64 },
     /// It names an end at a foreign address.
     Address,
-    /// At this point this expectation of another entry, the first such, was of the same connection and due.
+    /// At this point this expectation of another entry, the first such, was of the same connection and still awaited.
     Clash { id: u64, at: u64 },
     /// At this point the entry had none to replace, and there was no room.
     Full { at: u64 },

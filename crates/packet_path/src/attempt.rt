@@ -42,7 +42,7 @@ pub enum Attempt {
 }
 
 /// The entry that a packet found: its place, which is held for it, its id, the direction in which the
-/// tuple names it, and the point at which that was so.
+/// tuple names it, and the point at which that was so. The clauses alone name the point.
 #[derive(Clone, Copy)]
 pub struct Met {
     pub place: u32,

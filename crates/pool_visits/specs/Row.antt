@@ -14,7 +14,7 @@ use Rattle.history_book.specs.State.{record_of}
 abbrev pub has_row : ℕ → List Row → Bool
 has_row id rows = list_any (λ (r : Row). r.subject.id == id) rows
 
--- the row is an entry as it was live at the row's point, between the two, and it passes
+-- the row is an entry as it was live at the row's point, between the two, and the filter selects it
 pub record IsRow (log : List Event) (filter : Filter) (from to : ℕ) (row : Row) : Type 0 where
   pub low : from ≤ row.at
   pub high : row.at ≤ to

@@ -72,7 +72,7 @@ fn run_workers<R: Threads + Wait + Sync, G: Gate + Sync, D: Desk + Send>(
     performed
 }
 
-/// Does the same, and ends listening then.
+/// Runs the workers and the script as `run_workers` does, and ends listening then.
 fn run_and_hush<R: Threads + Wait + Sync, G: Gate + Sync, D: Desk + Send>(
     rt: &R,
     shared: &Shared<'_, '_, G>,
@@ -93,7 +93,7 @@ fn run_and_hush<R: Threads + Wait + Sync, G: Gate + Sync, D: Desk + Send>(
     performed
 }
 
-/// Does the same, and beside it lets a listener hear the threads until they have ended, if there is one. It has the next
+/// Runs them as `run_and_hush` does, and beside that lets a listener hear the threads until they have ended, if there is one. It has the next
 /// number behind theirs.
 pub fn run_threads<R: Threads + Wait + Sync, G: Gate + Sync, D: Desk + Send>(
     rt: &R,

@@ -98,7 +98,7 @@ fn run_to_wait<R: Threads + Wait + Sync, G: Gate + Sync, D: SharedDesk + Send>(
     Ok(joined)
 }
 
-/// Does the same, with a line where a listener is asked for, and gives what was heard of each thread.
+/// Replays as `run_to_wait` does, with a line where a listener is asked for, and gives what was heard of each thread.
 fn run_told<R: Threads + Wait + Sync, G: Gate + Sync, D: SharedDesk + Send>(
     rt: &R,
     shared: &Shared<'_, '_, G>,

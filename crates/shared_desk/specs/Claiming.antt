@@ -39,7 +39,7 @@ abbrev pub Claims : Tuple → ℕ → ClaimOutcome → PassSight → PassSight �
 Claims t moment (claim.Claimed number expectation master) v w = HasMade number (Claim expectation master t moment) v w
 Claims t moment (claim.Unclaimed at) v w = HasLooked at (λ s. matching t moment s.expects ≡ None) v w
 
--- the one of the id is ended, or there is none, or it is still due
+-- the one of the id is ended, or there is none, or it is still awaited
 abbrev pub Unexpects : ℕ → ℕ → UnexpectOutcome → PassSight → PassSight → Type 0
 Unexpects id moment (unexpect.Removed number) v w = HasMade number (Unexpect id moment) v w
 Unexpects id moment (unexpect.Gone at) v w = HasLooked at (λ s. find (has_id id) s.expects ≡ None) v w

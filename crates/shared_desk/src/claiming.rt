@@ -82,7 +82,7 @@ pub fn claim<R: Wait>(
     outcome
 }
 
-/// Ends the expectation of this id, where it is due no longer at a moment, under the turn of the expectations, which are this table's.
+/// Ends the expectation of this id, where it is awaited no longer at a moment, under the turn of the expectations, which are this table's.
 fn unexpect_one(
     pass: &mut Pass,
     table: &mut ExpectTable,
@@ -117,7 +117,7 @@ fn unexpect_one(
     )
 }
 
-/// Waits for the turn of the expectations, and ends the one of this id, where it is due no longer at a moment.
+/// Waits for the turn of the expectations, and ends the one of this id, where it is awaited no longer at a moment.
 pub fn unexpect<R: Wait>(
     rt: &R,
     pass: &mut Pass,

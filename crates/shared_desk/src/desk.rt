@@ -278,7 +278,7 @@ impl<'t, G: Gate> Desk for Clerk<'t, G> {
         outcome
     }
 
-    /// Ends the expectation of this id, where it is due no longer at a moment in microseconds. It may wait for the turn of the
+    /// Ends the expectation of this id, where it is awaited no longer at a moment in microseconds. It may wait for the turn of the
     /// expectations.
     fn unexpect<R: Wait>(&mut self, rt: &R, id: u64, moment: u64) -> UnexpectOutcome
         requires { 1 ≤ (sight_of self.old).spare }

@@ -24,8 +24,8 @@ use track_rule::history_word::events_in;
 use track_rule::pass::Pass;
 use track_rule::place_phase::LIVE;
 
-/// Adds what a live entry expects from a moment on to the table, whose turn the pass has, under the number of its event. Its id is the
-/// point at which it is not added otherwise.
+/// Adds what a live entry expects from a moment on to the table, whose turn the pass has. Its id is the number that its event would
+/// have: where a clash or a full table refuses it, that is the point of this answer.
 fn add_expectation(
     pass: &mut Pass,
     table: &mut ExpectTable,

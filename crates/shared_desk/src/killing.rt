@@ -81,7 +81,7 @@ fn end_entry<R: Wait>(rt: &R, pass: &mut Pass, place: u32, subject: &Record, why
     number
 }
 
-/// DestroysLocked the entry of a record. Where it has the helper, the turn of the expectations is waited for before that, and what it expected
+/// Destroys the entry of a record. Where it has the helper, the turn of the expectations is waited for before that, and what it expected
 /// is taken out of their table. Gives the number of the Destroy.
 fn end_with_expected<R: Wait>(
     rt: &R,
@@ -106,7 +106,7 @@ fn end_with_expected<R: Wait>(
     number
 }
 
-/// DestroysLocked the entry of a record, which was so at this point, where the reason holds of it.
+/// Destroys the entry of a record, which was so at this point, where the reason holds of it.
 pub fn judge<R: Wait>(
     rt: &R,
     pass: &mut Pass,

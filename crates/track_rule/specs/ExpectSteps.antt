@@ -169,7 +169,7 @@ unexpect_of u = Unexpect u.expectation u.moment
 abbrev pub with_unexpect : List Event → Unexpecting → List Event
 with_unexpect log u = log ++ unexpect_of u ∷ []
 
--- The pass has the turn of the expectations, and the one of the id is there and due no longer. The pass has room for an event.
+-- The pass has the turn of the expectations, and the one of the id is there and awaited no longer. The pass has room for an event.
 pub record MayUnexpect (u : Unexpecting) (v : View) : Type 0 where
   pub turn : is_some v.expected ≡ true
   pub may : may_unexpect (find (has_id u.expectation) (known_expected v)) u.moment ≡ true

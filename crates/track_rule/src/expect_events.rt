@@ -65,7 +65,7 @@ impl<'b> Pass<'b> {
         self.add_change::<Brand>(&event)
     }
 
-    /// Makes the Unexpect of an expectation that is due no longer, and answers its number. The expectations in the slot are the
+    /// Makes the Unexpect of an expectation that is awaited no longer, and answers its number. The expectations in the slot are the
     /// caller's to change.
     pub fn unexpect_add(&mut self, event: Event) -> u64
         requires can { CanUnexpect (unexpect_in event) self.old.view }

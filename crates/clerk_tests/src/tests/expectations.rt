@@ -139,7 +139,7 @@ fn claim_none<G: Gate, R: Wait + Abort>(
     assert_eq!(rt; at, point);
 }
 
-/// The expectation of this id is ended at a moment, if it is due no longer.
+/// The expectation of this id is ended at a moment, if it is awaited no longer.
 fn unexpect<G: Gate, R: Wait>(rt: &R, clerk: &mut Clerk<G>, id: u64, moment: u64) -> UnexpectOutcome
     requires { 1 ≤ (sight_of clerk.old).spare }
     ensures spare { (sight_of clerk.old).spare ≤ (sight_of clerk.new).spare + 1 }
@@ -251,7 +251,7 @@ fn a_second_master_is_refused(rt: HostRuntime) -> Result<(), Fail> {
     Ok(())
 }
 
-/// An expectation is ended when it is due no longer, and once.
+/// An expectation is ended when it is awaited no longer, and once.
 #[test]
 fn an_expectation_ends_when_it_is_due_no_longer(rt: HostRuntime) -> Result<(), Fail> {
     let (tracker, spot) = Tracker::new(rt.alloc(), sizes_for(1))?;

@@ -20,7 +20,7 @@ pub record IsOver (log : List Event) (from to id : ℕ) : Type 0 where
   pub high : at ≤ to
   pub none : find (has_id id) (after log at).expects ≡ None
 
--- where the expectation is due no longer at the moment, it is over at such a point
+-- where the expectation is awaited no longer at the moment, it is over at such a point
 abbrev pub IsOverWhereLate : List Event → ℕ → ℕ → ℕ → Expectation → Type 0
 IsOverWhereLate log moment from to e = is_awaited moment e ≡ false → IsOver log from to e.id
 

@@ -32,7 +32,7 @@ pub record AreOfPlaces (log : List Event) (count : ℕ) (rows : List Row) : Type
   pub below : AllByRecursion (λ r. r.subject.place < count) rows
   pub once : (id : ℕ) → times id rows ≤ 1
 
--- so many places were looked at, and the rows list what passes
+-- so many places were looked at, and the rows list what the filter selects
 pub record IsListing (filter : Filter) (old now : Sight) (count : ℕ) (rows : List Row) : Type 0 where
   pub saw : Saw old now
   pub few : length rows ≤ count
