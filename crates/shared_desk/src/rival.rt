@@ -17,6 +17,7 @@ use history_book::record::Flow;
 use history_book::sizes::Sizes;
 use track_rule::history_word::events_in;
 use track_rule::pass::Pass;
+use track_rule::place_phase::LIVE;
 use tuple_core::Direction;
 
 /// The place of the entry, the direction in which it has the flow's original tuple, or its reply tuple where no entry has that,
@@ -81,6 +82,7 @@ pub fn clash(pass: &mut Pass, place: u32, flow: &Flow, rival: &Rival) -> Confirm
     ensures clashes { Clashes place flow.now result pass.old pass.new }
     ensures words { ChangesWords no_word pass.old.view pass.new.view }
 {
+    // Clauses alone speak of the place and of the flow, and the sizes of the table bound the id.
     let _ = place;
     let _ = flow;
     tuples_tell_entries();
@@ -88,7 +90,7 @@ pub fn clash(pass: &mut Pass, place: u32, flow: &Flow, rival: &Rival) -> Confirm
     let at = events_in(pass.history_load());
     let phase = pass.phase_load(rival.place);
     ConfirmOutcome::Clash {
-        id: phase - 3,
+        id: phase - LIVE,
         direction: rival.direction,
         both: rival.both,
         at,
