@@ -5,9 +5,10 @@ usage: figures.py [--runs N] [--peer FILE] [--to FILE] [--only WORD]
 
 Times are processor seconds, user and system, of the whole program: medians of N runs (7), in which the commands take turns, so
 that a busy machine is busy for all. Memory is the most that was resident. Instructions are callgrind's, of the difference of two
-runs, where there is valgrind. With --peer a C program of the same design is compiled from that file and runs in turn with them:
-its words are `design 0 PACKETS THREADS 1 notes merge text=FILE`. So does softflowd, where it is there. The captures are written by udp_capture.py to a folder that is
-removed again. Nothing is compared with a bar: the reader does that.
+runs, where there is valgrind. With --peer a C program of the same design, which is not part of the repository, is compiled from that
+file and runs in turn with them: its words are `design 0 PACKETS THREADS 1 notes merge text=FILE`. So does softflowd, where it is
+there. All write to /dev/null. The captures are written by udp_capture.py to a folder that is removed again. A tree with changes is
+refused, since nobody else has it. Nothing is compared with a bar: the reader does that.
 """
 import argparse
 import datetime
@@ -92,7 +93,7 @@ def measure_times(rows, room, runs, peer):
     capture(room, "long.pcap", 262_144, 65_536)
     commands = [(name, PROGRAM, words_of(text, room), text) for name, text in TIMES]
     for name, packets, threads in PEERS if peer else ():
-        text = f"design 0 {packets} {threads} 1 notes merge text=ROOM/text"
+        text = f"design 0 {packets} {threads} 1 notes merge text=/dev/null"
         commands.append((name, peer, words_of(text, room), text))
     if shutil.which("softflowd"):
         commands.append(("softflowd: 262,144 packets in 65,536 flows", "softflowd", ["-r", f"{room}/long.pcap"], "softflowd -r long.pcap"))
@@ -116,7 +117,10 @@ def measure_memory(rows, room):
 
 
 def said(*words):
-    return subprocess.run(words, cwd=TOP, capture_output=True, text=True, check=False).stdout.strip()
+    ran = subprocess.run(words, cwd=TOP, capture_output=True, text=True, check=False)
+    if ran.returncode:
+        sys.exit(f"figures.py: {' '.join(words)}: {ran.stderr.strip()}")
+    return ran.stdout.strip()
 
 
 def machine():
@@ -129,11 +133,10 @@ def machine():
 
 
 def page(rows, runs):
-    changed = " and changes" if said("git", "status", "--porcelain", "--untracked-files=no") else ""
     lines = [
         "# Figures", "",
         "Written by `figures.py`, which says how each is measured; no one edits it. On another machine others will be found: compare within one table.", "",
-        f"Commit {said('git', 'rev-parse', '--short', 'HEAD')}{changed}, {datetime.date.today()}, {machine()}. Seconds are medians of {runs} runs. The program's words stand in the last column;",
+        f"Commit {said('git', 'rev-parse', '--short', 'HEAD')}, {datetime.date.today()}, {machine()}. Seconds are medians of {runs} runs. The program's words stand in the last column;",
         "`short.pcap`, `long.pcap`, `million.pcap` and `millions.pcap` are written by `udp_capture.py` with the numbers of the first.", "",
         "| Figure | Value | Words |", "|---|---|---|",
     ]
@@ -149,6 +152,10 @@ def main():
     asked = parser.parse_args()
     if not os.access(PROGRAM, os.X_OK):
         sys.exit(f"figures.py: {PROGRAM} is not built: ./ctreplay builds it")
+    if said("git", "status", "--porcelain", "--", ".", ":!measure/FIGURES.md", ":!unlanded"):
+        sys.exit("figures.py: the tree has changes: commit them first")
+    if os.path.getmtime(PROGRAM) < float(said("git", "log", "-1", "--format=%ct", "--", "crates", "crates.txt")):
+        sys.exit(f"figures.py: {PROGRAM} is older than its sources: ./ctreplay builds it")
     rows = []
     with tempfile.TemporaryDirectory() as room:
         peer = os.path.join(room, "peer") if asked.peer else None
