@@ -7,7 +7,7 @@ import json
 import re
 import shlex
 
-from replay_files import Trouble
+from tool_run import Trouble
 
 LONG = {
     "--source": "-s", "--destination": "-d", "--protocol": "-p", "--proto": "-p", "--jump": "-j", "--match": "-m",

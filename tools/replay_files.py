@@ -4,10 +4,8 @@
 """
 import datetime
 import functools
-import gc
 import os
 import re
-import signal
 import struct
 import subprocess
 import sys
@@ -16,6 +14,7 @@ from collections import namedtuple
 import fragments
 import refusal_hints as hints
 import replay_rewrites
+from tool_run import Trouble
 
 Frame = namedtuple("Frame", "moment link data length")
 Report = namedtuple("Report", "events threads script heard rewrites")
@@ -44,25 +43,6 @@ MOST_ZONE = 65_535
 QUEUE = 1_024
 HEARD = re.compile(r"heard (s|0|[1-9]\d*) (0|[1-9]\d*) of (0|[1-9]\d*)")
 DAMAGED = "the report is cut or changed"
-
-
-class Trouble(Exception):
-    """What a tool tells its user in one line."""
-
-
-def run_tool(name, main):
-    """Runs a tool: a trouble is one line and status 2, and a reader that has gone away ends it quietly."""
-    signal.signal(signal.SIGPIPE, signal.SIG_DFL)
-    # Some hundred thousand records are made and kept to the end: to look for those that are not needed any more is in vain.
-    gc.disable()
-    try:
-        status = main(sys.argv[1:])
-    except Trouble as trouble:
-        print(f"{name}: {trouble}", file=sys.stderr)
-        status = 2
-    except KeyboardInterrupt:
-        status = 130
-    sys.exit(status)
 
 
 def read_bytes(name):
