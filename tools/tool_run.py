@@ -1,5 +1,6 @@
 """How a tool is run, and what it says where it can't do what it is asked. Used by each tool; nothing here is proved."""
 import gc
+import os
 import signal
 import sys
 
@@ -14,10 +15,25 @@ def run_tool(name, main):
     # Some hundred thousand records are made and kept to the end: to look for those that are not needed any more is in vain.
     gc.disable()
     try:
-        status = main(sys.argv[1:])
+        status = printed(main, sys.argv[1:])
     except Trouble as trouble:
         print(f"{name}: {trouble}", file=sys.stderr)
         status = 2
     except KeyboardInterrupt:
         status = 130
     sys.exit(status)
+
+
+def printed(main, words):
+    """Runs a tool up to where all that it printed is written: status 1 of a tool is an answer, and no sign that the disk is full."""
+    if sys.stdout is None:
+        raise Trouble("cannot write: standard output is closed")
+    try:
+        try:
+            return main(words)
+        finally:
+            sys.stdout.flush()
+    except OSError as error:
+        # What is left in the buffer would be tried once more at the end, with a complaint of its own.
+        os.dup2(os.open(os.devnull, os.O_WRONLY), sys.stdout.fileno())
+        raise Trouble(f"{error.filename or 'cannot write'}: {error.strerror}") from error
