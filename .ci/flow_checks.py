@@ -387,8 +387,8 @@ def check_closed(room):
     capture, rules = closed_capture(room), write(room, "closed.rules", "snat -s 10.0.0.0/8 -p tcp to 192.0.2.1:2001-2003\n")
     report = report_of(room, "--rules", rules, capture, name="closed.report")
     at = len(files.read_capture(capture)) - 3
-    text = "3 packets of 2 flows are NOPORT, 1 of these packets while entries past their deadline held numbers (up to 3);"
-    last = " of the flows while closed connections (TIME_WAIT or CLOSE) {} (up to 2), which a kernel may end for a new flow; tools/refused"
+    text = "3 packets of 2 flows are NOPORT, 1 of these packets while entries past their deadline held numbers (up to 3), which a kernel would have cleared, 2 of"
+    last = " of the flows while closed connections (TIME_WAIT or CLOSE) {} (up to 2), which a kernel may end for a new flow; replay the part behind"
     wants("tools/check: numbers of closed connections", tool("check", "--rules", rules, report, capture), 1, text, ", 2" + last.format("held numbers"))
     wants("tools/check: the same without rules", tool("check", report, capture), 1, ", 2" + last.format("were in the table"))
     wants("tools/why: numbers of closed connections", tool("why", "--rules", rules, "--report", report, capture, "--", str(at)), 0, "of which 3 were held, and 0 of these by", " Closed connections (TIME_WAIT or CLOSE) held 2 of them, which a kernel may end for a new flow.\n")
