@@ -325,6 +325,11 @@ def check_one_zone(room):
     wants("tools/check: the same addresses in one zone", ran, 1, "1 entry has packets of more than one of them in the original direction", "--zones with a number for each capture")
     report = report_of(room, "--zones", "1,65535", *names, name="two")
     count("tools/check: and in two", "in the original direction" not in tool("check", report, *names).stdout and read(report).count(" NEW id=") == 2, read(report))
+    later = made.write(f"{room}/later-zone.pcap", [(START + 900 * SECOND, made.udp("10.0.0.2", 5000, "198.51.100.1", 53))])
+    for zones, is_told in (("3,3,4", True), ("3,4,4", False)):
+        report = report_of(room, "--zones", zones, later, *names, name="times")
+        said = tool("check", "--zones", zones, report, later, *names).stdout
+        count(f"tools/check: an earlier capture behind a later one, in zones {zones}", ("is all earlier than" in said) == is_told, said)
     why = ["why", "--zones", "1,2", "--thread", "1", *names, "--"]
     wants("tools/why: replays in zones", tool(*why, "0"), 0, "NEW id=", "in zone 2, so it began entry")
     refuses("tools/why: a wrong list", tool("why", "--zones", "1", *names, "--", "0"), "--zones has one number")
