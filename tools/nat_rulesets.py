@@ -7,6 +7,7 @@ import json
 import re
 import shlex
 
+import refusal_hints as hints
 from tool_run import Trouble
 
 LONG = {
@@ -49,7 +50,7 @@ class Rule:
 def read_ruleset(name, data):
     """The chains of a ruleset, those of a hook first in the order in which packets meet them; the others by their names."""
     text = data.decode("utf-8", "replace")
-    if data[:4] in (b"\xd4\xc3\xb2\xa1", b"\xa1\xb2\xc3\xd4", b"\x4d\x3c\xb2\xa1", b"\xa1\xb2\x3c\x4d", b"\x0a\x0d\x0d\x0a"):
+    if hints.is_capture(data):
         raise Trouble(f"{name}: it is a capture, and no ruleset")
     if not text.strip():
         raise Trouble(f"{name}: it is empty; iptables-save and nft list ruleset print rules to root alone")

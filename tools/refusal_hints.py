@@ -7,6 +7,12 @@ import shlex
 
 COOKED = {113: 16, 276: 20}
 PACKED = {b"\x1f\x8b": "gzip -dc", b"\x28\xb5": "zstd -dc", b"\xfd7": "xz -dc", b"BZ": "bzip2 -dc"}
+CAPTURES = (b"\xd4\xc3\xb2\xa1", b"\xa1\xb2\xc3\xd4", b"\x4d\x3c\xb2\xa1", b"\xa1\xb2\x3c\x4d", b"\x0a\x0d\x0d\x0a")
+
+
+def is_capture(data):
+    """Whether a file with these first bytes is pcap or pcapng."""
+    return data[:4] in CAPTURES
 
 
 def stem(name):
