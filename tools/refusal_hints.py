@@ -38,15 +38,17 @@ def unpacked_hint(name, data):
     return magic_hint(name, data)
 
 
+def raw_hint(name, front):
+    """Makes raw IP of a capture whose frames have so many bytes in front. Frames of ARP would be read as IP, and so go first."""
+    word, only, made = (shlex.quote(text) for text in (name, f"{stem(name)}-ip.pcap", f"{stem(name)}-raw.pcap"))
+    return f"tcpdump -r {word} -w {only} ip && editcap -L -C {front} -F pcap -T rawip {only} {made}"
+
+
 def link_hint(name, number):
-    word, made = shlex.quote(name), shlex.quote(stem(name)) + "-raw.pcap"
     if number in COOKED:
-        return (
-            f"it was taken with -i any: editcap -L -C {COOKED[number]} -F pcap -T rawip {word} {made};"
-            " on a router each packet is then there twice"
-        )
+        return f"it was taken with -i any: {raw_hint(name, COOKED[number])}; on a router each packet is then there twice"
     if number == 0:
-        return f"it was taken at the loopback interface of macOS or a BSD: editcap -L -C 4 -F pcap -T rawip {word} {made}"
+        return f"it was taken at the loopback interface of macOS or a BSD: {raw_hint(name, 4)}"
     if number in (105, 119, 127):
         return "it is of a wireless interface in monitor mode: take it again from one interface that is not"
     return "link types 1 (Ethernet) and 101 (raw IP) are read: take it again from one interface; see docs/RECIPES.md"
