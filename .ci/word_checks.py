@@ -1,7 +1,7 @@
-"""Checks of what the tools share: an output that can't be written. Used by .ci/tools."""
+"""Checks of what the tools share: their words, and an output that can't be written. Used by .ci/tools."""
 import os
 
-from checking import TOOLS, count, refuses, run
+from checking import TOOLS, count, refuses, run, tool
 
 LATE = ("late.report", "late.pcap")
 
@@ -41,6 +41,32 @@ def check_outputs(room, env):
         count(f"tools/{name}: a reader that goes away", not ran.stderr, ran.stderr)
 
 
+def check_words(room, env):
+    """Options stand before the files or behind them, with a blank or =, and one without its value is named."""
+    ruled = (("--rules", "late.rules"), LATE)
+    cases = {
+        "check": ruled,
+        "refused": ruled,
+        "table": (("--at", "1795909702000000"), LATE),
+        "compare": (("--zones", "0"), ("late.report", *LATE)),
+        "rules-from-iptables": (("--masquerade", "192.0.2.1"), ("late.iptables",)),
+        "from-inside": (("--to", f"{room}/made.pcap"), ("--rules", "late.rules", "late.in.pcap")),
+        "draw": (("--to", f"{room}/made"), LATE),
+        "page": (("--to", f"{room}/made.html"), LATE),
+    }
+    for name, (option, words) in cases.items():
+        ran = tool(name, *option, *words, env=env)
+        said = [tool(name, *words, *more, env=env) for more in (option, ["=".join(option)])]
+        good = ran.returncode in (0, 1) and ran.stdout and all((it.returncode, it.stdout) == (ran.returncode, ran.stdout) for it in said)
+        count(f"tools/{name}: words in any order", good, [ran.stderr, *(it.stderr for it in said)])
+        refuses(f"tools/{name}: no value", tool(name, *words, option[0]), f"{name}: {option[0]} has no value; usage: {name} ")
+        refuses(f"tools/{name}: no such word", tool(name, *words, "--none"), f"{name}: unknown word --none; usage: {name} ")
+    ran = [tool("why", *words, "--", "6") for words in (("--report", *LATE), (LATE[1], f"--report={LATE[0]}"))]
+    count("tools/why: words in any order", ran[0].stdout and ran[0].stdout == ran[1].stdout, ran[1].stderr)
+    refuses("tools/refused: a value that is none", tool("refused", "--all=1", *LATE), "--all takes no value")
+
+
 def check_all(room):
     env = make_gnuplot(room)
+    check_words(room, env)
     check_outputs(room, env)

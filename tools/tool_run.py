@@ -37,3 +37,25 @@ def printed(main, words):
         # What is left in the buffer would be tried once more at the end, with a complaint of its own.
         os.dup2(os.open(os.devnull, os.O_WRONLY), sys.stdout.fileno())
         raise Trouble(f"{error.filename or 'cannot write'}: {error.strerror}") from error
+
+
+def split_words(words, usage, valued=(), plain=()):
+    """The options of a command line, by their names, and its other words. As those of the program they stand anywhere, a value
+    behind its option or behind =, and what stands behind -- is no option."""
+    options, names, left = {}, [], list(words)
+    while left:
+        word = left.pop(0)
+        name, equals, value = word.partition("=")
+        if word == "--":
+            return options, names + left
+        if not word.startswith("-") or word == "-":
+            names.append(word)
+        elif name in valued:
+            if not equals and (not left or left[0].startswith("--")):
+                raise Trouble(f"{name} has no value; {usage}")
+            options[name] = value if equals else left.pop(0)
+        elif word in plain:
+            options[name] = True
+        else:
+            raise Trouble(f"{name} takes no value; {usage}" if name in plain else f"unknown word {word}; {usage}")
+    return options, names
