@@ -53,6 +53,15 @@ def read_bytes(name):
         raise Trouble(f"{name}: {error.strerror}") from error
 
 
+def is_plain(name):
+    """Whether a file, which has to be there, is one beside which others can be written."""
+    try:
+        os.stat(name)
+    except OSError as error:
+        raise Trouble(f"{name}: {error.strerror}") from error
+    return os.path.isfile(name) and not os.path.abspath(name).startswith(("/dev/", "/proc/"))
+
+
 BUILDING = ("ctreplay: building", "ctreplay: linking", "ctreplay: built")
 
 
