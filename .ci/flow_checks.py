@@ -406,7 +406,7 @@ def check_other_rules(room):
     capture, rules = refused_capture(room), write(room, "two.rules", "snat -p udp to 192.0.2.1:1024-1025\n")
     report = report_of(room, "--rules", rules, capture, name="two.report")
     more, none = write(room, "more.rules", "snat -p udp to 192.0.2.1:1024-1026\n"), write(room, "none.rules", "snat -p tcp to 192.0.2.1\n")
-    for name, words in (("check", [report, capture]), ("refused", [report, capture]), ("page", ["--to", f"{room}/other.html", report, capture]), ("why", ["-1", "--report", report, capture, "--", "3"])):
+    for name, words in (("check", [report, capture]), ("refused", [report, capture]), ("draw", ["--to", f"{room}/other", report, capture]), ("page", ["--to", f"{room}/other.html", report, capture]), ("why", ["-1", "--report", report, capture, "--", "3"])):
         said = f"the rules are not those of the report: packet {3 if name == 'why' else 2} is NOPORT, and "
         refuses(f"tools/{name}: other rules, of more numbers", tool(name, "--rules", more, *words), said, "of the 3 numbers of the rule in line 1 (snat -p udp to 192.0.2.1:1024-1026) 2 were held")
         refuses(f"tools/{name}: other rules, none of them for it", tool(name, "--rules", none, *words), said, "none of them is for it")

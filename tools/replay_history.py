@@ -198,6 +198,16 @@ def check_rule(work, thread, index, rule, held, first=0):
         raise files.Trouble(f"the rules are not those of the report: {name} is NOPORT, and {what}")
 
 
+def check_rules(work, rules):
+    """The rules are those of the report, as far as its NOPORT tell."""
+    asked = sorted((verdict.point, thread, index, packet.flow) for thread, index, _, packet, verdict in work.judged() if verdict.word == "NOPORT")
+    rule_of = {flow: files.rule_for(rules, flow) for *_, flow in asked}
+    table = Table(work.report.events, [(rule, flow) for flow, rule in rule_of.items() if rule], False)
+    for point, thread, index, flow in asked:
+        table.move_to(point)
+        check_rule(work, thread, index, rule_of[flow], table.held(rule_of[flow], flow).count if rule_of[flow] else 0)
+
+
 def live_at(events, point):
     """The confirm and the deadline of each entry that is live after so many events, and whether its connection is closed."""
     live = {}
