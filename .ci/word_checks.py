@@ -1,8 +1,10 @@
 """Checks of what the tools share: their words, and an output that can't be written. Used by .ci/tools."""
 import os
+import shutil
 
-from checking import TOOLS, count, refuses, run, tool
+from checking import EXAMPLES, TOOLS, count, refuses, run, tool
 
+ASCII = {"LC_ALL": "POSIX", "PYTHONUTF8": "0", "PYTHONCOERCECLOCALE": "0"}
 LATE = ("late.report", "late.pcap")
 
 
@@ -66,7 +68,21 @@ def check_words(room, env):
     refuses("tools/refused: a value that is none", tool("refused", "--all=1", *LATE), "--all takes no value")
 
 
+def check_names(room, env):
+    """Files whose names are no UTF-8, or not of the locale's letters."""
+    for place, made in enumerate((b"sp\xe4t", "sp\u00e4t".encode())):
+        name = os.path.join(os.fsencode(room), made)
+        for end, kept in zip((b".report", b".pcap"), LATE):
+            shutil.copy(os.path.join(EXAMPLES, kept), name + end)
+        for word, locale in (("draw", {}), ("draw", ASCII), ("page", {}), ("page", ASCII), ("check", {}), ("check", ASCII)):
+            ran = tool(word, name + b".report", name + b".pcap", env={**env, **locale}, errors="replace")
+            count(f"tools/{word}: name {place}{', ASCII' if locale else ''}", ran.returncode == (word == "check") and not ran.stderr, ran.stderr)
+        files = os.listdir(os.fsencode(room))
+        count(f"tools/page: name {place}: what it writes", made + b".report.html" in files, files)
+
+
 def check_all(room):
     env = make_gnuplot(room)
+    check_names(room, env)
     check_words(room, env)
     check_outputs(room, env)

@@ -1,4 +1,5 @@
 """How a tool is run, and what it says where it can't do what it is asked. Used by each tool; nothing here is proved."""
+import codecs
 import gc
 import os
 import signal
@@ -24,10 +25,20 @@ def run_tool(name, main):
     sys.exit(status)
 
 
+def kept(error):
+    """For letters that can't be written: the bytes of a file's name as they are, and of others their numbers."""
+    try:
+        return codecs.lookup_error("surrogateescape")(error)
+    except UnicodeError:
+        return codecs.lookup_error("backslashreplace")(error)
+
+
 def printed(main, words):
     """Runs a tool up to where all that it printed is written: status 1 of a tool is an answer, and no sign that the disk is full."""
     if sys.stdout is None:
         raise Trouble("cannot write: standard output is closed")
+    codecs.register_error("kept", kept)
+    sys.stdout.reconfigure(errors="kept")
     try:
         try:
             return main(words)
