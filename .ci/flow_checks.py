@@ -609,8 +609,11 @@ def check_table(room):
     kept = tool("table", "--at", "2026-11-28T23:48:53Z", "late.report", "late.pcap").stdout
     wanted = "udp      17 2 src=192.168.1.10 dst=198.51.100.54 sport=40003 dport=53 [UNREPLIED] src=198.51.100.54 dst=203.0.113.5 sport=53 dport=40003\n"
     count("tools/table: seconds left from its own time, and none past its deadline", kept.endswith(wanted) and kept.count("\n") == 2, kept)
-    same = [tool("table", "--at", time, "late.report", "late.pcap").stdout for time in ("2026-11-28 23:48:53", "1795909733000000")]
-    count("tools/table: the forms of a time", same == [kept, kept], same)
+    same = [tool("table", "--at", time, "late.report", "late.pcap").stdout for time in ("2026-11-28 23:48:53", "1795909733000000", "1795909733.0")]
+    count("tools/table: the forms of a time", same == [kept] * 3, same)
+    span = "is not within the captures, which go from 2026-11-28 23:48:20.356094 UTC to 2026-11-28 23:49:08.447594 UTC"
+    for time, text in (("1795909733", "(a whole number is microseconds) "), ("99999999999999999999", ""), ("2026-11-28 23:48:20", ""), ("2027-01-01", "")):
+        refuses(f"tools/table: {time}", tool("table", "--at", time, "late.report", "late.pcap"), f"{time} ", text + span)
 
 
 def check_other_ports(room):

@@ -93,14 +93,17 @@ def time_text(moment):
 
 
 def moment_of_text(text):
-    """A moment in microseconds from a number of them, or from a date and a time of UTC with a fraction or without."""
-    if text.isdigit():
+    """A moment in microseconds from a number of them, from seconds with a fraction as tcpdump -tt prints them, or from a date and a time
+    of UTC with a fraction or without."""
+    if re.fullmatch(r"[0-9]+", text):
         return int(text)
+    if found := re.fullmatch(r"([0-9]+)\.([0-9]{1,9})", text):
+        return int(found[1]) * 1_000_000 + int(found[2].ljust(6, "0")[:6])
     plain = text.removesuffix("Z").removesuffix(" UTC").replace(" ", "T")
     try:
         when = datetime.datetime.fromisoformat(plain)
     except ValueError:
-        raise Trouble(f"{text} is no time: microseconds, or 2026-11-28T23:48:53Z with a fraction or without") from None
+        raise Trouble(f"{text} is no time: microseconds, seconds as 1795909733.0, or 2026-11-28T23:48:53Z with a fraction or without") from None
     if when.tzinfo is None:
         when = when.replace(tzinfo=datetime.timezone.utc)
     return (when - datetime.datetime(1970, 1, 1, tzinfo=datetime.timezone.utc)) // datetime.timedelta(microseconds=1)
