@@ -43,6 +43,13 @@ def check_outputs(room, env):
         count(f"tools/{name}: a reader that goes away", not ran.stderr, ran.stderr)
 
 
+def check_help(room):
+    """JOBS says that --help tells a tool's words."""
+    for name in calls_of(room):
+        ran = tool(name, "--help")
+        count(f"tools/{name} --help", ran.returncode == 0 and f"\nusage: {name} " in ran.stdout and not ran.stderr, ran.stderr)
+
+
 def check_words(room, env):
     """Options stand before the files or behind them, with a blank or =, and one without its value is named."""
     ruled = (("--rules", "late.rules"), LATE)
@@ -84,5 +91,6 @@ def check_names(room, env):
 def check_all(room):
     env = make_gnuplot(room)
     check_names(room, env)
+    check_help(room)
     check_words(room, env)
     check_outputs(room, env)
