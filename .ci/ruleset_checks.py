@@ -59,6 +59,52 @@ snat -s 10.2.0.0/16 -p udp to 203.0.113.9:1024-2000
 # The first rule for a flow decides here: where a line above is not said, a later rule may take its flows.
 """
 
+# A file as nft -f takes it: several statements in a line, one over several lines, values, and rules that are added.
+FILE = """#!/usr/sbin/nft -f
+flush ruleset
+define wan = "eth0"
+define nets = { 10.0.0.0/8,
+	172.16.0.0/12 }
+include "/etc/nftables.d/*.nft"
+table ip filter { chain forward { type filter hook forward priority 0; policy drop; ct state { established, related } accept } }
+table nat { chain post { type nat hook postrouting priority 100; policy accept; ip saddr 192.168.1.0/24 snat to 203.0.113.9; log snat to 203.0.113.9; ip saddr 10.0.0.0/8 # xt_MASQUERADE
+	}
+	chain pre { type nat hook prerouting priority dstnat
+		ip daddr 203.0.113.9 tcp dport {80,443} \\
+			dnat to 192.168.1.10:8000;
+	}
+	chain lone { log prefix "x; {" dnat to 10.0.0.1; dnat to 10.0.0.2; } }
+add rule ip nat post ip saddr $nets oifname $wan snat to 203.0.113.10
+insert rule nat pre ip daddr 203.0.113.8 udp dport 53 dnat to 192.168.1.53
+add rule ip nat post position 4 ip saddr 10.9.0.0/16 snat to 203.0.113.10
+add chain ip nat out { type nat hook output priority dstnat-10; }
+add rule ip nat out tcp dport 8081 dnat to 10.0.0.3
+delete rule ip nat post handle 5
+"""
+FROM_FILE = """# line 6: include "/etc/nftables.d/*.nft"
+#   not said: it is not read here what this changes
+# line 20: delete rule ip nat post handle 5
+#   not said: it is not read here what this changes
+dnat -d 203.0.113.8 -p udp --dport 53 to 192.168.1.53
+dnat -d 203.0.113.9 -p tcp --dport 80 to 192.168.1.10:8000
+dnat -d 203.0.113.9 -p tcp --dport 443 to 192.168.1.10:8000
+dnat -p tcp --dport 8081 to 10.0.0.3
+snat -s 192.168.1.0/24 to 203.0.113.9
+# line 8: log snat to 203.0.113.9
+#   not said: log cannot be said
+# line 8: ip saddr 10.0.0.0/8 # xt_MASQUERADE
+#   not said: # cannot be said
+snat -s 10.0.0.0/8 to 203.0.113.10
+snat -s 172.16.0.0/12 to 203.0.113.10
+# line 17: add rule ip nat post position 4 ip saddr 10.9.0.0/16 snat to 203.0.113.10
+#   not said: its place among the rules is not read here
+# line 14: log prefix "x; {" dnat to 10.0.0.1
+#   not said: no chain that packets come to leads to it
+# line 14: dnat to 10.0.0.2
+#   not said: no chain that packets come to leads to it
+# The first rule for a flow decides here: where a line above is not said, a later rule may take its flows.
+"""
+
 
 def payload(protocol, field, right, op="=="):
     return {"match": {"op": op, "left": {"payload": {"protocol": protocol, "field": field}}, "right": right}}
@@ -261,7 +307,7 @@ LIVE_REASONS = ("198.18.0.4/30: one address can be said, and not a network", "ct
 
 
 def check_nft():
-    for name, text, wanted in (("nft -a list ruleset", NFT, FROM_NFT), ("nft -j list ruleset", json_ruleset(), FROM_JSON)):
+    for name, text, wanted in (("nft -a list ruleset", NFT, FROM_NFT), ("nft -j list ruleset", json_ruleset(), FROM_JSON), ("nft -f", FILE, FROM_FILE)):
         ran = tool("rules-from-iptables", *WORDS, stdin=None, input=text)
         count(f"tools/rules-from-iptables: {name}", ran.stdout == wanted and ran.returncode == 1, ran.stdout + ran.stderr)
     for name in ("range", "again"):
@@ -379,6 +425,8 @@ def check_none():
         ("iptables -L", [], "Chain PREROUTING (policy ACCEPT)\ntarget prot opt source destination\n", "iptables -L"),
         ("another table", [], "*filter\n-A INPUT -j DROP\nCOMMIT\n", "no table nat"),
         ("other JSON", [], '{"rules": []}', "not what nft -j"),
+        ("a priority", [], "table ip nat {\n\tchain post { type nat hook postrouting priority $mine; }\n}\n", "standard input: line 2 is not read here: type nat"),
+        ("a rule that is cut", [], "add rule ip\n", "standard input: line 1 is not read here: add rule ip"),
         ("no file", ["none.save"], None, "none.save: No such file"),
     ]
     for name, names, text, said in cases:

@@ -1,4 +1,4 @@
-"""Reads the rules of NAT as iptables-save, nft list ruleset and nft -j list ruleset print them. Nothing here is proved.
+"""Reads the rules of NAT as iptables-save, nft list ruleset and nft -j list ruleset print them, and as a file of nft -f has them. Nothing here is proved.
 
 Each becomes chains of rules with one form: what a rule wants of a flow, and what it does. The words of nft's JSON are put
 together to the text that nft prints, which one reader reads.
@@ -20,6 +20,15 @@ HOOKS = ("PREROUTING", "INPUT", "OUTPUT", "POSTROUTING")
 TARGETS = {"SNAT": "--to-source", "MASQUERADE": "--to-ports", "DNAT": "--to-destination"}
 PRIORITIES = {"raw": -300, "mangle": -150, "dstnat": -100, "filter": 0, "security": 50, "srcnat": 100}
 WORDS = re.compile(r'"[^"]*"|\{[^}]*\}|[^\s;]+')
+# An older nft prints what it has of iptables as '# xt_NAME': that is no comment.
+TOKENS = re.compile(r'"[^"\n]*"|#(?! xt_)[^\n]*|\\\n|[{};\n]|[^"#\\{};\n]+|.')
+FAMILIES = ("ip", "ip6", "inet", "arp", "bridge", "netdev")
+NFT = re.compile(r"(?:^|;)[ \t]*(?:(?:add|create)\s+)?table\s+(?:\w+\s+)?[^\s{]+\s*\{|(?:^|;)[ \t]*(?:add|create|insert)\s+(?:table|chain|rule)\s", re.MULTILINE)
+# Commands that change no rule, and those that take rules away, which may stand before there are any.
+QUIET_COMMAND = re.compile(r"(?:(?:add|create) )?(?:table|chain|set|map|element|flowtable|counter|quota|limit|synproxy|secmark|ct) |list ")
+GOING = re.compile(r"(?:flush|delete|destroy|reset) ")
+# A priority ahead of all others.
+FIRST = -1 << 32
 QUIET = ("persistent",)
 KEYED = ("ip", "th", "tcp", "udp", "icmp", "ct", "ether", "vlan", "sctp", "dccp", "udplite", "esp", "ah", "comp", "igmp", "rt", "socket", "osf", "fib")
 LOCAL = "an address of this machine"
@@ -56,8 +65,8 @@ def read_ruleset(name, data):
         raise Trouble(f"{name}: it is empty; iptables-save and nft list ruleset print rules to root alone")
     if text.lstrip().startswith("{"):
         return read_json(name, text)
-    if re.search(r"^\s*table\s+\w+\s+\S+\s*\{", text, re.MULTILINE):
-        return read_nft(text)
+    if NFT.search(text):
+        return read_nft(name, text)
     if re.search(r"^(\*\w+|(\[\d+:\d+\] )?-[ANP] )", text, re.MULTILINE):
         return read_iptables(name, text)
     if "use 'nft' tool" in text or "use `nft' tool" in text:
@@ -81,7 +90,8 @@ class ZoneRule:
 def read_zone_rules(data):
     """The rules of a ruleset that choose zones, in order of their lines."""
     text = data.decode("utf-8", "replace")
-    lines = json_lines(text) if text.lstrip().startswith("{") else ((f"line {number}", line) for number, line in enumerate(text.splitlines(), 1))
+    numbered = ((number, said) for number, said, _ in statements_of(text)) if NFT.search(text) else enumerate(text.splitlines(), 1)
+    lines = json_lines(text) if text.lstrip().startswith("{") else ((f"line {number}", line) for number, line in numbered)
     for place, line in lines:
         line = re.sub(r"^\[\d+:\d+\] | # handle \d+$", "", line.strip())
         if line.startswith("#"):
@@ -165,39 +175,114 @@ def read_options(rule, pairs):
 # nft list ruleset
 
 
-def read_nft(text):
-    # Of each block that is open its table or its chain; None of a set, a counter and the like, which stand beside the chains.
-    chains, table, blocks = {}, None, []
-    for number, line in enumerate(text.splitlines(), 1):
-        line = line.strip()
-        opened = braces_of(line)
-        if opened > 0:
-            if found := re.match(r"table\s+(\w+)\s+(\S+)\s*\{", line):
-                table = found.groups()
-            found = re.match(r"chain\s+(\S+)\s*\{", line)
-            chain = chains.setdefault((*table, found[1]), Chain(found[1])) if found and table else None
-            blocks += [chain] * opened
-        elif opened < 0:
-            del blocks[opened:]
-        elif blocks and blocks[-1] and line.startswith("type "):
-            set_hook(blocks[-1], line)
-        elif blocks and blocks[-1] and line and not line.startswith(("#", "policy", "comment ")):
-            line = re.sub(r"\s*# handle \d+$", "", line)
-            blocks[-1].rules.append(nft_rule(f"line {number}", line, table))
+def statements_of(text):
+    """The statements of nft's text, each with the number of the line in which it begins, and whether a block begins behind it; the end of
+    a block is the statement '}'. A statement ends with its line or at ';'. Braces that begin no block, as those of a set, are part of it."""
+    blocks, inner, words, begun, number = [], 0, "", 0, 1
+    for token in TOKENS.findall(text):
+        begun = begun if words.strip() else number
+        number += token.count("\n")
+        if token == "{" and not inner and (block := block_of_words(blocks, words)):
+            blocks.append(block)
+            yield begun, " ".join(words.split()), True
+            words = ""
+        elif inner or token not in (";", "\n", "}"):
+            inner += (token == "{") - (token == "}")
+            words += " " if re.match(r"#.|\\|\n", token) else token
+        else:
+            if words.strip():
+                yield begun, " ".join(words.split()), False
+            words = ""
+            if token == "}" and blocks:
+                blocks.pop()
+                yield number, "}", False
+    if words.strip():
+        yield begun, " ".join(words.split()), False
+
+
+def block_of_words(blocks, words):
+    """What kind of block begins behind these words, or None; within a chain, or a set, none does."""
+    found = re.match(r"\s*(?:(?:add|create)\s+)?(table|chain|set|map|flowtable|counter|quota|limit|synproxy|secmark|ct)\s", words)
+    if blocks and blocks[-1] != "table":
+        return None
+    return found[1] if found else "table's" if blocks else None
+
+
+def read_nft(name, text):
+    # Of each block that is open its table, and its chain; that is None of a table, and of a set, a counter and the like beside the chains.
+    chains, blocks, values, beside = {}, [], {}, Chain("", HOOKS[0].lower(), FIRST)
+    for number, said, is_open in statements_of(text):
+        said = re.sub(r"\$(\w+)", lambda found: values.get(found[1], found[0]), said)
+        try:
+            if is_open:
+                blocks.append(opened(chains, blocks, said))
+            elif said == "}":
+                blocks.pop()
+            elif not blocks:
+                read_command(chains, values, beside, number, said)
+            elif blocks[-1][1]:
+                read_line(number, *blocks[-1], said)
+        except (IndexError, Unsaid) as error:
+            raise Trouble(f"{name}: line {number} is not read here: {said}") from error
+    if beside.rules:
+        chains["ip", "", ""] = beside
     return roots_first(chains)
 
 
-def braces_of(line):
-    """How many blocks are open behind a line that were not before it."""
-    line = re.sub(r'"[^"]*"|#.*', "", line)
-    return line.count("{") - line.count("}")
+def place_of_words(words, count):
+    """So many names in front of these words, with the family of tables that stands before them or is meant, and the words behind."""
+    family = words.pop(0) if words[0] in FAMILIES else "ip"
+    return (family, *words[:count]), words[count:]
 
 
-def set_hook(chain, line):
-    found = re.match(r"type (\w+) hook (\w+)(?: device \S+)? priority (\w+|-\d+)(?: ([+-]) (\d+))?;", line)
+def opened(chains, blocks, said):
+    """The table and the chain of a block that begins with these words."""
+    words = said.split()
+    words = words[words[0] in ("add", "create") :]
+    if words[0] == "table":
+        return place_of_words(words[1:], 1)[0], None
+    if words[0] != "chain":
+        return None, None
+    key = (*blocks[-1][0], words[1]) if blocks else place_of_words(words[1:], 2)[0]
+    return key[:2], chains.setdefault(key, Chain(key[2]))
+
+
+def read_line(number, table, chain, said):
+    """What stands in a chain."""
+    if said.startswith("type "):
+        set_hook(chain, said)
+    elif not said.startswith(("policy ", "comment ", "devices ")):
+        chain.rules.append(nft_rule(f"line {number}", said, table))
+
+
+def read_command(chains, values, beside, number, said):
+    """What stands outside of all tables: a value that is named, a rule that is added, and what changes no rule; else it is kept as unsaid."""
+    if found := re.fullmatch(r"(?:re)?define (\w+) ?= ?(.+)", said):
+        values[found[1]] = found[2]
+    elif found := re.fullmatch(r"(?:(add|insert) )?rule (.+)", said):
+        add_rule(chains, number, said, found[1], found[2].split())
+    elif not QUIET_COMMAND.match(said) and (not GOING.match(said) or any(chain.rules for chain in chains.values())):
+        beside.rules.append(Rule(f"line {number}", said))
+        beside.rules[-1].reason = "it is not read here what this changes"
+
+
+def add_rule(chains, number, said, verb, words):
+    key, words = place_of_words(words, 2)
+    rule = nft_rule(f"line {number}", " ".join(words), key[:2])
+    rule.text = said
+    if words[:1] and words[0] in ("position", "handle", "index"):
+        rule.reason = "its place among the rules is not read here"
+    rules = chains.setdefault(key, Chain(key[2])).rules
+    rules.insert(0 if verb == "insert" else len(rules), rule)
+
+
+def set_hook(chain, said):
+    found = re.fullmatch(r"type (\w+) hook (\w+)(?: devices? .*)? priority (-?\w+)(?: ?([+-]) ?(\d+))?", said)
+    base = PRIORITIES.get(found[3], found[3]) if found else ""
+    if said.startswith("type nat") and not re.fullmatch(r"-?\d+", str(base)):
+        raise Unsaid("a priority that is not known")
     if found and found[1] == "nat":
-        base = PRIORITIES[found[3]] if found[3] in PRIORITIES else int(found[3])
-        chain.hook, chain.priority = found[2], base + int((found[4] or "+") + (found[5] or "0"))
+        chain.hook, chain.priority = found[2], int(base) + int((found[4] or "+") + (found[5] or "0"))
 
 
 def roots_first(chains):
