@@ -369,6 +369,8 @@ def check_docker():
         rules = [line for line in ran.stdout.splitlines() if not line.startswith("#")]
         count(f"tools/rules-from-iptables: docker's chains, of {name}", rules == FROM_DOCKER, ran.stdout)
         wants(f"tools/rules-from-iptables: what is left out of these, of {name}", ran, 1, "line 11" if text is DOCKER else "line 3", "RETURN: no rule says")
+        excepted = ("line 10: ! -o docker0", "line 12: ! -i docker0") if text is DOCKER else ("line 19: oifname != docker0", "line 4: iifname != docker0")
+        wants(f"tools/rules-from-iptables: interfaces that are excepted, of {name}", ran, 1, *(f"# {it} is left away, so this rule is for flows through" for it in excepted))
         ran = tool("rules-from-iptables", "--ignore-interfaces", "--masquerade", "203.0.113.9", "--local", "203.0.113.9,203.0.113.10", stdin=None, input=text)
         wants(f"tools/rules-from-iptables: two addresses of the machine, of {name}", ran, 1, "dnat -d 203.0.113.10 -p tcp --dport 8080 to 172.17.0.2:80")
         ran = tool("rules-from-iptables", "--ignore-interfaces", stdin=None, input=text)
