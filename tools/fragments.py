@@ -4,6 +4,7 @@ Written from the definitions in crates/ip_reassembly/specs, not from the program
 capture, each frame that completes a datagram in the form of that datagram, and of each other fragment why it stayed.
 Nothing here is proved.
 """
+import math
 from bisect import bisect_left, bisect_right, insort
 from collections import namedtuple
 
@@ -117,9 +118,9 @@ class Group:
 
     def met_by(self, piece):
         """The parts that have bytes of a piece."""
-        at = bisect_right(self.parts, piece.low, key=lambda part: part.low)
+        at = bisect_right(self.parts, (piece.low, math.inf))
         at -= at > 0 and self.parts[at - 1].high > piece.low
-        after = bisect_left(self.parts, piece.high, key=lambda part: part.low)
+        after = bisect_left(self.parts, (piece.high,))
         return self.parts[at:after]
 
     def end_clash(self, piece):
@@ -204,7 +205,7 @@ class Reassembly:
     def left(self):
         """Of each fragment of which no datagram was made why, in a word or two."""
         found = {piece.index: why_incomplete(group) for group in self.groups if group.completed is None for piece in group.pieces}
-        return found | {index: "cut by the capture" if flaw.startswith("only") else "wrong in itself" for index, flaw in self.flaws.items()}
+        return {**found, **{index: "cut by the capture" if flaw.startswith("only") else "wrong in itself" for index, flaw in self.flaws.items()}}
 
     def cut_of(self, group):
         """The first fragment of a group's key that is no piece, within 30 s of its leader; or None."""

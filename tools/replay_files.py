@@ -99,7 +99,9 @@ def moment_of_text(text):
         return int(text)
     if found := re.fullmatch(r"([0-9]+)\.([0-9]{1,9})", text):
         return int(found[1]) * 1_000_000 + int(found[2].ljust(6, "0")[:6])
-    plain = text.removesuffix("Z").removesuffix(" UTC").replace(" ", "T")
+    plain = re.sub(r"Z$| UTC$", "", text).replace(" ", "T")
+    # Before Python 3.11 a fraction has to have three or six digits.
+    plain = re.sub(r"\.([0-9]{1,9})", lambda found: "." + found[1].ljust(6, "0")[:6], plain)
     try:
         when = datetime.datetime.fromisoformat(plain)
     except ValueError:

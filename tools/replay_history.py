@@ -4,6 +4,7 @@
 flows that got no entry. Each takes time in proportion to the report times its logarithm, so that a report of some hundred
 thousand lines is read in seconds. Nothing here is proved.
 """
+import math
 import re
 from bisect import bisect_left, bisect_right
 
@@ -27,7 +28,7 @@ class Life:
 
     def part_at(self, moment):
         """The last part at a moment, or None where there is none yet."""
-        at = bisect_right(self.parts, moment, key=lambda part: part[0])
+        at = bisect_right(self.parts, (moment, math.inf))
         return self.parts[at - 1] if at else None
 
 
@@ -245,7 +246,7 @@ def refusals_of(work):
         it = Refusal("dropped", drop.confirm.flows[0], drop.event.thread, drop.event.index, drop.moment, drop.event.number, drop)
         found.append(it)
         for pair in {files.pair_of(flow) for flow in drop.confirm.flows}:
-            by_pair.setdefault(pair, []).append(it)
+            by_pair.setdefault(pair, []).append((it.point, it))
     for thread, index, frame, packet, verdict in work.judged():
         if packet.kind != "flow":
             continue
@@ -269,9 +270,9 @@ def refusals_of(work):
 
 
 def last_before(drops, point):
-    """The last of these drops, in order of their events, that a packet with this point stands behind; or None."""
-    at = bisect_left(drops, point, key=lambda it: it.point) if drops and point is not None else 0
-    return drops[at - 1] if at else None
+    """The last of these drops, each with its event's number and in their order, that a packet with this point stands behind; or None."""
+    at = bisect_left(drops, (point,)) if drops and point is not None else 0
+    return drops[at - 1][1] if at else None
 
 
 class Drop:
