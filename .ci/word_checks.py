@@ -1,8 +1,10 @@
-"""Checks of what the tools share: their words, and an output that can't be written. Used by .ci/tools."""
+"""Checks of what the tools share: their words, their Python, names of files, and an output that can't be written. Used by .ci/tools."""
+import ast
 import os
+import re
 import shutil
 
-from checking import EXAMPLES, TOOLS, count, refuses, run, tool
+from checking import EXAMPLES, TOOLS, count, read, refuses, run, tool
 
 ASCII = {"LC_ALL": "POSIX", "PYTHONUTF8": "0", "PYTHONCOERCECLOCALE": "0"}
 LATE = ("late.report", "late.pcap")
@@ -50,6 +52,24 @@ def check_help(room):
         count(f"tools/{name} --help", ran.returncode == 0 and f"\nusage: {name} " in ran.stdout and not ran.stderr, ran.stderr)
 
 
+def is_readable(text, minor):
+    try:
+        ast.parse(text, feature_version=(3, minor))
+    except SyntaxError:
+        return False
+    return True
+
+
+def check_pythons(room):
+    """README's Python reads all of the tools, and an older one as far as to where it is refused."""
+    modules = {name for name in os.listdir(TOOLS) if name.endswith(".py")}
+    for name in sorted({*calls_of(room), *modules}):
+        text = read(TOOLS, name)
+        count(f"tools/{name}: its syntax", is_readable(text, 8 if name in modules - {"tool_run.py"} else 7))
+        own = [it for it in re.findall(r"^(?:import|from) (\w+)", text, re.MULTILINE) if f"{it}.py" in modules]
+        count(f"tools/{name}: what it imports first", name in modules or own[0] == "tool_run", own)
+
+
 def check_words(room, env):
     """Options stand before the files or behind them, with a blank or =, and one without its value is named."""
     ruled = (("--rules", "late.rules"), LATE)
@@ -92,5 +112,6 @@ def check_all(room):
     env = make_gnuplot(room)
     check_names(room, env)
     check_help(room)
+    check_pythons(room)
     check_words(room, env)
     check_outputs(room, env)

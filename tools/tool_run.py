@@ -1,9 +1,16 @@
-"""How a tool is run, and what it says where it can't do what it is asked. Used by each tool; nothing here is proved."""
+"""How a tool is run, and what it says where it can't do what it is asked. Used by each tool; nothing here is proved.
+
+Each tool imports this first: an older Python can read it, and each tool's own file, but not the other modules.
+"""
 import codecs
 import gc
 import os
 import signal
 import sys
+
+if sys.version_info < (3, 8):
+    sys.stderr.write(os.path.basename(sys.argv[0]) + ": it needs Python 3.8 or later, and this is " + sys.version.split()[0] + "\n")
+    sys.exit(2)
 
 
 class Trouble(Exception):
