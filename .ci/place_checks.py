@@ -32,7 +32,7 @@ VARIANTS = {
     "How many notes the queue of a thread holds": (r"\bQUEUE\b|capacity ≡ 1024|\bmin 1024\b", r"\bQUEUE\b"),
     "A crossing of the gate": (r"\bCrossing\b", r"\bCrossing\b"),
     "A set of TCP flags that is valid": (r"\bis_valid_flag_set\b|\bflag_sets\b", r"\bVALID_FLAGS\b"),
-    "An ICMP type that asks or answers": (r"\bpartner_of\b|\bis_query_type\b", r"\b13: 14\b"),
+    "An ICMP type that asks or answers": (r"\bpartner_of\b|\bis_query_type\b", r"\b13: 14\b|\b14, 16, 18\b"),
     "A reason of UNTRACKED": (r"\b[Uu]ntracked(Why)?(::|\.)Protocol\b|\bwhy\.Protocol\b", r"UNTRACKED fragment|\"protocol\", f"),
     "An option of a filter, or of `-G`": (r"\breply_dst\b", r"\breply_dst\b|\"-q\"|-q "),
     "A limit": (r"\b4[_,]?194[_,]?304\b", r"\b4[_,]?194[_,]?304\b"),
