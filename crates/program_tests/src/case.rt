@@ -46,6 +46,8 @@ pub enum Text<'c> {
     CutShort(&'c str),
     /// It begins with one and ends with the other.
     Around(&'c str, &'c str),
+    /// It begins with the first and ends with the second, or begins with the third and ends with the fourth.
+    AroundEither(&'c str, &'c str, &'c str, &'c str),
     /// It is one of these.
     OneOf(&'c [&'c str]),
     /// It begins so, and has these numbers, each in this line and this word of it.
@@ -114,14 +116,20 @@ fn is_one_of(text: &[u8], all: &[&str]) -> bool {
     false
 }
 
+/// Whether a text begins with one and ends with the other.
+fn is_around(text: &[u8], begin: &str, end: &str) -> bool {
+    text.starts_with(begin.as_bytes()) && text.ends_with(end.as_bytes())
+}
+
 /// Whether a text is as expected.
 fn fits(text: &[u8], expected: &Text<'_>) -> bool {
     match expected {
         Text::Is(all) => text == all.as_bytes(),
         Text::First(length, all) => text.len() == *length && all.as_bytes().starts_with(text),
         Text::CutShort(all) => text.len() < all.len() && all.as_bytes().starts_with(text),
-        Text::Around(begin, end) => {
-            text.starts_with(begin.as_bytes()) && text.ends_with(end.as_bytes())
+        Text::Around(begin, end) => is_around(text, begin, end),
+        Text::AroundEither(begin, end, other_begin, other_end) => {
+            is_around(text, begin, end) || is_around(text, other_begin, other_end)
         }
         Text::OneOf(all) => is_one_of(text, all),
         Text::Numbers(begin, numbers) => {
