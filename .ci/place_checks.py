@@ -15,7 +15,7 @@ from name_checks import NAME, SPAN, is_crate
 SECTION = "## Where to change what\n"
 FOLDERS = ("tools", "measure", ".ci", "docs")
 ENDS = (".rt", ".antt", ".py", ".sh", ".html", ".md")
-TEST = re.compile(r"/tests?(\.rt|/)|/(clerk_tests|desk_tests|program_tests)/")
+TEST = re.compile(r"/tests?(\.rt|/)|/\w+_tests/")
 # Of an entry: how the variant that stands for all of its kind is written in crates, and how in tools/ and measure/.
 VARIANTS = {
     "A new kind of event": (r"\b[Uu]nexpect(?!ed)", r"\bunexpect\b"),

@@ -15,8 +15,6 @@ use tuple_core::NoMemory;
 
 mod by_clap;
 pub mod laws;
-#[cfg(test)]
-mod tests;
 mod values;
 
 use by_clap::find;

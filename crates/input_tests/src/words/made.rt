@@ -1,7 +1,7 @@
 //! Command lines of made workloads.
 
 use super::{USUAL, Wanted, are_zeros, fault, flags_wanted, split};
-use crate::{Asked, Origin, WordsError, WordsLimit, Workload, read_words};
+use command_words::{Asked, Origin, WordsError, WordsLimit, Workload, read_words};
 use std::alloc::{AllocError, Global};
 use std::test::Fail;
 

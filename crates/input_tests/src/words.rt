@@ -1,6 +1,6 @@
 //! Command lines, and what they ask for.
 
-use crate::{Asked, Named, Origin, WordsError, WordsLimit, read_words};
+use command_words::{Asked, Named, Origin, WordsError, WordsLimit, read_words};
 use std::alloc::{AllocError, Global};
 use std::test::Fail;
 
