@@ -298,6 +298,3 @@ pub fn read_capture(alloc: Global, bytes: &[u8]) -> Result<Frames, CaptureError>
     let form = read_header(bytes)?;
     read_records(alloc, bytes, form)
 }
-
-#[cfg(test)]
-mod tests;

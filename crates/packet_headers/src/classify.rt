@@ -9,8 +9,6 @@ mod icmp_error;
 mod ipv4;
 mod ports;
 mod tcp;
-#[cfg(test)]
-mod tests;
 mod udp;
 
 use crate::byte_order::big_u16_at;

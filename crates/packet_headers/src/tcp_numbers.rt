@@ -3,9 +3,6 @@
 ghost use Rattle.std.specs.Prelude.{◌≡◌, ◌+◌, ◌<◌, ◌≤◌, length};
 ghost use Rattle.packet_headers.specs.TcpNumbers.{ip_place, link_header, numbers_at, tcp_numbers, tcp_place};
 
-#[cfg(test)]
-mod tests;
-
 use crate::byte_order::big_u32_at;
 use crate::classify::{ETHERNET_HEADER, classify, header_length};
 use crate::frame::{Frame, Link};

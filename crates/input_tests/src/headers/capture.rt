@@ -1,6 +1,12 @@
-use super::*;
+//! Captures typed byte by byte, whole, cut and damaged, and their frames.
+
+use packet_headers::Endian;
+use packet_headers::capture::{CaptureError, CaptureFault, Form, Layout, Resolution, read_capture};
+use packet_headers::frame::{Frame, Link};
 use room_list::Bytes;
+use std::alloc::Global;
 use std::test::Fail;
+use tuple_core::NoMemory;
 
 /// Two packets of raw IP: a query of UDP at 1000 s, and its answer half a second later.
 const CAPTURE: [u8; 120] = [

@@ -2,8 +2,8 @@
 
 ghost use Rattle.std.specs.Prelude.{◌≤◌, length};
 
-use crate::frame::{Frame, Link};
-use crate::tcp_numbers::tcp_numbers;
+use packet_headers::frame::{Frame, Link};
+use packet_headers::tcp_numbers::tcp_numbers;
 
 /// The bytes of an Ethernet header.
 const BEFORE: usize = 14;

@@ -2,9 +2,9 @@
 
 ghost use Rattle.std.specs.Prelude.{◌<◌, ◌≤◌, length};
 
-use crate::classify::classify;
-use crate::frame::{Frame, Link, Span};
-use crate::packet::{Packet, Untracked};
+use packet_headers::classify::classify;
+use packet_headers::frame::{Frame, Link, Span};
+use packet_headers::packet::{Packet, Untracked};
 use tuple_core::{Kind, Proto, Segment, Tuple};
 
 /// From 10.0.0.1:5000 to 10.0.0.2:53, with four bytes of data.

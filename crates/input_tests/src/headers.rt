@@ -1,0 +1,5 @@
+//! Frames and their headers.
+
+mod capture;
+mod classify;
+mod tcp_numbers;
