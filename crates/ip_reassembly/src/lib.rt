@@ -7,7 +7,5 @@ mod groups;
 pub mod laws;
 pub mod piece;
 mod reassembly;
-#[cfg(test)]
-mod tests;
 
 pub use reassembly::{Defragged, defrag};

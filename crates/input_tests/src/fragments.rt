@@ -1,6 +1,6 @@
 //! Captures of a few fragments, and what becomes of their frames.
 
-use crate::{Defragged, defrag};
+use ip_reassembly::{Defragged, defrag};
 use packet_headers::Bytes;
 use packet_headers::capture::read_capture;
 use packet_headers::frame::{Frame, Link};
