@@ -6,4 +6,6 @@ mod fragments;
 #[cfg(test)]
 mod headers;
 #[cfg(test)]
+mod rules;
+#[cfg(test)]
 mod words;

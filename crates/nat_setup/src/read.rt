@@ -275,6 +275,3 @@ pub fn read_rules(alloc: Global, bytes: &[u8]) -> Result<Rules, RuleError>
     }
     Ok(rules)
 }
-
-#[cfg(test)]
-mod tests;

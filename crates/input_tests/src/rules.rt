@@ -1,7 +1,11 @@
-use super::*;
+//! Good lines of rules, faulty ones, and files with as many rules as they may have.
+
+use nat_setup::read::{RuleError, RuleKind, read_rules};
+use nat_setup::rule::{Block, Rule, Rules, Side};
 use room_list::Bytes;
+use std::alloc::Global;
 use std::test::Fail;
-use tuple_core::Proto;
+use tuple_core::{NoMemory, Proto};
 
 /// What a file says; the files of the tests are short.
 fn read(alloc: Global, bytes: &[u8]) -> Result<Rules, RuleError> {
