@@ -112,6 +112,3 @@ pub fn read_script(alloc: Global, bytes: &[u8]) -> Result<Script, ScriptError>
         wait: wait.unwrap_or(all),
     })
 }
-
-#[cfg(test)]
-mod tests;

@@ -1,11 +1,12 @@
 //! Good lines, faulty ones, and whole scripts, typed from the rules.
 
-use super::*;
-use crate::command::Command;
+use conntrack_cmd::command::Command;
+use conntrack_cmd::read::{Script, ScriptError, ScriptKind, read_script};
 use history_book::filter::Filter;
 use room_list::Bytes;
+use std::alloc::Global;
 use std::test::Fail;
-use tuple_core::Proto;
+use tuple_core::{NoMemory, Proto};
 
 /// What a script says; the scripts of the tests are short.
 fn read(alloc: Global, bytes: &[u8]) -> Result<Script, ScriptError> {
