@@ -4,8 +4,6 @@
 
 mod laws;
 mod payload;
-#[cfg(test)]
-mod tests;
 mod text;
 mod want;
 

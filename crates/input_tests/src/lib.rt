@@ -6,6 +6,8 @@ mod commands;
 #[cfg(test)]
 mod fragments;
 #[cfg(test)]
+mod ftp;
+#[cfg(test)]
 mod headers;
 #[cfg(test)]
 mod rules;

@@ -1,4 +1,6 @@
-use super::*;
+//! Payloads of FTP, the ends that they name, and what is then expected.
+
+use ftp_helper::{NamedEnd, end_span, named_end, want_of};
 use tuple_core::Direction::{Original, Reply};
 use tuple_core::{Direction, Proto, Tuple};
 
