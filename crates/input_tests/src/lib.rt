@@ -10,6 +10,8 @@ mod ftp;
 #[cfg(test)]
 mod headers;
 #[cfg(test)]
+mod made;
+#[cfg(test)]
 mod rules;
 #[cfg(test)]
 mod words;

@@ -50,6 +50,3 @@ pub fn make_captures(
     }
     Ok(made)
 }
-
-#[cfg(test)]
-mod tests;

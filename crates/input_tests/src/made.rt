@@ -1,6 +1,6 @@
 //! Made captures, typed byte by byte from the rules, and what is read of them.
 
-use crate::make_captures;
+use made_captures::make_captures;
 use packet_headers::Bytes;
 use packet_headers::capture::read_capture;
 use packet_headers::classify::classify;
