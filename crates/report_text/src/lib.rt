@@ -11,6 +11,4 @@ pub mod page;
 mod piece;
 mod row;
 pub mod summary;
-#[cfg(test)]
-mod tests;
 pub mod write;

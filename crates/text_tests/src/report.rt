@@ -1,7 +1,5 @@
 //! Whole texts of reports that are built by hand.
 
-use crate::page::LONGEST_LINE;
-use crate::write::{write_each, write_report};
 use ct_io::MemSink;
 use expect_table::expectation::{Expectation, Want};
 use history_book::answer::Answers;
@@ -10,6 +8,8 @@ use history_book::record::Record;
 use history_book::report::{History, Report, ThreadVerdicts, Verdicts};
 use history_book::verdict::{Class, Ftp, Label, Translated, UntrackedWhy, Verdict};
 use proto_rules::{Part, PartKind, TcpState};
+use report_text::page::LONGEST_LINE;
+use report_text::write::{write_each, write_report};
 use std::alloc::Global;
 use std::process::Abort;
 use std::test::Fail;

@@ -1,11 +1,11 @@
 //! Whole texts of summaries.
 
 use super::{every_form, made, passed, query, related, report_of};
-use crate::page::LONGEST_LINE;
-use crate::summary::write_summary;
 use ct_io::MemSink;
 use history_book::report::Report;
 use history_book::verdict::{Ftp, Label};
+use report_text::page::LONGEST_LINE;
+use report_text::summary::write_summary;
 use std::alloc::Global;
 use std::process::Abort;
 use std::test::Fail;

@@ -1,0 +1,5 @@
+//! Tests of what is written, in a crate of their own. The library is empty.
+#![tactic(auto)]
+
+#[cfg(test)]
+mod report;
