@@ -1,12 +1,11 @@
 -- A frame that is taken from its capture lies in its bytes, and the segment of an event is that of the captures as they are
 -- told of.
-use Rattle.std.proofs.Common.{◌≡◌, ℕ, suc, zero, ◌+◌, ◌≤◌, Bool, true, List, [], ◌∷◌, ◌++◌, length, map, Option, Some, None, refl, sym, ap, ◌∙◌, subst, arith}
+use Rattle.std.proofs.Common.{◌≡◌, ℕ, suc, zero, ◌+◌, ◌≤◌, Bool, true, List, [], ◌∷◌, length, map, Option, Some, None, refl, sym, ap, ◌∙◌, subst, arith}
 use Rattle.std.specs.Prelude.{All, slice_get, nat_le}
 use Rattle.std.specs.List.{list_all}
 use Rattle.std.specs.Option.{option_map}
 use Rattle.std.proofs.lemmas.Bool.{and_parts}
 use Rattle.std.proofs.lemmas.Bool.Decides.{nat_tests}
-use Rattle.std.proofs.lemmas.List.Elements.{All-push}
 use Rattle.std.proofs.lemmas.Option.{get_or_from_slice_get, slice_get-map, slice_get_within}
 use Rattle.packet_headers.specs.declared.frame.Capture.{Capture}
 use Rattle.history_book.specs.declared.event.Numbered.{Numbered}
@@ -32,10 +31,6 @@ frame_inside captures i c j f all at_c at_f =
   where
     fits : (m n : ℕ) → nat_le m n ≡ true → m ≤ n
     fits m n h = grind (arith, nat_tests)
-
--- one capture more
-pub inside_more : (captures : List Capture) (c : Capture) → All LiesInIts captures → LiesInIts c → All LiesInIts (captures ++ c ∷ [])
-inside_more captures c all own = All-push LiesInIts captures c all own
 
 -- a segment by its place in a capture, if that is there
 abbrev segment_at : ℕ → Option Recorded → Option Sent

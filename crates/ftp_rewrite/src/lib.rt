@@ -12,8 +12,6 @@ mod page;
 mod rewrite;
 mod sent;
 mod session;
-#[cfg(test)]
-mod tests;
 mod write;
 
 pub use adjust::{Added, Adjust, Edit};

@@ -3,3 +3,5 @@
 
 #[cfg(test)]
 mod report;
+#[cfg(test)]
+mod rewrite;

@@ -3,9 +3,9 @@
 ghost use Rattle.std.specs.Prelude.{All, IfOk, OnOk};
 ghost use Rattle.ftp_rewrite.specs.Sent.{LiesInIts};
 
-use crate::{rewrites, write_rewrites};
 use ct_io::MemSink;
 use expect_table::expectation::{Expectation, Want};
+use ftp_rewrite::{rewrites, write_rewrites};
 use history_book::answer::Answers;
 use history_book::event::{Event, Numbered, Why};
 use history_book::record::Record;
@@ -233,7 +233,7 @@ fn add_step(scene: &mut Scene, step: &Step) -> Result<(), NoMemory> {
 }
 
 /// Adds the capture of a track.
-#[tactic(auto, using(crate::proofs::Inside::inside_more))]
+#[tactic(auto, using(crate::proofs::Captures::inside_more))]
 fn add_capture(alloc: Global, captures: &mut Captures, bytes: Bytes) -> Result<(), NoMemory>
     requires { All LiesInIts captures.old.items }
     ensures { OnOk result (All LiesInIts captures.new.items) }

@@ -1,6 +1,6 @@
 //! Edits of a stream by hand.
 
-use crate::{Added, Adjust};
+use ftp_rewrite::{Added, Adjust};
 use std::test::Fail;
 
 /// What was answered, in words.
