@@ -11,4 +11,3 @@ pub mod Events
 pub mod Expectations
 pub mod Plain
 pub mod Passes
-pub mod Helped

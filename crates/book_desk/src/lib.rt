@@ -10,7 +10,5 @@ mod expecting;
 mod holds;
 pub mod laws;
 mod noting;
-#[cfg(test)]
-mod tests;
 mod turn;
 pub mod turn_desk;

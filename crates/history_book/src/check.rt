@@ -18,9 +18,6 @@ use proto_rules::Part;
 use std::alloc::Global;
 use tuple_core::NoMemory;
 
-#[cfg(test)]
-mod tests;
-
 /// What a check of a history answers.
 #[derive(Clone, Copy)]
 pub enum Checked {

@@ -22,7 +22,5 @@ pub mod short_note;
 pub mod short_verdict;
 pub mod sight_laws;
 pub mod sizes;
-#[cfg(test)]
-mod tests;
 pub mod verdict;
 pub mod zone_laws;

@@ -12,9 +12,6 @@ use crate::report::{Notes, Report, ThreadVerdicts, Verdicts};
 use std::alloc::Global;
 use tuple_core::NoMemory;
 
-#[cfg(test)]
-mod tests;
-
 /// What stands in the order until an event is laid there.
 const BLANK: Origin = Origin {
     thread: 0,

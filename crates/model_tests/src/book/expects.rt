@@ -5,7 +5,7 @@ ghost use Rattle.history_book.specs.Entry.{is_helped_entry};
 ghost use Rattle.history_book.specs.Held.{held_id, is_held_for_entry};
 ghost use Rattle.history_book.specs.Sizes.{AreWithinLimits};
 
-use crate::desk::PlainDesk;
+use book_desk::desk::PlainDesk;
 use expect_table::expectation::Want;
 use history_book::desk::Desk;
 use history_book::event::Why;

@@ -1,5 +1,5 @@
 use Rattle.std.specs.Prelude.{◌≡◌, ◌≤◌, length, take}
-use Rattle.history_book.proofs.tests.packed_lists.list_of.Given as goal
+use Rattle.model_tests.proofs.history.packed_lists.list_of.Given as goal
 
 abbrev pub invariant-items : goal.invariant-items
 invariant-items g l = record {

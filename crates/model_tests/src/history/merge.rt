@@ -3,12 +3,12 @@
 ghost use Rattle.std.specs.Prelude.{◌≡◌, ◌+◌, ◌<◌, ◌^◌, [], ◌++◌, length};
 ghost use Rattle.history_book.specs.Merge.{AreNumbers, CoverFrom, spans_of_answers, spans_of_verdicts};
 
-use super::merge;
-use crate::answer::{Answer, Answers, Said};
-use crate::event::{Event, Note, Numbered};
-use crate::report::{History, Report, ThreadVerdicts};
-use crate::tests::packed_lists::list_of;
-use crate::verdict::{Class, UntrackedWhy, Verdict};
+use super::packed_lists::list_of;
+use history_book::answer::{Answer, Answers, Said};
+use history_book::event::{Event, Note, Numbered};
+use history_book::merge::merge;
+use history_book::report::{History, Report, ThreadVerdicts};
+use history_book::verdict::{Class, UntrackedWhy, Verdict};
 use std::alloc::Global;
 use std::test::Fail;
 use tuple_core::NoMemory;

@@ -1,5 +1,5 @@
 -- What the tests carry from one call to the next.
-use Rattle.std.proofs.Common.{◌≡◌, ℕ, ◌+◌, ◌≤◌, true, List, ◌++◌, refl, ap, ◌∙◌, arith, Option, Some, None}
+use Rattle.std.proofs.Common.{◌≡◌, ℕ, ◌+◌, ◌≤◌, zero, suc, true, List, [], ◌∷◌, ◌++◌, refl, ap, ◌∙◌, arith, Option, Some, None}
 use Rattle.std.specs.List.{slice_get}
 use Rattle.std.proofs.lemmas.Bool.{false≢true}
 use Rattle.expect_table.specs.declared.expectation.Want.{Want}
@@ -11,7 +11,12 @@ use Rattle.history_book.specs.Entry.{confirmed_by, is_helped_entry}
 use Rattle.history_book.specs.Legality.{has_helper}
 use Rattle.history_book.specs.Point.{StartsWith}
 use Rattle.history_book.specs.Sight.{Sight}
-use Rattle.book_desk.proofs.Histories.{get_append}
+
+-- an item of the front of a list stands there in the whole
+get_append : {X : Type 0} (xs ys : List X) (i : ℕ) (x : X) → slice_get xs i ≡ Some x → slice_get (xs ++ ys) i ≡ Some x
+get_append [] ys i x h = cc
+get_append (y ∷ xs) ys zero x h = h
+get_append (y ∷ xs) ys (suc i) x h = get_append xs ys i x h
 
 helped_at : (front log rest : List Event) (id : ℕ) (o : Option Event) → log ≡ front ++ rest → slice_get front id ≡ o
     → has_helper (confirmed_by o) ≡ true → is_helped_entry id log ≡ true

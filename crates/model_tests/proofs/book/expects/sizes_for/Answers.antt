@@ -1,6 +1,6 @@
 use Rattle.std.proofs.Common.{arith, refl}
 use lib.Count.{ones}
-use Rattle.book_desk.proofs.tests.expects.sizes_for.Goals as goal
+use Rattle.model_tests.proofs.book.expects.sizes_for.Goals as goal
 
 pub returns-clause-limits : goal.returns-clause-limits
 unfolding ones

@@ -5,7 +5,7 @@ ghost use Rattle.history_book.specs.Entry.{is_of_entry};
 ghost use Rattle.history_book.specs.Sizes.{AreWithinLimits};
 ghost use Rattle.tuple_core.specs.declared.Segment.TheVariants.{Udp};
 
-use crate::desk::PlainDesk;
+use book_desk::desk::PlainDesk;
 use history_book::desk::Desk;
 use history_book::event::Why;
 use history_book::outcome::{

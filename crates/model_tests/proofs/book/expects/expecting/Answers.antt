@@ -1,5 +1,5 @@
-use Rattle.book_desk.proofs.Helped.{expect_goes_on, helped_grows}
-use Rattle.book_desk.proofs.tests.expects.expecting.Goals as goal
+use Rattle.model_tests.proofs.Helped.{expect_goes_on, helped_grows}
+use Rattle.model_tests.proofs.book.expects.expecting.Goals as goal
 
 pub returns-clause-held : goal.returns-clause-held
 returns-clause-held g c = (expect_goes_on c.args.place c.args.want c.args.moment _ _ c.expect.result c.expect.ensures.says).held

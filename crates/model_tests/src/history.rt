@@ -1,17 +1,19 @@
 //! Worked flows: a query of UDP with its answer, connections that are reset and reopened, and what a control
 //! connection of FTP expects.
 
-use crate::event::{Event, Why};
-use crate::find::{FoundAt, find, find_id, label};
-use crate::legality::{EXPECTED_FOR, expectation_at, is_lawful};
-use crate::record::Record;
-use crate::sizes::Sizes;
-use crate::verdict::Label;
 use expect_table::expectation::{Expectation, Want};
+use history_book::event::{Event, Why};
+use history_book::find::{FoundAt, find, find_id, label};
+use history_book::legality::{EXPECTED_FOR, expectation_at, is_lawful};
+use history_book::record::Record;
+use history_book::sizes::Sizes;
+use history_book::verdict::Label;
 use proto_rules::{Part, PartKind, TcpState};
 use tuple_core::{Direction, Kind, Proto, Segment, Tuple};
 
-pub(crate) mod packed_lists;
+mod check;
+mod merge;
+mod packed_lists;
 
 /// From 10.0.0.1:5000 to 10.0.0.2:53.
 const QUERY: Tuple = Tuple {

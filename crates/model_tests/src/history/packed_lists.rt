@@ -2,13 +2,13 @@
 
 ghost use Rattle.std.specs.Prelude.{◌≡◌, IfOk};
 
-use crate::event::{Event, Note, Why};
-use crate::packed::{Form, PackedList};
-use crate::record::Record;
-use crate::report::{Notes, Verdicts};
-use crate::short_note::ShortNote;
-use crate::short_verdict::ShortVerdict;
-use crate::verdict::{Class, Ftp, Label, Translated, UntrackedWhy, Verdict};
+use history_book::event::{Event, Note, Why};
+use history_book::packed::{Form, PackedList};
+use history_book::record::Record;
+use history_book::report::{Notes, Verdicts};
+use history_book::short_note::ShortNote;
+use history_book::short_verdict::ShortVerdict;
+use history_book::verdict::{Class, Ftp, Label, Translated, UntrackedWhy, Verdict};
 use proto_rules::{Part, PartKind};
 use std::alloc::Global;
 use std::test::Fail;
@@ -234,7 +234,7 @@ const VERDICTS: [(Verdict, bool); 23] = [
 ];
 
 /// A list of these values.
-pub(crate) fn list_of<S: Form<T>, T: Copy>(
+pub(super) fn list_of<S: Form<T>, T: Copy>(
     alloc: Global,
     items: &[T],
 ) -> Result<PackedList<S, T>, NoMemory>

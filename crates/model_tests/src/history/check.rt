@@ -1,10 +1,10 @@
 //! Histories of one flow of UDP, and of a control connection of FTP, as they are and with one item that is wrong.
 
-use super::{Checked, check_history};
-use crate::event::{Event, Numbered, Why};
-use crate::record::Record;
-use crate::report::History;
 use expect_table::expectation::{Expectation, Want};
+use history_book::check::{Checked, check_history};
+use history_book::event::{Event, Numbered, Why};
+use history_book::record::Record;
+use history_book::report::History;
 use proto_rules::{Part, PartKind, TcpState};
 use std::alloc::Global;
 use std::test::Fail;
