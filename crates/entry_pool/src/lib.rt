@@ -3,6 +3,4 @@
 
 pub mod hold;
 pub mod take;
-#[cfg(test)]
-mod tests;
 mod turn;

@@ -3,5 +3,3 @@ pub mod Laying
 pub mod Lists
 pub mod Orders
 pub mod Pumping
-pub mod Told
-pub mod Pushed

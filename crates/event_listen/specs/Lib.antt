@@ -2,4 +2,3 @@ pub mod Line
 pub mod Pump
 pub mod Order
 pub mod Internal
-pub mod Told

@@ -8,5 +8,3 @@ pub mod hearing;
 pub mod line;
 pub mod sending;
 mod talk;
-#[cfg(test)]
-mod tests;

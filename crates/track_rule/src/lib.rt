@@ -20,8 +20,6 @@ pub mod pool;
 pub mod record_turn;
 pub mod rule;
 pub mod slot;
-#[cfg(test)]
-mod tests;
 pub mod touches;
 pub mod view;
 pub mod word_places;

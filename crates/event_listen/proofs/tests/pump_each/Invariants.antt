@@ -1,5 +1,0 @@
-use Rattle.event_listen.specs.Line.{AreSendingsOf}
-use Rattle.event_listen.proofs.tests.pump_each.Given as goal
-
-abbrev pub invariant-senders : goal.invariant-senders
-invariant-senders g l = AreSendingsOf l.line l.sendings.items

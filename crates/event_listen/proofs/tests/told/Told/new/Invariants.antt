@@ -1,5 +1,0 @@
-use Rattle.std.proofs.Common.{◌≡◌, length}
-use Rattle.event_listen.proofs.tests.told.Told.new.Given as goal
-
-abbrev pub invariant-events : goal.invariant-events
-invariant-events g l = length l.history.items ≡ l.index

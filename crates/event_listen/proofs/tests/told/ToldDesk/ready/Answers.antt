@@ -1,5 +1,0 @@
-use Rattle.event_listen.proofs.Told.{told_knows}
-use Rattle.event_listen.proofs.tests.told.ToldDesk.ready.Goals as goal
-
-pub returns-clause-knows : goal.returns-clause-knows
-returns-clause-knows c = rw (← c.self.view_is) (told_knows _ c.self.invariant.0 c.self.invariant.1)
