@@ -1,6 +1,7 @@
--- For tests: the clerks of four threads, to which one clerk handed over its shares.
+-- For tests: the clerks of one tracker, to which one clerk handed over its shares.
 use Rattle.std.specs.Prelude.{◌≡◌, ℕ, List, []}
 use Rattle.history_book.specs.Places.{HoldsNothing}
+use Rattle.history_book.specs.declared.sizes.Sizes.{Sizes}
 use Rattle.history_book.specs.Sight.{Sight}
 
 -- a clerk of the tracker of four passes with one share, which keeps no place; nothing was returned to it
@@ -21,4 +22,17 @@ pub record IsWhole (s : Sight) : Type 0 where
   pub passes : s.sizes.passes ≡ 4
   pub shares : s.shares ≡ 4
   pub returned : s.returned ≡ 0
+  pub own : s.own ≡ []
+
+-- a clerk of the tracker of these sizes with one share, which keeps no place; nothing was returned to it
+pub record IsOfPair (numbers : List ℕ) (given : Sizes) (s : Sight) : Type 0 where
+  pub tracker : s.tracker ≡ numbers
+  pub sizes : s.sizes ≡ given
+  pub shares : s.shares ≡ 1
+  pub returned : s.returned ≡ 0
+  pub nothing : HoldsNothing s
+
+-- one that made no event yet
+pub record IsIdle (numbers : List ℕ) (given : Sizes) (s : Sight) : Type 0 where
+  pub member : IsOfPair numbers given s
   pub own : s.own ≡ []

@@ -1,6 +1,6 @@
 //! Clerks of one tracker, one after the other and on threads.
 
-ghost use Rattle.std.specs.Prelude.{◌≡◌, ◌<◌, None};
+ghost use Rattle.std.specs.Prelude.{◌≡◌, ◌<◌, None, [], length};
 ghost use Rattle.history_book.specs.Places.{HoldsNothing, HoldsOne};
 ghost use Rattle.history_book.specs.Sizes.{AreWithinLimits};
 ghost use Rattle.history_book.specs.WentOn.{IsSamePass};
@@ -26,6 +26,7 @@ mod halt;
 mod holds;
 mod kills;
 mod lookups;
+mod pair;
 mod readers;
 mod touches;
 
@@ -83,6 +84,19 @@ fn give_back<G: Gate, R: Wait + Abort>(rt: &R, clerk: &mut Clerk<G>, place: u32)
     clerk.recycle(rt, place);
 }
 
+/// Takes the two places that the clerk then holds.
+fn take_two<G: Gate, R: Wait + Abort>(rt: &R, clerk: &mut Clerk<G>) -> (u32, u32)
+    requires { HoldsNothing (sight_of clerk.old) }
+    ensures two { length (sight_of clerk.new).held ≡ 2 }
+    ensures owed { (sight_of clerk.new).owed ≡ [] }
+{
+    let first = take_one(rt, clerk);
+    let TakeOutcome::Taken { place } = clerk.take(rt) else {
+        panic!(rt; "a place was free");
+    };
+    (first, place)
+}
+
 #[test]
 fn a_further_clerk_is_joined(rt: HostRuntime) -> Result<(), Fail> {
     let (tracker, spot) = Tracker::new(rt.alloc(), sizes())?;
@@ -103,12 +117,9 @@ fn a_further_clerk_is_joined(rt: HostRuntime) -> Result<(), Fail> {
 #[test]
 fn a_pool_is_full(rt: HostRuntime) -> Result<(), Fail> {
     let (tracker, spot) = Tracker::new(rt.alloc(), sizes())?;
-    let mut one = tracker.clerk(spot, &NoGate, 0);
-    one.ready(2)?;
-    let first = take_one(&rt, &mut one);
-    let TakeOutcome::Taken { place } = one.take(&rt) else {
-        panic!(rt; "a place was free");
-    };
+    let mut one = pair::clerk_of(&tracker, spot, &NoGate);
+    pair::make_room(&mut one, 2)?;
+    let (first, place) = take_two(&rt, &mut one);
     assert!(rt; first != place);
     let full = one.take(&rt);
     assert!(rt; matches!(full, TakeOutcome::Full { at: 0 }));

@@ -9,6 +9,7 @@ ghost use Rattle.shared_desk.specs.Sights.{sight_of};
 
 use super::expectations::{expect, master, sizes_for, wanted};
 use super::flows::give_up;
+use super::pair::{Pair, Rest, pair_of, rejoined};
 use ct_io::NoGate;
 use history_book::desk::Desk;
 use history_book::event::{Event, Note};
@@ -182,12 +183,10 @@ fn are_right(events: &[Option<Made>]) -> bool {
 #[test]
 fn each_expectation_is_claimed_once(rt: HostRuntime) -> Result<(), Fail> {
     let (tracker, spot) = Tracker::new(rt.alloc(), sizes_for(1))?;
-    let mut one = tracker.clerk(spot, &NoGate, 0);
-    let mut two = one.split(1, 1);
+    let Pair { mut one, mut two } = pair_of(&tracker, spot, &NoGate);
     let done = both_run(&rt, &mut one, &mut two);
-    let second = one.join(two);
-    let left = one.leave();
-    let closed = tracker.close(left);
+    let Rest { spot, second } = rejoined(&tracker, Pair { one, two });
+    let closed = tracker.close(spot);
     done?;
     assert_eq!(rt; closed.live, 1);
     let mut events = vec![in rt.alloc(); None; closed.events as usize]?;

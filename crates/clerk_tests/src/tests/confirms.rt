@@ -8,6 +8,7 @@ ghost use Rattle.history_book.specs.Sizes.{AreWithinLimits};
 ghost use Rattle.shared_desk.specs.Sights.{sight_of};
 
 use super::flows::{answer, confirm_in, flow, query, udp};
+use super::pair::{Pair, clerk_of, make_ready, make_room, pair_of};
 use super::{sixteen_buckets, sizes, take_one};
 use ct_io::{Crossing, Gate, NoGate};
 use history_book::desk::Desk;
@@ -73,10 +74,8 @@ fn after_two<R: Wait + Abort + AllocGlobal>(
 {
     let (tracker, spot) = Tracker::new(rt.alloc(), sixteen_buckets())?;
     let gate = Passages::new();
-    let mut one = tracker.clerk(spot, &gate, 0);
-    let mut two = one.split(1, 1);
-    one.ready(2)?;
-    two.ready(1)?;
+    let Pair { mut one, mut two } = pair_of(&tracker, spot, &gate);
+    make_ready(&mut one, 2, &mut two, 1)?;
     make(rt, &mut one, first, 0);
     make(rt, &mut one, second, 1);
     let Some(outcome) = answer(rt, &mut two, third) else {
@@ -106,10 +105,8 @@ fn both_confirm<G: Gate, R: Wait>(
 fn one_flow_is_confirmed_once(rt: HostRuntime) -> Result<(), Fail> {
     let (tracker, spot) = Tracker::new(rt.alloc(), sizes())?;
     let gate = Passages::new();
-    let mut one = tracker.clerk(spot, &gate, 0);
-    let mut two = one.split(1, 1);
-    one.ready(1)?;
-    two.ready(1)?;
+    let Pair { mut one, mut two } = pair_of(&tracker, spot, &gate);
+    make_ready(&mut one, 1, &mut two, 1)?;
     let place = take_one(&rt, &mut one);
     let other = take_one(&rt, &mut two);
     assert!(rt; place != other);
@@ -202,8 +199,8 @@ fn given_up<R: Wait + Abort + AllocGlobal>(
     requires protocol { is_lawful_flow flow.now ≡ true }
 {
     let (tracker, spot) = Tracker::new(rt.alloc(), sizes)?;
-    let mut clerk = tracker.clerk(spot, &NoGate, 0);
-    clerk.ready(1)?;
+    let mut clerk = clerk_of(&tracker, spot, &NoGate);
+    make_room(&mut clerk, 1)?;
     let place = placed(rt, &mut clerk, flow);
     Ok(clerk.release_now(place))
 }

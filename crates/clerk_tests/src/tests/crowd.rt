@@ -11,7 +11,7 @@ ghost use Rattle.shared_desk.specs.Sights.{sight_of};
 ghost use Rattle.clerk_tests.specs.Crew.{IsMember, IsNew, IsWhole};
 
 use super::flows::{answer, flow, udp};
-use checks::{are_right, enter_all, nothing_found};
+use checks::{Found, are_right, enter_all, nothing_found};
 use ct_io::NoGate;
 use history_book::desk::Desk;
 use history_book::outcome::ConfirmOutcome;
@@ -279,6 +279,36 @@ pub fn joined(tracker: &Tracker, crew: Crew) -> Left
     }
 }
 
+/// The events of the four clerks, in the order of their threads, entered under their numbers and flows. None where one was entered
+/// before.
+fn entered(
+    alloc: Global,
+    first: &Notes,
+    second: &Notes,
+    third: &Notes,
+    fourth: &Notes,
+) -> Result<Option<Found>, NoMemory> {
+    let mut found = nothing_found(alloc)?;
+    let is_new = enter_all(&mut found, 0, first)
+        && enter_all(&mut found, 1, second)
+        && enter_all(&mut found, 2, third)
+        && enter_all(&mut found, 3, fourth);
+    Ok(if is_new { Some(found) } else { None })
+}
+
+/// Whether all that the four threads were answered is right.
+fn all_are_right(found: &Found, told: Told) -> Result<bool, NoMemory> {
+    let Told { lower, upper } = told;
+    let (first, second) = (lower.one?, lower.two?);
+    let (third, fourth) = (upper.one?, upper.two?);
+    Ok(
+        are_right(found, 0, &first)
+            && are_right(found, 1, &second)
+            && are_right(found, 2, &third)
+            && are_right(found, 3, &fourth),
+    )
+}
+
 /// The four threads confirm 4,000 flows each, of which each shares 2,000 with others. However they run: every flow is
 /// confirmed once, by one of its threads, the numbers of the events are 0 to 11,999, each once, and the other thread that
 /// confirms a flow is told of that very entry, at a point above its number.
@@ -296,16 +326,10 @@ fn each_shared_flow_is_confirmed_once(rt: HostRuntime) -> Result<(), Fail> {
     let closed = tracker.close(spot);
     assert_eq!(rt; closed.events, u64::from(DIFFERENT));
     assert_eq!(rt; closed.live, u32::from(DIFFERENT));
-    let mut found = nothing_found(rt.alloc())?;
-    assert!(rt; enter_all(&mut found, 0, &closed.notes));
-    assert!(rt; enter_all(&mut found, 1, &second));
-    assert!(rt; enter_all(&mut found, 2, &third));
-    assert!(rt; enter_all(&mut found, 3, &fourth));
+    let Some(found) = entered(rt.alloc(), &closed.notes, &second, &third, &fourth)? else {
+        panic!(rt; "an event was made twice");
+    };
     assert_eq!(rt; found.events, closed.events);
-    let Told { lower, upper } = told;
-    assert!(rt; are_right(&found, 0, &lower.one?));
-    assert!(rt; are_right(&found, 1, &lower.two?));
-    assert!(rt; are_right(&found, 2, &upper.one?));
-    assert!(rt; are_right(&found, 3, &upper.two?));
+    assert!(rt; all_are_right(&found, told)?);
     Ok(())
 }

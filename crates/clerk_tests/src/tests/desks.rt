@@ -1,12 +1,13 @@
 //! A clerk answers what any desk is asked.
 
-ghost use Rattle.std.specs.Prelude.{◌≡◌, ◌≤◌, true, Some};
+ghost use Rattle.std.specs.Prelude.{◌≡◌, ◌≤◌, true, [], Some};
 ghost use Rattle.history_book.specs.Entry.{is_of_entry};
 ghost use Rattle.history_book.specs.Places.{HoldsNothing, HoldsOne};
 ghost use Rattle.shared_desk.specs.Sights.{sight_of};
 ghost use Rattle.tuple_core.specs.declared.Segment.TheVariants.{Udp};
 
 use super::flows::query;
+use super::pair::clerk_of;
 use super::sizes;
 use ct_io::NoGate;
 use history_book::desk::Desk;
@@ -17,7 +18,7 @@ use shared_desk::tracker::Tracker;
 use std::process::Abort;
 use std::sync::Wait;
 use std::test::Fail;
-use tuple_core::{Direction, Segment};
+use tuple_core::{Direction, NoMemory, Segment};
 
 /// Takes a place, and confirms the query there as the first entry of all. The place stays held.
 fn begin<R: Wait + Abort, D: Desk>(rt: &R, desk: &mut D) -> u32
@@ -84,15 +85,23 @@ fn end<R: Wait + Abort, D: Desk>(rt: &R, desk: &mut D, place: u32)
     assert_eq!(rt; (count.live, count.at), (0, 3));
 }
 
+/// One flow on a desk that has two places and keeps none, from its first packet to its end.
+fn whole_flow<R: Wait + Abort, D: Desk>(rt: &R, desk: &mut D) -> Result<(), NoMemory>
+    requires nothing { HoldsNothing (D.sight desk.old) }
+    requires own { (D.sight desk.old).own ≡ [] }
+{
+    assert_eq!(rt; (desk.places(), desk.expect_room()), (2, 0));
+    desk.ready(3)?;
+    let place = begin(rt, desk);
+    go_on(rt, desk, place);
+    end(rt, desk, place);
+    assert_eq!(rt; desk.made(), 3);
+    Ok(())
+}
+
 #[test]
 fn a_clerk_is_a_desk(rt: HostRuntime) -> Result<(), Fail> {
     let (tracker, spot) = Tracker::new(rt.alloc(), sizes())?;
-    let mut clerk = tracker.clerk(spot, &NoGate, 0);
-    assert_eq!(rt; (clerk.places(), clerk.expect_room()), (2, 0));
-    clerk.ready(3)?;
-    let place = begin(&rt, &mut clerk);
-    go_on(&rt, &mut clerk, place);
-    end(&rt, &mut clerk, place);
-    assert_eq!(rt; clerk.made(), 3);
-    Ok(())
+    let mut clerk = clerk_of(&tracker, spot, &NoGate);
+    Ok(whole_flow(&rt, &mut clerk)?)
 }

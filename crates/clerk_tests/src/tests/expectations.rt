@@ -9,6 +9,7 @@ ghost use Rattle.shared_desk.specs.Sights.{sight_of};
 
 use super::flows::{flow, udp};
 use super::kills::keep;
+use super::pair::{Pair, make_ready, pair_of};
 use ct_io::{Gate, NoGate};
 use expect_table::expectation::{Expectation, Want};
 use history_book::desk::Desk;
@@ -171,9 +172,8 @@ fn only<G: Gate, R: Wait + Abort>(
 #[test]
 fn what_is_expected_is_listed(rt: HostRuntime) -> Result<(), Fail> {
     let (tracker, spot) = Tracker::new(rt.alloc(), sizes_for(2))?;
-    let mut one = tracker.clerk(spot, &NoGate, 0);
-    let mut two = one.split(1, 1);
-    one.ready(2)?;
+    let Pair { mut one, mut two } = pair_of(&tracker, spot, &NoGate);
+    make_ready(&mut one, 2, &mut two, 0)?;
     let mut listed = Expectations::new(rt.alloc(), 2)?;
     let place = keep_master(&rt, &mut one, 5000, 0);
     let _ = expect(&rt, &mut one, place, 0, 2001, 1_000_000);
@@ -190,10 +190,8 @@ fn what_is_expected_is_listed(rt: HostRuntime) -> Result<(), Fail> {
 #[test]
 fn an_expected_connection_is_claimed(rt: HostRuntime) -> Result<(), Fail> {
     let (tracker, spot) = Tracker::new(rt.alloc(), sizes_for(2))?;
-    let mut one = tracker.clerk(spot, &NoGate, 0);
-    let mut two = one.split(1, 1);
-    one.ready(2)?;
-    two.ready(4)?;
+    let Pair { mut one, mut two } = pair_of(&tracker, spot, &NoGate);
+    make_ready(&mut one, 2, &mut two, 4)?;
     let place = keep_master(&rt, &mut one, 5000, 0);
     let _ = expect(&rt, &mut one, place, 0, 2001, 1_000_000);
     claim_none(&rt, &mut two, 2002, 2_000_000, 2);
@@ -215,10 +213,8 @@ fn an_expected_connection_is_claimed(rt: HostRuntime) -> Result<(), Fail> {
 #[test]
 fn an_older_expectation_is_replaced(rt: HostRuntime) -> Result<(), Fail> {
     let (tracker, spot) = Tracker::new(rt.alloc(), sizes_for(2))?;
-    let mut one = tracker.clerk(spot, &NoGate, 0);
-    let mut two = one.split(1, 1);
-    one.ready(3)?;
-    two.ready(1)?;
+    let Pair { mut one, mut two } = pair_of(&tracker, spot, &NoGate);
+    make_ready(&mut one, 3, &mut two, 1)?;
     let mut listed = Expectations::new(rt.alloc(), 2)?;
     let place = keep_master(&rt, &mut one, 5000, 0);
     let _ = expect(&rt, &mut one, place, 0, 2001, 1_000_000);
@@ -237,10 +233,8 @@ fn an_older_expectation_is_replaced(rt: HostRuntime) -> Result<(), Fail> {
 #[test]
 fn a_second_master_is_refused(rt: HostRuntime) -> Result<(), Fail> {
     let (tracker, spot) = Tracker::new(rt.alloc(), sizes_for(1))?;
-    let mut one = tracker.clerk(spot, &NoGate, 0);
-    let mut two = one.split(1, 1);
-    one.ready(2)?;
-    two.ready(4)?;
+    let Pair { mut one, mut two } = pair_of(&tracker, spot, &NoGate);
+    make_ready(&mut one, 2, &mut two, 4)?;
     let first = keep_master(&rt, &mut one, 5000, 0);
     let second = keep_master(&rt, &mut two, 5001, 1);
     let _ = expect(&rt, &mut one, first, 0, 2001, 1_000_000);
@@ -255,10 +249,8 @@ fn a_second_master_is_refused(rt: HostRuntime) -> Result<(), Fail> {
 #[test]
 fn an_expectation_ends_when_it_is_due_no_longer(rt: HostRuntime) -> Result<(), Fail> {
     let (tracker, spot) = Tracker::new(rt.alloc(), sizes_for(1))?;
-    let mut one = tracker.clerk(spot, &NoGate, 0);
-    let mut two = one.split(1, 1);
-    one.ready(2)?;
-    two.ready(3)?;
+    let Pair { mut one, mut two } = pair_of(&tracker, spot, &NoGate);
+    make_ready(&mut one, 2, &mut two, 3)?;
     let place = keep_master(&rt, &mut one, 5000, 0);
     let _ = expect(&rt, &mut one, place, 0, 2001, 1_000_000);
     let early = unexpect(&rt, &mut two, 1, 300_999_999);
@@ -296,19 +288,51 @@ fn end<G: Gate, R: Wait + Abort>(rt: &R, clerk: &mut Clerk<G>, place: u32, id: u
     assert_eq!(rt; made, number);
 }
 
+/// Two clerks that keep nothing make an entry each, of the ids 0 and 1. Gives their places, which stay held.
+fn keep_both<G: Gate, R: Wait + Abort>(rt: &R, one: &mut Clerk<G>, two: &mut Clerk<G>) -> (u32, u32)
+    requires nothing { HoldsNothing (sight_of one.old) × HoldsNothing (sight_of two.old) }
+    requires spare { (1 ≤ (sight_of one.old).spare) × (1 ≤ (sight_of two.old).spare) }
+    ensures one { HoldsOne (record { place = result.0; id = Some 0 }) (sight_of one.new) }
+    ensures two { HoldsOne (record { place = result.1; id = Some 1 }) (sight_of two.new) }
+    ensures helper { (is_helped_entry 0 (sight_of one.new).front ≡ true) × (is_helped_entry 1 (sight_of two.new).front ≡ true) }
+    ensures same { IsSamePass (sight_of one.old) (sight_of one.new) × IsSamePass (sight_of two.old) (sight_of two.new) }
+    ensures spare { (sight_of one.old).spare ≤ (sight_of one.new).spare + 1 }
+    ensures spare_two { (sight_of two.old).spare ≤ (sight_of two.new).spare + 1 }
+{
+    let first = keep_master(rt, one, 5000, 0);
+    (first, keep_master(rt, two, 5001, 1))
+}
+
+/// These entries, of the ids 0 and 1, expect a connection each, to the ports 2001 and 2002 from 1 s on.
+fn expect_both<G: Gate, R: Wait>(
+    rt: &R,
+    one: &mut Clerk<G>,
+    first: u32,
+    two: &mut Clerk<G>,
+    second: u32,
+)
+    requires one { HoldsOne (record { place = first; id = Some 0 }) (sight_of one.old) }
+    requires two { HoldsOne (record { place = second; id = Some 1 }) (sight_of two.old) }
+    requires helper { (is_helped_entry 0 (sight_of one.old).front ≡ true) × (is_helped_entry 1 (sight_of two.old).front ≡ true) }
+    requires spare { (1 ≤ (sight_of one.old).spare) × (1 ≤ (sight_of two.old).spare) }
+    ensures one { HoldsOne (record { place = first; id = Some 0 }) (sight_of one.new) }
+    ensures helper { is_helped_entry 0 (sight_of one.new).front ≡ true }
+    ensures same { IsSamePass (sight_of one.old) (sight_of one.new) × IsSamePass (sight_of two.old) (sight_of two.new) }
+    ensures spare { (sight_of one.old).spare ≤ (sight_of one.new).spare + 1 }
+{
+    let _ = expect(rt, one, first, 0, 2001, 1_000_000);
+    let _ = expect(rt, two, second, 1, 2002, 1_000_000);
+}
+
 /// What an entry expected ends with it, what another one expects stays, and an entry that is gone expects no more.
 #[test]
 fn what_an_entry_expected_ends_with_it(rt: HostRuntime) -> Result<(), Fail> {
     let (tracker, spot) = Tracker::new(rt.alloc(), sizes_for(2))?;
-    let mut one = tracker.clerk(spot, &NoGate, 0);
-    let mut two = one.split(1, 1);
-    one.ready(4)?;
-    two.ready(2)?;
+    let Pair { mut one, mut two } = pair_of(&tracker, spot, &NoGate);
+    make_ready(&mut one, 4, &mut two, 2)?;
     let mut listed = Expectations::new(rt.alloc(), 2)?;
-    let first = keep_master(&rt, &mut one, 5000, 0);
-    let second = keep_master(&rt, &mut two, 5001, 1);
-    let _ = expect(&rt, &mut one, first, 0, 2001, 1_000_000);
-    let _ = expect(&rt, &mut two, second, 1, 2002, 1_000_000);
+    let (first, second) = keep_both(&rt, &mut one, &mut two);
+    expect_both(&rt, &mut one, first, &mut two, second);
     end(&rt, &mut one, first, 0, 4);
     let e = only(&rt, &mut two, &mut listed, 5);
     assert_eq!(rt; (e.id, e.master), (3, 1));

@@ -7,6 +7,7 @@ ghost use Rattle.history_book.specs.Sizes.{AreWithinLimits};
 ghost use Rattle.shared_desk.specs.Sights.{sight_of};
 
 use super::flows::{answer, flow, look, udp};
+use super::pair::{Pair, make_ready, pair_of};
 use super::sixteen_buckets;
 use bucket_table::finding::FindOnce;
 use ct_io::{Crossing, Gate};
@@ -160,10 +161,8 @@ fn a_confirm_holds_up_no_other_buckets(rt: HostRuntime) -> Result<(), Fail> {
     assert!(rt; are_apart(&sixteen_buckets(), &first, &second));
     let (tracker, spot) = Tracker::new(rt.alloc(), sixteen_buckets())?;
     let gate = Halt::new();
-    let mut one = tracker.clerk(spot, &gate, 0);
-    let mut two = one.split(1, 1);
-    one.ready(1)?;
-    two.ready(1)?;
+    let Pair { mut one, mut two } = pair_of(&tracker, spot, &gate);
+    make_ready(&mut one, 1, &mut two, 1)?;
     let (made, seen) = both_confirm(&rt, &mut one, &mut two, &gate, &first, &second);
     let Some(ConfirmOutcome::Confirmed { id }) = made else {
         panic!(rt; "nobody has the first flow");

@@ -6,6 +6,7 @@ ghost use Rattle.history_book.specs.WentOn.{IsSamePass};
 ghost use Rattle.shared_desk.specs.Sights.{sight_of};
 
 use super::flows::confirm_query;
+use super::pair::{Pair, make_ready, pair_of};
 use super::{give_back, sizes, take_one};
 use ct_io::{Gate, NoGate};
 use history_book::desk::Desk;
@@ -56,9 +57,8 @@ fn empty_at<G: Gate, R: Wait + Abort>(rt: &R, clerk: &mut Clerk<G>, place: u32) 
 #[test]
 fn the_place_of_an_entry_is_held_by_another_clerk(rt: HostRuntime) -> Result<(), Fail> {
     let (tracker, spot) = Tracker::new(rt.alloc(), sizes())?;
-    let mut one = tracker.clerk(spot, &NoGate, 0);
-    let mut two = one.split(1, 1);
-    one.ready(2)?;
+    let Pair { mut one, mut two } = pair_of(&tracker, spot, &NoGate);
+    make_ready(&mut one, 2, &mut two, 0)?;
     let place = take_one(&rt, &mut one);
     assert_eq!(rt; empty_at(&rt, &mut two, place), 0);
     confirm_query(&rt, &mut one, place);

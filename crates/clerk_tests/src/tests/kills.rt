@@ -11,6 +11,7 @@ ghost use Rattle.shared_desk.specs.Sights.{sight_of};
 
 use super::confirms::make;
 use super::flows::{answer, flow, query, udp};
+use super::pair::{Pair, clerk_of, make_ready, make_room, pair_of};
 use super::{sixteen_buckets, sizes};
 use ct_io::{Gate, NoGate};
 use history_book::desk::Desk;
@@ -131,8 +132,8 @@ fn an_entry_is_destroyed(rt: HostRuntime) -> Result<(), Fail> {
 /// What a kill answers that is to end the first entry as expired at this moment. Its deadline is 31 s.
 fn expired_at<R: Wait + Abort + AllocGlobal>(rt: &R, moment: u64) -> Result<KillOutcome, NoMemory> {
     let (tracker, spot) = Tracker::new(rt.alloc(), sizes())?;
-    let mut clerk = tracker.clerk(spot, &NoGate, 0);
-    clerk.ready(2)?;
+    let mut clerk = clerk_of(&tracker, spot, &NoGate);
+    make_room(&mut clerk, 2)?;
     let place = keep(rt, &mut clerk, &query(), 0);
     Ok(clerk.kill(rt, place, Why::Expired { moment }))
 }
@@ -150,6 +151,42 @@ fn an_entry_is_spared_until_its_deadline(rt: HostRuntime) -> Result<(), Fail> {
     Ok(())
 }
 
+/// Makes three entries: the first and the third one by one clerk, and the query between them by the other, which keeps its place.
+fn three_entries<G: Gate, R: Wait + Abort>(
+    rt: &R,
+    one: &mut Clerk<G>,
+    two: &mut Clerk<G>,
+    first: &Flow,
+    third: &Flow,
+) -> u32
+    requires nothing { HoldsNothing (sight_of one.old) × HoldsNothing (sight_of two.old) }
+    requires protocol { (is_lawful_flow first.now ≡ true) × (is_lawful_flow third.now ≡ true) }
+    requires spare { (1 ≤ (sight_of one.old).spare) × (2 ≤ (sight_of two.old).spare) }
+    ensures one { HoldsOne (record { place = result; id = Some 1 }) (sight_of one.new) }
+    ensures two { HoldsNothing (sight_of two.new) }
+    ensures spare { (sight_of one.old).spare ≤ (sight_of one.new).spare + 1 }
+    ensures spare_two { (sight_of two.old).spare ≤ (sight_of two.new).spare + 2 }
+{
+    make(rt, two, first, 0);
+    let place = keep(rt, one, &query(), 1);
+    make(rt, two, third, 2);
+    place
+}
+
+/// A flow is that of the entry of this id, at point 4.
+fn is_there<G: Gate, R: Wait + Abort>(rt: &R, clerk: &mut Clerk<G>, flow: &Flow, entry: u64)
+    requires nothing { HoldsNothing (sight_of clerk.old) }
+    requires protocol { is_lawful_flow flow.now ≡ true }
+    requires spare { 1 ≤ (sight_of clerk.old).spare }
+    ensures nothing { HoldsNothing (sight_of clerk.new) }
+    ensures spare { (sight_of clerk.old).spare ≤ (sight_of clerk.new).spare + 1 }
+{
+    let Some(ConfirmOutcome::Clash { id, both, at, .. }) = answer(rt, clerk, flow) else {
+        panic!(rt; "the entry is live");
+    };
+    assert_eq!(rt; (id, both, at), (entry, true, 4));
+}
+
 /// Of three entries, two of another clerk's, the second one is destroyed, and its flow is confirmed anew by the other clerk. The first
 /// and the third one stay.
 fn confirmed_anew<R: Wait + Abort + AllocGlobal>(rt: &R, sizes: Sizes) -> Result<(), Fail>
@@ -159,38 +196,12 @@ fn confirmed_anew<R: Wait + Abort + AllocGlobal>(rt: &R, sizes: Sizes) -> Result
     let first = flow(udp(1, 1, 2, 2), udp(2, 2, 1, 1));
     let third = flow(udp(3, 3, 4, 4), udp(4, 4, 3, 3));
     let (tracker, spot) = Tracker::new(rt.alloc(), sizes)?;
-    let mut one = tracker.clerk(spot, &NoGate, 0);
-    let mut two = one.split(1, 1);
-    one.ready(2)?;
-    two.ready(5)?;
-    make(rt, &mut two, &first, 0);
-    let place = keep(rt, &mut one, &query(), 1);
-    make(rt, &mut two, &third, 2);
+    let Pair { mut one, mut two } = pair_of(&tracker, spot, &NoGate);
+    make_ready(&mut one, 2, &mut two, 5)?;
+    let place = three_entries(rt, &mut one, &mut two, &first, &third);
     destroy(rt, &mut one, place, 1, Why::Flushed, 3);
-    let of_first = answer(rt, &mut two, &first);
-    assert!(rt;
-        matches!(
-            of_first,
-            Some(ConfirmOutcome::Clash {
-                id: 0,
-                both: true,
-                at: 4,
-                ..
-            })
-        )
-    );
-    let of_third = answer(rt, &mut two, &third);
-    assert!(rt;
-        matches!(
-            of_third,
-            Some(ConfirmOutcome::Clash {
-                id: 2,
-                both: true,
-                at: 4,
-                ..
-            })
-        )
-    );
+    is_there(rt, &mut two, &first, 0);
+    is_there(rt, &mut two, &third, 2);
     make(rt, &mut two, &query(), 4);
     let count = one.count_now();
     assert_eq!(rt; (count.live, count.at), (3, 5));

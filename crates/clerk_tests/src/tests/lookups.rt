@@ -8,6 +8,7 @@ ghost use Rattle.shared_desk.specs.Sights.{sight_of};
 
 use super::flows::{answer, flow, give_up, query, udp};
 use super::kills::keep;
+use super::pair::{Pair, clerk_of, make_ready, make_room, pair_of};
 use super::sizes;
 use bucket_table::finding::FindOnce;
 use ct_io::{Gate, NoGate};
@@ -63,8 +64,8 @@ fn find_none<G: Gate, R: Wait + Abort>(rt: &R, clerk: &mut Clerk<G>, t: &Tuple, 
 #[test]
 fn an_entry_is_found_by_either_tuple(rt: HostRuntime) -> Result<(), Fail> {
     let (tracker, spot) = Tracker::new(rt.alloc(), sizes())?;
-    let mut clerk = tracker.clerk(spot, &NoGate, 0);
-    clerk.ready(1)?;
+    let mut clerk = clerk_of(&tracker, spot, &NoGate);
+    make_room(&mut clerk, 1)?;
     let original = udp(0x0a00_0001, 5000, 0x0a00_0002, 53);
     let reply = udp(0x0a00_0002, 53, 0x0a00_0001, 5000);
     find_none(&rt, &mut clerk, &original, 0);
@@ -119,9 +120,8 @@ fn hold_and_destroy<G: Gate, R: Wait + Abort>(rt: &R, clerk: &mut Clerk<G>, plac
 #[test]
 fn an_entry_that_was_found_is_destroyed(rt: HostRuntime) -> Result<(), Fail> {
     let (tracker, spot) = Tracker::new(rt.alloc(), sizes())?;
-    let mut one = tracker.clerk(spot, &NoGate, 0);
-    let mut two = one.split(1, 1);
-    one.ready(2)?;
+    let Pair { mut one, mut two } = pair_of(&tracker, spot, &NoGate);
+    make_ready(&mut one, 2, &mut two, 0)?;
     events_stay();
     let query = query();
     let place = keep(&rt, &mut one, &query, 0);

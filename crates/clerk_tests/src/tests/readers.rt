@@ -12,12 +12,13 @@ ghost use Rattle.clerk_tests.specs.Crew.{IsMember, IsNew};
 use super::crowd::{Crew, Left, crew_of, joined};
 use super::flows::{flow, give_up, look, udp};
 use bucket_table::finding::FindOnce;
-use checks::{are_right, history_of, unknown};
+use checks::{History, are_right, history_of, unknown};
 use ct_io::NoGate;
 use history_book::desk::Desk;
 use history_book::event::Why;
 use history_book::outcome::{ConfirmOutcome, TakeOutcome};
 use history_book::record::Flow;
+use history_book::report::Notes;
 use history_book::sizes::Sizes;
 use room_list::RoomList;
 use shared_desk::clerk::Clerk;
@@ -289,6 +290,26 @@ fn all_run<'t, R: Threads + Wait + Sync>(
     (crew, told)
 }
 
+/// The history of these events of the two writers, of which there are so many. None where one is not legal.
+fn history_with(
+    alloc: Global,
+    first: &Notes,
+    second: &Notes,
+    events: u64,
+) -> Result<Option<History>, NoMemory> {
+    let mut all = unknown(alloc, events)?;
+    if all.enter_all(first) && all.enter_all(second) {
+        return history_of(alloc, &all);
+    }
+    Ok(None)
+}
+
+/// Whether all that the two readers were answered is right.
+fn both_are_right(history: &History, read: Pair) -> Result<bool, NoMemory> {
+    let (one, two) = (read.one?, read.two?);
+    Ok(are_right(history, &one) && are_right(history, &two))
+}
+
 /// While two threads confirm and destroy four flows in two buckets, two others look for them: a million rounds in all. However they
 /// run: at the point of each entry that was found it was live, in that place and with that tuple in that direction; and where nothing
 /// was, no entry of the flow was live.
@@ -306,15 +327,11 @@ fn what_readers_find_was_so(rt: HostRuntime) -> Result<(), Fail> {
     let closed = tracker.close(spot);
     let Told { written, read } = told;
     written?;
-    let mut events = unknown(rt.alloc(), closed.events)?;
-    assert!(rt; events.enter_all(&closed.notes));
-    assert!(rt; events.enter_all(&second));
     assert_eq!(rt; (third.len(), fourth.len()), (0, 0));
-    let Some(history) = history_of(rt.alloc(), &events)? else {
+    let Some(history) = history_with(rt.alloc(), &closed.notes, &second, closed.events)? else {
         panic!(rt; "each event is legal");
     };
     assert_eq!(rt; history.live, closed.live);
-    assert!(rt; are_right(&history, &read.one?));
-    assert!(rt; are_right(&history, &read.two?));
+    assert!(rt; both_are_right(&history, read)?);
     Ok(())
 }

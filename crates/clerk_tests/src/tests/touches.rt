@@ -1,6 +1,7 @@
 //! A clerk touches and reads the entry for which it holds a place.
 
 use super::flows::confirm_query;
+use super::pair::{clerk_of, make_room};
 use super::{sizes, take_one};
 use ct_io::NoGate;
 use history_book::desk::Desk;
@@ -14,8 +15,8 @@ use tuple_core::{Direction, Segment};
 #[test]
 fn an_entry_is_touched_and_read(rt: HostRuntime) -> Result<(), Fail> {
     let (tracker, spot) = Tracker::new(rt.alloc(), sizes())?;
-    let mut clerk = tracker.clerk(spot, &NoGate, 0);
-    clerk.ready(2)?;
+    let mut clerk = clerk_of(&tracker, spot, &NoGate);
+    make_room(&mut clerk, 2)?;
     let place = take_one(&rt, &mut clerk);
     confirm_query(&rt, &mut clerk, place);
     one_hold_has_its_id();
