@@ -14,6 +14,8 @@ mod late;
 #[cfg(test)]
 mod packet;
 #[cfg(test)]
+mod process;
+#[cfg(test)]
 mod reported;
 #[cfg(test)]
 mod runs;
