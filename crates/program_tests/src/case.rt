@@ -252,6 +252,29 @@ fn wait_of(alloc: Global, case: &Case<'_>) -> Result<Option<usize>, AllocError> 
     Ok(None)
 }
 
+/// Asserts that a report has a legal history with the spans and points that it is to have, and that what was heard is of it.
+fn is_right<R: AllocGlobal + Abort>(
+    rt: &R,
+    case: &Case<'_>,
+    report: &Report,
+    heard: Option<&Heard>,
+    number: usize,
+) -> Result<(), Fail> {
+    let alloc = rt.alloc();
+    let is_legal = is_history(alloc, report, places_of(case.words))?;
+    assert!(rt; is_legal, "history of run {number}");
+    let wait = wait_of(alloc, case)?;
+    assert!(rt; are_spans(report, wait), "spans and points of run {number}");
+    assert!(rt; are_first(report, heard), "what run {number} heard");
+    Ok(())
+}
+
+/// Asserts that both texts are those that the run is to leave.
+fn are_texts<R: Abort>(rt: &R, case: &Case<'_>, out: &[u8], err: &[u8], number: usize) {
+    assert!(rt; fits(out, &case.out), "out of run {number}");
+    assert!(rt; fits(err, &case.err), "err of run {number}");
+}
+
 /// Asserts that a run whose threads pass this gate leaves what it is to leave, and that its report, where there is one, has
 /// a legal history with the spans and points that it is to have.
 pub fn holds_through<R: Threads + Wait + Sync + AllocGlobal + Abort, G: Gate + Sync>(
@@ -265,20 +288,11 @@ pub fn holds_through<R: Threads + Wait + Sync + AllocGlobal + Abort, G: Gate + S
     let reported = case.status == 0 || case.status == 4;
     assert_eq!(rt; left.report.is_some(), reported, "report of run {number}");
     if let Some(report) = &left.report {
-        let places = places_of(case.words);
-        assert!(rt;
-            is_history(rt.alloc(), report, places)?,
-            "history of run {number}"
-        );
-        let wait = wait_of(rt.alloc(), case)?;
-        assert!(rt; are_spans(report, wait), "spans and points of run {number}");
-        let heard = left.heard.as_ref();
-        assert!(rt; are_first(report, heard), "what run {number} heard");
+        is_right(rt, case, report, left.heard.as_ref(), number)?;
     }
     let listens = reported && is_asked(case.words, "--listen");
     assert_eq!(rt; left.heard.is_some(), listens, "listener of run {number}");
-    assert!(rt; fits(left.out.bytes(), &case.out), "out of run {number}");
-    assert!(rt; fits(left.err.bytes(), &case.err), "err of run {number}");
+    are_texts(rt, case, left.out.bytes(), left.err.bytes(), number);
     Ok(())
 }
 

@@ -179,6 +179,13 @@ static BESIDE: Case<'static> = Case {
     err: Text::Any,
 };
 
+/// Whether two reports have the same text, or summary, which has some length.
+fn have_one_text(alloc: Global, one: &Report, other: &Report, summary: bool) -> Result<bool, Fail> {
+    let one = text_of(alloc, one, summary)?;
+    let other = text_of(alloc, other, summary)?;
+    Ok(one.bytes().len() > 50 && one.bytes() == other.bytes())
+}
+
 /// Asserts that a run has the same text, or summary, on both trackers, and that both reports are right.
 fn is_same<R: Threads + Wait + Sync + AllocGlobal + Abort>(
     rt: &R,
@@ -187,17 +194,17 @@ fn is_same<R: Threads + Wait + Sync + AllocGlobal + Abort>(
     summary: bool,
 ) -> Result<(), Fail> {
     let alloc = rt.alloc();
-    let shared = report_of(rt, case)?;
-    let turns = report_in_turns(rt, case)?;
-    assert!(rt; shared.is_some() && turns.is_some(), "both reports");
-    if let (Some(shared), Some(turns)) = (&shared, &turns) {
-        assert!(rt; is_history(alloc, turns, 65_536)?, "the history");
-        assert!(rt; are_spans(turns, wait), "the spans");
-        let one = text_of(alloc, shared, summary)?;
-        let other = text_of(alloc, turns, summary)?;
-        assert!(rt; one.bytes().len() > 50, "there is a text");
-        assert!(rt; one.bytes() == other.bytes(), "the same text");
-    }
+    let Some(shared) = report_of(rt, case)? else {
+        panic!(rt; "there is no report of the program");
+    };
+    let Some(turns) = report_in_turns(rt, case)? else {
+        panic!(rt; "there is no report in turns");
+    };
+    let is_legal = is_history(alloc, &turns, 65_536)?;
+    assert!(rt; is_legal, "the history");
+    assert!(rt; are_spans(&turns, wait), "the spans");
+    let is_one = have_one_text(alloc, &shared, &turns, summary)?;
+    assert!(rt; is_one, "the same text");
     Ok(())
 }
 

@@ -148,15 +148,15 @@ fn is_told<R: Threads + Wait + Sync + AllocGlobal + Abort>(
     late: Class,
 ) -> Result<(), Fail> {
     let alloc = rt.alloc();
-    let report = report_of(rt, case)?;
-    assert!(rt; report.is_some(), "there is a report");
-    if let Some(report) = &report {
-        assert!(rt; are_spans(report, Some(0)), "the report as it is");
-        let changed = falsified(alloc, report, late)?;
-        assert!(rt; is_history(alloc, &changed, PLACES)?, "the false history");
-        assert!(rt; are_spans(&changed, None), "false but for `wait`");
-        assert!(rt; !are_spans(&changed, Some(0)), "the false report");
-    }
+    let Some(report) = report_of(rt, case)? else {
+        panic!(rt; "there is no report");
+    };
+    assert!(rt; are_spans(&report, Some(0)), "the report as it is");
+    let changed = falsified(alloc, &report, late)?;
+    let is_legal = is_history(alloc, &changed, PLACES)?;
+    assert!(rt; is_legal, "the false history");
+    assert!(rt; are_spans(&changed, None), "false but for `wait`");
+    assert!(rt; !are_spans(&changed, Some(0)), "the false report");
     Ok(())
 }
 
