@@ -1,0 +1,126 @@
+"""Wrong bodies of the crates: where they stand, what they change, and in which functions. Used by .ci/more and .ci/fast.
+
+A crate's folder must-fail/ holds those that the merge gate tries, NAME.edit. Its folder must-fail/more/ holds the others, NAME.edit.md:
+the kit reports any file there that is not named .md as a bad edit.
+"""
+import dataclasses
+import glob
+import os
+import re
+
+from checking import TOP, read
+
+GATE, MORE = ".edit", ".edit.md"
+CALL = re.compile(r"\b([a-z_]\w*)(?:::<[^>]*>)?\(")
+HEAD = re.compile(r"^( *)(?:pub(?:\([a-z]+\))? )?(?:const )?(?:unsafe )?fn (\w+)")
+
+
+def crates_txt(root):
+    """What each crate of crates.txt uses."""
+    with open(os.path.join(root, "crates.txt"), encoding="utf-8") as file:
+        lines = [line.partition("#")[0].partition(":") for line in file]
+    return {name.split()[0]: used.split() for name, _, used in lines if name.strip()}
+
+
+@dataclasses.dataclass(frozen=True)
+class Edit:
+    """A wrong body: its crate, its name, its file, and the pairs of texts that it exchanges, each with the file that has them."""
+
+    crate: str
+    name: str
+    path: str
+    pairs: tuple
+
+    def __str__(self):
+        return f"{self.crate}/{self.name}"
+
+
+def pairs_of(text):
+    """The pairs of an edit's text, in its order: the file, the old text and the new one. None stands for what is missing."""
+    file, old, pairs = None, None, []
+    for line in text.split("\n"):
+        if line.startswith("file: "):
+            file = line[len("file: "):].strip()
+        elif line.startswith("old: "):
+            old = line[len("old: "):]
+        elif line.startswith("new:"):
+            pairs.append((file, old, line[len("new:"):].removeprefix(" ")))
+            old = None
+    return tuple(pairs)
+
+
+def in_gate(crate):
+    """The files of the wrong bodies that the merge gate tries."""
+    return sorted(glob.glob(os.path.join(TOP, "crates", crate, "must-fail", f"*{GATE}")))
+
+
+def in_more(crate):
+    """The files of the others."""
+    return sorted(glob.glob(os.path.join(TOP, "crates", crate, "must-fail", "more", f"*{MORE}")))
+
+
+def read_edit(path):
+    folder = os.path.dirname(path)
+    crate = os.path.dirname(os.path.dirname(folder) if os.path.basename(folder) == "more" else folder)
+    name = os.path.basename(path).removesuffix(MORE).removesuffix(GATE)
+    return Edit(os.path.basename(crate), name, path, pairs_of(read(path)))
+
+
+def applied(edit, folder, texts=None):
+    """The texts of the files of a crate's folder that an edit changes, begun with those given, and why it cannot be applied; None where it can."""
+    texts = dict(texts or {})
+    for file, old, new in edit.pairs:
+        if not file or not old or not os.path.isfile(os.path.join(folder, file)):
+            return texts, "a new text without its file and its old text"
+        text = texts[file] if file in texts else read(folder, file)
+        if text.count(old) != 1:
+            return texts, f"'{old}' stands {text.count(old)} times in {os.path.basename(file)}"
+        texts[file] = text.replace(old, new)
+    return texts, None if edit.pairs else "it replaces nothing"
+
+
+def functions_in(text):
+    """The functions with a body that a file defines: the name and how many of that name stand before it, and the first and the last line, counted
+    from 1."""
+    found, begun, seen, before = [], [], {}, 0
+    for number, line in enumerate(text.split("\n"), 1):
+        # (how many lines of attributes stand right before this one)
+        before = before + 1 if line.lstrip().startswith("#[") else 0
+        if head := HEAD.match(line):
+            indent, name = head[1], head[2]
+            # (what began no further left and has not ended has no body)
+            begun = [it for it in begun if len(it[0]) < len(indent)]
+            seen[name] = seen.get(name, -1) + 1
+            begun.append((indent, (name, seen[name]), number))
+        if begun and (line == begun[-1][0] + "}" or re.match(begun[-1][0] + r"\{.*\}$", line) or head and line.endswith("}")):
+            _, which, first = begun.pop()
+            found.append((which, first, number))
+    return found
+
+
+def function_at(text, line):
+    """The function in which a line stands: the innermost; None where it stands in none."""
+    around = [(last - first, which) for which, first, last in functions_in(text) if first <= line <= last]
+    return min(around)[1] if around else None
+
+
+def functions_of(edit, folder):
+    """The functions that an edit changes, each with its file; None stands for a place that is in no function."""
+    texts, touched = {}, set()
+    for file, old, new in edit.pairs:
+        text = texts[file] if file in texts else read(folder, file)
+        touched.add((file, function_at(text, text.count("\n", 0, text.find(old)) + 1)))
+        texts[file] = text.replace(old, new)
+    return touched
+
+
+def calls_of(edit, folder):
+    """The names that the functions which an edit changes call, before and after it."""
+    found = set()
+    for text_of in (lambda file: read(folder, file), lambda file, texts=applied(edit, folder)[0]: texts[file]):
+        for file, which in functions_of(edit, folder):
+            text = text_of(file)
+            lines = text.split("\n")
+            for _, first, last in [it for it in functions_in(text) if it[0] == which]:
+                found |= set(CALL.findall("\n".join(lines[first:last])))
+    return found
