@@ -1,10 +1,12 @@
 """Each wrong body of a crate can be applied: a text that it replaces stands exactly once in its file, in what the pairs before it
-left. And what it calls by a plain name is there: a body with a name that is gone is refused before any clause is tried."""
+left. And what it calls by a plain name is there: a body with a name that is gone is refused before any clause is tried. Those that one check
+tries, and which of them it refuses, are told right for a made-up file."""
 import os
 import re
+import tempfile
 
 from checking import TOP, count, read
-from wrong_bodies import applied, in_gate, in_more, read_edit
+from wrong_bodies import Edit, applied, batches_of, functions_of, in_gate, in_more, read_edit, refusals
 
 CALL = re.compile(r"(?<![\w.:!])(fn )?([a-z_]\w*)\(")
 USE = re.compile(r"\buse [^;]*;")
@@ -31,6 +33,57 @@ def fault(edit):
     return f"it calls {calls[0]}, which its file does not have" if calls else None
 
 
+MADE = """const MOST: u64 = 8;
+
+trait Looks {
+    fn look(&self) -> u64
+        ensures { result ≤ 8 };
+}
+
+#[inline(always)]
+pub fn lower(x: u64) -> u64
+    ensures { result ≤ x }
+{
+    x / 2
+}
+
+impl Looks for Item {
+    fn look(&self) -> u64 {
+        lower(MOST)
+    }
+
+    fn other(&self) -> u64 { 7 }
+}
+"""
+SAID = """note: src/item.rt:8:1: it is not proved that what the function ensures holds when it returns (`returns`)
+note: src/item.rt:17:9: a goal may be false even if its line does not say so
+./proofs/item/Item/look/Answers.antt:3:5: error: `returns`: `goal.returns`: module `X` has no `returns` that can be named from here
+./proofs/item/Item/other/Answers.antt:3:5: error: `returns`: expected type `8 ≡ 7`
+fn made::item::Item::look: no proof: it calls `made::item::lower`, which is not proved
+"""
+
+
+def made_edits(folder):
+    """Edits of a made-up file: of a function, of the one that calls it, twice of another one, and of a constant."""
+    os.mkdir(os.path.join(folder, "src"))
+    with open(os.path.join(folder, "src", "item.rt"), "w", encoding="utf-8") as file:
+        file.write(MADE)
+    pairs = {"half": ("x / 2", "x * 2"), "most": ("lower(MOST)", "lower(9)"), "seven": ("{ 7 }", "{ 8 }"), "six": ("{ 7 }", "{ 6 }"), "constant": ("= 8;", "= 9;")}
+    return {name: Edit("made", name, "", (("src/item.rt", old, new),)) for name, (old, new) in pairs.items()}
+
+
+def check_batches():
+    with tempfile.TemporaryDirectory() as folder:
+        made = made_edits(folder)
+        batches, alone = batches_of(list(made.values()), folder)
+        names = [[it.name for it in batch.edits] for batch in batches]
+        wanted = [["half", "seven"], ["most", "six"]]
+        count("edits: of one check none shares its function with another or calls it", names == wanted and alone == [made["constant"]], (names, alone))
+        refused = refusals(SAID, applied(made["seven"], folder, applied(made["half"], folder)[0])[0])
+        told = {name for name, edit in made.items() if functions_of(edit, folder) & set(refused)}
+        count("edits: a function is refused by its own goals, and not at a name that is gone", told == {"half", "seven", "six"}, refused)
+
+
 def check_all():
     crates = sorted(os.listdir(os.path.join(TOP, "crates")))
     for tier, found in (("must-fail", in_gate), ("must-fail/more", in_more)):
@@ -40,3 +93,4 @@ def check_all():
     many = [(crate, len(in_gate(crate))) for crate in crates if len(in_gate(crate)) > 8]
     count("edits: a crate has at most eight wrong bodies in must-fail/", not many, many)
     count("edits: a call of a function that is gone is told", unknown_call("use a::b;\nfn c() {}\n", "c(); b(); d.e(); f(g())") == "f")
+    check_batches()

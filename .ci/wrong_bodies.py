@@ -11,7 +11,12 @@ import re
 from checking import TOP, read
 
 GATE, MORE = ".edit", ".edit.md"
+# How many wrong bodies one check tries at most.
+MOST = 10
 CALL = re.compile(r"\b([a-z_]\w*)(?:::<[^>]*>)?\(")
+# A line of a check that names a place, and what it says where a proof file names what an edit took away.
+PLACE = re.compile(r"(?:note: )?(?:\./)?(src|proofs)/(\S+?):(\d+):\d+: (.*)")
+NAME_IS_GONE = re.compile(r"has no field|is not in scope|has no `|was not admitted")
 HEAD = re.compile(r"^( *)(?:pub(?:\([a-z]+\))? )?(?:const )?(?:unsafe )?fn (\w+)")
 
 
@@ -82,16 +87,16 @@ def applied(edit, folder, texts=None):
 def functions_in(text):
     """The functions with a body that a file defines: the name and how many of that name stand before it, and the first and the last line, counted
     from 1."""
-    found, begun, seen, before = [], [], {}, 0
+    found, begun, seen, attributes = [], [], {}, 0
     for number, line in enumerate(text.split("\n"), 1):
-        # (how many lines of attributes stand right before this one)
-        before = before + 1 if line.lstrip().startswith("#[") else 0
         if head := HEAD.match(line):
             indent, name = head[1], head[2]
             # (what began no further left and has not ended has no body)
             begun = [it for it in begun if len(it[0]) < len(indent)]
             seen[name] = seen.get(name, -1) + 1
-            begun.append((indent, (name, seen[name]), number))
+            # (a check tells of a function at the first of its attributes)
+            begun.append((indent, (name, seen[name]), number - attributes))
+        attributes = attributes + 1 if line.lstrip().startswith("#[") else 0
         if begun and (line == begun[-1][0] + "}" or re.match(begun[-1][0] + r"\{.*\}$", line) or head and line.endswith("}")):
             _, which, first = begun.pop()
             found.append((which, first, number))
@@ -123,4 +128,72 @@ def calls_of(edit, folder):
             lines = text.split("\n")
             for _, first, last in [it for it in functions_in(text) if it[0] == which]:
                 found |= set(CALL.findall("\n".join(lines[first:last])))
+    return found
+
+
+@dataclasses.dataclass
+class Batch:
+    """Wrong bodies that one check tries, with the functions that they change, the names that these call, and the changed texts."""
+
+    edits: list
+    touched: set
+    called: set
+    texts: dict
+
+    def takes(self, touched, called):
+        """Whether none of these functions is changed here already, nor calls one that is, nor is called by one."""
+        names, own = {which[0] for _, which in touched}, {which[0] for _, which in self.touched}
+        return len(self.edits) < MOST and not self.touched & touched and not own & called and not names & self.called
+
+
+def batches_of(edits, folder):
+    """The edits of a crate in batches; and those that are to be tried alone."""
+    batches, alone = [], []
+    for edit in edits:
+        touched = functions_of(edit, folder)
+        if any(which is None for _, which in touched):
+            alone.append(edit)
+            continue
+        called = calls_of(edit, folder)
+        for batch in [it for it in batches if it.takes(touched, called)]:
+            made, why = applied(edit, folder, batch.texts)
+            if not why:
+                batch.edits.append(edit)
+                batch.touched |= touched
+                batch.called |= called
+                batch.texts = made
+                break
+        else:
+            batches.append(Batch([edit], touched, called, applied(edit, folder)[0]))
+    return batches, alone
+
+
+def function_of_proof(path, spans):
+    """The function whose answers or invariants stand in this file of proofs/, as proofs/MODULE/FUNCTION/Answers.antt; None where several may be meant."""
+    parts = path.split("/")[:-1]
+    found = []
+    for file, functions in spans.items():
+        module = [] if file in ("src/lib.rt", "src/main.rt") else file.removeprefix("src/").removesuffix(".rt").removesuffix("/mod").split("/")
+        if parts[: len(module)] == module:
+            found += [(file, which) for which, _, _ in functions if which[0] in parts[len(module):]]
+    return found[0] if len(found) == 1 else None
+
+
+def refusals(said, texts):
+    """The functions of edited files that a check refuses by a goal of their own, each with the first line that says so."""
+    found = {}
+    spans = {file: functions_in(text) for file, text in texts.items()}
+    for line in said.split("\n"):
+        place = PLACE.match(line)
+        if not place or NAME_IS_GONE.search(place[4]):
+            continue
+        which = None
+        if place[1] == "src" and "it is not proved" in place[4]:
+            file, number = f"src/{place[2]}", int(place[3])
+            around = [(last - first, which) for which, first, last in spans.get(file, []) if first <= number <= last]
+            which = (file, min(around)[1]) if around else None
+        elif place[1] == "proofs" and place[4].startswith("error: "):
+            which = function_of_proof(place[2], spans)
+        if which:
+            found.setdefault(which, line)
     return found
