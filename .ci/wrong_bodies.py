@@ -27,6 +27,12 @@ def crates_txt(root):
     return {name.split()[0]: used.split() for name, _, used in lines if name.strip()}
 
 
+def own_crates(root):
+    """What each crate of crates.txt uses of the repository."""
+    uses = crates_txt(root)
+    return {name: [it for it in used if it in uses] for name, used in uses.items()}
+
+
 @dataclasses.dataclass(frozen=True)
 class Edit:
     """A wrong body: its crate, its name, its file, and the pairs of texts that it exchanges, each with the file that has them."""

@@ -18,17 +18,12 @@ import sys
 import time
 
 TOP = os.path.dirname(os.path.dirname(os.path.realpath(__file__)))
+sys.path.insert(0, os.path.join(TOP, ".ci"))
+from wrong_bodies import own_crates
+
 TICKS = os.sysconf("SC_CLK_TCK")
 KINDS = ("functions", "tests", "base", "wrong")
 STEP = 0.5
-
-
-def crates_txt():
-    """What each crate of crates.txt uses of the repository."""
-    with open(os.path.join(TOP, "crates.txt"), encoding="utf-8") as file:
-        lines = [line.partition("#")[0].partition(":") for line in file]
-    named = {name.split()[0]: used.split() for name, _, used in lines if name.strip()}
-    return {name: [it for it in used if it in named] for name, used in named.items()}
 
 
 def kind_of(words):
@@ -158,7 +153,7 @@ def main():
     given = words.parse_args()
     if not given.command:
         words.error("which command?")
-    uses = crates_txt()
+    uses = own_crates(TOP)
     watch, clock, status = watched(given.command)
     tell(uses, watch, clock)
     if given.to:
