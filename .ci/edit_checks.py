@@ -60,7 +60,15 @@ note: src/item.rt:17:9: a goal may be false even if its line does not say so
 ./proofs/item/Item/look/Answers.antt:3:5: error: `returns`: `goal.returns`: module `X` has no `returns` that can be named from here
 ./proofs/item/Item/other/Answers.antt:3:5: error: `returns`: expected type `8 ≡ 7`
 fn made::item::Item::look: no proof: it calls `made::item::lower`, which is not proved
+logic=not-proved functions=3
 """
+# The same of a check that came to no verdict.
+NO_VERDICT = (
+    (3, SAID.replace("logic=not-proved functions=3", "rattle: no verdict: antt ran out of the steps that the check of one declaration may take")),
+    (1, "src/item.rt:17:9: error: `x` is not in scope\n" + SAID),
+    (1, "module `Rattle-lower` changed. Run the lower steps again\n" + SAID),
+    (-9, SAID.partition("logic=")[0]),
+)
 
 
 def made_edits(folder):
@@ -79,9 +87,21 @@ def check_batches():
         names = [[it.name for it in batch.edits] for batch in batches]
         wanted = [["half", "seven"], ["most", "six"]]
         count("edits: of one check none shares its function with another or calls it", names == wanted and alone == [made["constant"]], (names, alone))
-        refused = refusals(SAID, applied(made["seven"], folder, applied(made["half"], folder)[0])[0])
+        texts = applied(made["seven"], folder, applied(made["half"], folder)[0])[0]
+        refused = refusals(1, SAID, texts)
         told = {name for name, edit in made.items() if functions_of(edit, folder) & set(refused)}
         count("edits: a function is refused by its own goals, and not at a name that is gone", told == {"half", "seven", "six"}, refused)
+        none = [refusals(*it, texts) for it in NO_VERDICT]
+        count("edits: a check that came to no verdict refuses nothing", none == [{}] * len(NO_VERDICT), none)
+
+
+def misplaced(crate):
+    """The files below a crate's must-fail/ that neither tier takes, and the names that both have."""
+    top = os.path.join(TOP, "crates", crate, "must-fail")
+    files = {os.path.join(at, name) for at, _, names in os.walk(top) for name in names}
+    taken = in_gate(crate) + in_more(crate)
+    names = [read_edit(path).name for path in taken]
+    return [os.path.relpath(it, TOP) for it in sorted(files - set(taken))] + [f"{crate}/{it} twice" for it in sorted(set(names)) if names.count(it) > 1]
 
 
 def check_all():
@@ -92,5 +112,9 @@ def check_all():
         count(f"edits: {len(edits)} wrong bodies of {tier}/ can be applied", edits and not faults, faults)
     many = [(crate, len(in_gate(crate))) for crate in crates if len(in_gate(crate)) > 8]
     count("edits: a crate has at most eight wrong bodies in must-fail/", not many, many)
+    whole = sum(len(in_gate(crate)) for crate in crates)
+    count("edits: the gate tries at most 200 wrong bodies", whole <= 200, whole)
+    strays = [it for crate in crates for it in misplaced(crate)]
+    count("edits: each file below must-fail/ is a wrong body of one tier, and no name stands twice in a crate", not strays, strays)
     count("edits: a call of a function that is gone is told", unknown_call("use a::b;\nfn c() {}\n", "c(); b(); d.e(); f(g())") == "f")
     check_batches()

@@ -17,6 +17,9 @@ CALL = re.compile(r"\b([a-z_]\w*)(?:::<[^>]*>)?\(")
 # A line of a check that names a place, and what it says where a proof file names what an edit took away.
 PLACE = re.compile(r"(?:note: )?(?:\./)?(src|proofs)/(\S+?):(\d+):\d+: (.*)")
 NAME_IS_GONE = re.compile(r"has no field|is not in scope|has no `|was not admitted")
+# What a check says that could not read a text, and that could not use what was kept of a library.
+UNREAD = re.compile(r"(?:\./)?(?:src|specs)/\S+?:\d+:\d+: error: ")
+STALE = "Run the lower steps again"
 HEAD = re.compile(r"^( *)(?:pub(?:\([a-z]+\))? )?(?:const )?(?:unsafe )?fn (\w+)")
 
 
@@ -185,11 +188,17 @@ def function_of_proof(path, spans):
     return found[0] if len(found) == 1 else None
 
 
-def refusals(said, texts):
-    """The functions of edited files that a check refuses by a goal of their own, each with the first line that says so."""
+def is_verdict(status, said):
+    """Whether a check read all texts, and came to say that the crate is not proved: else what it says of goals is no verdict."""
+    lines = said.rstrip("\n").split("\n")
+    return status == 1 and lines[-1].startswith("logic=not-proved") and STALE not in said and not any(map(UNREAD.match, lines))
+
+
+def refusals(status, said, texts):
+    """The functions of edited files that a check refuses by a goal of their own, each with a line that says so: one about its text where there is one."""
     found = {}
     spans = {file: functions_in(text) for file, text in texts.items()}
-    for line in said.split("\n"):
+    for line in said.split("\n") if is_verdict(status, said) else []:
         place = PLACE.match(line)
         if not place or NAME_IS_GONE.search(place[4]):
             continue
@@ -200,6 +209,6 @@ def refusals(said, texts):
             which = (file, min(around)[1]) if around else None
         elif place[1] == "proofs" and place[4].startswith("error: "):
             which = function_of_proof(place[2], spans)
-        if which:
-            found.setdefault(which, line)
+        if which and (which not in found or place[1] == "src" and "proofs/" in found[which].partition(":")[0]):
+            found[which] = line
     return found
