@@ -62,7 +62,7 @@ def is_plain(name):
     return os.path.isfile(name) and not os.path.abspath(name).startswith(("/dev/", "/proc/"))
 
 
-BUILDING = ("ctreplay: building", "ctreplay: proving the program", "ctreplay: built")
+BUILDING = ("ctreplay: building", "ctreplay: it is not proved", "ctreplay: waiting", "ctreplay: proving the program", "ctreplay: built")
 
 
 def replay(words, output):
