@@ -26,12 +26,12 @@ KINDS = ("functions", "tests", "base", "wrong")
 STEP = 0.5
 
 
-def kind_of(words):
-    """What a process of the prover proves, by its words."""
+def kind_of(words, folder):
+    """What a process of the prover proves, by its words and the folder in which it runs: the kit tries a wrong body in one of its own."""
     if "--test" in words:
         return "tests"
     kept = words[words.index("--incremental") + 1] if "--incremental" in words else ""
-    if words[1] != "check" or "/rt-edits-" not in kept:
+    if not os.path.basename(folder).startswith("rt-edit-") and "/more-" not in kept:
         return "functions"
     return "base" if os.path.basename(kept) == "seed" else "wrong"
 
@@ -46,11 +46,12 @@ def processes():
             parents[int(name)] = int(fields[1])
             with open(f"/proc/{name}/cmdline", encoding="utf-8", errors="replace") as file:
                 words = file.read().split("\0")
+            if os.path.basename(words[0]) == "rattle" and "--crate-name" in words:
+                crate = words[words.index("--crate-name") + 1]
+                kind = kind_of(words, os.readlink(f"/proc/{name}/cwd"))
+                provers[int(name), fields[19]] = crate, kind, sum(map(int, fields[11:15])) / TICKS
         except OSError:
             continue
-        if os.path.basename(words[0]) == "rattle" and "--crate-name" in words:
-            crate = words[words.index("--crate-name") + 1]
-            provers[int(name), fields[19]] = crate, kind_of(words), sum(map(int, fields[11:15])) / TICKS
     return parents, provers
 
 
@@ -88,8 +89,12 @@ def watched(command):
     watch, begun = Watch(), time.monotonic()
     child = subprocess.Popen(command)
     while child.poll() is None:
-        watch.look(child.pid, time.monotonic() - begun)
-        time.sleep(STEP)
+        try:
+            watch.look(child.pid, time.monotonic() - begun)
+            time.sleep(STEP)
+        except KeyboardInterrupt:
+            # (the command got it too, and what was measured until then is told)
+            child.wait()
     return watch, time.monotonic() - begun, child.returncode
 
 
@@ -154,7 +159,11 @@ def main():
     if not given.command:
         words.error("which command?")
     uses = own_crates(TOP)
-    watch, clock, status = watched(given.command)
+    try:
+        watch, clock, status = watched(given.command)
+    except OSError as error:
+        print(f"proof_times.py: {given.command[0]}: {error.strerror}", file=sys.stderr)
+        return 127
     tell(uses, watch, clock)
     if given.to:
         write(uses, watch, given.to)
