@@ -7,9 +7,6 @@ ghost use Rattle.case_grid.specs.Droppable.{droppable_cells};
 ghost use Rattle.case_grid.specs.FlagSets.{flag_sets};
 ghost use Rattle.case_grid.specs.TcpTables.{tcp_original, tcp_reply};
 
-#[cfg(test)]
-mod tests;
-
 /// Small numbers in `R` rows of `C` columns.
 #[derive(Clone, Copy)]
 pub struct Grid<const R: usize, const C: usize> {

@@ -11,9 +11,6 @@ use std::alloc::Global;
 use std::marker::Model;
 use tuple_core::{NoMemory, Proto, Tuple};
 
-#[cfg(test)]
-mod tests;
-
 /// What came of adding an expectation.
 #[derive(Clone, Copy)]
 pub enum AddOutcome {

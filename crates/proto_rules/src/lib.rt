@@ -14,8 +14,6 @@ mod protocol;
 mod same;
 mod tcp;
 mod tcp_table;
-#[cfg(test)]
-mod tests;
 mod timeout;
 
 use accepted::{begin, icmp_part, udp_part};

@@ -8,9 +8,6 @@ use std::alloc::Global;
 use std::marker::Model;
 use tuple_core::NoMemory;
 
-#[cfg(test)]
-mod tests;
-
 /// A list that contracts see as its items and the number of items for which it has room. Pushing
 /// needs room and takes no memory; `new` and `reserve` make room.
 #[derive(Drop)]

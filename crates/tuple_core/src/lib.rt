@@ -11,8 +11,6 @@ ghost use Rattle.tuple_core.specs.Tuple.{icmp_tuple, in_zone, is_query_type, is_
 use std::alloc::AllocError;
 
 mod bucket;
-#[cfg(test)]
-mod tests;
 mod word_pair;
 
 pub use bucket::{bucket_of, bucket_of_words};

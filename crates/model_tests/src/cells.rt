@@ -1,6 +1,6 @@
 //! The tables at cells that are typed from their rules.
 
-use crate::{droppable_cells, flag_sets, tcp_original, tcp_reply};
+use case_grid::{droppable_cells, flag_sets, tcp_original, tcp_reply};
 
 #[test]
 fn flag_sets_of_segments(rt: HostRuntime) {

@@ -1,6 +1,6 @@
 //! Each call once, with ample memory.
 
-use crate::RoomList;
+use room_list::RoomList;
 use std::test::Fail;
 
 #[test]

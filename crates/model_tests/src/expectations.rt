@@ -1,7 +1,7 @@
 //! The calls of the table, one after the other.
 
-use super::{AddOutcome, ExpectTable};
-use crate::expectation::{Expectation, Want};
+use expect_table::expectation::{Expectation, Want};
+use expect_table::table::{AddOutcome, ExpectTable};
 use std::process::Abort;
 use std::test::Fail;
 use tuple_core::{Proto, Tuple};

@@ -1,9 +1,9 @@
 //! The tables typed row by row, and worked flows.
 
-use crate::TcpState::{
+use proto_rules::TcpState::{
     Close, CloseWait, Established, FinWait, LastAck, SynRecv, SynSent, SynSent2, TimeWait, Unset,
 };
-use crate::{
+use proto_rules::{
     Cell, Outcome, Part, PartKind, TcpState, droppable, is_of_protocol, is_same_part, proto_of,
     start, step, tcp_cell,
 };

@@ -1,6 +1,6 @@
 //! Tuples, their inverses, their words and their buckets, typed from the rules.
 
-use crate::{Proto, Tuple, bucket_of, invert, is_valid, of_words, words};
+use tuple_core::{Proto, Tuple, bucket_of, invert, is_valid, of_words, words};
 
 /// The tuple from 10.0.0.1 to 10.0.0.2.
 fn there(proto: Proto, a: u16, b: u16) -> Tuple {
