@@ -7,5 +7,3 @@ pub mod laws;
 pub mod lines;
 pub mod numbers;
 pub mod options;
-#[cfg(test)]
-mod tests;

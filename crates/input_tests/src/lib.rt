@@ -14,4 +14,6 @@ mod made;
 #[cfg(test)]
 mod rules;
 #[cfg(test)]
+mod text;
+#[cfg(test)]
 mod words;

@@ -1,9 +1,9 @@
 //! Lines, words, numbers and addresses, typed from the rules.
 
-use crate::halves::split_once;
-use crate::lines::{first_word, next_line, next_word};
-use crate::numbers::{number, read_address, read_port};
-use crate::options::{has_ports, once, read_proto};
+use file_text::halves::split_once;
+use file_text::lines::{first_word, next_line, next_word};
+use file_text::numbers::{number, read_address, read_port};
+use file_text::options::{has_ports, once, read_proto};
 use tuple_core::Proto;
 
 #[test]
