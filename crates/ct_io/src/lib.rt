@@ -13,8 +13,6 @@ mod sink;
 mod std_files;
 mod std_sink;
 mod std_stream;
-#[cfg(test)]
-mod tests;
 
 pub use files::{Failed, Files};
 pub use gate::{Crossing, Gate, NoGate};

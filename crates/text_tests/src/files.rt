@@ -1,6 +1,6 @@
 //! Each public call once, and one failing call of each kind.
 
-use crate::{Crossing, Files, Gate, MemFiles, MemSink, NoGate, Sink, StdFiles, StdSink};
+use ct_io::{Crossing, Files, Gate, MemFiles, MemSink, NoGate, Sink, StdFiles, StdSink};
 use std::io;
 use std::io::Write;
 use std::test::Fail;
