@@ -5,6 +5,7 @@ use conntrack_cmd::read::{Script, ScriptError, ScriptKind, read_script};
 use history_book::filter::Filter;
 use room_list::Bytes;
 use std::alloc::Global;
+use std::process::Abort;
 use std::test::Fail;
 use tuple_core::{NoMemory, Proto};
 
@@ -36,9 +37,20 @@ fn answer(alloc: Global, bytes: &[u8]) -> Result<(u32, usize), NoMemory> {
     }
 }
 
+/// Each text has the answer beside it.
+fn are_answered<R: Abort + AllocGlobal>(
+    rt: &R,
+    cases: &[(&str, (u32, usize))],
+) -> Result<(), Fail> {
+    for (text, want) in cases {
+        assert_eq!(rt; answer(rt.alloc(), text.as_bytes())?, *want, "{text}");
+    }
+    Ok(())
+}
+
 #[test]
 fn faulty_first_words(rt: HostRuntime) -> Result<(), Fail> {
-    let cases = [
+    static CASES: &[(&str, (u32, usize))] = &[
         ("-l", (1, 1)),
         ("-L\x0b", (1, 1)),
         ("L", (1, 1)),
@@ -50,15 +62,12 @@ fn faulty_first_words(rt: HostRuntime) -> Result<(), Fail> {
         ("-C\n\n# -X\n-X -p\n-Y", (4, 1)),
         ("wait\nwait-\n", (2, 1)),
     ];
-    for (text, want) in cases {
-        assert_eq!(rt; answer(rt.alloc(), text.as_bytes())?, want, "{text}");
-    }
-    Ok(())
+    are_answered(&rt, CASES)
 }
 
 #[test]
 fn faulty_options(rt: HostRuntime) -> Result<(), Fail> {
-    let cases = [
+    static CASES: &[(&str, (u32, usize))] = &[
         ("-F x", (1, 2)),
         ("-C -C", (1, 2)),
         ("-F #", (1, 2)),
@@ -98,15 +107,12 @@ fn faulty_options(rt: HostRuntime) -> Result<(), Fail> {
         ("-G -w 7", (1, 2)),
         ("-G -w 7 -p tcp -s 1.2.3.4 -d 1.2.3.4 --sport 5", (1, 2)),
     ];
-    for (text, want) in cases {
-        assert_eq!(rt; answer(rt.alloc(), text.as_bytes())?, want, "{text}");
-    }
-    Ok(())
+    are_answered(&rt, CASES)
 }
 
 #[test]
 fn faulty_values(rt: HostRuntime) -> Result<(), Fail> {
-    let cases = [
+    static CASES: &[(&str, (u32, usize))] = &[
         ("expire", (1, 3)),
         ("expire x y", (1, 3)),
         ("expire 10000000000000001", (1, 3)),
@@ -146,15 +152,12 @@ fn faulty_values(rt: HostRuntime) -> Result<(), Fail> {
         ("-L -w -p tcp", (1, 3)),
         ("wait\n-C\n \n-D -p\n-X", (4, 3)),
     ];
-    for (text, want) in cases {
-        assert_eq!(rt; answer(rt.alloc(), text.as_bytes())?, want, "{text}");
-    }
-    Ok(())
+    are_answered(&rt, CASES)
 }
 
 #[test]
 fn repeated_words(rt: HostRuntime) -> Result<(), Fail> {
-    let cases = [
+    static CASES: &[(&str, (u32, usize))] = &[
         ("-L -p tcp -p tcp", (1, 4)),
         ("-L -p tcp -p", (1, 4)),
         ("-L -s 1.2.3.4 -s x", (1, 4)),
@@ -173,10 +176,7 @@ fn repeated_words(rt: HostRuntime) -> Result<(), Fail> {
         ("wait\nwait", (2, 4)),
         ("wait\n-C\n\n\twait \r\n-X", (4, 4)),
     ];
-    for (text, want) in cases {
-        assert_eq!(rt; answer(rt.alloc(), text.as_bytes())?, want, "{text}");
-    }
-    Ok(())
+    are_answered(&rt, CASES)
 }
 
 /// What stands for a value that is not given.
@@ -242,10 +242,24 @@ fn numbers(command: &Command) -> [u64; 9] {
     }
 }
 
+/// The text is one command, before `wait`, with these numbers.
+fn is_one_command<R: Abort + AllocGlobal>(rt: &R, text: &str, want: &[u64; 9]) {
+    match read(rt.alloc(), text.as_bytes()) {
+        Ok(script) => {
+            assert_eq!(rt; script.commands.len(), 1, "{text}");
+            assert_eq!(rt; script.wait, 1, "{text}");
+            for command in script.commands.as_slice() {
+                assert_eq!(rt; numbers(command), *want, "{text}");
+            }
+        }
+        Err(_) => assert!(rt; false, "{text}"),
+    }
+}
+
 #[test]
 fn good_lines(rt: HostRuntime) -> Result<(), Fail> {
     const TARGET: u64 = 0x0102_0304;
-    let cases = [
+    static CASES: &[(&str, [u64; 9])] = &[
         ("-L", [1, NO, NO, NO, NO, NO, NO, NO, NO]),
         ("-L expect", [2, 0, 0, 0, 0, 0, 0, 0, 0]),
         (" \t-L\t expect \r\n", [2, 0, 0, 0, 0, 0, 0, 0, 0]),
@@ -291,25 +305,27 @@ fn good_lines(rt: HostRuntime) -> Result<(), Fail> {
         ),
         ("expire 00000000000000012", [7, 12, 0, 0, 0, 0, 0, 0, 0]),
     ];
-    for (text, want) in cases {
-        match read(rt.alloc(), text.as_bytes()) {
-            Ok(script) => {
-                assert_eq!(rt; script.commands.len(), 1, "{text}");
-                assert_eq!(rt; script.wait, 1, "{text}");
-                for command in script.commands.as_slice() {
-                    assert_eq!(rt; numbers(command), want, "{text}");
-                }
-            }
-            Err(_) => assert!(rt; false, "{text}"),
-        }
+    for (text, want) in CASES {
+        is_one_command(&rt, text, want);
     }
     Ok(())
+}
+
+/// The text is so many commands, so many of them before `wait`.
+fn is_divided<R: Abort + AllocGlobal>(rt: &R, text: &str, (commands, wait): (usize, u32)) {
+    match read(rt.alloc(), text.as_bytes()) {
+        Ok(script) => {
+            assert_eq!(rt; script.commands.len(), commands, "{text}");
+            assert_eq!(rt; script.wait, wait, "{text}");
+        }
+        Err(_) => assert!(rt; false, "{text}"),
+    }
 }
 
 #[test]
 fn divided_scripts(rt: HostRuntime) -> Result<(), Fail> {
     // How many commands there are, and how many of them stand before `wait`.
-    let cases = [
+    static CASES: &[(&str, (usize, u32))] = &[
         ("", (0, 0)),
         ("# only this\n\n \t\r\n", (0, 0)),
         ("wait", (0, 0)),
@@ -318,14 +334,8 @@ fn divided_scripts(rt: HostRuntime) -> Result<(), Fail> {
         ("wait\n-C\n-F", (2, 0)),
         ("-C\n#\n \twait\r\n-F\n-L", (3, 1)),
     ];
-    for (text, (commands, wait)) in cases {
-        match read(rt.alloc(), text.as_bytes()) {
-            Ok(script) => {
-                assert_eq!(rt; script.commands.len(), commands, "{text}");
-                assert_eq!(rt; script.wait, wait, "{text}");
-            }
-            Err(_) => assert!(rt; false, "{text}"),
-        }
+    for (text, want) in CASES {
+        is_divided(&rt, text, *want);
     }
     Ok(())
 }
@@ -342,25 +352,25 @@ fn script(alloc: Global, count: usize, tail: &[u8]) -> Result<Bytes, NoMemory> {
 
 #[test]
 fn full_scripts(rt: HostRuntime) -> Result<(), Fail> {
-    let cases = [
-        (255, b"-F".as_slice(), (0, 256)),
-        (256, b"\n# the last was the last\n".as_slice(), (0, 256)),
-        (256, b"wait\n#".as_slice(), (0, 256)),
-        (257, b"".as_slice(), (257, 5)),
-        (256, b"x".as_slice(), (257, 5)),
-        (256, b"-F x".as_slice(), (257, 5)),
-        (256, b"\n#\nexpire\n".as_slice(), (259, 5)),
-        (256, b"wait\n-F".as_slice(), (258, 5)),
-        (256, b"wait\nwait".as_slice(), (258, 4)),
-        (256, b"wait x".as_slice(), (257, 2)),
-        (300, b"-X".as_slice(), (257, 5)),
-        (255, b"-X".as_slice(), (256, 1)),
+    static CASES: &[(usize, &[u8], (u32, usize))] = &[
+        (255, b"-F", (0, 256)),
+        (256, b"\n# the last was the last\n", (0, 256)),
+        (256, b"wait\n#", (0, 256)),
+        (257, b"", (257, 5)),
+        (256, b"x", (257, 5)),
+        (256, b"-F x", (257, 5)),
+        (256, b"\n#\nexpire\n", (259, 5)),
+        (256, b"wait\n-F", (258, 5)),
+        (256, b"wait\nwait", (258, 4)),
+        (256, b"wait x", (257, 2)),
+        (300, b"-X", (257, 5)),
+        (255, b"-X", (256, 1)),
     ];
-    for (count, tail, want) in cases {
-        let text = script(rt.alloc(), count, tail)?;
+    for (count, tail, want) in CASES {
+        let text = script(rt.alloc(), *count, tail)?;
         assert_eq!(rt;
             answer(rt.alloc(), text.as_slice())?,
-            want,
+            *want,
             "{count} commands"
         );
     }

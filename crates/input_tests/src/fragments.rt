@@ -5,6 +5,7 @@ use packet_headers::Bytes;
 use packet_headers::capture::read_capture;
 use packet_headers::frame::{Frame, Link};
 use std::alloc::Global;
+use std::process::Abort;
 use std::test::Fail;
 use tuple_core::NoMemory;
 
@@ -171,158 +172,108 @@ const LAST: Sent = (SECOND, 24, 32, true, Form::Plain);
 /// The first two in one.
 const FRONT: Sent = (SECOND, 0, 24, false, Form::Plain);
 
+/// Of each capture of these fragments, these frames become the datagram: one bit a frame.
+fn are_completed<R: Abort + AllocGlobal>(rt: &R, cases: &[(&[Sent], u32)]) -> Result<(), Fail> {
+    for (index, (sent, want)) in cases.iter().enumerate() {
+        assert_eq!(rt; completed(rt.alloc(), sent)?, *want, "case {index}");
+    }
+    Ok(())
+}
+
 #[test]
 fn in_any_order(rt: HostRuntime) -> Result<(), Fail> {
-    assert_eq!(rt; completed(rt.alloc(), &[FIRST, MIDDLE, LAST])?, 0b100);
-    assert_eq!(rt; completed(rt.alloc(), &[FIRST, LAST, MIDDLE])?, 0b100);
-    assert_eq!(rt; completed(rt.alloc(), &[MIDDLE, FIRST, LAST])?, 0b100);
-    assert_eq!(rt; completed(rt.alloc(), &[MIDDLE, LAST, FIRST])?, 0b100);
-    assert_eq!(rt; completed(rt.alloc(), &[LAST, FIRST, MIDDLE])?, 0b100);
-    assert_eq!(rt; completed(rt.alloc(), &[LAST, MIDDLE, FIRST])?, 0b100);
-    Ok(())
+    static CASES: &[(&[Sent], u32)] = &[
+        (&[FIRST, MIDDLE, LAST], 0b100),
+        (&[FIRST, LAST, MIDDLE], 0b100),
+        (&[MIDDLE, FIRST, LAST], 0b100),
+        (&[MIDDLE, LAST, FIRST], 0b100),
+        (&[LAST, FIRST, MIDDLE], 0b100),
+        (&[LAST, MIDDLE, FIRST], 0b100),
+    ];
+    are_completed(&rt, CASES)
 }
 
 #[test]
 fn pieces_that_agree(rt: HostRuntime) -> Result<(), Fail> {
-    // The last piece first.
-    assert_eq!(rt;
-        completed(rt.alloc(), &[LAST, (1_100_000, 0, 24, false, Form::Plain)])?,
-        0b10
-    );
-    // A piece that comes twice.
-    assert_eq!(rt;
-        completed(rt.alloc(), &[FIRST, FIRST, MIDDLE, MIDDLE, LAST])?,
-        0b10000
-    );
-    // A piece across two others, and over a hole.
-    assert_eq!(rt;
-        completed(
-            rt.alloc(),
-            &[FIRST, LAST, (SECOND, 8, 32, true, Form::Plain)]
-        )?,
-        0b100
-    );
-    assert_eq!(rt;
-        completed(
-            rt.alloc(),
-            &[FIRST, (SECOND, 16, 24, false, Form::Plain), FRONT, LAST]
-        )?,
-        0b1000
-    );
-    assert_eq!(rt; completed(rt.alloc(), &[MIDDLE, FRONT, LAST])?, 0b100);
-    assert_eq!(rt;
-        completed(rt.alloc(), &[FRONT, (SECOND, 16, 32, true, Form::Plain)])?,
-        0b10
-    );
-    // The header is that of the piece that begins the data, without options.
-    assert_eq!(rt;
-        completed(
-            rt.alloc(),
+    static CASES: &[(&[Sent], u32)] = &[
+        // The last piece first.
+        (&[LAST, (1_100_000, 0, 24, false, Form::Plain)], 0b10),
+        // A piece that comes twice.
+        (&[FIRST, FIRST, MIDDLE, MIDDLE, LAST], 0b10000),
+        // A piece across two others, and over a hole.
+        (&[FIRST, LAST, (SECOND, 8, 32, true, Form::Plain)], 0b100),
+        (
+            &[FIRST, (SECOND, 16, 24, false, Form::Plain), FRONT, LAST],
+            0b1000,
+        ),
+        (&[MIDDLE, FRONT, LAST], 0b100),
+        (&[FRONT, (SECOND, 16, 32, true, Form::Plain)], 0b10),
+        // The header is that of the piece that begins the data, without options.
+        (
             &[
                 (SECOND, 24, 32, true, Form::Marked),
-                (SECOND, 0, 24, false, Form::Options)
-            ]
-        )?,
-        0b10
-    );
-    Ok(())
+                (SECOND, 0, 24, false, Form::Options),
+            ],
+            0b10,
+        ),
+    ];
+    are_completed(&rt, CASES)
 }
 
 #[test]
 fn pieces_that_do_not_agree(rt: HostRuntime) -> Result<(), Fail> {
-    assert_eq!(rt;
-        completed(
-            rt.alloc(),
-            &[LAST, (SECOND, 24, 32, true, Form::Changed), FRONT]
-        )?,
-        0
-    );
-    assert_eq!(rt;
-        completed(
-            rt.alloc(),
-            &[FIRST, LAST, (SECOND, 8, 32, true, Form::Changed), MIDDLE]
-        )?,
-        0
-    );
-    // Two last pieces with two ends, and a piece above the last.
-    assert_eq!(rt;
-        completed(
-            rt.alloc(),
-            &[LAST, (SECOND, 8, 24, true, Form::Plain), FRONT]
-        )?,
-        0
-    );
-    assert_eq!(rt;
-        completed(
-            rt.alloc(),
+    static CASES: &[(&[Sent], u32)] = &[
+        (&[LAST, (SECOND, 24, 32, true, Form::Changed), FRONT], 0),
+        (
+            &[FIRST, LAST, (SECOND, 8, 32, true, Form::Changed), MIDDLE],
+            0,
+        ),
+        // Two last pieces with two ends, and a piece above the last.
+        (&[LAST, (SECOND, 8, 24, true, Form::Plain), FRONT], 0),
+        (
             &[
                 (SECOND, 24, 32, false, Form::Plain),
                 (SECOND, 8, 24, true, Form::Plain),
-                FIRST
-            ]
-        )?,
-        0
-    );
-    // A cut piece is none, and a hole stays one.
-    assert_eq!(rt;
-        completed(rt.alloc(), &[FRONT, (SECOND, 24, 32, true, Form::Cut)])?,
-        0
-    );
-    assert_eq!(rt;
-        completed(rt.alloc(), &[FIRST, (SECOND, 16, 32, true, Form::Plain)])?,
-        0
-    );
-    Ok(())
+                FIRST,
+            ],
+            0,
+        ),
+        // A cut piece is none, and a hole stays one.
+        (&[FRONT, (SECOND, 24, 32, true, Form::Cut)], 0),
+        (&[FIRST, (SECOND, 16, 32, true, Form::Plain)], 0),
+    ];
+    are_completed(&rt, CASES)
 }
 
 #[test]
 fn groups_in_time(rt: HostRuntime) -> Result<(), Fail> {
-    // 30 s after its leader a piece begins a group of its own; a microsecond before it does not.
-    assert_eq!(rt;
-        completed(
-            rt.alloc(),
-            &[LAST, (31 * SECOND, 0, 24, false, Form::Plain)]
-        )?,
-        0
-    );
-    assert_eq!(rt;
-        completed(
-            rt.alloc(),
-            &[LAST, (31 * SECOND - 1, 0, 24, false, Form::Plain)]
-        )?,
-        0b10
-    );
-    assert_eq!(rt;
-        completed(
-            rt.alloc(),
+    static CASES: &[(&[Sent], u32)] = &[
+        // 30 s after its leader a piece begins a group of its own; a microsecond before it does not.
+        (&[LAST, (31 * SECOND, 0, 24, false, Form::Plain)], 0),
+        (&[LAST, (31 * SECOND - 1, 0, 24, false, Form::Plain)], 0b10),
+        (
             &[
                 LAST,
                 (31 * SECOND, 0, 24, false, Form::Plain),
-                (32 * SECOND, 24, 32, true, Form::Plain)
-            ]
-        )?,
-        0b100
-    );
-    // Moments that go back.
-    assert_eq!(rt;
-        completed(rt.alloc(), &[LAST, (0, 0, 24, false, Form::Plain)])?,
-        0b10
-    );
-    // A second datagram of the same key, and pieces that do not agree given up.
-    assert_eq!(rt; completed(rt.alloc(), &[FRONT, LAST, FRONT, LAST])?, 0b1010);
-    assert_eq!(rt;
-        completed(
-            rt.alloc(),
+                (32 * SECOND, 24, 32, true, Form::Plain),
+            ],
+            0b100,
+        ),
+        // Moments that go back.
+        (&[LAST, (0, 0, 24, false, Form::Plain)], 0b10),
+        // A second datagram of the same key, and pieces that do not agree given up.
+        (&[FRONT, LAST, FRONT, LAST], 0b1010),
+        (
             &[
                 LAST,
                 (SECOND, 24, 32, true, Form::Changed),
                 (31 * SECOND, 24, 32, true, Form::Plain),
-                (31 * SECOND, 0, 24, false, Form::Plain)
-            ]
-        )?,
-        0b1000
-    );
-    Ok(())
+                (31 * SECOND, 0, 24, false, Form::Plain),
+            ],
+            0b1000,
+        ),
+    ];
+    are_completed(&rt, CASES)
 }
 
 #[test]

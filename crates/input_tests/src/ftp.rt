@@ -1,6 +1,7 @@
 //! Payloads of FTP, the ends that they name, and what is then expected.
 
 use ftp_helper::{NamedEnd, end_span, named_end, want_of};
+use std::process::Abort;
 use tuple_core::Direction::{Original, Reply};
 use tuple_core::{Direction, Proto, Tuple};
 
@@ -18,9 +19,16 @@ fn named(direction: Direction, payload: &[u8]) -> (u64, u16) {
     }
 }
 
+/// Each payload names the end beside it.
+fn are_named<R: Abort>(rt: &R, direction: Direction, cases: &[(&str, (u64, u16))]) {
+    for (payload, want) in cases {
+        assert_eq!(rt; named(direction, payload.as_bytes()), *want, "{payload}");
+    }
+}
+
 #[test]
 fn client_payloads(rt: HostRuntime) {
-    let cases = [
+    static CASES: &[(&str, (u64, u16))] = &[
         // PORT, in either case, to a CR or an LF.
         ("PORT 10,0,0,1,156,65\r\n", (0x0a00_0001, 40_001)),
         ("port 10,0,0,1,156,65\r\n", (0x0a00_0001, 40_001)),
@@ -79,14 +87,12 @@ fn client_payloads(rt: HostRuntime) {
         ("229 (|||40001|)\r\n", (0, 0)),
         ("", (0, 0)),
     ];
-    for (payload, want) in cases {
-        assert_eq!(rt; named(Original, payload.as_bytes()), want, "{payload}");
-    }
+    are_named(&rt, Original, CASES);
 }
 
 #[test]
 fn server_payloads(rt: HostRuntime) {
-    let cases = [
+    static CASES: &[(&str, (u64, u16))] = &[
         // 227, with or without parentheses.
         (
             "227 Entering Passive Mode (10,0,0,1,156,65).\r\n",
@@ -142,9 +148,7 @@ fn server_payloads(rt: HostRuntime) {
         ("EPRT |1|10.0.0.1|40001|\r\n", (0, 0)),
         ("", (0, 0)),
     ];
-    for (payload, want) in cases {
-        assert_eq!(rt; named(Reply, payload.as_bytes()), want, "{payload}");
-    }
+    are_named(&rt, Reply, CASES);
 }
 
 #[test]
@@ -216,7 +220,7 @@ fn spanned(direction: Direction, payload: &[u8]) -> (usize, usize) {
 
 #[test]
 fn spans(rt: HostRuntime) {
-    let cases = [
+    static CASES: &[(Direction, &str, (usize, usize))] = &[
         (Original, "PORT 10,0,0,1,156,65\r\n", (5, 20)),
         (Original, "port 010,000,00,001,156,065\rx", (5, 27)),
         (Original, "PORT 10,0,0,1,0,0\r\n", (0, 0)),
@@ -238,7 +242,7 @@ fn spans(rt: HostRuntime) {
         (Reply, "229 (|||0|)", (0, 0)),
         (Reply, "", (0, 0)),
     ];
-    for (direction, payload, want) in cases {
-        assert_eq!(rt; spanned(direction, payload.as_bytes()), want, "{payload}");
+    for (direction, payload, want) in CASES {
+        assert_eq!(rt; spanned(*direction, payload.as_bytes()), *want, "{payload}");
     }
 }

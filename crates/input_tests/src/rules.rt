@@ -4,6 +4,7 @@ use nat_setup::read::{RuleError, RuleKind, read_rules};
 use nat_setup::rule::{Block, Rule, Rules, Side};
 use room_list::Bytes;
 use std::alloc::Global;
+use std::process::Abort;
 use std::test::Fail;
 use tuple_core::{NoMemory, Proto};
 
@@ -35,10 +36,20 @@ fn answer(alloc: Global, bytes: &[u8]) -> Result<(u32, usize), NoMemory> {
     }
 }
 
+/// Each text has the answer beside it.
+fn are_answered<R: Abort + AllocGlobal>(
+    rt: &R,
+    cases: &[(&str, (u32, usize))],
+) -> Result<(), Fail> {
+    for (text, want) in cases {
+        assert_eq!(rt; answer(rt.alloc(), text.as_bytes())?, *want, "{text}");
+    }
+    Ok(())
+}
+
 #[test]
 fn faulty_lines(rt: HostRuntime) -> Result<(), Fail> {
-    let cases = [
-        // Words.
+    static WORDS: &[(&str, (u32, usize))] = &[
         ("snat\n", (1, 1)),
         ("snat to", (1, 1)),
         ("snat to\r\n", (1, 1)),
@@ -62,7 +73,8 @@ fn faulty_lines(rt: HostRuntime) -> Result<(), Fail> {
         ("snat -p icmp --dport 5 to 1.2.3.4", (1, 1)),
         ("snat\x0bto 1.2.3.4", (1, 1)),
         ("snat to 1.2.3.4 \r\r\n", (1, 1)),
-        // Addresses.
+    ];
+    static ADDRESSES: &[(&str, (u32, usize))] = &[
         ("snat to 256.0.0.1", (1, 2)),
         ("snat to 1.2.3", (1, 2)),
         ("snat to 1.2.3.4.5", (1, 2)),
@@ -79,14 +91,16 @@ fn faulty_lines(rt: HostRuntime) -> Result<(), Fail> {
         ("dnat -d x to 1.2.3.4", (1, 2)),
         ("dnat -d x -d", (1, 2)),
         ("snat to 1.2.3.4x y", (1, 2)),
-        // Lengths.
+    ];
+    static LENGTHS: &[(&str, (u32, usize))] = &[
         ("snat -s 1.2.3.4/33 to 1.2.3.4", (1, 3)),
         ("snat -s 1.2.3.4/008 to 1.2.3.4", (1, 3)),
         ("snat -s 1.2.3.4/ to 1.2.3.4", (1, 3)),
         ("snat -d 1.2.3.4/8/9 to 1.2.3.4", (1, 3)),
         ("snat -d 1.2.3.4/x to 1.2.3.4", (1, 3)),
         ("snat -d 1.2.3.4/-1 to x", (1, 3)),
-        // Ports.
+    ];
+    static PORTS: &[(&str, (u32, usize))] = &[
         ("snat --sport 0 to 1.2.3.4", (1, 4)),
         ("snat --dport 65536 to 1.2.3.4", (1, 4)),
         ("snat -p tcp --dport 000080 to 1.2.3.4", (1, 4)),
@@ -97,15 +111,18 @@ fn faulty_lines(rt: HostRuntime) -> Result<(), Fail> {
         ("snat -p tcp to 1.2.3.4:0-8", (1, 4)),
         ("snat -p tcp to 1.2.3.4:1-2-3", (1, 4)),
         ("snat -p tcp to 1.2.3.4:99999", (1, 4)),
-        // The number of the line, and the first of several faults.
+    ];
+    // The number of the line, and the first of several faults.
+    static LINES: &[(&str, (u32, usize))] = &[
         ("\n \t\r\n# snat\nsnat to 1.2.3.4\ndnat\nsnat to x", (5, 1)),
         ("snat to 1.2.3.4\r\n\r\nsnat to x\nfoo\n", (3, 2)),
         ("#\nsnat -s 1.2.3.4/99 -p x to y", (2, 3)),
     ];
-    for (text, want) in cases {
-        assert_eq!(rt; answer(rt.alloc(), text.as_bytes())?, want, "{text}");
-    }
-    Ok(())
+    are_answered(&rt, WORDS)?;
+    are_answered(&rt, ADDRESSES)?;
+    are_answered(&rt, LENGTHS)?;
+    are_answered(&rt, PORTS)?;
+    are_answered(&rt, LINES)
 }
 
 /// A rule as numbers. Where there is no protocol or no port, 0; where there is no block, a length of 99.
@@ -150,10 +167,23 @@ fn block_numbers(block: Option<Block>) -> (u32, u32) {
     }
 }
 
+/// The text is one rule, with these numbers.
+fn is_one_rule<R: Abort + AllocGlobal>(rt: &R, text: &str, want: &[u32; 11]) {
+    match read(rt.alloc(), text.as_bytes()) {
+        Ok(rules) => {
+            assert_eq!(rt; rules.len(), 1, "{text}");
+            for rule in rules.as_slice() {
+                assert_eq!(rt; numbers(rule), *want, "{text}");
+            }
+        }
+        Err(_) => assert!(rt; false, "{text}"),
+    }
+}
+
 #[test]
 fn good_lines(rt: HostRuntime) -> Result<(), Fail> {
     const TARGET: u32 = 0x0102_0304;
-    let cases = [
+    static CASES: &[(&str, [u32; 11])] = &[
         ("snat to 1.2.3.4", [1, 0, 0, 99, 0, 99, 0, 0, TARGET, 0, 0]),
         (
             "dnat to 255.0.10.100\n",
@@ -196,16 +226,8 @@ fn good_lines(rt: HostRuntime) -> Result<(), Fail> {
             [2, 6, 0, 99, 0, 99, 0, 0, TARGET, 8, 8],
         ),
     ];
-    for (text, want) in cases {
-        match read(rt.alloc(), text.as_bytes()) {
-            Ok(rules) => {
-                assert_eq!(rt; rules.len(), 1, "{text}");
-                for rule in rules.as_slice() {
-                    assert_eq!(rt; numbers(rule), want, "{text}");
-                }
-            }
-            Err(_) => assert!(rt; false, "{text}"),
-        }
+    for (text, want) in CASES {
+        is_one_rule(&rt, text, want);
     }
     Ok(())
 }
@@ -222,21 +244,25 @@ fn file(alloc: Global, count: usize, tail: &[u8]) -> Result<Bytes, NoMemory> {
 
 #[test]
 fn full_files(rt: HostRuntime) -> Result<(), Fail> {
-    let cases = [
-        (0, b"".as_slice(), (0, 0)),
-        (255, b"dnat to 1.2.3.4".as_slice(), (0, 256)),
-        (256, b"".as_slice(), (0, 256)),
-        (256, b"\n# the last was the last\n".as_slice(), (0, 256)),
-        (257, b"".as_slice(), (257, 5)),
-        (256, b"dnat to 1.2.3.4".as_slice(), (257, 5)),
-        (256, b"x".as_slice(), (257, 5)),
-        (256, b"\n#\nsnat to y\n".as_slice(), (259, 5)),
-        (300, b"snat".as_slice(), (257, 5)),
-        (255, b"snat".as_slice(), (256, 1)),
+    static CASES: &[(usize, &[u8], (u32, usize))] = &[
+        (0, b"", (0, 0)),
+        (255, b"dnat to 1.2.3.4", (0, 256)),
+        (256, b"", (0, 256)),
+        (256, b"\n# the last was the last\n", (0, 256)),
+        (257, b"", (257, 5)),
+        (256, b"dnat to 1.2.3.4", (257, 5)),
+        (256, b"x", (257, 5)),
+        (256, b"\n#\nsnat to y\n", (259, 5)),
+        (300, b"snat", (257, 5)),
+        (255, b"snat", (256, 1)),
     ];
-    for (count, tail, want) in cases {
-        let text = file(rt.alloc(), count, tail)?;
-        assert_eq!(rt; answer(rt.alloc(), text.as_slice())?, want, "{count} rules");
+    for (count, tail, want) in CASES {
+        let text = file(rt.alloc(), *count, tail)?;
+        assert_eq!(rt;
+            answer(rt.alloc(), text.as_slice())?,
+            *want,
+            "{count} rules"
+        );
     }
     Ok(())
 }

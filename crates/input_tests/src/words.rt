@@ -2,6 +2,7 @@
 
 use command_words::{Asked, Named, Origin, WordsError, WordsLimit, read_words};
 use std::alloc::{AllocError, Global};
+use std::process::Abort;
 use std::test::Fail;
 
 mod made;
@@ -22,6 +23,28 @@ fn fault(alloc: Global, line: &str) -> Result<Option<WordsError>, AllocError> {
         Ok(_) => Ok(None),
         Err(why) => Ok(Some(why)),
     }
+}
+
+/// No line has the form.
+fn are_misused<R: Abort + AllocGlobal>(rt: &R, lines: &[&str]) -> Result<(), Fail> {
+    for line in lines {
+        assert!(rt;
+            fault(rt.alloc(), line)? == Some(WordsError::Usage),
+            "{line}"
+        );
+    }
+    Ok(())
+}
+
+/// Each line passes the limit beside it.
+fn are_past<R: Abort + AllocGlobal>(rt: &R, cases: &[(&str, WordsLimit)]) -> Result<(), Fail> {
+    for (line, limit) in cases {
+        assert!(rt;
+            fault(rt.alloc(), line)? == Some(WordsError::Limit(*limit)),
+            "{line}"
+        );
+    }
+    Ok(())
 }
 
 /// What a line asks for.
@@ -107,9 +130,15 @@ fn asks(alloc: Global, line: &str, wanted: &Wanted<'_>) -> Result<bool, AllocErr
     }
 }
 
+/// The line asks for what is wanted.
+fn is_asked<R: Abort + AllocGlobal>(rt: &R, line: &str, wanted: &Wanted<'_>) -> Result<(), Fail> {
+    assert!(rt; asks(rt.alloc(), line, wanted)?, "{line}");
+    Ok(())
+}
+
 #[test]
 fn missing_words(rt: HostRuntime) -> Result<(), Fail> {
-    let lines = [
+    static LINES: &[&str] = &[
         "ctreplay",
         "c.pcap",
         "ctreplay --rules",
@@ -126,18 +155,12 @@ fn missing_words(rt: HostRuntime) -> Result<(), Fail> {
         "ctreplay --listen",
         "ctreplay --rewrite",
     ];
-    for line in lines {
-        assert!(rt;
-            fault(rt.alloc(), line)? == Some(WordsError::Usage),
-            "{line}"
-        );
-    }
-    Ok(())
+    are_misused(&rt, LINES)
 }
 
 #[test]
 fn repeated_and_unknown_options(rt: HostRuntime) -> Result<(), Fail> {
-    let lines = [
+    static LINES: &[&str] = &[
         "ctreplay --rules --script s c",
         "ctreplay --rules a --rules b c",
         "ctreplay --script a --script a c",
@@ -155,18 +178,12 @@ fn repeated_and_unknown_options(rt: HostRuntime) -> Result<(), Fail> {
         "ctreplay --make 0 --packets 8 --packets 8 --threads 2",
         "ctreplay --make 0 --packets 8 --threads 2 --threads 2",
     ];
-    for line in lines {
-        assert!(rt;
-            fault(rt.alloc(), line)? == Some(WordsError::Usage),
-            "{line}"
-        );
-    }
-    Ok(())
+    are_misused(&rt, LINES)
 }
 
 #[test]
 fn repeated_and_unknown_flags(rt: HostRuntime) -> Result<(), Fail> {
-    let lines = [
+    static LINES: &[&str] = &[
         "ctreplay --summary --summary c",
         "ctreplay --summary=true c",
         "ctreplay --summary= c",
@@ -190,18 +207,12 @@ fn repeated_and_unknown_flags(rt: HostRuntime) -> Result<(), Fail> {
         "ctreplay --Rewrite c",
         "ctreplay --rewrites c",
     ];
-    for line in lines {
-        assert!(rt;
-            fault(rt.alloc(), line)? == Some(WordsError::Usage),
-            "{line}"
-        );
-    }
-    Ok(())
+    are_misused(&rt, LINES)
 }
 
 #[test]
 fn other_options(rt: HostRuntime) -> Result<(), Fail> {
-    let lines = [
+    static LINES: &[&str] = &[
         "ctreplay -1",
         "ctreplay --help",
         "ctreplay -h",
@@ -212,18 +223,12 @@ fn other_options(rt: HostRuntime) -> Result<(), Fail> {
         "ctreplay --rules -f c",
         "ctreplay --captures c",
     ];
-    for line in lines {
-        assert!(rt;
-            fault(rt.alloc(), line)? == Some(WordsError::Usage),
-            "{line}"
-        );
-    }
-    Ok(())
+    are_misused(&rt, LINES)
 }
 
 #[test]
 fn no_entries(rt: HostRuntime) -> Result<(), Fail> {
-    let lines = [
+    static LINES: &[&str] = &[
         "ctreplay --entries  c",
         "ctreplay --entries= c",
         "ctreplay --entries x c",
@@ -234,18 +239,12 @@ fn no_entries(rt: HostRuntime) -> Result<(), Fail> {
         "ctreplay --entries 00000000005 c",
         "ctreplay --entries 99999999999 c",
     ];
-    for line in lines {
-        assert!(rt;
-            fault(rt.alloc(), line)? == Some(WordsError::Usage),
-            "{line}"
-        );
-    }
-    Ok(())
+    are_misused(&rt, LINES)
 }
 
 #[test]
 fn no_powers_of_two(rt: HostRuntime) -> Result<(), Fail> {
-    let lines = [
+    static LINES: &[&str] = &[
         "ctreplay --buckets 0 c",
         "ctreplay --buckets 3 c",
         "ctreplay --buckets 65535 c",
@@ -254,18 +253,12 @@ fn no_powers_of_two(rt: HostRuntime) -> Result<(), Fail> {
         "ctreplay --buckets 00000000016 c",
         "ctreplay --buckets= c",
     ];
-    for line in lines {
-        assert!(rt;
-            fault(rt.alloc(), line)? == Some(WordsError::Usage),
-            "{line}"
-        );
-    }
-    Ok(())
+    are_misused(&rt, LINES)
 }
 
 #[test]
 fn no_ports(rt: HostRuntime) -> Result<(), Fail> {
-    let lines = [
+    static LINES: &[&str] = &[
         "ctreplay --ftp= c",
         "ctreplay --ftp  c",
         "ctreplay --ftp , c",
@@ -280,18 +273,12 @@ fn no_ports(rt: HostRuntime) -> Result<(), Fail> {
         "ctreplay --ftp 1,2,3,4,5,6,7,8,9 c",
         "ctreplay --ftp 1,2,3,4,5,6,7,8, c",
     ];
-    for line in lines {
-        assert!(rt;
-            fault(rt.alloc(), line)? == Some(WordsError::Usage),
-            "{line}"
-        );
-    }
-    Ok(())
+    are_misused(&rt, LINES)
 }
 
 #[test]
 fn no_zones(rt: HostRuntime) -> Result<(), Fail> {
-    let lines = [
+    static LINES: &[&str] = &[
         "ctreplay --zones= c",
         "ctreplay --zones  c",
         "ctreplay --zones , c",
@@ -314,18 +301,12 @@ fn no_zones(rt: HostRuntime) -> Result<(), Fail> {
         "ctreplay --zones 1,2,3,4 a b c",
         "ctreplay --zones 1 2 a b",
     ];
-    for line in lines {
-        assert!(rt;
-            fault(rt.alloc(), line)? == Some(WordsError::Usage),
-            "{line}"
-        );
-    }
-    Ok(())
+    are_misused(&rt, LINES)
 }
 
 #[test]
 fn form_before_limits(rt: HostRuntime) -> Result<(), Fail> {
-    let lines = [
+    static LINES: &[&str] = &[
         "ctreplay --entries 0 --buckets 3 c",
         "ctreplay --entries 65537 --ftp 0 c",
         "ctreplay --entries 0",
@@ -333,13 +314,7 @@ fn form_before_limits(rt: HostRuntime) -> Result<(), Fail> {
         "ctreplay --buckets 131072 --zones 1,2 c",
         "ctreplay --entries 0 --zones 65536 c",
     ];
-    for line in lines {
-        assert!(rt;
-            fault(rt.alloc(), line)? == Some(WordsError::Usage),
-            "{line}"
-        );
-    }
-    Ok(())
+    are_misused(&rt, LINES)
 }
 
 #[test]
@@ -350,7 +325,7 @@ fn no_words(rt: HostRuntime) {
 
 #[test]
 fn limits(rt: HostRuntime) -> Result<(), Fail> {
-    let cases = [
+    static CASES: &[(&str, WordsLimit)] = &[
         ("ctreplay --entries 0 c", WordsLimit::Entries),
         ("ctreplay --entries 0000000000 c", WordsLimit::Entries),
         ("ctreplay --entries 65537 c", WordsLimit::Entries),
@@ -365,13 +340,7 @@ fn limits(rt: HostRuntime) -> Result<(), Fail> {
             WordsLimit::Entries,
         ),
     ];
-    for (line, limit) in cases {
-        assert!(rt;
-            fault(rt.alloc(), line)? == Some(WordsError::Limit(limit)),
-            "{line}"
-        );
-    }
-    Ok(())
+    are_past(&rt, CASES)
 }
 
 /// The answer to a line with these options and so many captures.
@@ -402,32 +371,32 @@ fn many_captures(rt: HostRuntime) -> Result<(), Fail> {
 
 #[test]
 fn captures(rt: HostRuntime) -> Result<(), Fail> {
-    let cases = [
-        ("ctreplay c", ["c"].as_slice()),
-        ("ctreplay -- c", ["c"].as_slice()),
-        ("ctreplay c --", ["c"].as_slice()),
-        ("ctreplay -- -c", ["-c"].as_slice()),
-        ("ctreplay -- --rules", ["--rules"].as_slice()),
-        ("ctreplay -- --", ["--"].as_slice()),
-        ("ctreplay -", ["-"].as_slice()),
-        ("ctreplay ", [""].as_slice()),
-        ("ctreplay a b a", ["a", "b", "a"].as_slice()),
-        ("ctreplay b  a", ["b", "", "a"].as_slice()),
-        ("ctreplay rules help", ["rules", "help"].as_slice()),
+    static CASES: &[(&str, &[&str])] = &[
+        ("ctreplay c", &["c"]),
+        ("ctreplay -- c", &["c"]),
+        ("ctreplay c --", &["c"]),
+        ("ctreplay -- -c", &["-c"]),
+        ("ctreplay -- --rules", &["--rules"]),
+        ("ctreplay -- --", &["--"]),
+        ("ctreplay -", &["-"]),
+        ("ctreplay ", &[""]),
+        ("ctreplay a b a", &["a", "b", "a"]),
+        ("ctreplay b  a", &["b", "", "a"]),
+        ("ctreplay rules help", &["rules", "help"]),
         // The first word is not looked at.
-        ("--rules c", ["c"].as_slice()),
-        (" c", ["c"].as_slice()),
+        ("--rules c", &["c"]),
+        (" c", &["c"]),
     ];
-    for (line, captures) in cases {
+    for (line, captures) in CASES {
         let wanted = Wanted { captures, ..USUAL };
-        assert!(rt; asks(rt.alloc(), line, &wanted)?, "{line}");
+        is_asked(&rt, line, &wanted)?;
     }
     Ok(())
 }
 
 #[test]
 fn names(rt: HostRuntime) -> Result<(), Fail> {
-    let cases = [
+    static CASES: &[(&str, Option<&str>, Option<&str>)] = &[
         ("ctreplay --rules f c", Some("f"), None),
         ("ctreplay --rules=f c", Some("f"), None),
         ("ctreplay c --rules f", Some("f"), None),
@@ -443,20 +412,20 @@ fn names(rt: HostRuntime) -> Result<(), Fail> {
         ("ctreplay --script s --rules f c", Some("f"), Some("s")),
         ("ctreplay --rules f c --script s", Some("f"), Some("s")),
     ];
-    for (line, rules, script) in cases {
+    for (line, rules, script) in CASES {
         let wanted = Wanted {
-            rules,
-            script,
+            rules: *rules,
+            script: *script,
             ..USUAL
         };
-        assert!(rt; asks(rt.alloc(), line, &wanted)?, "{line}");
+        is_asked(&rt, line, &wanted)?;
     }
     Ok(())
 }
 
 #[test]
 fn sizes(rt: HostRuntime) -> Result<(), Fail> {
-    let cases = [
+    static CASES: &[(&str, u32, u32)] = &[
         ("ctreplay --entries=16 c", 16, 16_384),
         ("ctreplay --entries 1 c", 1, 16_384),
         ("ctreplay --entries 65536 c", 65_536, 16_384),
@@ -467,158 +436,138 @@ fn sizes(rt: HostRuntime) -> Result<(), Fail> {
         ("ctreplay --buckets 0000032768 c", 65_536, 32_768),
         ("ctreplay --buckets 8 c --entries 7", 7, 8),
     ];
-    for (line, entries, buckets) in cases {
+    for (line, entries, buckets) in CASES {
         let wanted = Wanted {
-            entries,
-            buckets,
+            entries: *entries,
+            buckets: *buckets,
             ..USUAL
         };
-        assert!(rt; asks(rt.alloc(), line, &wanted)?, "{line}");
+        is_asked(&rt, line, &wanted)?;
     }
     Ok(())
 }
 
 #[test]
 fn ports(rt: HostRuntime) -> Result<(), Fail> {
-    let cases = [
-        ("ctreplay --ftp 1 c", [1].as_slice()),
-        ("ctreplay --ftp=65535 c", [65_535].as_slice()),
-        ("ctreplay --ftp 00021 c", [21].as_slice()),
-        ("ctreplay --ftp 21,21 c", [21, 21].as_slice()),
-        ("ctreplay c --ftp 2121,21", [2121, 21].as_slice()),
+    static CASES: &[(&str, &[u16])] = &[
+        ("ctreplay --ftp 1 c", &[1]),
+        ("ctreplay --ftp=65535 c", &[65_535]),
+        ("ctreplay --ftp 00021 c", &[21]),
+        ("ctreplay --ftp 21,21 c", &[21, 21]),
+        ("ctreplay c --ftp 2121,21", &[2121, 21]),
         (
             "ctreplay --ftp 8,7,6,5,4,3,2,1 c",
-            [8, 7, 6, 5, 4, 3, 2, 1].as_slice(),
+            &[8, 7, 6, 5, 4, 3, 2, 1],
         ),
     ];
-    for (line, ftp) in cases {
+    for (line, ftp) in CASES {
         let wanted = Wanted { ftp, ..USUAL };
-        assert!(rt; asks(rt.alloc(), line, &wanted)?, "{line}");
+        is_asked(&rt, line, &wanted)?;
     }
     Ok(())
 }
 
 #[test]
 fn zones(rt: HostRuntime) -> Result<(), Fail> {
-    let cases = [
-        ("ctreplay --zones 7 c", ["c"].as_slice(), [7].as_slice()),
-        (
-            "ctreplay --zones=65535 c",
-            ["c"].as_slice(),
-            [65_535].as_slice(),
-        ),
-        ("ctreplay c --zones 00007", ["c"].as_slice(), [7].as_slice()),
-        ("ctreplay --zones 0 c", ["c"].as_slice(), [0].as_slice()),
-        (
-            "ctreplay --zones 1,2 a b",
-            ["a", "b"].as_slice(),
-            [1, 2].as_slice(),
-        ),
-        (
-            "ctreplay b --zones 2,1 a",
-            ["b", "a"].as_slice(),
-            [2, 1].as_slice(),
-        ),
-        (
-            "ctreplay --zones 5,5 a a",
-            ["a", "a"].as_slice(),
-            [5, 5].as_slice(),
-        ),
+    static CASES: &[(&str, &[&str], &[u16])] = &[
+        ("ctreplay --zones 7 c", &["c"], &[7]),
+        ("ctreplay --zones=65535 c", &["c"], &[65_535]),
+        ("ctreplay c --zones 00007", &["c"], &[7]),
+        ("ctreplay --zones 0 c", &["c"], &[0]),
+        ("ctreplay --zones 1,2 a b", &["a", "b"], &[1, 2]),
+        ("ctreplay b --zones 2,1 a", &["b", "a"], &[2, 1]),
+        ("ctreplay --zones 5,5 a a", &["a", "a"], &[5, 5]),
         (
             "ctreplay --zones 0,65535,1 a b -- -c",
-            ["a", "b", "-c"].as_slice(),
-            [0, 65_535, 1].as_slice(),
+            &["a", "b", "-c"],
+            &[0, 65_535, 1],
         ),
     ];
-    for (line, captures, zones) in cases {
+    for (line, captures, zones) in CASES {
         let wanted = Wanted {
             captures,
-            zones: Some(zones),
+            zones: Some(*zones),
             ..USUAL
         };
-        assert!(rt; asks(rt.alloc(), line, &wanted)?, "{line}");
+        is_asked(&rt, line, &wanted)?;
     }
     Ok(())
 }
 
 #[test]
 fn summaries(rt: HostRuntime) -> Result<(), Fail> {
-    let cases = [
-        ("ctreplay --summary c", ["c"].as_slice(), true),
-        ("ctreplay c --summary", ["c"].as_slice(), true),
-        ("ctreplay -- --summary", ["--summary"].as_slice(), false),
-        ("ctreplay --summary true c", ["true", "c"].as_slice(), true),
+    static CASES: &[(&str, &[&str], bool)] = &[
+        ("ctreplay --summary c", &["c"], true),
+        ("ctreplay c --summary", &["c"], true),
+        ("ctreplay -- --summary", &["--summary"], false),
+        ("ctreplay --summary true c", &["true", "c"], true),
     ];
-    for (line, captures, summary) in cases {
+    for (line, captures, summary) in CASES {
         let wanted = Wanted {
             captures,
-            summary,
+            summary: *summary,
             ..USUAL
         };
-        assert!(rt; asks(rt.alloc(), line, &wanted)?, "{line}");
+        is_asked(&rt, line, &wanted)?;
     }
     Ok(())
 }
 
 #[test]
 fn fragments(rt: HostRuntime) -> Result<(), Fail> {
-    let cases = [
-        ("ctreplay --defrag c", ["c"].as_slice(), true),
-        ("ctreplay c --defrag", ["c"].as_slice(), true),
-        ("ctreplay -- --defrag", ["--defrag"].as_slice(), false),
-        ("ctreplay --defrag false c", ["false", "c"].as_slice(), true),
+    static CASES: &[(&str, &[&str], bool)] = &[
+        ("ctreplay --defrag c", &["c"], true),
+        ("ctreplay c --defrag", &["c"], true),
+        ("ctreplay -- --defrag", &["--defrag"], false),
+        ("ctreplay --defrag false c", &["false", "c"], true),
     ];
-    for (line, captures, defrag) in cases {
+    for (line, captures, defrag) in CASES {
         let wanted = Wanted {
             captures,
-            defrag,
+            defrag: *defrag,
             ..USUAL
         };
-        assert!(rt; asks(rt.alloc(), line, &wanted)?, "{line}");
+        is_asked(&rt, line, &wanted)?;
     }
     Ok(())
 }
 
 #[test]
 fn listeners(rt: HostRuntime) -> Result<(), Fail> {
-    let cases = [
-        ("ctreplay --listen c", ["c"].as_slice(), true),
-        ("ctreplay c --listen", ["c"].as_slice(), true),
-        ("ctreplay -- --listen", ["--listen"].as_slice(), false),
-        ("ctreplay listen", ["listen"].as_slice(), false),
-        ("ctreplay --listen false c", ["false", "c"].as_slice(), true),
+    static CASES: &[(&str, &[&str], bool)] = &[
+        ("ctreplay --listen c", &["c"], true),
+        ("ctreplay c --listen", &["c"], true),
+        ("ctreplay -- --listen", &["--listen"], false),
+        ("ctreplay listen", &["listen"], false),
+        ("ctreplay --listen false c", &["false", "c"], true),
     ];
-    for (line, captures, listen) in cases {
+    for (line, captures, listen) in CASES {
         let wanted = Wanted {
             captures,
-            listen,
+            listen: *listen,
             ..USUAL
         };
-        assert!(rt; asks(rt.alloc(), line, &wanted)?, "{line}");
+        is_asked(&rt, line, &wanted)?;
     }
     Ok(())
 }
 
 #[test]
 fn rewritten_packets(rt: HostRuntime) -> Result<(), Fail> {
-    let cases = [
-        ("ctreplay --rewrite c", ["c"].as_slice(), true),
-        ("ctreplay c --rewrite", ["c"].as_slice(), true),
-        ("ctreplay -- --rewrite", ["--rewrite"].as_slice(), false),
-        ("ctreplay rewrite", ["rewrite"].as_slice(), false),
-        (
-            "ctreplay --rewrite false c",
-            ["false", "c"].as_slice(),
-            true,
-        ),
+    static CASES: &[(&str, &[&str], bool)] = &[
+        ("ctreplay --rewrite c", &["c"], true),
+        ("ctreplay c --rewrite", &["c"], true),
+        ("ctreplay -- --rewrite", &["--rewrite"], false),
+        ("ctreplay rewrite", &["rewrite"], false),
+        ("ctreplay --rewrite false c", &["false", "c"], true),
     ];
-    for (line, captures, rewrite) in cases {
+    for (line, captures, rewrite) in CASES {
         let wanted = Wanted {
             captures,
-            rewrite,
+            rewrite: *rewrite,
             ..USUAL
         };
-        assert!(rt; asks(rt.alloc(), line, &wanted)?, "{line}");
+        is_asked(&rt, line, &wanted)?;
     }
     Ok(())
 }

@@ -5,6 +5,7 @@ ghost use Rattle.std.specs.Prelude.{◌<◌, ◌≤◌, length};
 use packet_headers::classify::classify;
 use packet_headers::frame::{Frame, Link, Span};
 use packet_headers::packet::{Packet, Untracked};
+use std::process::Abort;
 use tuple_core::{Kind, Proto, Segment, Tuple};
 
 /// From 10.0.0.1:5000 to 10.0.0.2:53, with four bytes of data.
@@ -229,78 +230,48 @@ fn an_error_about_a_flow(rt: HostRuntime) {
     }
 }
 
-/// A packet with one byte changed.
-#[derive(Clone, Copy)]
-struct Changed {
-    name: &'static str,
-    packet: &'static [u8],
-    at: usize,
-    byte: u8,
-    raw: &'static str,
-    under_ethernet: &'static str,
-}
-
-/// The change of a byte with the same outcome whatever the link.
-fn change(
-    name: &'static str,
-    packet: &'static [u8],
-    at: usize,
-    byte: u8,
-    class: &'static str,
-) -> Changed {
-    Changed {
-        name,
-        packet,
-        at,
-        byte,
-        raw: class,
-        under_ethernet: class,
-    }
+/// The packet with this byte there has these classes: with no link header, and under Ethernet.
+fn is_classed<R: Abort>(
+    rt: &R,
+    name: &str,
+    packet: &[u8],
+    (at, byte): (usize, u8),
+    (when_raw, when_under_ethernet): (&str, &str),
+) {
+    assert!(rt; packet.len() <= 64 && at < packet.len(), "{name}");
+    let copy = with_byte(packet, at, byte);
+    let (front, _) = copy.split_at(packet.len());
+    assert_eq!(rt; class(&raw(front)), when_raw, "{name}, raw");
+    assert_eq!(rt;
+        class(&under_ethernet(front, 0)),
+        when_under_ethernet,
+        "{name}, under Ethernet"
+    );
 }
 
 #[test]
 fn damaged_and_untracked_headers(rt: HostRuntime) {
-    for changed in [
-        change("total length 19", &UDP, 3, 19, "invalid"),
-        change("IP header of 4 words", &UDP, 0, 0x44, "invalid"),
-        change("version 5", &UDP, 0, 0x55, "invalid"),
-        change("UDP length 7", &UDP, 25, 7, "invalid"),
-        change("UDP length 13 of 12", &UDP, 25, 13, "invalid"),
-        change("TCP header of 4 words", &TCP, 32, 0x40, "invalid"),
-        change("SYN and FIN", &TCP, 33, 0x03, "invalid"),
-        change("ICMP type 1", &ECHO, 24, 1, "invalid"),
-        change("inner protocol 47", &UNREACHABLE, 37, 47, "invalid"),
-        change("inner fragment", &UNREACHABLE, 35, 1, "invalid"),
-        change("more fragments", &UDP, 6, 0x20, "untracked fragment"),
-        change("a last fragment", &UDP, 7, 1, "untracked fragment"),
-        change("protocol 47", &UDP, 9, 47, "untracked protocol"),
-        Changed {
-            name: "version 6",
-            packet: &UDP,
-            at: 0,
-            byte: 0x60,
-            raw: "untracked link",
-            under_ethernet: "invalid",
-        },
-    ] {
-        let Changed {
-            name,
-            packet,
-            at,
-            byte,
-            raw: when_raw,
-            under_ethernet: when_under_ethernet,
-        } = changed;
-        assert!(rt; packet.len() <= 64 && at < packet.len(), "{name}");
-        let copy = with_byte(packet, at, byte);
-        let (front, _) = copy.split_at(packet.len());
-        assert_eq!(rt; class(&raw(front)), when_raw, "{name}, raw");
-        assert_eq!(rt;
-            class(&under_ethernet(front, 0)),
-            when_under_ethernet,
-            "{name}, under Ethernet"
-        );
+    // The changes of a byte with the same outcome whatever the link.
+    static CASES: &[(&str, &[u8], (usize, u8), &str)] = &[
+        ("total length 19", &UDP, (3, 19), "invalid"),
+        ("IP header of 4 words", &UDP, (0, 0x44), "invalid"),
+        ("version 5", &UDP, (0, 0x55), "invalid"),
+        ("UDP length 7", &UDP, (25, 7), "invalid"),
+        ("UDP length 13 of 12", &UDP, (25, 13), "invalid"),
+        ("TCP header of 4 words", &TCP, (32, 0x40), "invalid"),
+        ("SYN and FIN", &TCP, (33, 0x03), "invalid"),
+        ("ICMP type 1", &ECHO, (24, 1), "invalid"),
+        ("inner protocol 47", &UNREACHABLE, (37, 47), "invalid"),
+        ("inner fragment", &UNREACHABLE, (35, 1), "invalid"),
+        ("more fragments", &UDP, (6, 0x20), "untracked fragment"),
+        ("a last fragment", &UDP, (7, 1), "untracked fragment"),
+        ("protocol 47", &UDP, (9, 47), "untracked protocol"),
+    ];
+    for (name, packet, change, class) in CASES {
+        is_classed(&rt, name, packet, *change, (class, class));
     }
+    let classes = ("untracked link", "invalid");
+    is_classed(&rt, "version 6", &UDP, (0, 0x60), classes);
 }
 
 #[test]

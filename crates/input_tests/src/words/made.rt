@@ -1,8 +1,9 @@
 //! Command lines of made workloads.
 
-use super::{USUAL, Wanted, are_zeros, fault, flags_wanted, split};
-use command_words::{Asked, Origin, WordsError, WordsLimit, Workload, read_words};
+use super::{USUAL, Wanted, are_misused, are_past, are_zeros, flags_wanted, split};
+use command_words::{Asked, Origin, WordsLimit, Workload, read_words};
 use std::alloc::{AllocError, Global};
+use std::process::Abort;
 use std::test::Fail;
 
 /// Whether this workload is asked for, with the entries and the flags that are wanted.
@@ -36,9 +37,20 @@ fn makes(
     }
 }
 
+/// The line asks for this.
+fn is_asked<R: Abort + AllocGlobal>(
+    rt: &R,
+    line: &str,
+    workload: (u32, u32, u32),
+    wanted: &Wanted<'_>,
+) -> Result<(), Fail> {
+    assert!(rt; makes(rt.alloc(), line, workload, wanted)?, "{line}");
+    Ok(())
+}
+
 #[test]
 fn workloads(rt: HostRuntime) -> Result<(), Fail> {
-    let cases = [
+    static CASES: &[(&str, (u32, u32, u32))] = &[
         ("ctreplay --make 0 --packets 8 --threads 2", (0, 8, 2)),
         ("ctreplay --make=0 --packets=8 --threads=2", (0, 8, 2)),
         ("ctreplay --threads 2 --packets 8 --make 0 --", (0, 8, 2)),
@@ -55,15 +67,15 @@ fn workloads(rt: HostRuntime) -> Result<(), Fail> {
             (7, 4_160, 63),
         ),
     ];
-    for (line, workload) in cases {
-        assert!(rt; makes(rt.alloc(), line, workload, &USUAL)?, "{line}");
+    for (line, workload) in CASES {
+        is_asked(&rt, line, *workload, &USUAL)?;
     }
     Ok(())
 }
 
 #[test]
 fn workloads_with_options(rt: HostRuntime) -> Result<(), Fail> {
-    let cases = [
+    static CASES: &[(&str, Wanted<'static>)] = &[
         (
             "ctreplay --make 0 --packets 8 --threads 2 --entries 4",
             Wanted {
@@ -101,15 +113,15 @@ fn workloads_with_options(rt: HostRuntime) -> Result<(), Fail> {
             },
         ),
     ];
-    for (line, wanted) in cases {
-        assert!(rt; makes(rt.alloc(), line, (0, 8, 2), &wanted)?, "{line}");
+    for (line, wanted) in CASES {
+        is_asked(&rt, line, (0, 8, 2), wanted)?;
     }
     Ok(())
 }
 
 #[test]
 fn no_workloads(rt: HostRuntime) -> Result<(), Fail> {
-    let lines = [
+    static LINES: &[&str] = &[
         "ctreplay --make 0",
         "ctreplay --make 0 --packets 8",
         "ctreplay --make 0 --threads 2",
@@ -142,18 +154,12 @@ fn no_workloads(rt: HostRuntime) -> Result<(), Fail> {
         "ctreplay --make 0 --packets 0 --threads 2 --buckets 3",
         "ctreplay --make 0 --packets 0 --threads 2 --ftp 0",
     ];
-    for line in lines {
-        assert!(rt;
-            fault(rt.alloc(), line)? == Some(WordsError::Usage),
-            "{line}"
-        );
-    }
-    Ok(())
+    are_misused(&rt, LINES)
 }
 
 #[test]
 fn limits(rt: HostRuntime) -> Result<(), Fail> {
-    let cases = [
+    static CASES: &[(&str, WordsLimit)] = &[
         (
             "ctreplay --make 4294967296 --packets 8 --threads 2",
             WordsLimit::Seed,
@@ -220,11 +226,5 @@ fn limits(rt: HostRuntime) -> Result<(), Fail> {
             WordsLimit::Threads,
         ),
     ];
-    for (line, limit) in cases {
-        assert!(rt;
-            fault(rt.alloc(), line)? == Some(WordsError::Limit(limit)),
-            "{line}"
-        );
-    }
-    Ok(())
+    are_past(&rt, CASES)
 }
