@@ -1,5 +1,5 @@
 -- A sending is taken out of a line's list, and put back at its end.
-use Rattle.std.proofs.Common.{◌≡◌, List, [], ◌∷◌, ◌++◌, length, sym, ap, ◌∙◌, subst, arith, map}
+use Rattle.std.proofs.Common.{◌≡◌, refl, List, [], ◌∷◌, ◌++◌, length, sym, ap, ◌∙◌, subst, arith, map}
 use Rattle.std.specs.Prelude.{All}
 use Rattle.std.proofs.lemmas.List.{append-nil, length-map, map-append, nil_from_length}
 use Rattle.std.proofs.lemmas.List.Elements.{All-append, All-cons, All-nil}
@@ -31,7 +31,7 @@ pub begins_with_none : (own sent : List Note) → length sent ≡ 0 → BeginsWi
 begins_with_none own sent none = (own, ap (λ l. l ++ own) (sym (nil_from_length sent none)))
 
 -- it has the queue that it had
-same_queue : (own : List Note) (old new : SendingSight) (answer : Pumped) → PumpSays own old new answer → new.queue ≡ old.queue
+pub same_queue : (own : List Note) (old new : SendingSight) (answer : Pumped) → PumpSays own old new answer → new.queue ≡ old.queue
 same_queue own old new pumped.All says = ap (λ (s : SendingSight). s.queue) says
 same_queue own old new pumped.Full says = ap (λ (s : SendingSight). s.queue) says.end
 
@@ -46,17 +46,34 @@ pub pumped_begins : (own : List Note) (old new : SendingSight) (answer : Pumped)
 pumped_begins own old new pumped.All says = ([], sym (ap (λ (s : SendingSight). s.sent) says) ∙ sym (append-nil new.sent))
 pumped_begins own old new pumped.Full says = says.next
 
--- all are there again after two pumps by the last one
-pub pumped_twice : (line : LineSight) (own : List Note) (all left again : List SendingSight) (first second third : SendingSight) (answer answer' : Pumped)
-    → AreSendingsOf line all → all ≡ left ++ first ∷ []
-    → PumpSays own first second answer → PumpSays own second third answer' → again ≡ left ++ third ∷ [] → AreSendingsOf line again
-pumped_twice line own all left again first second third answer answer' h is says says' are =
-    let queue : third.queue ≡ first.queue = same_queue own second third answer' says' ∙ same_queue own first second answer says in
+-- the queues are again those that all had, where the last sending was taken out of the list, the others have their queues, and one with
+-- its queue is put at the end
+pub queues_again : (all left again both : List SendingSight) (old new : SendingSight)
+    → all ≡ left ++ old ∷ [] → map (λ (s : SendingSight). s.queue) again ≡ map (λ (s : SendingSight). s.queue) left
+    → new.queue ≡ old.queue → both ≡ again ++ new ∷ [] → map (λ (s : SendingSight). s.queue) both ≡ map (λ (s : SendingSight). s.queue) all
+queues_again all left again both old new is same queue are =
     let queues : List SendingSight → List TableId = map (λ (s : SendingSight). s.queue) in
-    let was : IsSendingOf line first = last_is line all left first h.each is in
+    ap queues are ∙ map-append (λ (s : SendingSight). s.queue) again (new ∷ []) ∙ ap (λ q. queues again ++ q ∷ []) queue ∙ ap (λ l. l ++ old.queue ∷ []) same
+    ∙ sym (map-append (λ (s : SendingSight). s.queue) left (old ∷ [])) ∙ ap queues (sym is)
+
+-- all are there again where the last one was taken out and one with its queue is put back
+pub one_again : (line : LineSight) (all left again : List SendingSight) (old new : SendingSight)
+    → AreSendingsOf line all → all ≡ left ++ old ∷ [] → IsSendingOf line new → new.queue ≡ old.queue → again ≡ left ++ new ∷ [] → AreSendingsOf line again
+one_again line all left again old new h is of queue are =
     record {
-      queues = ap queues are ∙ map-append (λ (s : SendingSight). s.queue) left (third ∷ []) ∙ ap (λ q. queues left ++ q ∷ []) queue ∙ sym (map-append (λ (s : SendingSight). s.queue) left (first ∷ [])) ∙ ap queues (sym is)
-          ∙ h.queues;
-      each = back_again line left again third (all_front (IsSendingOf line) left first (subst (All (IsSendingOf line)) is h.each))
-          (stays_of line own second third answer' says' (stays_of line own first second answer says was)) are;
+      queues = queues_again all left left again old new is refl queue are ∙ h.queues;
+      each = back_again line left again new (all_front (IsSendingOf line) left old (subst (All (IsSendingOf line)) is h.each)) of are;
+    }
+
+-- the same of the last two
+pub two_again : (line : LineSight) (all left rest again both : List SendingSight) (first second first' second' : SendingSight)
+    → AreSendingsOf line all → all ≡ left ++ second ∷ [] → left ≡ rest ++ first ∷ []
+    → IsSendingOf line first' → IsSendingOf line second' → first'.queue ≡ first.queue → second'.queue ≡ second.queue
+    → again ≡ rest ++ first' ∷ [] → both ≡ again ++ second' ∷ [] → AreSendingsOf line both
+two_again line all left rest again both first second first' second' h is is' of of' queue queue' are are' =
+    let each : All (IsSendingOf line) left = all_front (IsSendingOf line) left second (subst (All (IsSendingOf line)) is h.each) in
+    let each' : All (IsSendingOf line) rest = all_front (IsSendingOf line) rest first (subst (All (IsSendingOf line)) is' each) in
+    record {
+      queues = queues_again all left again both second second' is (queues_again left rest rest again first first' is' refl queue are) queue' are' ∙ h.queues;
+      each = back_again line again both second' (back_again line rest again first' each' of are) of' are';
     }

@@ -1,16 +1,19 @@
 //! Two senders and a listener on threads of their own.
 
-ghost use Rattle.std.specs.Prelude.{◌≡◌, IfOk};
+ghost use Rattle.std.specs.Prelude.{◌≡◌, All, IfOk};
 ghost use denote.Param.Send.{IsSync};
-ghost use Rattle.event_listen.specs.Line.{IsHearingOf, IsSendingOf};
+ghost use Rattle.event_listen.specs.Line.{AreSendingsOf, HasSentNothing, IsHearingOf, IsSendingOf};
 ghost use Rattle.event_listen.specs.Pump.{BeginsWith};
 
-use super::PORT;
-use super::told::{Told, are_first};
+use super::told::Told;
+use super::{PORT, check_two, line_of, pump_on};
 use ct_io::NoGate;
+use event_listen::heard::Heard;
 use event_listen::hearing::Hearing;
 use event_listen::line::Line;
-use event_listen::sending::{Pumped, Sending};
+use event_listen::sending::{Pumped, Sending, Sendings};
+use std::alloc::Global;
+use std::process::Abort;
 use std::sync::Wait;
 use std::test::Fail;
 use std::thread;
@@ -28,7 +31,7 @@ fn send_all<R: Wait>(rt: &R, line: &Line, mut sending: Sending, desk: &Told) -> 
     ensures queue { result.queue ≡ sending.queue }
 {
     'pumps: for _ in 0..TURNS {
-        match sending.pump(rt, line, desk) {
+        match pump_on(rt, line, &mut sending, desk) {
             Pumped::All => break,
             Pumped::Full => thread::yield_now(),
         }
@@ -114,24 +117,57 @@ fn run<R: Threads + Wait + Sync>(
     (senders, hearing)
 }
 
-#[test]
-fn two_senders_beside_a_listener(rt: HostRuntime) -> Result<(), Fail> {
-    let one = Told::new(&rt, rt.alloc(), PORT, 1_000)?;
-    let other = Told::new(&rt, rt.alloc(), PORT + 1, 700)?;
-    let (line, hearing, mut sendings) = Line::new(rt.alloc(), 2, 2)?;
+/// The same of the last two senders of the list, which are put back.
+fn run_last_two<R: Threads + Wait + Sync + Abort>(
+    rt: &R,
+    line: &Line,
+    sendings: &mut Sendings,
+    desks: (&Told, &Told),
+    hearing: Hearing,
+) -> Result<Hearing, NoMemory>
+    requires sendings { AreSendingsOf line.now sendings.old.items }
+    requires unsent { All HasSentNothing sendings.old.items }
+    requires hearing { IsHearingOf line.now hearing }
+    ensures sendings { AreSendingsOf line.now sendings.new.items }
+    ensures hearing { IfOk result (IsHearingOf line.now) }
+{
     let Some(second) = sendings.pop() else {
         panic!(rt; "no second sender")
     };
     let Some(first) = sendings.pop() else {
         panic!(rt; "no first sender")
     };
-    let (sent, hearing) = run(&rt, &line, (first, second), (&one, &other), hearing);
+    let (sent, hearing) = run(rt, line, (first, second), desks, hearing);
     let (first, second) = sent;
     sendings.push(first);
     sendings.push(second);
-    let heard = line.finish(&rt, hearing?, sendings)?;
-    assert!(rt; heard.len() == 2);
-    assert!(rt; are_first(heard.at(0), PORT, 1_000));
-    assert!(rt; are_first(heard.at(1), PORT + 1, 700));
+    hearing
+}
+
+/// What a line with room for two notes of each sender hears of the desks, while it is listened to.
+fn heard_beside<R: Threads + Wait + Sync + Abort>(
+    rt: &R,
+    alloc: Global,
+    desks: (&Told, &Told),
+) -> Result<Heard, NoMemory> {
+    let (line, hearing, mut sendings) = line_of(alloc, 2, 2)?;
+    let hearing = run_last_two(rt, &line, &mut sendings, desks, hearing)?;
+    line.finish(rt, hearing, sendings)
+}
+
+/// The same of a desk with 1,000 events and one with 700.
+fn heard_of_two<R: Threads + Wait + Sync + Abort>(
+    rt: &R,
+    alloc: Global,
+) -> Result<Heard, NoMemory> {
+    let one = Told::new(rt, alloc, PORT, 1_000)?;
+    let other = Told::new(rt, alloc, PORT + 1, 700)?;
+    heard_beside(rt, alloc, (&one, &other))
+}
+
+#[test]
+fn two_senders_beside_a_listener(rt: HostRuntime) -> Result<(), Fail> {
+    let heard = heard_of_two(&rt, rt.alloc())?;
+    check_two(&rt, &heard, 1_000, 700);
     Ok(())
 }
