@@ -17,13 +17,6 @@ pub record IsNew (numbers : List ℕ) (s : Sight) : Type 0 where
   pub member : IsMember numbers s
   pub own : s.own ≡ []
 
--- the first one of the tracker, which has all shares
-pub record IsWhole (s : Sight) : Type 0 where
-  pub passes : s.sizes.passes ≡ 4
-  pub shares : s.shares ≡ 4
-  pub returned : s.returned ≡ 0
-  pub own : s.own ≡ []
-
 -- a clerk of the tracker of these sizes with one share, which keeps no place; nothing was returned to it
 pub record IsOfPair (numbers : List ℕ) (given : Sizes) (s : Sight) : Type 0 where
   pub tracker : s.tracker ≡ numbers
@@ -36,3 +29,11 @@ pub record IsOfPair (numbers : List ℕ) (given : Sizes) (s : Sight) : Type 0 wh
 pub record IsIdle (numbers : List ℕ) (given : Sizes) (s : Sight) : Type 0 where
   pub member : IsOfPair numbers given s
   pub own : s.own ≡ []
+
+-- the first one of the tracker, or what is left for it: it has all shares of the passes, made no event and keeps no place
+pub record IsFirst (numbers : List ℕ) (s : Sight) : Type 0 where
+  pub tracker : s.tracker ≡ numbers
+  pub shares : s.shares ≡ s.sizes.passes
+  pub returned : s.returned ≡ 0
+  pub own : s.own ≡ []
+  pub nothing : HoldsNothing s

@@ -1,6 +1,8 @@
 //! Clerks of one tracker, one after the other and on threads.
 
 ghost use Rattle.std.specs.Prelude.{◌≡◌, ◌<◌, None, [], length};
+ghost use Rattle.clerk_tests.specs.Crew.{IsFirst};
+ghost use Rattle.history_book.specs.Close.{CanClose};
 ghost use Rattle.history_book.specs.Places.{HoldsNothing, HoldsOne};
 ghost use Rattle.history_book.specs.Sizes.{AreWithinLimits};
 ghost use Rattle.history_book.specs.WentOn.{IsSamePass};
@@ -10,8 +12,9 @@ use ct_io::{Gate, NoGate};
 use history_book::desk::Desk;
 use history_book::outcome::{ReleaseOutcome, TakeOutcome};
 use history_book::sizes::Sizes;
+use pair::{Pair, Rest, count_of, pair_of, ready_clerk, rejoined, tracker_of};
 use shared_desk::clerk::Clerk;
-use shared_desk::tracker::Tracker;
+use shared_desk::tracker::{Spot, Tracker};
 use std::process::Abort;
 use std::sync::Wait;
 use std::test::Fail;
@@ -97,34 +100,45 @@ fn take_two<G: Gate, R: Wait + Abort>(rt: &R, clerk: &mut Clerk<G>) -> (u32, u32
     (first, place)
 }
 
+/// A further clerk takes a place and gives it back, and is joined.
+fn further_joined<R: Wait + Abort>(rt: &R, tracker: &Tracker, spot: Spot) -> Rest
+    requires first { IsFirst tracker.now (sight_of spot) }
+    requires passes { (sight_of spot).sizes.passes ≡ 2 }
+    ensures { CanClose tracker.now (sight_of result.spot) }
+{
+    let Pair { one, mut two } = pair_of(tracker, spot, &NoGate);
+    let place = take_one(rt, &mut two);
+    give_back(rt, &mut two, place);
+    rejoined(tracker, Pair { one, two })
+}
+
 #[test]
 fn a_further_clerk_is_joined(rt: HostRuntime) -> Result<(), Fail> {
-    let (tracker, spot) = Tracker::new(rt.alloc(), sizes())?;
-    let mut one = tracker.clerk(spot, &NoGate, 0);
-    let mut two = one.split(1, 1);
-    let place = take_one(&rt, &mut two);
-    give_back(&rt, &mut two, place);
-    let notes = one.join(two);
-    assert_eq!(rt; notes.len(), 0);
-    let left = one.leave();
-    let closed = tracker.close(left);
+    let (tracker, spot) = tracker_of(rt.alloc(), sizes())?;
+    let Rest { spot, second } = further_joined(&rt, &tracker, spot);
+    assert_eq!(rt; second.len(), 0);
+    let closed = tracker.close(spot);
     assert_eq!(rt; closed.events, 0);
     assert_eq!(rt; closed.live, 0);
     assert_eq!(rt; closed.notes.len(), 0);
     Ok(())
 }
 
+/// Takes the two places of the pool, and finds no further one.
+fn take_all<G: Gate, R: Wait + Abort>(rt: &R, clerk: &mut Clerk<G>)
+    requires { HoldsNothing (sight_of clerk.old) }
+{
+    let (first, place) = take_two(rt, clerk);
+    assert!(rt; first != place);
+    let full = clerk.take(rt);
+    assert!(rt; matches!(full, TakeOutcome::Full { at: 0 }));
+}
+
 #[test]
 fn a_pool_is_full(rt: HostRuntime) -> Result<(), Fail> {
-    let (tracker, spot) = Tracker::new(rt.alloc(), sizes())?;
-    let mut one = pair::clerk_of(&tracker, spot, &NoGate);
-    pair::make_room(&mut one, 2)?;
-    let (first, place) = take_two(&rt, &mut one);
-    assert!(rt; first != place);
-    let full = one.take(&rt);
-    assert!(rt; matches!(full, TakeOutcome::Full { at: 0 }));
-    let count = one.count_now();
-    assert_eq!(rt; count.live, 0);
-    assert_eq!(rt; count.at, 0);
+    let (tracker, spot) = tracker_of(rt.alloc(), sizes())?;
+    let mut one = ready_clerk(&tracker, spot, &NoGate, 2)?;
+    take_all(&rt, &mut one);
+    assert_eq!(rt; count_of(&mut one), (0, 0));
     Ok(())
 }

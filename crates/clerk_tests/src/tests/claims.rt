@@ -1,6 +1,8 @@
 //! The entry of one clerk expects a connection again and again, while another clerk claims it, each on a thread of its own.
 
-ghost use Rattle.std.specs.Prelude.{◌≡◌, ◌+◌, ◌≤◌, true, Some, [], None};
+ghost use Rattle.std.specs.Prelude.{◌≡◌, ◌+◌, ◌≤◌, true, Some, [], None, IfOk};
+ghost use Rattle.clerk_tests.specs.Crew.{IsFirst};
+ghost use Rattle.history_book.specs.Close.{CanClose};
 ghost use Rattle.history_book.specs.Entry.{is_helped_entry};
 ghost use Rattle.history_book.specs.Held.{is_held, without};
 ghost use Rattle.history_book.specs.Places.{HoldsNothing, HoldsOne};
@@ -9,14 +11,16 @@ ghost use Rattle.shared_desk.specs.Sights.{sight_of};
 
 use super::expectations::{expect, master, sizes_for, wanted};
 use super::flows::give_up;
-use super::pair::{Pair, Rest, pair_of, rejoined};
+use super::pair::{Pair, Rest, make_room, pair_of, rejoined, tracker_of};
 use ct_io::NoGate;
 use history_book::desk::Desk;
 use history_book::event::{Event, Note};
 use history_book::outcome::{ClaimOutcome, ConfirmOutcome, TakeOutcome};
 use history_book::report::Notes;
 use shared_desk::clerk::Clerk;
-use shared_desk::tracker::Tracker;
+use shared_desk::tracker::{Spot, Tracker};
+use std::alloc::Global;
+use std::process::Abort;
 use std::sync::Wait;
 use std::test::Fail;
 use std::thread;
@@ -51,9 +55,10 @@ fn confirm_and_expect<R: Wait>(rt: &R, clerk: &mut Clerk<NoGate>, place: u32)
     ensures owed { (sight_of clerk.new).owed ≡ [] }
     ensures same { IsSamePass (sight_of clerk.old) (sight_of clerk.new) }
 {
-    if let ConfirmOutcome::Confirmed { id } = clerk.confirm(rt, place, &master(5000)) {
-        expect_rounds(rt, clerk, place, id);
-    }
+    let ConfirmOutcome::Confirmed { id } = clerk.confirm(rt, place, &master(5000)) else {
+        return;
+    };
+    expect_rounds(rt, clerk, place, id);
 }
 
 /// A clerk makes an entry, which expects the connection in each round, and gives its place up.
@@ -63,7 +68,7 @@ fn expect_all<R: Wait>(rt: &R, clerk: &mut Clerk<NoGate>) -> Result<(), NoMemory
     ensures nothing { HoldsNothing (sight_of clerk.new) }
     ensures same { IsSamePass (sight_of clerk.old) (sight_of clerk.new) }
 {
-    clerk.ready(u64::from(ROUNDS) + 1)?;
+    make_room(clerk, u64::from(ROUNDS) + 1)?;
     let TakeOutcome::Taken { place } = clerk.take(rt) else {
         return Ok(());
     };
@@ -79,7 +84,7 @@ fn claim_all<R: Wait>(rt: &R, clerk: &mut Clerk<NoGate>) -> Result<(), NoMemory>
     ensures nothing { HoldsNothing (sight_of clerk.new) }
     ensures same { IsSamePass (sight_of clerk.old) (sight_of clerk.new) }
 {
-    clerk.ready(u64::from(ROUNDS))?;
+    make_room(clerk, u64::from(ROUNDS))?;
     'rounds: for round in 0..ROUNDS {
         let outcome = clerk.claim(rt, &wanted(PORT), u64::from(round));
         if let ClaimOutcome::Unclaimed { .. } = outcome {
@@ -178,20 +183,43 @@ fn are_right(events: &[Option<Made>]) -> bool {
     true
 }
 
+/// Asserts that all events of the two clerks are there, and right.
+fn check_events<R: Abort>(
+    rt: &R,
+    alloc: Global,
+    count: u64,
+    first: &Notes,
+    second: &Notes,
+) -> Result<(), NoMemory> {
+    let mut events = vec![in alloc; None; count as usize]?;
+    assert!(rt; enter_all(&mut events, first));
+    assert!(rt; enter_all(&mut events, second));
+    assert!(rt; are_right(&events));
+    Ok(())
+}
+
+/// The clerks of a tracker, each on a thread of its own, and what is left of them.
+fn run_and_join<R: Threads + Wait + Sync>(
+    rt: &R,
+    tracker: &Tracker,
+    spot: Spot,
+) -> Result<Rest, NoMemory>
+    requires first { IsFirst tracker.now (sight_of spot) }
+    requires passes { (sight_of spot).sizes.passes ≡ 2 }
+    ensures { IfOk result (λ rest. CanClose tracker.now (sight_of rest.spot)) }
+{
+    let Pair { mut one, mut two } = pair_of(tracker, spot, &NoGate);
+    both_run(rt, &mut one, &mut two)?;
+    Ok(rejoined(tracker, Pair { one, two }))
+}
+
 /// While one thread makes its entry expect a connection 100,000 times, another claims it 100,000 times. However they run: each claim is of
 /// an expectation that was made and not replaced since, and no two are of one.
 #[test]
 fn each_expectation_is_claimed_once(rt: HostRuntime) -> Result<(), Fail> {
-    let (tracker, spot) = Tracker::new(rt.alloc(), sizes_for(1))?;
-    let Pair { mut one, mut two } = pair_of(&tracker, spot, &NoGate);
-    let done = both_run(&rt, &mut one, &mut two);
-    let Rest { spot, second } = rejoined(&tracker, Pair { one, two });
+    let (tracker, spot) = tracker_of(rt.alloc(), sizes_for(1))?;
+    let Rest { spot, second } = run_and_join(&rt, &tracker, spot)?;
     let closed = tracker.close(spot);
-    done?;
     assert_eq!(rt; closed.live, 1);
-    let mut events = vec![in rt.alloc(); None; closed.events as usize]?;
-    assert!(rt; enter_all(&mut events, &closed.notes));
-    assert!(rt; enter_all(&mut events, &second));
-    assert!(rt; are_right(&events));
-    Ok(())
+    Ok(check_events(&rt, rt.alloc(), closed.events, &closed.notes, &second)?)
 }

@@ -8,7 +8,7 @@ ghost use Rattle.history_book.specs.Sizes.{AreWithinLimits};
 ghost use Rattle.shared_desk.specs.Sights.{sight_of};
 
 use super::flows::{answer, confirm_in, flow, query, udp};
-use super::pair::{Pair, clerk_of, make_ready, make_room, pair_of};
+use super::pair::{Pair, count_of, ready_clerk, ready_pair, tracker_of};
 use super::{sixteen_buckets, sizes, take_one};
 use ct_io::{Crossing, Gate, NoGate};
 use history_book::desk::Desk;
@@ -16,7 +16,6 @@ use history_book::outcome::{ConfirmOutcome, ReleaseOutcome, TakeOutcome};
 use history_book::record::Flow;
 use history_book::sizes::Sizes;
 use shared_desk::clerk::Clerk;
-use shared_desk::tracker::Tracker;
 use std::process::Abort;
 use std::sync::Wait;
 use std::sync::atomic::AtomicU64;
@@ -60,6 +59,28 @@ pub fn make<G: Gate, R: Wait + Abort>(rt: &R, clerk: &mut Clerk<G>, flow: &Flow,
     assert_eq!(rt; made, id);
 }
 
+/// What the second clerk is answered that confirms a flow after the first one confirmed two others.
+fn confirm_three<G: Gate, R: Wait + Abort>(
+    rt: &R,
+    one: &mut Clerk<G>,
+    two: &mut Clerk<G>,
+    flows: (&Flow, &Flow, &Flow),
+) -> ConfirmOutcome
+    requires nothing { HoldsNothing (sight_of one.old) × HoldsNothing (sight_of two.old) }
+    requires first { is_lawful_flow flows.0.now ≡ true }
+    requires second { is_lawful_flow flows.1.now ≡ true }
+    requires third { is_lawful_flow flows.2.now ≡ true }
+    requires spare { (2 ≤ (sight_of one.old).spare) × (1 ≤ (sight_of two.old).spare) }
+{
+    let (first, second, third) = flows;
+    make(rt, one, first, 0);
+    make(rt, one, second, 1);
+    let Some(outcome) = answer(rt, two, third) else {
+        panic!(rt; "a place was free");
+    };
+    outcome
+}
+
 /// What a clerk is answered that confirms a flow after another clerk confirmed a first one and a second one, which it does
 /// not share a tuple with. The gate is passed twice, and not for a clash.
 fn after_two<R: Wait + Abort + AllocGlobal>(
@@ -67,20 +88,15 @@ fn after_two<R: Wait + Abort + AllocGlobal>(
     first: &Flow,
     second: &Flow,
     third: &Flow,
-) -> Result<ConfirmOutcome, Fail>
+) -> Result<ConfirmOutcome, NoMemory>
     requires first { is_lawful_flow first.now ≡ true }
     requires second { is_lawful_flow second.now ≡ true }
     requires third { is_lawful_flow third.now ≡ true }
 {
-    let (tracker, spot) = Tracker::new(rt.alloc(), sixteen_buckets())?;
+    let (tracker, spot) = tracker_of(rt.alloc(), sixteen_buckets())?;
     let gate = Passages::new();
-    let Pair { mut one, mut two } = pair_of(&tracker, spot, &gate);
-    make_ready(&mut one, 2, &mut two, 1)?;
-    make(rt, &mut one, first, 0);
-    make(rt, &mut one, second, 1);
-    let Some(outcome) = answer(rt, &mut two, third) else {
-        panic!(rt; "a place was free");
-    };
+    let Pair { mut one, mut two } = ready_pair(&tracker, spot, &gate, 2, 1)?;
+    let outcome = confirm_three(rt, &mut one, &mut two, (first, second, third));
     assert_eq!(rt; gate.in_confirm.load(SeqCst), 2);
     Ok(outcome)
 }
@@ -101,16 +117,15 @@ fn both_confirm<G: Gate, R: Wait>(
     (first, confirm_in(rt, two, other, &query()))
 }
 
-#[test]
-fn one_flow_is_confirmed_once(rt: HostRuntime) -> Result<(), Fail> {
-    let (tracker, spot) = Tracker::new(rt.alloc(), sizes())?;
-    let gate = Passages::new();
-    let Pair { mut one, mut two } = pair_of(&tracker, spot, &gate);
-    make_ready(&mut one, 1, &mut two, 1)?;
-    let place = take_one(&rt, &mut one);
-    let other = take_one(&rt, &mut two);
+/// Two clerks take a place each, and confirm one flow: the second one is told of the first one's entry.
+fn confirm_once<G: Gate, R: Wait + Abort>(rt: &R, one: &mut Clerk<G>, two: &mut Clerk<G>)
+    requires nothing { HoldsNothing (sight_of one.old) × HoldsNothing (sight_of two.old) }
+    requires spare { (1 ≤ (sight_of one.old).spare) × (1 ≤ (sight_of two.old).spare) }
+{
+    let place = take_one(rt, one);
+    let other = take_one(rt, two);
     assert!(rt; place != other);
-    let (made, clash) = both_confirm(&rt, &mut one, &mut two, place, other);
+    let (made, clash) = both_confirm(rt, one, two, place, other);
     assert!(rt; matches!(made, ConfirmOutcome::Confirmed { id: 0 }));
     assert!(rt;
         matches!(
@@ -123,9 +138,16 @@ fn one_flow_is_confirmed_once(rt: HostRuntime) -> Result<(), Fail> {
             }
         )
     );
+}
+
+#[test]
+fn one_flow_is_confirmed_once(rt: HostRuntime) -> Result<(), Fail> {
+    let (tracker, spot) = tracker_of(rt.alloc(), sizes())?;
+    let gate = Passages::new();
+    let Pair { mut one, mut two } = ready_pair(&tracker, spot, &gate, 1, 1)?;
+    confirm_once(&rt, &mut one, &mut two);
     assert_eq!(rt; gate.in_confirm.load(SeqCst), 1);
-    let count = one.count_now();
-    assert_eq!(rt; (count.live, count.at), (1, 1));
+    assert_eq!(rt; count_of(&mut one), (1, 1));
     Ok(())
 }
 
@@ -133,7 +155,7 @@ fn one_flow_is_confirmed_once(rt: HostRuntime) -> Result<(), Fail> {
 fn clash_of<R: Wait + Abort + AllocGlobal>(
     rt: &R,
     third: &Flow,
-) -> Result<(u64, bool, bool, u64), Fail>
+) -> Result<(u64, bool, bool, u64), NoMemory>
     requires { is_lawful_flow third.now ≡ true }
 {
     let own = udp(0x0a00_0005, 7000, 0x0a00_0005, 7000);
@@ -198,9 +220,8 @@ fn given_up<R: Wait + Abort + AllocGlobal>(
     requires limits { AreWithinLimits sizes }
     requires protocol { is_lawful_flow flow.now ≡ true }
 {
-    let (tracker, spot) = Tracker::new(rt.alloc(), sizes)?;
-    let mut clerk = clerk_of(&tracker, spot, &NoGate);
-    make_room(&mut clerk, 1)?;
+    let (tracker, spot) = tracker_of(rt.alloc(), sizes)?;
+    let mut clerk = ready_clerk(&tracker, spot, &NoGate, 1)?;
     let place = placed(rt, &mut clerk, flow);
     Ok(clerk.release_now(place))
 }

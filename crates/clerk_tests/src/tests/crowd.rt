@@ -3,25 +3,26 @@
 ghost use Rattle.std.specs.Prelude.{◌≡◌, ◌≤◌, true, []};
 ghost use Rattle.history_book.specs.Entry.{is_lawful_flow};
 ghost use Rattle.history_book.specs.Close.{CanClose};
-ghost use Rattle.history_book.specs.Leave.{CanTakeUp};
 ghost use Rattle.history_book.specs.Places.{HoldsNothing};
 ghost use Rattle.history_book.specs.Sizes.{AreWithinLimits};
 ghost use Rattle.history_book.specs.WentOn.{IsSamePass};
 ghost use Rattle.shared_desk.specs.Sights.{sight_of};
-ghost use Rattle.clerk_tests.specs.Crew.{IsMember, IsNew, IsWhole};
+ghost use Rattle.clerk_tests.specs.Crew.{IsFirst, IsMember, IsNew};
 
 use super::flows::{answer, flow, udp};
+use super::pair::{make_room, tracker_of};
 use checks::{Found, are_right, enter_all, nothing_found};
 use ct_io::NoGate;
 use history_book::desk::Desk;
 use history_book::outcome::ConfirmOutcome;
 use history_book::record::Flow;
-use history_book::report::Notes;
+use history_book::report::{Closed, Notes};
 use history_book::sizes::Sizes;
 use room_list::RoomList;
 use shared_desk::clerk::Clerk;
 use shared_desk::tracker::{Spot, Tracker};
 use std::alloc::Global;
+use std::process::Abort;
 use std::sync::Wait;
 use std::test::Fail;
 use std::thread::{Threads, join_mut};
@@ -87,7 +88,7 @@ fn confirm_all<R: Wait>(
     ensures same { IsSamePass (sight_of clerk.old) (sight_of clerk.new) }
 {
     let mut answers = Answers::new(alloc, usize::from(FLOWS))?;
-    clerk.ready(u64::from(FLOWS))?;
+    make_room(clerk, u64::from(FLOWS))?;
     'flows: for index in 0..FLOWS {
         let flow = flow_of(owner_of(thread, index), index);
         let Some(outcome) = answer(rt, clerk, &flow) else {
@@ -192,8 +193,8 @@ pub struct Crew<'t> {
 
 /// The first clerk of a tracker, and three to which it hands over a share each.
 pub fn crew_of<'t>(tracker: &'t Tracker, spot: Spot) -> Crew<'t>
-    requires take_up { CanTakeUp tracker.now (sight_of spot) }
-    requires whole { IsWhole (sight_of spot) }
+    requires first { IsFirst tracker.now (sight_of spot) }
+    requires passes { (sight_of spot).sizes.passes ≡ 4 }
     ensures one { IsNew tracker.now (sight_of result.one) }
     ensures two { IsNew tracker.now (sight_of result.two) }
     ensures three { IsNew tracker.now (sight_of result.three) }
@@ -279,20 +280,41 @@ pub fn joined(tracker: &Tracker, crew: Crew) -> Left
     }
 }
 
+/// What a tracker leaves at its end, with the events of the first clerk, and those of the others.
+#[derive(Drop)]
+pub struct Ended {
+    pub closed: Closed,
+    pub second: Notes,
+    pub third: Notes,
+    pub fourth: Notes,
+}
+
+/// The tracker of the clerks ends.
+pub fn finish(tracker: Tracker, left: Left) -> Ended
+    requires { CanClose tracker (sight_of left.spot) }
+{
+    let Left {
+        spot,
+        second,
+        third,
+        fourth,
+    } = left;
+    Ended {
+        closed: tracker.close(spot),
+        second,
+        third,
+        fourth,
+    }
+}
+
 /// The events of the four clerks, in the order of their threads, entered under their numbers and flows. None where one was entered
 /// before.
-fn entered(
-    alloc: Global,
-    first: &Notes,
-    second: &Notes,
-    third: &Notes,
-    fourth: &Notes,
-) -> Result<Option<Found>, NoMemory> {
+fn entered(alloc: Global, ended: &Ended) -> Result<Option<Found>, NoMemory> {
     let mut found = nothing_found(alloc)?;
-    let is_new = enter_all(&mut found, 0, first)
-        && enter_all(&mut found, 1, second)
-        && enter_all(&mut found, 2, third)
-        && enter_all(&mut found, 3, fourth);
+    let is_new = enter_all(&mut found, 0, &ended.closed.notes)
+        && enter_all(&mut found, 1, &ended.second)
+        && enter_all(&mut found, 2, &ended.third)
+        && enter_all(&mut found, 3, &ended.fourth);
     Ok(if is_new { Some(found) } else { None })
 }
 
@@ -309,27 +331,47 @@ fn all_are_right(found: &Found, told: Told) -> Result<bool, NoMemory> {
     )
 }
 
+/// The clerks of a tracker confirm their flows, and are joined.
+fn confirm_and_join<R: Threads + Wait + Sync>(
+    rt: &R,
+    alloc: Global,
+    tracker: &Tracker,
+    spot: Spot,
+) -> (Left, Told)
+    requires first { IsFirst tracker.now (sight_of spot) }
+    requires passes { (sight_of spot).sizes.passes ≡ 4 }
+    ensures { CanClose tracker.now (sight_of result.0.spot) }
+{
+    let crew = crew_of(tracker, spot);
+    let (crew, told) = all_confirm(rt, alloc, tracker, crew);
+    (joined(tracker, crew), told)
+}
+
+/// Asserts that each flow has one event, and that all that the four threads were answered is right.
+fn check_answers<R: Abort>(
+    rt: &R,
+    alloc: Global,
+    ended: &Ended,
+    told: Told,
+) -> Result<(), NoMemory> {
+    assert_eq!(rt; ended.closed.events, u64::from(DIFFERENT));
+    assert_eq!(rt; ended.closed.live, u32::from(DIFFERENT));
+    let Some(found) = entered(alloc, ended)? else {
+        panic!(rt; "an event was made twice");
+    };
+    assert_eq!(rt; found.events, ended.closed.events);
+    assert!(rt; all_are_right(&found, told)?);
+    Ok(())
+}
+
 /// The four threads confirm 4,000 flows each, of which each shares 2,000 with others. However they run: every flow is
 /// confirmed once, by one of its threads, the numbers of the events are 0 to 11,999, each once, and the other thread that
 /// confirms a flow is told of that very entry, at a point above its number.
 #[test]
 fn each_shared_flow_is_confirmed_once(rt: HostRuntime) -> Result<(), Fail> {
-    let (tracker, spot) = Tracker::new(rt.alloc(), sizes())?;
-    let crew = crew_of(&tracker, spot);
-    let (crew, told) = all_confirm(&rt, rt.alloc(), &tracker, crew);
-    let Left {
-        spot,
-        second,
-        third,
-        fourth,
-    } = joined(&tracker, crew);
-    let closed = tracker.close(spot);
-    assert_eq!(rt; closed.events, u64::from(DIFFERENT));
-    assert_eq!(rt; closed.live, u32::from(DIFFERENT));
-    let Some(found) = entered(rt.alloc(), &closed.notes, &second, &third, &fourth)? else {
-        panic!(rt; "an event was made twice");
-    };
-    assert_eq!(rt; found.events, closed.events);
-    assert!(rt; all_are_right(&found, told)?);
+    let (tracker, spot) = tracker_of(rt.alloc(), sizes())?;
+    let (left, told) = confirm_and_join(&rt, rt.alloc(), &tracker, spot);
+    let ended = finish(tracker, left);
+    check_answers(&rt, rt.alloc(), &ended, told)?;
     Ok(())
 }

@@ -7,14 +7,13 @@ ghost use Rattle.shared_desk.specs.Sights.{sight_of};
 ghost use Rattle.tuple_core.specs.declared.Segment.TheVariants.{Udp};
 
 use super::flows::query;
-use super::pair::clerk_of;
+use super::pair::{clerk_of, tracker_of};
 use super::sizes;
 use ct_io::NoGate;
 use history_book::desk::Desk;
 use history_book::event::Why;
 use history_book::outcome::{ConfirmOutcome, FindOutcome, KillOutcome, TakeOutcome, TouchOutcome};
 use history_book::places::{give_back, give_up, one_hold_has_its_id};
-use shared_desk::tracker::Tracker;
 use std::process::Abort;
 use std::sync::Wait;
 use std::test::Fail;
@@ -101,7 +100,7 @@ fn whole_flow<R: Wait + Abort, D: Desk>(rt: &R, desk: &mut D) -> Result<(), NoMe
 
 #[test]
 fn a_clerk_is_a_desk(rt: HostRuntime) -> Result<(), Fail> {
-    let (tracker, spot) = Tracker::new(rt.alloc(), sizes())?;
+    let (tracker, spot) = tracker_of(rt.alloc(), sizes())?;
     let mut clerk = clerk_of(&tracker, spot, &NoGate);
     Ok(whole_flow(&rt, &mut clerk)?)
 }

@@ -9,7 +9,7 @@ ghost use Rattle.shared_desk.specs.Sights.{sight_of};
 
 use super::flows::{flow, udp};
 use super::kills::keep;
-use super::pair::{Pair, make_ready, pair_of};
+use super::pair::{Pair, ready_pair, tracker_of};
 use ct_io::{Gate, NoGate};
 use expect_table::expectation::{Expectation, Want};
 use history_book::desk::Desk;
@@ -21,11 +21,11 @@ use history_book::record::Flow;
 use history_book::report::Expectations;
 use history_book::sizes::Sizes;
 use shared_desk::clerk::Clerk;
-use shared_desk::tracker::Tracker;
+use std::alloc::Global;
 use std::process::Abort;
 use std::sync::Wait;
 use std::test::Fail;
-use tuple_core::{Proto, Tuple};
+use tuple_core::{NoMemory, Proto, Tuple};
 
 /// A pool of four places with room for so many expectations, for two passes.
 pub fn sizes_for(expectations: u32) -> Sizes
@@ -83,7 +83,6 @@ fn keep_master<G: Gate, R: Wait + Abort>(rt: &R, clerk: &mut Clerk<G>, port: u16
     requires spare { 1 ≤ (sight_of clerk.old).spare }
     ensures one { HoldsOne (record { place = result; id = Some id }) (sight_of clerk.new) }
     ensures helper { is_helped_entry id (sight_of clerk.new).front ≡ true }
-    ensures same { IsSamePass (sight_of clerk.old) (sight_of clerk.new) }
     ensures spare { (sight_of clerk.old).spare ≤ (sight_of clerk.new).spare + 1 }
 {
     keep(rt, clerk, &master(port), id)
@@ -116,7 +115,6 @@ pub fn expect<G: Gate, R: Wait>(
 /// A packet to this port claims at a moment what is expected there.
 fn claim<G: Gate, R: Wait>(rt: &R, clerk: &mut Clerk<G>, port: u16, moment: u64) -> ClaimOutcome
     requires { 1 ≤ (sight_of clerk.old).spare }
-    ensures same { IsSamePass (sight_of clerk.old) (sight_of clerk.new) }
     ensures spare { (sight_of clerk.old).spare ≤ (sight_of clerk.new).spare + 1 }
 {
     clerk.claim(rt, &wanted(port), moment)
@@ -131,7 +129,6 @@ fn claim_none<G: Gate, R: Wait + Abort>(
     point: u64,
 )
     requires { 1 ≤ (sight_of clerk.old).spare }
-    ensures same { IsSamePass (sight_of clerk.old) (sight_of clerk.new) }
     ensures spare { (sight_of clerk.old).spare ≤ (sight_of clerk.new).spare + 1 }
 {
     let ClaimOutcome::Unclaimed { at } = claim(rt, clerk, port, moment) else {
@@ -151,33 +148,47 @@ fn unexpect<G: Gate, R: Wait>(rt: &R, clerk: &mut Clerk<G>, id: u64, moment: u64
 /// The expectation that stands alone in the table at this point.
 fn only<G: Gate, R: Wait + Abort>(
     rt: &R,
+    alloc: Global,
     clerk: &mut Clerk<G>,
-    listed: &mut Expectations,
     at: u64,
-) -> Expectation
-    requires { (sight_of clerk.old).sizes.expectations ≤ listed.old.room }
-    ensures same { IsSamePass (sight_of clerk.old) (sight_of clerk.new) }
-    ensures spare { (sight_of clerk.new).spare ≡ (sight_of clerk.old).spare }
-    ensures room { listed.new.room ≡ listed.old.room }
+) -> Result<Expectation, NoMemory>
+    ensures { (sight_of clerk.new).spare ≡ (sight_of clerk.old).spare }
 {
-    let point = clerk.expects(rt, listed);
+    let mut listed = Expectations::new(alloc, clerk.expect_room() as usize)?;
+    let point = clerk.expects(rt, &mut listed);
     assert_eq!(rt; point, at);
     let &[e] = listed.as_slice() else {
         panic!(rt; "one connection is expected");
     };
-    e
+    Ok(e)
 }
 
-/// What is expected is listed.
-#[test]
-fn what_is_expected_is_listed(rt: HostRuntime) -> Result<(), Fail> {
-    let (tracker, spot) = Tracker::new(rt.alloc(), sizes_for(2))?;
-    let Pair { mut one, mut two } = pair_of(&tracker, spot, &NoGate);
-    make_ready(&mut one, 2, &mut two, 0)?;
-    let mut listed = Expectations::new(rt.alloc(), 2)?;
-    let place = keep_master(&rt, &mut one, 5000, 0);
-    let _ = expect(&rt, &mut one, place, 0, 2001, 1_000_000);
-    let e = only(&rt, &mut two, &mut listed, 2);
+/// A clerk that keeps nothing makes an entry of the id 0, which expects a connection to port 2001 from 1 s on. Gives its place, which
+/// stays held.
+fn expect_first<G: Gate, R: Wait + Abort>(rt: &R, clerk: &mut Clerk<G>) -> u32
+    requires nothing { HoldsNothing (sight_of clerk.old) }
+    requires spare { 2 ≤ (sight_of clerk.old).spare }
+    ensures one { HoldsOne (record { place = result; id = Some 0 }) (sight_of clerk.new) }
+    ensures helper { is_helped_entry 0 (sight_of clerk.new).front ≡ true }
+    ensures spare { (sight_of clerk.old).spare ≤ (sight_of clerk.new).spare + 2 }
+{
+    let place = keep_master(rt, clerk, 5000, 0);
+    let _ = expect(rt, clerk, place, 0, 2001, 1_000_000);
+    place
+}
+
+/// What the one clerk's entry expects is listed by the other.
+fn list_expected<G: Gate, R: Wait + Abort>(
+    rt: &R,
+    alloc: Global,
+    one: &mut Clerk<G>,
+    two: &mut Clerk<G>,
+) -> Result<(), NoMemory>
+    requires nothing { HoldsNothing (sight_of one.old) }
+    requires spare { 2 ≤ (sight_of one.old).spare }
+{
+    let _ = expect_first(rt, one);
+    let e = only(rt, alloc, two, 2)?;
     assert_eq!(rt; (e.id, e.master, e.deadline), (1, 0, 301_000_000));
     assert_eq!(rt;
         (e.want.src, e.want.dst, e.want.port),
@@ -186,74 +197,105 @@ fn what_is_expected_is_listed(rt: HostRuntime) -> Result<(), Fail> {
     Ok(())
 }
 
-/// What is expected is claimed by the first packet that it matches in time, and by no other one.
+/// What is expected is listed.
 #[test]
-fn an_expected_connection_is_claimed(rt: HostRuntime) -> Result<(), Fail> {
-    let (tracker, spot) = Tracker::new(rt.alloc(), sizes_for(2))?;
-    let Pair { mut one, mut two } = pair_of(&tracker, spot, &NoGate);
-    make_ready(&mut one, 2, &mut two, 4)?;
-    let place = keep_master(&rt, &mut one, 5000, 0);
-    let _ = expect(&rt, &mut one, place, 0, 2001, 1_000_000);
-    claim_none(&rt, &mut two, 2002, 2_000_000, 2);
-    claim_none(&rt, &mut two, 2001, 301_000_000, 2);
+fn what_is_expected_is_listed(rt: HostRuntime) -> Result<(), Fail> {
+    let (tracker, spot) = tracker_of(rt.alloc(), sizes_for(2))?;
+    let Pair { mut one, mut two } = ready_pair(&tracker, spot, &NoGate, 2, 0)?;
+    Ok(list_expected(&rt, rt.alloc(), &mut one, &mut two)?)
+}
+
+/// Claims what is expected at port 2001, once and in time. Nothing is expected at port 2002.
+fn claim_expected<G: Gate, R: Wait + Abort>(rt: &R, clerk: &mut Clerk<G>)
+    requires { 4 ≤ (sight_of clerk.old).spare }
+{
+    claim_none(rt, clerk, 2002, 2_000_000, 2);
+    claim_none(rt, clerk, 2001, 301_000_000, 2);
     let ClaimOutcome::Claimed {
         number,
         expectation,
         master,
-    } = claim(&rt, &mut two, 2001, 300_999_999)
+    } = claim(rt, clerk, 2001, 300_999_999)
     else {
         panic!(rt; "the connection is expected");
     };
     assert_eq!(rt; (number, expectation, master), (2, 1, 0));
-    claim_none(&rt, &mut two, 2001, 2_000_000, 3);
+    claim_none(rt, clerk, 2001, 2_000_000, 3);
+}
+
+/// What is expected is claimed by the first packet that it matches in time, and by no other one.
+#[test]
+fn an_expected_connection_is_claimed(rt: HostRuntime) -> Result<(), Fail> {
+    let (tracker, spot) = tracker_of(rt.alloc(), sizes_for(2))?;
+    let Pair { mut one, mut two } = ready_pair(&tracker, spot, &NoGate, 2, 4)?;
+    let _ = expect_first(&rt, &mut one);
+    claim_expected(&rt, &mut two);
+    Ok(())
+}
+
+/// A clerk's entry expects a connection to port 2001, and then one to port 2002 instead.
+fn expect_another<G: Gate, R: Wait + Abort>(rt: &R, clerk: &mut Clerk<G>)
+    requires nothing { HoldsNothing (sight_of clerk.old) }
+    requires spare { 3 ≤ (sight_of clerk.old).spare }
+{
+    let place = expect_first(rt, clerk);
+    let ExpectOutcome::Expected { id, replaced } = expect(rt, clerk, place, 0, 2002, 2_000_000)
+    else {
+        panic!(rt; "the older one is replaced");
+    };
+    assert_eq!(rt; (id, replaced), (2, Some(1)));
+}
+
+/// The newer one alone is listed, and the older one is not claimed.
+fn list_newer<G: Gate, R: Wait + Abort>(
+    rt: &R,
+    alloc: Global,
+    clerk: &mut Clerk<G>,
+) -> Result<(), NoMemory>
+    requires { 1 ≤ (sight_of clerk.old).spare }
+{
+    let e = only(rt, alloc, clerk, 3)?;
+    assert_eq!(rt; (e.id, e.want.port, e.deadline), (2, 2002, 302_000_000));
+    claim_none(rt, clerk, 2001, 2_000_000, 3);
     Ok(())
 }
 
 /// An entry that expects another connection expects the older one no longer.
 #[test]
 fn an_older_expectation_is_replaced(rt: HostRuntime) -> Result<(), Fail> {
-    let (tracker, spot) = Tracker::new(rt.alloc(), sizes_for(2))?;
-    let Pair { mut one, mut two } = pair_of(&tracker, spot, &NoGate);
-    make_ready(&mut one, 3, &mut two, 1)?;
-    let mut listed = Expectations::new(rt.alloc(), 2)?;
-    let place = keep_master(&rt, &mut one, 5000, 0);
-    let _ = expect(&rt, &mut one, place, 0, 2001, 1_000_000);
-    let ExpectOutcome::Expected { id, replaced } = expect(&rt, &mut one, place, 0, 2002, 2_000_000)
-    else {
-        panic!(rt; "the older one is replaced");
-    };
-    assert_eq!(rt; (id, replaced), (2, Some(1)));
-    let e = only(&rt, &mut two, &mut listed, 3);
-    assert_eq!(rt; (e.id, e.want.port, e.deadline), (2, 2002, 302_000_000));
-    claim_none(&rt, &mut two, 2001, 2_000_000, 3);
-    Ok(())
+    let (tracker, spot) = tracker_of(rt.alloc(), sizes_for(2))?;
+    let Pair { mut one, mut two } = ready_pair(&tracker, spot, &NoGate, 3, 1)?;
+    expect_another(&rt, &mut one);
+    Ok(list_newer(&rt, rt.alloc(), &mut two)?)
+}
+
+/// Two clerks' entries expect one connection, of which the second is refused; the second finds no room for another one.
+fn expect_twice<G: Gate, R: Wait + Abort>(rt: &R, one: &mut Clerk<G>, two: &mut Clerk<G>)
+    requires nothing { HoldsNothing (sight_of one.old) × HoldsNothing (sight_of two.old) }
+    requires spare { (2 ≤ (sight_of one.old).spare) × (4 ≤ (sight_of two.old).spare) }
+{
+    let (first, second) = keep_both(rt, one, two);
+    let _ = expect(rt, one, first, 0, 2001, 1_000_000);
+    let clash = expect(rt, two, second, 1, 2001, 2_000_000);
+    assert!(rt; matches!(clash, ExpectOutcome::Clash { id: 2, at: 3 }));
+    let full = expect(rt, two, second, 1, 2002, 2_000_000);
+    assert!(rt; matches!(full, ExpectOutcome::ExpectFull { at: 3 }));
 }
 
 /// Two entries expect one connection, of which the second is refused; and a table with room for one expectation has none for another.
 #[test]
 fn a_second_master_is_refused(rt: HostRuntime) -> Result<(), Fail> {
-    let (tracker, spot) = Tracker::new(rt.alloc(), sizes_for(1))?;
-    let Pair { mut one, mut two } = pair_of(&tracker, spot, &NoGate);
-    make_ready(&mut one, 2, &mut two, 4)?;
-    let first = keep_master(&rt, &mut one, 5000, 0);
-    let second = keep_master(&rt, &mut two, 5001, 1);
-    let _ = expect(&rt, &mut one, first, 0, 2001, 1_000_000);
-    let clash = expect(&rt, &mut two, second, 1, 2001, 2_000_000);
-    assert!(rt; matches!(clash, ExpectOutcome::Clash { id: 2, at: 3 }));
-    let full = expect(&rt, &mut two, second, 1, 2002, 2_000_000);
-    assert!(rt; matches!(full, ExpectOutcome::ExpectFull { at: 3 }));
+    let (tracker, spot) = tracker_of(rt.alloc(), sizes_for(1))?;
+    let Pair { mut one, mut two } = ready_pair(&tracker, spot, &NoGate, 2, 4)?;
+    expect_twice(&rt, &mut one, &mut two);
     Ok(())
 }
 
-/// An expectation is ended when it is awaited no longer, and once.
-#[test]
-fn an_expectation_ends_when_it_is_due_no_longer(rt: HostRuntime) -> Result<(), Fail> {
-    let (tracker, spot) = Tracker::new(rt.alloc(), sizes_for(1))?;
-    let Pair { mut one, mut two } = pair_of(&tracker, spot, &NoGate);
-    make_ready(&mut one, 2, &mut two, 3)?;
-    let place = keep_master(&rt, &mut one, 5000, 0);
-    let _ = expect(&rt, &mut one, place, 0, 2001, 1_000_000);
-    let early = unexpect(&rt, &mut two, 1, 300_999_999);
+/// Ends the expectation of the id 1, which is due until 301 s: not before, and once.
+fn end_when_due<G: Gate, R: Wait + Abort>(rt: &R, clerk: &mut Clerk<G>)
+    requires { 3 ≤ (sight_of clerk.old).spare }
+{
+    let early = unexpect(rt, clerk, 1, 300_999_999);
     assert!(rt;
         matches!(
             early,
@@ -263,10 +305,19 @@ fn an_expectation_ends_when_it_is_due_no_longer(rt: HostRuntime) -> Result<(), F
             }
         )
     );
-    let due = unexpect(&rt, &mut two, 1, 301_000_000);
+    let due = unexpect(rt, clerk, 1, 301_000_000);
     assert!(rt; matches!(due, UnexpectOutcome::Removed { number: 2 }));
-    let again = unexpect(&rt, &mut two, 1, 301_000_000);
+    let again = unexpect(rt, clerk, 1, 301_000_000);
     assert!(rt; matches!(again, UnexpectOutcome::Gone { at: 3 }));
+}
+
+/// An expectation is ended when it is awaited no longer, and once.
+#[test]
+fn an_expectation_ends_when_it_is_due_no_longer(rt: HostRuntime) -> Result<(), Fail> {
+    let (tracker, spot) = tracker_of(rt.alloc(), sizes_for(1))?;
+    let Pair { mut one, mut two } = ready_pair(&tracker, spot, &NoGate, 2, 3)?;
+    let _ = expect_first(&rt, &mut one);
+    end_when_due(&rt, &mut two);
     Ok(())
 }
 
@@ -277,7 +328,6 @@ fn end<G: Gate, R: Wait + Abort>(rt: &R, clerk: &mut Clerk<G>, place: u32, id: u
     requires spare { 1 ≤ (sight_of clerk.old).spare }
     ensures one { HoldsOne (record { place = place; id = Some id }) (sight_of clerk.new) }
     ensures helper { is_helped_entry id (sight_of clerk.new).front ≡ true }
-    ensures same { IsSamePass (sight_of clerk.old) (sight_of clerk.new) }
     ensures spare { (sight_of clerk.old).spare ≤ (sight_of clerk.new).spare + 1 }
 {
     let _ = id;
@@ -295,7 +345,6 @@ fn keep_both<G: Gate, R: Wait + Abort>(rt: &R, one: &mut Clerk<G>, two: &mut Cle
     ensures one { HoldsOne (record { place = result.0; id = Some 0 }) (sight_of one.new) }
     ensures two { HoldsOne (record { place = result.1; id = Some 1 }) (sight_of two.new) }
     ensures helper { (is_helped_entry 0 (sight_of one.new).front ≡ true) × (is_helped_entry 1 (sight_of two.new).front ≡ true) }
-    ensures same { IsSamePass (sight_of one.old) (sight_of one.new) × IsSamePass (sight_of two.old) (sight_of two.new) }
     ensures spare { (sight_of one.old).spare ≤ (sight_of one.new).spare + 1 }
     ensures spare_two { (sight_of two.old).spare ≤ (sight_of two.new).spare + 1 }
 {
@@ -317,26 +366,36 @@ fn expect_both<G: Gate, R: Wait>(
     requires spare { (1 ≤ (sight_of one.old).spare) × (1 ≤ (sight_of two.old).spare) }
     ensures one { HoldsOne (record { place = first; id = Some 0 }) (sight_of one.new) }
     ensures helper { is_helped_entry 0 (sight_of one.new).front ≡ true }
-    ensures same { IsSamePass (sight_of one.old) (sight_of one.new) × IsSamePass (sight_of two.old) (sight_of two.new) }
     ensures spare { (sight_of one.old).spare ≤ (sight_of one.new).spare + 1 }
 {
     let _ = expect(rt, one, first, 0, 2001, 1_000_000);
     let _ = expect(rt, two, second, 1, 2002, 1_000_000);
 }
 
+/// Two clerks' entries expect a connection each. The first entry is destroyed, and expects no more.
+fn end_with_entry<G: Gate, R: Wait + Abort>(
+    rt: &R,
+    alloc: Global,
+    one: &mut Clerk<G>,
+    two: &mut Clerk<G>,
+) -> Result<(), NoMemory>
+    requires nothing { HoldsNothing (sight_of one.old) × HoldsNothing (sight_of two.old) }
+    requires spare { (4 ≤ (sight_of one.old).spare) × (2 ≤ (sight_of two.old).spare) }
+{
+    let (first, second) = keep_both(rt, one, two);
+    expect_both(rt, one, first, two, second);
+    end(rt, one, first, 0, 4);
+    let e = only(rt, alloc, two, 5)?;
+    assert_eq!(rt; (e.id, e.master), (3, 1));
+    let gone = expect(rt, one, first, 0, 2001, 2_000_000);
+    assert!(rt; matches!(gone, ExpectOutcome::MasterGone { at: 5 }));
+    Ok(())
+}
+
 /// What an entry expected ends with it, what another one expects stays, and an entry that is gone expects no more.
 #[test]
 fn what_an_entry_expected_ends_with_it(rt: HostRuntime) -> Result<(), Fail> {
-    let (tracker, spot) = Tracker::new(rt.alloc(), sizes_for(2))?;
-    let Pair { mut one, mut two } = pair_of(&tracker, spot, &NoGate);
-    make_ready(&mut one, 4, &mut two, 2)?;
-    let mut listed = Expectations::new(rt.alloc(), 2)?;
-    let (first, second) = keep_both(&rt, &mut one, &mut two);
-    expect_both(&rt, &mut one, first, &mut two, second);
-    end(&rt, &mut one, first, 0, 4);
-    let e = only(&rt, &mut two, &mut listed, 5);
-    assert_eq!(rt; (e.id, e.master), (3, 1));
-    let gone = expect(&rt, &mut one, first, 0, 2001, 2_000_000);
-    assert!(rt; matches!(gone, ExpectOutcome::MasterGone { at: 5 }));
-    Ok(())
+    let (tracker, spot) = tracker_of(rt.alloc(), sizes_for(2))?;
+    let Pair { mut one, mut two } = ready_pair(&tracker, spot, &NoGate, 4, 2)?;
+    Ok(end_with_entry(&rt, rt.alloc(), &mut one, &mut two)?)
 }

@@ -7,7 +7,7 @@ ghost use Rattle.history_book.specs.Sizes.{AreWithinLimits};
 ghost use Rattle.shared_desk.specs.Sights.{sight_of};
 
 use super::flows::{answer, flow, look, udp};
-use super::pair::{Pair, make_ready, pair_of};
+use super::pair::{Pair, ready_pair, tracker_of};
 use super::sixteen_buckets;
 use bucket_table::finding::FindOnce;
 use ct_io::{Crossing, Gate};
@@ -16,7 +16,7 @@ use history_book::outcome::{ConfirmOutcome, LiveCount};
 use history_book::record::Flow;
 use history_book::sizes::Sizes;
 use shared_desk::clerk::Clerk;
-use shared_desk::tracker::Tracker;
+use std::process::Abort;
 use std::sync::Wait;
 use std::sync::atomic::AtomicU64;
 use std::sync::atomic::Ordering::SeqCst;
@@ -152,18 +152,8 @@ fn query_from(port: u16) -> Flow
     )
 }
 
-/// A clerk in the middle of a confirm holds nobody up whose flow is of other buckets, no count, and no lookup there: the other clerk's
-/// entry is the first, and is found. Nor does a lookup wait in the buckets of that confirm: it says that they are shut.
-#[test]
-fn a_confirm_holds_up_no_other_buckets(rt: HostRuntime) -> Result<(), Fail> {
-    let first = query_from(5000);
-    let second = query_from(5001);
-    assert!(rt; are_apart(&sixteen_buckets(), &first, &second));
-    let (tracker, spot) = Tracker::new(rt.alloc(), sixteen_buckets())?;
-    let gate = Halt::new();
-    let Pair { mut one, mut two } = pair_of(&tracker, spot, &gate);
-    make_ready(&mut one, 1, &mut two, 1)?;
-    let (made, seen) = both_confirm(&rt, &mut one, &mut two, &gate, &first, &second);
+/// Asserts what the clerks were answered: the second one's entry is the first, and was found while the first clerk stood in its confirm.
+fn check_seen<R: Abort>(rt: &R, made: Option<ConfirmOutcome>, seen: &Seen) {
     let Some(ConfirmOutcome::Confirmed { id }) = made else {
         panic!(rt; "nobody has the first flow");
     };
@@ -175,5 +165,19 @@ fn a_confirm_holds_up_no_other_buckets(rt: HostRuntime) -> Result<(), Fail> {
     assert_eq!(rt; (seen.count.live, seen.count.at), (1, 1));
     assert!(rt; matches!(seen.found, FindOnce::Found { id: 0, at: 1, .. }));
     assert!(rt; matches!(seen.shut, FindOnce::Moved { .. }));
+}
+
+/// A clerk in the middle of a confirm holds nobody up whose flow is of other buckets, no count, and no lookup there: the other clerk's
+/// entry is the first, and is found. Nor does a lookup wait in the buckets of that confirm: it says that they are shut.
+#[test]
+fn a_confirm_holds_up_no_other_buckets(rt: HostRuntime) -> Result<(), Fail> {
+    let first = query_from(5000);
+    let second = query_from(5001);
+    assert!(rt; are_apart(&sixteen_buckets(), &first, &second));
+    let (tracker, spot) = tracker_of(rt.alloc(), sixteen_buckets())?;
+    let gate = Halt::new();
+    let Pair { mut one, mut two } = ready_pair(&tracker, spot, &gate, 1, 1)?;
+    let (made, seen) = both_confirm(&rt, &mut one, &mut two, &gate, &first, &second);
+    check_seen(&rt, made, &seen);
     Ok(())
 }

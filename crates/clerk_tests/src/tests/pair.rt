@@ -1,19 +1,30 @@
 //! The clerks of a tracker of two passes: one with both shares, or two.
 
-ghost use Rattle.std.specs.Prelude.{◌≡◌, ◌≤◌, [], OnOk};
-ghost use Rattle.clerk_tests.specs.Crew.{IsIdle, IsOfPair};
+ghost use Rattle.std.specs.Prelude.{◌≡◌, ◌≤◌, ◌^◌, [], IfOk, OnOk};
+ghost use Rattle.clerk_tests.specs.Crew.{IsFirst, IsIdle, IsOfPair};
 ghost use Rattle.history_book.specs.Close.{CanClose};
-ghost use Rattle.history_book.specs.Leave.{CanTakeUp};
 ghost use Rattle.history_book.specs.Places.{HoldsNothing};
+ghost use Rattle.history_book.specs.Sizes.{AreWithinLimits};
 ghost use Rattle.history_book.specs.WentOn.{IsSamePass};
 ghost use Rattle.shared_desk.specs.Sights.{sight_of};
 
 use ct_io::Gate;
 use history_book::desk::Desk;
 use history_book::report::Notes;
+use history_book::sizes::Sizes;
 use shared_desk::clerk::Clerk;
 use shared_desk::tracker::{Spot, Tracker};
+use std::alloc::Global;
 use tuple_core::NoMemory;
+
+/// A tracker of these sizes, and what is left for its first clerk.
+pub fn tracker_of(alloc: Global, sizes: Sizes) -> Result<(Tracker, Spot), NoMemory>
+    requires { AreWithinLimits sizes }
+    ensures first { IfOk result (λ made. IsFirst made.0 (sight_of made.1)) }
+    ensures sizes { IfOk result (λ made. (sight_of made.1).sizes ≡ sizes) }
+{
+    Tracker::new(alloc, sizes)
+}
 
 /// The first clerk of a tracker, and the one to which it handed over a share.
 #[derive(Drop)]
@@ -22,23 +33,19 @@ pub struct Pair<'t, G: Gate> {
     pub two: Clerk<'t, G>,
 }
 
-/// The first clerk of a tracker of two passes, which keeps both shares.
+/// The first clerk of a tracker, which keeps all shares.
 pub fn clerk_of<'t, G: Gate>(tracker: &'t Tracker, spot: Spot, gate: &'t G) -> Clerk<'t, G>
-    requires take_up { CanTakeUp tracker.now (sight_of spot) }
-    requires own { (sight_of spot).own ≡ [] }
+    requires { IsFirst tracker.now (sight_of spot) }
+    ensures first { IsFirst tracker.now (sight_of result) }
     ensures sizes { (sight_of result).sizes ≡ (sight_of spot).sizes }
-    ensures own { (sight_of result).own ≡ [] }
-    ensures nothing { HoldsNothing (sight_of result) }
 {
     tracker.clerk(spot, gate, 0)
 }
 
 /// The first clerk of a tracker of two passes, which hands over one of its two shares.
 pub fn pair_of<'t, G: Gate>(tracker: &'t Tracker, spot: Spot, gate: &'t G) -> Pair<'t, G>
-    requires take_up { CanTakeUp tracker.now (sight_of spot) }
-    requires shares { (sight_of spot).shares ≡ 2 }
-    requires returned { (sight_of spot).returned ≡ 0 }
-    requires own { (sight_of spot).own ≡ [] }
+    requires first { IsFirst tracker.now (sight_of spot) }
+    requires passes { (sight_of spot).sizes.passes ≡ 2 }
     ensures one { IsIdle tracker.now (sight_of spot).sizes (sight_of result.one) }
     ensures two { IsIdle tracker.now (sight_of spot).sizes (sight_of result.two) }
 {
@@ -49,7 +56,7 @@ pub fn pair_of<'t, G: Gate>(tracker: &'t Tracker, spot: Spot, gate: &'t G) -> Pa
 
 /// A clerk that made no event and keeps no place makes room for so many events.
 pub fn make_room<G: Gate>(clerk: &mut Clerk<G>, events: u64) -> Result<(), NoMemory>
-    requires few { events ≤ 10 }
+    requires few { events ≤ 2 ^ 20 }
     requires nothing { HoldsNothing (sight_of clerk.old) }
     requires own { (sight_of clerk.old).own ≡ [] }
     ensures nothing { HoldsNothing (sight_of clerk.new) }
@@ -59,23 +66,50 @@ pub fn make_room<G: Gate>(clerk: &mut Clerk<G>, events: u64) -> Result<(), NoMem
     clerk.ready(events)
 }
 
-/// Each of two clerks makes room for so many events.
-pub fn make_ready<G: Gate>(
-    one: &mut Clerk<G>,
-    first: u64,
-    two: &mut Clerk<G>,
-    second: u64,
-) -> Result<(), NoMemory>
-    requires few { (first ≤ 10) × (second ≤ 10) }
-    requires nothing { HoldsNothing (sight_of one.old) × HoldsNothing (sight_of two.old) }
-    requires own { ((sight_of one.old).own ≡ []) × ((sight_of two.old).own ≡ []) }
-    ensures nothing { HoldsNothing (sight_of one.new) × HoldsNothing (sight_of two.new) }
-    ensures same { IsSamePass (sight_of one.old) (sight_of one.new) × IsSamePass (sight_of two.old) (sight_of two.new) }
-    ensures first { OnOk result (first ≤ (sight_of one.new).spare) }
-    ensures second { OnOk result (second ≤ (sight_of two.new).spare) }
+/// The first clerk of a tracker, with room for so many events.
+pub fn ready_clerk<'t, G: Gate>(
+    tracker: &'t Tracker,
+    spot: Spot,
+    gate: &'t G,
+    events: u64,
+) -> Result<Clerk<'t, G>, NoMemory>
+    requires first { IsFirst tracker.now (sight_of spot) }
+    requires few { events ≤ 10 }
+    ensures nothing { IfOk result (λ clerk. HoldsNothing (sight_of clerk)) }
+    ensures spare { IfOk result (λ clerk. events ≤ (sight_of clerk).spare) }
 {
-    make_room(one, first)?;
-    make_room(two, second)
+    let mut clerk = clerk_of(tracker, spot, gate);
+    make_room(&mut clerk, events)?;
+    Ok(clerk)
+}
+
+/// The two clerks of a tracker of two passes, with room for so many events each.
+pub fn ready_pair<'t, G: Gate>(
+    tracker: &'t Tracker,
+    spot: Spot,
+    gate: &'t G,
+    first: u64,
+    second: u64,
+) -> Result<Pair<'t, G>, NoMemory>
+    requires first { IsFirst tracker.now (sight_of spot) }
+    requires passes { (sight_of spot).sizes.passes ≡ 2 }
+    requires few { (first ≤ 10) × (second ≤ 10) }
+    ensures one { IfOk result (λ pair. HoldsNothing (sight_of pair.one)) }
+    ensures two { IfOk result (λ pair. HoldsNothing (sight_of pair.two)) }
+    ensures first { IfOk result (λ pair. first ≤ (sight_of pair.one).spare) }
+    ensures second { IfOk result (λ pair. second ≤ (sight_of pair.two).spare) }
+    ensures sizes { IfOk result (λ pair. (sight_of pair.two).sizes ≡ (sight_of pair.one).sizes) }
+{
+    let Pair { mut one, mut two } = pair_of(tracker, spot, gate);
+    make_room(&mut one, first)?;
+    make_room(&mut two, second)?;
+    Ok(Pair { one, two })
+}
+
+/// How many entries are live, and at which point.
+pub fn count_of<G: Gate>(clerk: &mut Clerk<G>) -> (u32, u64) {
+    let count = clerk.count_now();
+    (count.live, count.at)
 }
 
 /// What is left of two clerks: the first one's spot, and the events of the second.

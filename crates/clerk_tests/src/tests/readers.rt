@@ -1,16 +1,18 @@
 //! Two clerks look for flows, each on a thread of its own, while two others confirm and destroy them in the same buckets.
 
-ghost use Rattle.std.specs.Prelude.{◌≡◌, ◌+◌, ◌≤◌, ◌<◌, true, [], None};
+ghost use Rattle.std.specs.Prelude.{◌≡◌, ◌+◌, ◌≤◌, ◌<◌, true, [], Some, None};
 ghost use Rattle.history_book.specs.Entry.{is_lawful_flow};
 ghost use Rattle.history_book.specs.Held.{is_held, without};
 ghost use Rattle.history_book.specs.Places.{HoldsNothing, HoldsOne};
 ghost use Rattle.history_book.specs.Sizes.{AreWithinLimits};
 ghost use Rattle.history_book.specs.WentOn.{IsSamePass};
 ghost use Rattle.shared_desk.specs.Sights.{sight_of};
-ghost use Rattle.clerk_tests.specs.Crew.{IsMember, IsNew};
+ghost use Rattle.clerk_tests.specs.Crew.{IsFirst, IsMember, IsNew};
+ghost use Rattle.history_book.specs.Close.{CanClose};
 
-use super::crowd::{Crew, Left, crew_of, joined};
+use super::crowd::{Crew, Ended, Left, crew_of, finish, joined};
 use super::flows::{flow, give_up, look, udp};
+use super::pair::{make_room, tracker_of};
 use bucket_table::finding::FindOnce;
 use checks::{History, are_right, history_of, unknown};
 use ct_io::NoGate;
@@ -22,8 +24,9 @@ use history_book::report::Notes;
 use history_book::sizes::Sizes;
 use room_list::RoomList;
 use shared_desk::clerk::Clerk;
-use shared_desk::tracker::Tracker;
+use shared_desk::tracker::{Spot, Tracker};
 use std::alloc::Global;
+use std::process::Abort;
 use std::sync::Wait;
 use std::test::Fail;
 use std::thread::{Threads, join_mut};
@@ -81,6 +84,18 @@ fn tuple_of(flow: &Flow, direction: Direction) -> Tuple {
     }
 }
 
+/// Destroys the entry of this id, whose place is the only one that the clerk holds, unless another clerk has done so.
+fn kill<R: Wait>(rt: &R, clerk: &mut Clerk<NoGate>, place: u32, id: u64)
+    requires one { HoldsOne (record { place = place; id = Some id }) (sight_of clerk.old) }
+    requires spare { 1 ≤ (sight_of clerk.old).spare }
+    ensures one { HoldsOne (record { place = place; id = Some id }) (sight_of clerk.new) }
+    ensures same { IsSamePass (sight_of clerk.old) (sight_of clerk.new) }
+    ensures spare { (sight_of clerk.old).spare ≤ (sight_of clerk.new).spare + 1 }
+{
+    let _ = id;
+    let _ = clerk.kill(rt, place, Why::Flushed);
+}
+
 /// Confirms a flow in the one place that the clerk has taken, and destroys it again.
 fn confirm_and_kill<R: Wait>(rt: &R, clerk: &mut Clerk<NoGate>, place: u32, flow: &Flow)
     requires one { HoldsOne (record { place = place; id = None }) (sight_of clerk.old) }
@@ -92,9 +107,10 @@ fn confirm_and_kill<R: Wait>(rt: &R, clerk: &mut Clerk<NoGate>, place: u32, flow
     ensures same { IsSamePass (sight_of clerk.old) (sight_of clerk.new) }
     ensures spare { (sight_of clerk.old).spare ≤ (sight_of clerk.new).spare + 2 }
 {
-    if let ConfirmOutcome::Confirmed { .. } = clerk.confirm(rt, place, flow) {
-        let _ = clerk.kill(rt, place, Why::Flushed);
-    }
+    let ConfirmOutcome::Confirmed { id } = clerk.confirm(rt, place, flow) else {
+        return;
+    };
+    kill(rt, clerk, place, id);
 }
 
 /// Confirms a flow and destroys it again.
@@ -121,7 +137,7 @@ fn write_all<R: Wait>(rt: &R, clerk: &mut Clerk<NoGate>, first: u32) -> Result<(
     ensures nothing { HoldsNothing (sight_of clerk.new) }
     ensures same { IsSamePass (sight_of clerk.old) (sight_of clerk.new) }
 {
-    clerk.ready(u64::from(2 * ROUNDS))?;
+    make_room(clerk, u64::from(2 * ROUNDS))?;
     'rounds: for round in 0..ROUNDS {
         write_once(rt, clerk, &flow_of(first + 2 * (round % 2)));
     }
@@ -310,28 +326,54 @@ fn both_are_right(history: &History, read: Pair) -> Result<bool, NoMemory> {
     Ok(are_right(history, &one) && are_right(history, &two))
 }
 
+/// The clerks of a tracker write and read, and are joined.
+fn run_and_join<R: Threads + Wait + Sync>(
+    rt: &R,
+    alloc: Global,
+    tracker: &Tracker,
+    spot: Spot,
+) -> (Left, Told)
+    requires first { IsFirst tracker.now (sight_of spot) }
+    requires passes { (sight_of spot).sizes.passes ≡ 4 }
+    ensures { CanClose tracker.now (sight_of result.0.spot) }
+{
+    let crew = crew_of(tracker, spot);
+    let (crew, told) = all_run(rt, alloc, tracker, crew);
+    (joined(tracker, crew), told)
+}
+
+/// Asserts that each event of the two writers is legal, and that all that the readers were answered is right.
+fn check_reports<R: Abort>(
+    rt: &R,
+    alloc: Global,
+    ended: &Ended,
+    read: Pair,
+) -> Result<(), NoMemory> {
+    assert_eq!(rt; (ended.third.len(), ended.fourth.len()), (0, 0));
+    let closed = &ended.closed;
+    let Some(history) = history_with(alloc, &closed.notes, &ended.second, closed.events)? else {
+        panic!(rt; "each event is legal");
+    };
+    assert_eq!(rt; history.live, closed.live);
+    assert!(rt; both_are_right(&history, read)?);
+    Ok(())
+}
+
+/// The same, where the writers could do their work.
+fn check_told<R: Abort>(rt: &R, alloc: Global, ended: &Ended, told: Told) -> Result<(), NoMemory> {
+    let Told { written, read } = told;
+    written?;
+    check_reports(rt, alloc, ended, read)
+}
+
 /// While two threads confirm and destroy four flows in two buckets, two others look for them: a million rounds in all. However they
 /// run: at the point of each entry that was found it was live, in that place and with that tuple in that direction; and where nothing
 /// was, no entry of the flow was live.
 #[test]
 fn what_readers_find_was_so(rt: HostRuntime) -> Result<(), Fail> {
-    let (tracker, spot) = Tracker::new(rt.alloc(), sizes())?;
-    let crew = crew_of(&tracker, spot);
-    let (crew, told) = all_run(&rt, rt.alloc(), &tracker, crew);
-    let Left {
-        spot,
-        second,
-        third,
-        fourth,
-    } = joined(&tracker, crew);
-    let closed = tracker.close(spot);
-    let Told { written, read } = told;
-    written?;
-    assert_eq!(rt; (third.len(), fourth.len()), (0, 0));
-    let Some(history) = history_with(rt.alloc(), &closed.notes, &second, closed.events)? else {
-        panic!(rt; "each event is legal");
-    };
-    assert_eq!(rt; history.live, closed.live);
-    assert!(rt; both_are_right(&history, read)?);
+    let (tracker, spot) = tracker_of(rt.alloc(), sizes())?;
+    let (left, told) = run_and_join(&rt, rt.alloc(), &tracker, spot);
+    let ended = finish(tracker, left);
+    check_told(&rt, rt.alloc(), &ended, told)?;
     Ok(())
 }
