@@ -106,19 +106,28 @@ fn pump_one<D: Desk, R: Wait + Abort>(
     is_all(pump_at(rt, line, sendings, sender, desk))
 }
 
-/// What a line with room for one note hears of a desk with two, where no listener starts.
-fn heard_of_full<R: Wait + Abort>(rt: &R, alloc: Global) -> Result<Heard, NoMemory> {
-    let desk = Told::new(rt, alloc, PORT, 2)?;
-    let (line, hearing, mut sendings) = line_of(alloc, 1, 1)?;
-    assert!(rt; !pump_one(rt, &line, &mut sendings, 0, &desk));
+/// The only sender of a line with room for one note pumps a desk with more.
+fn pump_some<R: Wait + Abort>(rt: &R, line: &Line, sendings: &mut Sendings, desk: &Told)
+    requires count { length sendings.old.items ≡ 1 }
+    requires sendings { AreSendingsOf line.now sendings.old.items }
+    ensures { AreSendingsOf line.now sendings.new.items }
+{
+    assert!(rt; !pump_one(rt, line, sendings, 0, desk));
     assert_eq!(rt; sendings.len(), 1);
     assert_eq!(rt; sendings.at(0).sent(), 1);
+}
+
+/// What such a line hears of the desk, where no listener starts.
+fn heard_of_full<R: Wait + Abort>(rt: &R, alloc: Global, desk: &Told) -> Result<Heard, NoMemory> {
+    let (line, hearing, mut sendings) = line_of(alloc, 1, 1)?;
+    pump_some(rt, &line, &mut sendings, desk);
     line.finish(rt, hearing, sendings)
 }
 
 #[test]
 fn without_a_listener_what_fits_is_heard(rt: HostRuntime) -> Result<(), Fail> {
-    let heard = heard_of_full(&rt, rt.alloc())?;
+    let desk = Told::new(&rt, rt.alloc(), PORT, 2)?;
+    let heard = heard_of_full(&rt, rt.alloc(), &desk)?;
     check_one(&rt, &heard, 1);
     Ok(())
 }
@@ -243,11 +252,16 @@ fn heard_apart<R: Wait + Abort>(
     line.finish(rt, hearing, sendings)
 }
 
+/// The same of a desk with three events and one with five.
+fn heard_of_two<R: Wait + Abort>(rt: &R, alloc: Global) -> Result<Heard, NoMemory> {
+    let one = Told::new(rt, alloc, PORT, 3)?;
+    let other = Told::new(rt, alloc, PORT + 1, 5)?;
+    heard_apart(rt, alloc, &one, &other)
+}
+
 #[test]
 fn two_senders_are_told_apart(rt: HostRuntime) -> Result<(), Fail> {
-    let one = Told::new(&rt, rt.alloc(), PORT, 3)?;
-    let other = Told::new(&rt, rt.alloc(), PORT + 1, 5)?;
-    let heard = heard_apart(&rt, rt.alloc(), &one, &other)?;
+    let heard = heard_of_two(&rt, rt.alloc())?;
     check_two(&rt, &heard, 3, 4);
     Ok(())
 }
@@ -309,10 +323,9 @@ fn sixty_three_senders(rt: HostRuntime) -> Result<(), Fail> {
     Ok(())
 }
 
-#[test]
-fn ends_in_a_list(rt: HostRuntime) -> Result<(), Fail> {
-    let mut sendings = Line::new(rt.alloc(), 2, 1)?.2;
-    let mut others = Sendings::new(rt.alloc(), 0)?;
+/// The last end of the list goes to another list, and ends there.
+fn move_last<R: Abort>(rt: &R, alloc: Global, sendings: &mut Sendings) -> Result<(), NoMemory> {
+    let mut others = Sendings::new(alloc, 0)?;
     others.reserve(1)?;
     let Some(last) = sendings.pop() else {
         panic!(rt; "no end")
@@ -322,6 +335,13 @@ fn ends_in_a_list(rt: HostRuntime) -> Result<(), Fail> {
     assert_eq!(rt; others.at(0).sent(), 0);
     others.clear();
     assert!(rt; others.pop().is_none());
+    Ok(())
+}
+
+#[test]
+fn ends_in_a_list(rt: HostRuntime) -> Result<(), Fail> {
+    let mut sendings = Line::new(rt.alloc(), 2, 1)?.2;
+    move_last(&rt, rt.alloc(), &mut sendings)?;
     assert_eq!(rt; sendings.len(), 1);
     Ok(())
 }

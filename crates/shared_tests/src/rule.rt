@@ -65,6 +65,17 @@ fn close_neighbours(list: &FreeList) -> usize {
     close
 }
 
+/// Asserts that the forty places of a whole list lie apart, and that the last one can be taken out and put back.
+fn check_apart<R: Abort>(rt: &R, list: &mut FreeList) {
+    assert!(rt; list.len() == 40);
+    assert_eq!(rt; close_neighbours(list), 0);
+    let last = list.at(39);
+    let popped = list.pop();
+    assert!(rt; popped == Some(last));
+    list.push(last);
+    assert_eq!(rt; list.len(), 40);
+}
+
 #[test]
 fn places_that_are_taken_in_turn_lie_apart(rt: HostRuntime) -> Result<(), Fail> {
     let (board, stub) = Pass::first(rt.alloc(), sizes())?;
@@ -73,13 +84,7 @@ fn places_that_are_taken_in_turn_lie_apart(rt: HostRuntime) -> Result<(), Fail> 
     let Some(mut list) = pass.free_swap(None) else {
         panic!(rt; "the list was there");
     };
-    assert_eq!(rt; list.len(), 40);
-    assert_eq!(rt; close_neighbours(&list), 0);
-    let last = list.at(39);
-    let popped = list.pop();
-    assert!(rt; popped == Some(last));
-    list.push(last);
-    assert_eq!(rt; list.len(), 40);
+    check_apart(&rt, &mut list);
     Ok(())
 }
 
