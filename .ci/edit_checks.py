@@ -6,7 +6,7 @@ import re
 import tempfile
 
 from checking import TOP, count, read
-from wrong_bodies import Edit, applied, batches_of, functions_of, in_gate, in_more, read_edit, refusals
+from wrong_bodies import Edit, applied, batches_of, functions_of, in_gate, in_more, read_edit, refusal, refusals
 
 CALL = re.compile(r"(?<![\w.:!])(fn )?([a-z_]\w*)\(")
 USE = re.compile(r"\buse [^;]*;")
@@ -83,16 +83,18 @@ def made_edits(folder):
 def check_batches():
     with tempfile.TemporaryDirectory() as folder:
         made = made_edits(folder)
-        batches, alone = batches_of(list(made.values()), folder)
-        names = [[it.name for it in batch.edits] for batch in batches]
-        wanted = [["half", "seven"], ["most", "six"]]
-        count("edits: of one check none shares its function with another or calls it", names == wanted and alone == [made["constant"]], (names, alone))
+        names = [[it.name for it in batch.edits] for batch in batches_of(list(made.values()), folder)]
+        wanted = [["half", "seven"], ["most", "six"], ["constant"]]
+        count("edits: of one check none shares its function with another or calls it, and what is in no function has its own", names == wanted, names)
         texts = applied(made["seven"], folder, applied(made["half"], folder)[0])[0]
         refused = refusals(1, SAID, texts)
         told = {name for name, edit in made.items() if functions_of(edit, folder) & set(refused)}
         count("edits: a function is refused by its own goals, and not at a name that is gone", told == {"half", "seven", "six"}, refused)
-        none = [refusals(*it, texts) for it in NO_VERDICT]
-        count("edits: a check that came to no verdict refuses nothing", none == [{}] * len(NO_VERDICT), none)
+        none = [(refusals(*it, texts), refusal(*it)) for it in NO_VERDICT]
+        count("edits: a check that came to no verdict refuses nothing", none == [({}, None)] * len(NO_VERDICT), none)
+        lines = SAID.split("\n")
+        whole = [refusal(1, "\n".join(it)) for it in (lines, lines[3:], lines[2:3] + lines[4:])]
+        count("edits: a check of one wrong body refuses it by any goal, and not at a name that is gone", whole == [lines[0], lines[3], None], whole)
 
 
 def misplaced(crate):

@@ -150,31 +150,36 @@ class Batch:
     texts: dict
 
     def takes(self, touched, called):
-        """Whether none of these functions is changed here already, nor calls one that is, nor is called by one."""
-        names, own = {which[0] for _, which in touched}, {which[0] for _, which in self.touched}
-        return len(self.edits) < MOST and not self.touched & touched and not own & called and not names & self.called
+        """Whether none of these functions is changed here already, nor calls one that is, nor is called by one, and each change is in a function."""
+        names, own = names_of(touched), names_of(self.touched)
+        return len(self.edits) < MOST and None not in names | own and not self.touched & touched and not own & called and not names & self.called
+
+
+def names_of(touched):
+    """The names of functions that are changed; None for a place that is in no function."""
+    return {which and which[0] for _, which in touched}
+
+
+def batch_of(edit, folder):
+    """An edit in a batch of its own."""
+    return Batch([edit], functions_of(edit, folder), calls_of(edit, folder), applied(edit, folder)[0])
 
 
 def batches_of(edits, folder):
-    """The edits of a crate in batches; and those that are to be tried alone."""
-    batches, alone = [], []
-    for edit in edits:
-        touched = functions_of(edit, folder)
-        if any(which is None for _, which in touched):
-            alone.append(edit)
-            continue
-        called = calls_of(edit, folder)
-        for batch in [it for it in batches if it.takes(touched, called)]:
-            made, why = applied(edit, folder, batch.texts)
+    """The edits of a crate in batches. One that changes what is in no function stands alone."""
+    batches = []
+    for one in (batch_of(edit, folder) for edit in edits):
+        for batch in [it for it in batches if it.takes(one.touched, one.called)]:
+            made, why = applied(one.edits[0], folder, batch.texts)
             if not why:
-                batch.edits.append(edit)
-                batch.touched |= touched
-                batch.called |= called
+                batch.edits += one.edits
+                batch.touched |= one.touched
+                batch.called |= one.called
                 batch.texts = made
                 break
         else:
-            batches.append(Batch([edit], touched, called, applied(edit, folder)[0]))
-    return batches, alone
+            batches.append(one)
+    return batches
 
 
 def function_of_proof(path, spans):
@@ -194,20 +199,31 @@ def is_verdict(status, said):
     return status == 1 and lines[-1].startswith("logic=not-proved") and STALE not in said and not any(map(UNREAD.match, lines))
 
 
+def open_goals(status, said):
+    """The lines of a check that tell of a goal that is open, each with its place: none of a check without a verdict, and none about a name that is gone."""
+    for line in said.split("\n") if is_verdict(status, said) else []:
+        place = PLACE.match(line)
+        if place and not NAME_IS_GONE.search(place[4]):
+            if place[1] == "src" and "it is not proved" in place[4] or place[1] == "proofs" and place[4].startswith("error: "):
+                yield place, line
+
+
+def refusal(status, said):
+    """The line by which a check refuses a crate: one about its text where there is one; None where no goal is open but at a name."""
+    found = [line for _, line in sorted(open_goals(status, said), key=lambda it: it[0][1] == "proofs")]
+    return found[0] if found else None
+
+
 def refusals(status, said, texts):
     """The functions of edited files that a check refuses by a goal of their own, each with a line that says so: one about its text where there is one."""
     found = {}
     spans = {file: functions_in(text) for file, text in texts.items()}
-    for line in said.split("\n") if is_verdict(status, said) else []:
-        place = PLACE.match(line)
-        if not place or NAME_IS_GONE.search(place[4]):
-            continue
-        which = None
-        if place[1] == "src" and "it is not proved" in place[4]:
+    for place, line in open_goals(status, said):
+        if place[1] == "src":
             file, number = f"src/{place[2]}", int(place[3])
             around = [(last - first, which) for which, first, last in spans.get(file, []) if first <= number <= last]
             which = (file, min(around)[1]) if around else None
-        elif place[1] == "proofs" and place[4].startswith("error: "):
+        else:
             which = function_of_proof(place[2], spans)
         if which and (which not in found or place[1] == "src" and "proofs/" in found[which].partition(":")[0]):
             found[which] = line
